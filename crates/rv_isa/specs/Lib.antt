@@ -1,0 +1,7 @@
+pub mod Alu
+pub mod Names
+pub mod Number
+pub mod Op
+pub mod Text
+pub mod Word
+pub mod Width

@@ -1,0 +1,50 @@
+-- How wide an access is, and what a load or an immediate instruction asks for.
+-- RISC-V Unprivileged ISA 20191213, sections 2.4 and 2.6.
+use Rattle.std.specs.Prelude.{ℕ, Bool, true, false}
+use Rattle.rv_isa.specs.declared.op.AluOp.{AluOp}
+use Rattle.rv_isa.specs.declared.op.AluOp.TheVariants as alu
+use Rattle.rv_isa.specs.declared.op.ImmOp.{ImmOp}
+use Rattle.rv_isa.specs.declared.op.ImmOp.TheVariants.{Addi, Slti, Sltiu, Xori, Ori, Andi}
+use Rattle.rv_isa.specs.declared.op.LoadOp.{LoadOp}
+use Rattle.rv_isa.specs.declared.op.LoadOp.TheVariants.{Lb, Lh, Lw, Lbu, Lhu}
+use Rattle.rv_isa.specs.declared.op.ShiftOp.{ShiftOp}
+use Rattle.rv_isa.specs.declared.op.ShiftOp.TheVariants.{Slli, Srli, Srai}
+use Rattle.rv_isa.specs.declared.op.Width.{Width}
+use Rattle.rv_isa.specs.declared.op.Width.TheVariants.{One, Two, Four}
+
+-- how many bytes an access has
+abbrev pub bytes_of : Width → ℕ
+bytes_of One = 1
+bytes_of Two = 2
+bytes_of Four = 4
+
+-- how many bytes a load reads
+abbrev pub load_width : LoadOp → Width
+load_width Lb = One
+load_width Lh = Two
+load_width Lw = Four
+load_width Lbu = One
+load_width Lhu = Two
+
+-- a load extends with the sign of what it reads
+abbrev pub is_signed_load : LoadOp → Bool
+is_signed_load Lb = true
+is_signed_load Lh = true
+is_signed_load Lw = true
+is_signed_load Lbu = false
+is_signed_load Lhu = false
+
+-- the operation of a register-immediate instruction
+abbrev pub imm_alu_op : ImmOp → AluOp
+imm_alu_op Addi = alu.Add
+imm_alu_op Slti = alu.Slt
+imm_alu_op Sltiu = alu.Sltu
+imm_alu_op Xori = alu.Xor
+imm_alu_op Ori = alu.Or
+imm_alu_op Andi = alu.And
+
+-- the operation of a shift by an immediate
+abbrev pub shift_alu_op : ShiftOp → AluOp
+shift_alu_op Slli = alu.Sll
+shift_alu_op Srli = alu.Srl
+shift_alu_op Srai = alu.Sra
