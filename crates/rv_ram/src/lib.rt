@@ -1,0 +1,52 @@
+//! Memories: lists of bytes, low byte first.
+#![tactic(auto)]
+
+mod flat;
+#[cfg(test)]
+mod tests;
+
+ghost use Rattle.std.specs.Prelude.{◌≡◌, ◌+◌, ◌*◌, ◌%◌, ◌^◌, ◌<◌, ◌≤◌, length, slice_index, OnOk, OnErr};
+ghost use Rattle.rv_isa.specs.Width.{bytes_of};
+ghost use Rattle.rv_ram.specs.Bytes.{word_at, put};
+
+pub use flat::FlatMemory;
+use rv_isa::{NoMemory, Width};
+
+/// How many bytes a page has. A memory has 1 to 4096 pages.
+pub const PAGE_BYTES: u32 = 4096;
+
+/// A memory that is seen as its bytes, by their offsets from the memory's first byte.
+///
+/// Words stand low byte first (RISC-V Unprivileged ISA 20191213, section 1.4). A write may have to
+/// make room; a refused one leaves every byte as it was.
+pub trait ByteMemory: Drop {
+    ghost use Rattle.std.specs.Prelude.{List, ℕ};
+
+    /// The bytes, from offset 0 on.
+    ghost bytes: { Self → List ℕ };
+
+    /// How many bytes there are: 4096 for each of 1 to 4096 pages, always.
+    fn size(&self) -> u32
+        ensures size { result ≡ length (bytes self.now) }
+        ensures least { 4096 ≤ result }
+        ensures most { result ≤ 2 ^ 24 }
+        ensures pages { result % 4096 ≡ 0 };
+
+    /// The byte at an offset.
+    fn read(&self, off: u32) -> u8
+        requires { off < length (bytes self.now) }
+        ensures { result ≡ slice_index (bytes self.now) off };
+
+    /// The word at an offset that is a multiple of 4.
+    fn read_word(&self, off: u32) -> u32
+        requires in_range { off + 4 ≤ length (bytes self.now) }
+        requires aligned { off % 4 ≡ 0 }
+        ensures { result ≡ word_at (bytes self.now) off };
+
+    /// Puts the low bytes of a value at an offset that is a multiple of their number.
+    fn write(&mut self, off: u32, width: Width, value: u32) -> Result<(), NoMemory>
+        requires in_range { off + bytes_of width ≤ length (bytes self.old) }
+        requires aligned { off % bytes_of width ≡ 0 }
+        ensures ok { OnOk result (bytes self.new ≡ put (bytes self.old) off width value) }
+        ensures err { OnErr result (bytes self.new ≡ bytes self.old) };
+}
