@@ -1,0 +1,9 @@
+-- The halt register. A program ends the board by a store to it.
+use Rattle.std.specs.Prelude.{ℕ, ◌/◌, ◌%◌, ◌==◌, if◌then◌else◌, Option, Some}
+
+-- the halt code after a store: the low half says how the program ended, the high half with which code
+abbrev pub halted_by : Option ℕ → ℕ → Option ℕ
+halted_by code word =
+    if word % 65536 == 0x5555 then Some 0
+    else (if word % 65536 == 0x3333 then Some (word / 65536)
+    else code)

@@ -1,0 +1,3 @@
+pub mod Halt
+pub mod Serial
+pub mod Timer

@@ -1,0 +1,10 @@
+//! The devices of the board that programs reach by loads and stores: timer, serial port and halt register.
+#![tactic(auto)]
+
+mod halt;
+mod serial;
+mod timer;
+
+pub use halt::Halt;
+pub use serial::{Serial, SerialReg};
+pub use timer::Timer;
