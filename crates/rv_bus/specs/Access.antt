@@ -1,0 +1,99 @@
+-- What a load, a store, a fetch and the passing of time do on the bus.
+use Rattle.std.specs.Prelude.{◌≡◌, ℕ, Bool, true, false, ◌-◌, ◌%◌, nat_lt, nat_le, ◌&&◌, if◌then◌else◌, List, length, slice_index, Option, Some, None, Result, Ok, Err}
+use Rattle.std.specs.Option.{option_map}
+use Rattle.rv_isa.specs.declared.op.Width.{Width}
+use Rattle.rv_isa.specs.declared.op.Width.TheVariants.{One, Two, Four}
+use Rattle.rv_isa.specs.declared.Lines.{Lines}
+use Rattle.rv_ram.specs.Bytes.{word_at, put, value_at}
+use Rattle.rv_mmio.specs.Timer as timer
+use Rattle.rv_mmio.specs.Serial as serial
+use Rattle.rv_mmio.specs.Halt.{halted_by}
+use Rattle.rv_mmio.specs.declared.serial.SerialReg.{SerialReg}
+use Rattle.rv_mmio.specs.declared.serial.SerialReg.TheVariants.{Tx, Rx, Status}
+use Rattle.rv_bus.specs.State.{BusState}
+use Rattle.rv_bus.specs.Places.{place_of}
+use Rattle.rv_bus.specs.declared.places.Place.{Place}
+use Rattle.rv_bus.specs.declared.places.Place.TheVariants.{Ram, Halt, Timer, Serial, Nowhere}
+
+-- a narrow access of a register has its low bits
+abbrev pub low_bits : ℕ → Width → ℕ
+low_bits v One = v % 256
+low_bits v Two = v % 65536
+low_bits v Four = v
+
+-- what a load at a place gives: the value of the bytes, or the register
+abbrev pub load_at : BusState → Place → Width → Option ℕ
+load_at b (Ram off) w = Some (value_at b.ram off w)
+load_at b Halt w = Some 0
+load_at b (Timer off) w = timer.load b.timer off
+load_at b (Serial reg) w = Some (low_bits (serial.load_value b.serial reg) w)
+load_at b Nowhere w = None
+
+-- what it leaves: only a load of the serial port has an effect
+abbrev pub after_load_at : BusState → Place → BusState
+after_load_at b (Ram off) = b
+after_load_at b Halt = b
+after_load_at b (Timer off) = b
+after_load_at b (Serial reg) = record b { serial = serial.after_load b.serial reg }
+after_load_at b Nowhere = b
+
+-- what a store at a place leaves, if something stands there
+abbrev pub store_at : BusState → Place → Width → ℕ → Option BusState
+store_at b (Ram off) w v = Some (record b { ram = put b.ram off w v })
+store_at b Halt w v = Some (record b { halt = halted_by b.halt v })
+store_at b (Timer off) w v = option_map (λ t. record b { timer = t }) (timer.store b.timer off v)
+store_at b (Serial reg) w v = Some (record b { serial = serial.stored b.serial reg v })
+store_at b Nowhere w v = None
+
+abbrev pub is_transmit : SerialReg → Bool
+is_transmit Tx = true
+is_transmit Rx = false
+is_transmit Status = false
+
+-- a store there may have to grow something: the memory or the console
+abbrev pub grows_at : Place → Bool
+grows_at (Ram off) = true
+grows_at Halt = false
+grows_at (Timer off) = false
+grows_at (Serial reg) = is_transmit reg
+grows_at Nowhere = false
+
+abbrev pub place : BusState → ℕ → Width → Place
+place b a w = place_of (length b.ram) a w
+
+unfoldable pub load : BusState → ℕ → Width → Option ℕ
+load b a w = load_at b (place b a w) w
+
+unfoldable pub after_load : BusState → ℕ → Width → BusState
+after_load b a w = after_load_at b (place b a w)
+
+unfoldable pub store : BusState → ℕ → Width → ℕ → Option BusState
+store b a w v = store_at b (place b a w) w v
+
+unfoldable pub grows : BusState → ℕ → Width → Bool
+grows b a w = grows_at (place b a w)
+
+abbrev pub word_of : List ℕ → Place → Option ℕ
+word_of ram (Ram off) = Some (word_at ram off)
+word_of ram p = None
+
+-- the word that a fetch at an address gives: that of the memory, or none
+unfoldable pub fetch : List ℕ → ℕ → Option ℕ
+fetch ram a = word_of ram (place_of (length ram) a Four)
+
+-- the byte of the memory at an address, if it is one
+abbrev pub ram_byte : List ℕ → ℕ → Option ℕ
+ram_byte ram a =
+    if nat_le 0x80000000 a && nat_lt (a - 0x80000000) (length ram) then Some (slice_index ram (a - 0x80000000)) else None
+
+-- time passes
+abbrev pub ticked : BusState → BusState
+ticked b = record b { timer = timer.ticked b.timer }
+
+-- the levels of the interrupt lines
+abbrev pub lines_of : BusState → Lines
+lines_of b = record { software = b.timer.software; timer = timer.is_due b.timer; external = false }
+
+-- a byte comes in
+abbrev pub received : BusState → ℕ → BusState
+received b byte = record b { serial = serial.received b.serial byte }

@@ -1,0 +1,5 @@
+pub mod State
+pub mod Places
+pub mod Within
+pub mod Access
+pub mod Stores

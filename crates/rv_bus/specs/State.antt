@@ -1,0 +1,16 @@
+-- What stands on the bus: the memory as its bytes, and a record for each device.
+use Rattle.std.specs.Prelude.{ℕ, List, Option, None}
+use Rattle.rv_mmio.specs.Timer.{TimerState}
+use Rattle.rv_mmio.specs.Timer as timer
+use Rattle.rv_mmio.specs.Serial.{SerialState}
+use Rattle.rv_mmio.specs.Serial as serial
+
+pub record BusState : Type 0 where
+  pub ram : List ℕ
+  pub timer : TimerState
+  pub serial : SerialState
+  pub halt : Option ℕ
+
+-- the bus at reset, over these bytes
+abbrev pub reset : List ℕ → BusState
+reset ram = record { ram = ram; timer = timer.reset; serial = serial.reset; halt = None }

@@ -1,0 +1,11 @@
+-- A place of the memory that an access may use.
+use Rattle.std.specs.Prelude.{◌≡◌, ℕ, ◌+◌, ◌%◌, ◌≤◌}
+use Rattle.rv_isa.specs.declared.op.Width.{Width}
+use Rattle.rv_isa.specs.Width.{bytes_of}
+use Rattle.rv_bus.specs.declared.places.Place.{Place}
+use Rattle.rv_bus.specs.declared.places.Place.TheVariants.{Ram}
+
+-- a place of the memory is in range and aligned, and is where the address says
+abbrev pub IsWithin : ℕ → ℕ → Width → Place → Type 0
+IsWithin size a w (Ram off) = (off + bytes_of w ≤ size) × (off % bytes_of w ≡ 0) × (a ≡ 0x80000000 + off)
+IsWithin size a w p = Unit {0}

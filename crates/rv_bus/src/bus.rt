@@ -1,0 +1,250 @@
+//! The bus over a memory.
+ghost use Rattle.std.specs.Prelude.{◌≡◌, ◌≢◌, ◌+◌, ◌*◌, ◌/◌, ◌%◌, ◌^◌, ◌<◌, ◌≤◌, ℕ, length, IfErr};
+ghost use Rattle.rv_isa.specs.Width.{bytes_of};
+ghost use Rattle.rv_ram.specs.Bytes.{value_at, HasPages};
+ghost use Rattle.rv_mmio.specs.Serial as serial;
+ghost use Rattle.rv_bus.specs.State.{reset};
+ghost use Rattle.rv_bus.specs.Access.{place, load, after_load, fetch, low_bits, ram_byte, ticked, lines_of, received};
+ghost use Rattle.rv_bus.specs.Within.{IsWithin};
+ghost use Rattle.rv_bus.specs.Stores.{Stores, Answers};
+
+use crate::places::{Place, find_place};
+use rv_isa::{Lines, NoMemory, Width};
+use rv_mmio::{Halt, Serial, SerialReg, Timer};
+use rv_ram::ByteMemory;
+use std::marker::Model;
+
+/// An access that the address table does not have.
+#[derive(Clone, Copy, Debug, PartialEq, Eq)]
+pub struct BusFault;
+
+/// Why a store was not done.
+#[derive(Clone, Copy, Debug, PartialEq, Eq)]
+pub enum StoreRefusal {
+    /// The address table has no such access.
+    Fault,
+    /// The memory or the console could not grow.
+    NoMemory,
+}
+
+/// What the passing of time changes, as it was.
+#[derive(Clone, Copy, Debug, PartialEq, Eq)]
+pub struct Mark {
+    timer: Timer,
+}
+
+impl Model for Mark {
+    ghost use Rattle.rv_mmio.specs.Timer.{TimerState};
+
+    ghost Value = { TimerState };
+
+    ghost view = { λ m. m.timer };
+
+    ghost inverse = { λ t. record { timer = t } };
+}
+
+/// The memory and the devices, each at its addresses.
+///
+/// | Address | What stands there | Widths |
+/// |---|---|---|
+/// | 0x00100000 | halt register | 4 |
+/// | 0x02000000, +0x4000, +0x4004, +0xBFF8, +0xBFFC | timer: msip, mtimecmp low and high, mtime low and high | 4 |
+/// | 0x10000000, +4, +8 | serial port: transmit, receive, status | 1, 2, 4 |
+/// | 0x80000000 and on | memory | 1, 2, 4, fetch |
+///
+/// Every other address, width or fetch is a fault. A narrow access of a register has its low bits.
+#[derive(Drop)]
+pub struct Bus<M: ByteMemory> {
+    ram: M,
+    timer: Timer,
+    serial: Serial,
+    halt: Halt,
+}
+
+impl<M: ByteMemory> Model for Bus<M> {
+    ghost use Rattle.rv_bus.specs.State.{BusState};
+
+    ghost Value = { BusState };
+
+    ghost view = { λ b. record { ram = M.bytes b.ram; timer = b.timer; serial = b.serial; halt = b.halt } };
+}
+
+impl<M: ByteMemory> Bus<M> {
+    /// A bus with this memory and serial port, a timer at time 0, and a halt register that was not written.
+    pub fn new(ram: M, serial: Serial) -> Bus<M>
+        ensures { result ≡ record (reset (M.bytes ram)) { serial = serial } }
+    {
+        Bus {
+            ram,
+            timer: Timer::new(),
+            serial,
+            halt: Halt::new(),
+        }
+    }
+
+    fn place(&self, addr: u32, width: Width) -> Place
+        requires { addr % bytes_of width ≡ 0 }
+        ensures place { result ≡ place self.now addr width }
+        ensures within { IsWithin (length self.now.ram) addr width result }
+    {
+        find_place(self.ram.size(), addr, width)
+    }
+
+    /// The word of the memory at an address that is a multiple of 4. Only the memory can be fetched from.
+    #[tactic(auto, unfolding(crate::specs::Access::fetch))]
+    pub fn fetch(&self, addr: u32) -> Result<u32, BusFault>
+        requires { addr % 4 ≡ 0 }
+        ensures { Answers result (fetch self.now.ram addr) }
+    {
+        match self.place(addr, Width::Four) {
+            Place::Ram(off) => Ok(self.ram.read_word(off)),
+            _ => Err(BusFault),
+        }
+    }
+
+    /// What a load at an address that is a multiple of its width gives, extended with zeros. One of the receive
+    /// register takes the byte, one of the status clears the overrun; a refused one changes nothing.
+    #[tactic(auto, unfolding(crate::specs::Access::load, crate::specs::Access::after_load))]
+    pub fn load(&mut self, addr: u32, width: Width) -> Result<u32, BusFault>
+        requires { addr % bytes_of width ≡ 0 }
+        ensures value { Answers result (load self.old addr width) }
+        ensures after { self.new ≡ after_load self.old addr width }
+        ensures ram { self.new.ram ≡ self.old.ram }
+        ensures fault { IfErr result (λ _. self.new ≡ self.old) }
+    {
+        match self.place(addr, width) {
+            Place::Ram(off) => Ok(self.load_ram(off, width)),
+            Place::Halt => Ok(0),
+            Place::Timer(off) => match self.timer.load(off) {
+                Some(word) => Ok(word),
+                None => Err(BusFault),
+            },
+            Place::Serial(register) => Ok(self.load_serial(register, width)),
+            Place::Nowhere => Err(BusFault),
+        }
+    }
+
+    fn load_ram(&self, off: u32, width: Width) -> u32
+        requires within { off + bytes_of width ≤ length self.now.ram }
+        requires aligned { off % bytes_of width ≡ 0 }
+        ensures { result ≡ value_at self.now.ram off width }
+    {
+        match width {
+            Width::One => self.ram.read(off) as u32,
+            Width::Two => self.ram.read(off) as u32 + 256 * self.ram.read(off + 1) as u32,
+            Width::Four => self.ram.read_word(off),
+        }
+    }
+
+    fn load_serial(&mut self, register: SerialReg, width: Width) -> u32
+        ensures value { result ≡ low_bits (serial.load_value self.old.serial register) width }
+        ensures after { self.new ≡ record self.old { serial = serial.after_load self.old.serial register } }
+    {
+        let word = self.serial.load(register);
+        match width {
+            Width::One => word % 256,
+            Width::Two => word % 65536,
+            Width::Four => word,
+        }
+    }
+
+    /// Stores the low bytes of a value at an address that is a multiple of their number. A refused store changes
+    /// nothing.
+    #[tactic(auto, using(crate::proofs::Others::fetch_put), unfolding(crate::specs::Access::store, crate::specs::Access::grows))]
+    pub fn store(&mut self, addr: u32, width: Width, value: u32) -> Result<(), StoreRefusal>
+        requires { addr % bytes_of width ≡ 0 }
+        ensures stores { Stores self.old addr width value self.new result }
+        ensures others { (a : ℕ) → a % 4 ≡ 0 → a ≢ addr / 4 * 4 → fetch self.new.ram a ≡ fetch self.old.ram a }
+    {
+        match self.place(addr, width) {
+            Place::Ram(off) => match self.ram.write(off, width, value) {
+                Ok(()) => return Ok(()),
+                Err(NoMemory) => return Err(StoreRefusal::NoMemory),
+            },
+            Place::Halt => {
+                self.halt.store(value);
+                return Ok(());
+            }
+            Place::Timer(off) => match self.timer.store(off, value) {
+                Some(()) => return Ok(()),
+                None => return Err(StoreRefusal::Fault),
+            },
+            Place::Serial(register) => match self.serial.store(register, value) {
+                Ok(()) => return Ok(()),
+                Err(NoMemory) => return Err(StoreRefusal::NoMemory),
+            },
+            Place::Nowhere => return Err(StoreRefusal::Fault),
+        }
+    }
+
+    /// The byte of the memory at an address, if one is there. Nothing changes.
+    pub fn peek(&self, addr: u32) -> Option<u8>
+        ensures { result ≡ ram_byte self.now.ram addr }
+    {
+        if addr >= 0x8000_0000 && addr - 0x8000_0000 < self.ram.size() {
+            Some(self.ram.read(addr - 0x8000_0000))
+        } else {
+            None
+        }
+    }
+
+    /// Time passes by one tick.
+    pub fn tick(&mut self)
+        ensures { self.new ≡ ticked self.old }
+    {
+        self.timer.tick();
+    }
+
+    /// The levels of the interrupt lines.
+    pub fn lines(&self) -> Lines
+        ensures { result ≡ lines_of self.now }
+    {
+        Lines {
+            software: self.timer.software(),
+            timer: self.timer.due(),
+            external: false,
+        }
+    }
+
+    /// A byte comes in at the serial port.
+    pub fn receive(&mut self, byte: u8)
+        ensures { self.new ≡ received self.old byte }
+    {
+        self.serial.receive(byte);
+    }
+
+    /// What a tick changes, to be put back.
+    pub fn mark(&self) -> Mark
+        ensures { result ≡ self.now.timer }
+    {
+        Mark { timer: self.timer }
+    }
+
+    /// Makes what a tick changes what it was, and touches nothing else.
+    pub fn put_back(&mut self, mark: Mark)
+        ensures { self.new ≡ record self.old { timer = mark } }
+    {
+        self.timer = mark.timer;
+    }
+
+    /// The code with which the board was halted, if it was.
+    pub fn halted(&self) -> Option<u16>
+        ensures { result ≡ self.now.halt }
+    {
+        self.halt.code()
+    }
+
+    /// The timer.
+    pub fn timer(&self) -> &Timer
+        ensures { result.now ≡ self.now.timer }
+    {
+        &self.timer
+    }
+
+    /// The serial port.
+    pub fn serial(&self) -> &Serial
+        ensures { result.now ≡ self.now.serial }
+    {
+        &self.serial
+    }
+}

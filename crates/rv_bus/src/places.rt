@@ -1,0 +1,81 @@
+//! The address table.
+ghost use Rattle.std.specs.Prelude.{◌≡◌, ◌%◌, ◌≤◌, ◌^◌, ℕ};
+ghost use Rattle.rv_isa.specs.Width.{bytes_of};
+ghost use Rattle.rv_bus.specs.Places.{place_of, device_of, word_device};
+ghost use Rattle.rv_bus.specs.Within.{IsWithin};
+
+use rv_isa::Width;
+use rv_mmio::SerialReg;
+
+/// The first address of the memory.
+const RAM: u32 = 0x8000_0000;
+
+/// The halt register.
+const HALT: u32 = 0x0010_0000;
+
+/// The first address of the timer's window, and the first one after it.
+const TIMER: u32 = 0x0200_0000;
+
+const TIMER_END: u32 = 0x0200_c000;
+
+/// What the address table has at an address.
+#[derive(Clone, Copy, Debug, PartialEq, Eq)]
+pub enum Place {
+    /// A byte of the memory, by its offset.
+    Ram(u32),
+    Halt,
+    /// An offset in the timer's window, which may hold no register.
+    Timer(u32),
+    Serial(SerialReg),
+    Nowhere,
+}
+
+/// What stands at an address, for an access of this width.
+#[tactic(auto, using(crate::proofs::Fit::memory_within), unfolding(crate::specs::Places::place_of))]
+pub fn find_place(size: u32, addr: u32, width: Width) -> Place
+    requires words { size % 4096 ≡ 0 }
+    requires aligned { addr % bytes_of width ≡ 0 }
+    ensures place { result ≡ place_of size addr width }
+    ensures within { IsWithin size addr width result }
+{
+    if addr >= RAM {
+        let off = addr - RAM;
+        return if off < size {
+            Place::Ram(off)
+        } else {
+            Place::Nowhere
+        };
+    }
+    device(addr, width)
+}
+
+fn device(addr: u32, width: Width) -> Place
+    ensures place { result ≡ device_of addr width }
+    ensures within { (size : ℕ) → IsWithin size addr width result }
+{
+    match addr {
+        0x1000_0000 => Place::Serial(SerialReg::Tx),
+        0x1000_0004 => Place::Serial(SerialReg::Rx),
+        0x1000_0008 => Place::Serial(SerialReg::Status),
+        _ => match width {
+            Width::Four => word_device(addr),
+            Width::One | Width::Two => Place::Nowhere,
+        },
+    }
+}
+
+/// A device that only words reach.
+fn word_device(addr: u32) -> Place
+    ensures place { result ≡ word_device addr }
+    ensures within { (size : ℕ) (w : Width) → IsWithin size addr w result }
+{
+    if addr == HALT {
+        return Place::Halt;
+    }
+    if addr >= TIMER && addr < TIMER_END {
+        return Place::Timer(addr - TIMER);
+    }
+    Place::Nowhere
+}
+
+ghost use Rattle.rv_isa.specs.declared.op.Width.{Width};
