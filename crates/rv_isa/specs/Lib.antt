@@ -1,4 +1,5 @@
 pub mod Alu
+pub mod Meaning
 pub mod Names
 pub mod Number
 pub mod Op
