@@ -1,0 +1,7 @@
+pub mod State
+pub mod Coherent
+pub mod Effect
+pub mod Fetched
+pub mod Keeps
+pub mod Step
+pub mod Tries
