@@ -1,0 +1,33 @@
+-- The board at reset.
+use Rattle.std.specs.Prelude.{ℕ, Bool, ◌*◌, ◌-◌, ◌^◌, ◌==◌, ◌&&◌, nat_le, nat_lt, not, if◌then◌else◌, List, [], ◌∷◌, ◌++◌, length, Option, Some, None}
+use Rattle.std.specs.List.{list_any}
+use Rattle.rv_ram.specs.Bytes.{zeros}
+use Rattle.rv_bus.specs.State as bus
+use Rattle.rv_hart.specs.Step as hart
+use Rattle.rv_board.specs.State.{BoardState}
+use Rattle.rv_board.specs.declared.event.BootFault.{BootFault}
+use Rattle.rv_board.specs.declared.event.BootFault.TheVariants.{BadPages, BadSlots, ImageTooLarge}
+
+-- a power of two from 64 to 4096
+abbrev pub is_slot_count : ℕ → Bool
+is_slot_count n = list_any (λ k. n == 2 ^ k) (6 ∷ 7 ∷ 8 ∷ 9 ∷ 10 ∷ 11 ∷ 12 ∷ [])
+
+-- why an image of so many bytes can't be booted with so many pages and slots: the first of these that applies
+unfoldable pub boot_fault : ℕ → ℕ → ℕ → Option BootFault
+boot_fault size pages slots =
+    if not (nat_le 1 pages && nat_le pages 4096) then Some BadPages
+    else (if not (is_slot_count slots) then Some BadSlots
+    else (if nat_lt (4096 * pages) size then Some ImageTooLarge
+    else None))
+
+-- the image at the front of so many bytes, and zeros behind it
+abbrev pub ram_with : List ℕ → ℕ → List ℕ
+ram_with image size = image ++ zeros (size - length image)
+
+-- the board at reset over so many bytes of memory
+unfoldable pub start_over : List ℕ → ℕ → BoardState
+start_over image size = record { machine = hart.start (bus.reset (ram_with image size)); traps = []; steps = 0 }
+
+-- the board at reset over so many pages of memory
+abbrev pub start : List ℕ → ℕ → BoardState
+start image pages = start_over image (4096 * pages)

@@ -1,0 +1,51 @@
+-- What events make of a board.
+use Rattle.std.specs.Prelude.{◌≡◌, ◌<◌, ℕ, Bool, true, false, ◌+◌, ◌%◌, ◌^◌, List, [], ◌∷◌, ◌++◌, length, take, slice_get, Option, Some, None}
+use Rattle.circular_buffer.specs.Buffer.{keep_last}
+use Rattle.rv_hart.specs.State.{Machine}
+use Rattle.rv_hart.specs.Step.{step, receive}
+use Rattle.rv_hart.specs.Step as hart
+use Rattle.rv_hart.specs.declared.trap.Outcome.{Outcome}
+use Rattle.rv_hart.specs.declared.trap.Outcome.TheVariants.{Retired, Trapped, Halted}
+use Rattle.rv_board.specs.State.{BoardState}
+use Rattle.rv_board.specs.declared.event.Event.{Event}
+use Rattle.rv_board.specs.declared.event.Event.TheVariants.{Step, Rx}
+use Rattle.rv_board.specs.declared.event.TrapRecord.{TrapRecord}
+
+-- the last 64 traps
+abbrev pub with_trap : List TrapRecord → Outcome → List TrapRecord
+with_trap ts Retired = ts
+with_trap ts Halted = ts
+with_trap ts (Trapped cause epc tval) = keep_last 64 (ts ++ record { cause = cause; epc = epc; tval = tval } ∷ [])
+
+abbrev pub stepped : BoardState → Machine × Outcome → BoardState
+stepped b (m, o) = record { machine = m; traps = with_trap b.traps o; steps = (b.steps + 1) % 2 ^ 64 }
+
+-- what an event makes of a board by its halt code: a halted one stays
+abbrev pub happens : Option ℕ → BoardState → Event → BoardState
+happens (Some code) b e = b
+happens None b Step = stepped b (step b.machine)
+happens None b (Rx byte) = record b { machine = receive b.machine byte }
+
+-- what an event makes of a board
+unfoldable pub moved : BoardState → Event → BoardState
+moved b e = happens b.machine.bus.halt b e
+
+abbrev pub writes_by : Option ℕ → BoardState → Event → Bool
+writes_by (Some code) b e = false
+writes_by None b Step = hart.writes b.machine
+writes_by None b (Rx byte) = false
+
+-- the event is a step that retires a store to the memory or the console
+unfoldable pub writes : BoardState → Event → Bool
+writes b e = writes_by b.machine.bus.halt b e
+
+-- what events make of it, one after another
+abbrev pub run : BoardState → List Event → BoardState
+run b [] = b
+run b (e ∷ es) = run (moved b e) es
+
+-- the board stands after the first done events, of more, and the next one is a step that writes
+pub record IsStopped (old new : BoardState) (events : List Event) (done : ℕ) : Type 0 where
+  pub within : done < length events
+  pub state : new ≡ run old (take done events)
+  pub next_writes : (e : Event) → slice_get events done ≡ Some e → writes new e ≡ true

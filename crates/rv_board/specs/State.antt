@@ -1,0 +1,31 @@
+-- All that a board is.
+use Rattle.std.specs.Prelude.{ℕ, List, slice_index, Option}
+use Rattle.rv_bus.specs.Access.{ram_byte}
+use Rattle.rv_hart.specs.State.{Machine}
+use Rattle.rv_board.specs.declared.event.TrapRecord.{TrapRecord}
+
+-- the machine, the last traps, oldest first, and the count of steps
+pub record BoardState : Type 0 where
+  pub machine : Machine
+  pub traps : List TrapRecord
+  pub steps : ℕ
+
+-- ---- what others may see of it
+
+abbrev pub reg_of : BoardState → ℕ → ℕ
+reg_of b r = slice_index b.machine.registers r
+
+abbrev pub pc_of : BoardState → ℕ
+pc_of b = b.machine.pc
+
+abbrev pub byte_of : BoardState → ℕ → Option ℕ
+byte_of b a = ram_byte b.machine.bus.ram a
+
+abbrev pub console_of : BoardState → List ℕ
+console_of b = b.machine.bus.serial.sent
+
+abbrev pub halted_of : BoardState → Option ℕ
+halted_of b = b.machine.bus.halt
+
+abbrev pub steps_of : BoardState → ℕ
+steps_of b = b.steps
