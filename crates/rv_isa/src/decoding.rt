@@ -98,7 +98,7 @@ fn store(word: u32) -> Option<Instr>
     }))
 }
 
-// The two function codes of shifts leave the high bits of the immediate to a code of their own.
+/// Under the function codes 1 and 5 the high seven bits are a code of the shift, else part of the immediate.
 #[tactic(auto, unfolding(crate::specs::Word::word, crate::specs::Word::Means))]
 fn op_imm(word: u32) -> Option<Instr>
     requires { word % 2 ^ 7 ≡ 0x13 }
@@ -173,6 +173,7 @@ fn system(word: u32) -> Option<Instr>
             opcode::WFI => Some(Instr::of(Kind::Wfi)),
             _ => None,
         },
+        // Each operation stands once with a register, and 4 codes above with an immediate.
         funct3 if funct3 < 4 => {
             let op = CsrOp::from_funct3(funct3)?;
             Some(Instr::of(Kind::Csr {

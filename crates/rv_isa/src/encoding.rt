@@ -81,6 +81,7 @@ pub fn encode(instr: Instr) -> u32
     }
 }
 
+/// A word of the R format: bits 24:20 are a register, or the amount of a shift.
 fn r_type(opcode: u32, rd: Reg, funct3: u32, rs1: Reg, rs2: u8, funct7: u32) -> u32
     requires opcode { opcode < 2 ^ 7 }
     requires funct3 { funct3 < 2 ^ 3 }
@@ -96,6 +97,7 @@ fn r_type(opcode: u32, rd: Reg, funct3: u32, rs1: Reg, rs2: u8, funct7: u32) -> 
         + (funct7 << 25)
 }
 
+/// A word of the I format: bits 19:15 are a register, or a small number.
 fn i_type(opcode: u32, rd: Reg, funct3: u32, rs1: u8, imm: u32) -> u32
     requires opcode { opcode < 2 ^ 7 }
     requires funct3 { funct3 < 2 ^ 3 }
@@ -106,6 +108,7 @@ fn i_type(opcode: u32, rd: Reg, funct3: u32, rs1: u8, imm: u32) -> u32
     opcode + ((rd.number() as u32) << 7) + (funct3 << 12) + ((rs1 as u32) << 15) + (imm << 20)
 }
 
+/// A word of the S format.
 fn s_type(opcode: u32, funct3: u32, rs1: Reg, rs2: Reg, imm: u32) -> u32
     requires opcode { opcode < 2 ^ 7 }
     requires funct3 { funct3 < 2 ^ 3 }
@@ -120,6 +123,7 @@ fn s_type(opcode: u32, funct3: u32, rs1: Reg, rs2: Reg, imm: u32) -> u32
         + (imm >> 5 << 25)
 }
 
+/// A word of the B format: the lowest bit of the distance is 0 and has no place.
 fn b_type(opcode: u32, funct3: u32, rs1: Reg, rs2: Reg, offset: i32) -> u32
     requires opcode { opcode < 2 ^ 7 }
     requires funct3 { funct3 < 2 ^ 3 }
@@ -137,6 +141,7 @@ fn b_type(opcode: u32, funct3: u32, rs1: Reg, rs2: Reg, offset: i32) -> u32
         + (imm >> 12 << 31)
 }
 
+/// A word of the U format.
 fn u_type(opcode: u32, rd: Reg, imm: u32) -> u32
     requires opcode { opcode < 2 ^ 7 }
     requires imm { imm < 2 ^ 20 }
@@ -145,6 +150,7 @@ fn u_type(opcode: u32, rd: Reg, imm: u32) -> u32
     opcode + ((rd.number() as u32) << 7) + (imm << 12)
 }
 
+/// A word of the J format: the lowest bit of the distance is 0 and has no place.
 fn j_type(opcode: u32, rd: Reg, offset: i32) -> u32
     requires opcode { opcode < 2 ^ 7 }
     requires offset { IsWithin (2 ^ 20) offset }
@@ -159,7 +165,7 @@ fn j_type(opcode: u32, rd: Reg, offset: i32) -> u32
         + (imm >> 20 << 31)
 }
 
-/// The low twelve bits of an immediate.
+/// The twelve bits of a signed immediate.
 fn low_12(imm: i32) -> u32
     requires { IsWithin (2 ^ 11) imm }
     ensures value { result ≡ modulo imm (2 ^ 12) }
