@@ -21,13 +21,7 @@ pub fn encode(instr: Instr) -> u32
         Kind::Lui { rd, imm } => u_type(opcode::LUI, rd, imm),
         Kind::Auipc { rd, imm } => u_type(opcode::AUIPC, rd, imm),
         Kind::Jal { rd, offset } => j_type(opcode::JAL, rd, offset),
-        Kind::Jalr { rd, base, offset } => i_type(
-            opcode::JALR,
-            rd,
-            0,
-            base.number(),
-            low_12(offset),
-        ),
+        Kind::Jalr { rd, base, offset } => i_signed(opcode::JALR, rd, 0, base, offset),
         Kind::Branch {
             cond,
             rs1,
@@ -39,16 +33,14 @@ pub fn encode(instr: Instr) -> u32
             rd,
             base,
             offset,
-        } => { i_type(opcode::LOAD, rd, op.funct3(), base.number(), low_12(offset)) }
+        } => { i_signed(opcode::LOAD, rd, op.funct3(), base, offset) }
         Kind::Store {
             width,
             source,
             base,
             offset,
-        } => { s_type(opcode::STORE, width.funct3(), base, source, low_12(offset)) }
-        Kind::OpImm { op, rd, rs1, imm } => {
-            i_type(opcode::OP_IMM, rd, op.funct3(), rs1.number(), low_12(imm))
-        }
+        } => { s_type(opcode::STORE, width.funct3(), base, source, offset) }
+        Kind::OpImm { op, rd, rs1, imm } => { i_signed(opcode::OP_IMM, rd, op.funct3(), rs1, imm) }
         Kind::Shift {
             op,
             rd,
@@ -58,22 +50,15 @@ pub fn encode(instr: Instr) -> u32
         Kind::Op { op, rd, rs1, rs2 } => {
             r_type(opcode::OP, rd, op.funct3(), rs1, rs2.number(), op.funct7())
         }
-        Kind::Fence { rd, rs1, imm } => i_type(opcode::MISC_MEM, rd, 0, rs1.number(), imm as u32),
-        Kind::FenceI { rd, rs1, imm } => i_type(opcode::MISC_MEM, rd, 1, rs1.number(), imm as u32),
-        Kind::Csr { op, rd, rs1, csr } => i_type(
-            opcode::SYSTEM,
-            rd,
-            op.funct3(),
-            rs1.number(),
-            csr as u32,
-        ),
-        Kind::CsrImm { op, rd, imm, csr } => i_type(
-            opcode::SYSTEM,
-            rd,
-            op.funct3() + 4,
-            imm,
-            csr as u32,
-        ),
+        Kind::Fence { rd, rs1, imm } => i_plain(opcode::MISC_MEM, rd, 0, rs1.number(), imm),
+        Kind::FenceI { rd, rs1, imm } => i_plain(opcode::MISC_MEM, rd, 1, rs1.number(), imm),
+        Kind::Csr { op, rd, rs1, csr } => {
+            i_plain(opcode::SYSTEM, rd, op.funct3(), rs1.number(), csr)
+        }
+        // With an immediate each operation has the code 4 above its own.
+        Kind::CsrImm { op, rd, imm, csr } => {
+            i_plain(opcode::SYSTEM, rd, op.funct3() + 4, imm, csr)
+        }
         Kind::Ecall => opcode::ECALL,
         Kind::Ebreak => opcode::EBREAK,
         Kind::Mret => opcode::MRET,
@@ -97,24 +82,39 @@ fn r_type(opcode: u32, rd: Reg, funct3: u32, rs1: Reg, rs2: u8, funct7: u32) -> 
         + (funct7 << 25)
 }
 
-/// A word of the I format: bits 19:15 are a register, or a small number.
-fn i_type(opcode: u32, rd: Reg, funct3: u32, rs1: u8, imm: u32) -> u32
+/// A word of the I format with a signed immediate.
+fn i_signed(opcode: u32, rd: Reg, funct3: u32, rs1: Reg, imm: i32) -> u32
+    requires opcode { opcode < 2 ^ 7 }
+    requires funct3 { funct3 < 2 ^ 3 }
+    requires imm { IsWithin (2 ^ 11) imm }
+    ensures { result ≡ spec.i_type opcode rd funct3 rs1 (modulo imm (2 ^ 12)) }
+{
+    i_plain(opcode, rd, funct3, rs1.number(), low_12(imm))
+}
+
+/// A word of the I format whose high twelve bits stand as they are; bits 19:15 are a register, or a small number.
+fn i_plain(opcode: u32, rd: Reg, funct3: u32, rs1: u8, imm: u16) -> u32
     requires opcode { opcode < 2 ^ 7 }
     requires funct3 { funct3 < 2 ^ 3 }
     requires rs1 { rs1 < 2 ^ 5 }
     requires imm { imm < 2 ^ 12 }
     ensures { result ≡ spec.i_type opcode rd funct3 rs1 imm }
 {
-    opcode + ((rd.number() as u32) << 7) + (funct3 << 12) + ((rs1 as u32) << 15) + (imm << 20)
+    opcode
+        + ((rd.number() as u32) << 7)
+        + (funct3 << 12)
+        + ((rs1 as u32) << 15)
+        + ((imm as u32) << 20)
 }
 
 /// A word of the S format.
-fn s_type(opcode: u32, funct3: u32, rs1: Reg, rs2: Reg, imm: u32) -> u32
+fn s_type(opcode: u32, funct3: u32, rs1: Reg, rs2: Reg, offset: i32) -> u32
     requires opcode { opcode < 2 ^ 7 }
     requires funct3 { funct3 < 2 ^ 3 }
-    requires imm { imm < 2 ^ 12 }
-    ensures { result ≡ spec.s_type opcode funct3 rs1 rs2 imm }
+    requires offset { IsWithin (2 ^ 11) offset }
+    ensures { result ≡ spec.s_type opcode funct3 rs1 rs2 (modulo offset (2 ^ 12)) }
 {
+    let imm = low_12(offset) as u32;
     opcode
         + (imm % 32 << 7)
         + (funct3 << 12)
@@ -166,12 +166,12 @@ fn j_type(opcode: u32, rd: Reg, offset: i32) -> u32
 }
 
 /// The twelve bits of a signed immediate.
-fn low_12(imm: i32) -> u32
+fn low_12(imm: i32) -> u16
     requires { IsWithin (2 ^ 11) imm }
     ensures value { result ≡ modulo imm (2 ^ 12) }
     ensures below { result < 2 ^ 12 }
 {
-    imm.cast_unsigned() % (1 << 12)
+    (imm.cast_unsigned() % (1 << 12)) as u16
 }
 
 /// No two instructions have one word, so a word says all of its instruction.
