@@ -255,14 +255,3 @@ means_inverts w =
     means-from w _
     (only-kind {P = λ k. IsInRange k × (word k ≡ w)} _ (only-means w)).holds
     (λ k r e. (found-kind _ k r (found-means w k e)).some)
-
-Means-one : ((a b : Kind) → IsInRange a → IsInRange b → word a ≡ word b → a ≡ b) → (w : ℕ) (o r : Option Kind) → Means w o → Means w r → r ≡ o
-unfolding Means
-Means-one differ w (Some a) (Some b) p q = ap (λ k. Some k) (differ b a q.0 p.0 (q.1 ∙ sym p.1))
-Means-one differ w (Some a) None p q = absurd (q a p.0 p.1)
-Means-one differ w None (Some b) p q = absurd (p b q.0 q.1)
-Means-one differ w None None p q = refl
-
--- and what it means is one
-pub means_is : ((a b : Kind) → IsInRange a → IsInRange b → word a ≡ word b → a ≡ b) → (w : ℕ) (r : Option Kind) → Means w r → r ≡ means w
-means_is differ w r p = Means-one differ w (means w) r (means_inverts w) p

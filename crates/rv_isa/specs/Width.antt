@@ -12,13 +12,13 @@ use Rattle.rv_isa.specs.declared.op.ShiftOp.TheVariants.{Slli, Srli, Srai}
 use Rattle.rv_isa.specs.declared.op.Width.{Width}
 use Rattle.rv_isa.specs.declared.op.Width.TheVariants.{One, Two, Four}
 
--- how many bytes an access has
+-- how many bytes an access has (section 2.6)
 abbrev pub bytes_of : Width → ℕ
 bytes_of One = 1
 bytes_of Two = 2
 bytes_of Four = 4
 
--- how many bytes a load reads
+-- how many bytes a load reads (section 2.6)
 abbrev pub load_width : LoadOp → Width
 load_width Lb = One
 load_width Lh = Two
@@ -26,7 +26,7 @@ load_width Lw = Four
 load_width Lbu = One
 load_width Lhu = Two
 
--- a load extends with the sign of what it reads
+-- whether a load extends with the sign of what it reads (section 2.6)
 abbrev pub is_signed_load : LoadOp → Bool
 is_signed_load Lb = true
 is_signed_load Lh = true
@@ -34,7 +34,7 @@ is_signed_load Lw = true
 is_signed_load Lbu = false
 is_signed_load Lhu = false
 
--- the operation of a register-immediate instruction
+-- the operation of a register-immediate instruction (section 2.4)
 abbrev pub imm_alu_op : ImmOp → AluOp
 imm_alu_op Addi = alu.Add
 imm_alu_op Slti = alu.Slt
@@ -43,7 +43,7 @@ imm_alu_op Xori = alu.Xor
 imm_alu_op Ori = alu.Or
 imm_alu_op Andi = alu.And
 
--- the operation of a shift by an immediate
+-- the operation of a shift by an immediate (section 2.4)
 abbrev pub shift_alu_op : ShiftOp → AluOp
 shift_alu_op Slli = alu.Sll
 shift_alu_op Srli = alu.Srl

@@ -1,4 +1,7 @@
-//! Operations, and the function codes that stand for them in a word.
+//! The operations that instructions share, and the function codes that stand for them in a word.
+//!
+//! RISC-V Unprivileged ISA 20191213, chapter 24, has the codes: funct3 has three bits, funct7 has seven. A code's
+//! contract says which operation it stands for, and that a code without an operation is `None`.
 ghost use Rattle.std.specs.Prelude.{◌≡◌, ◌≢◌, ◌<◌, ◌%◌, ◌==◌, MatchOption};
 ghost use Rattle.rv_isa.specs.Width.{bytes_of, load_width, is_signed_load, imm_alu_op, shift_alu_op};
 ghost use Rattle.rv_isa.specs.Op.{cond_funct3, load_op_funct3, width_funct3, imm_op_funct3, csr_op_funct3, shift_op_funct3, alu_op_funct3, shift_op_funct7, alu_op_funct7};
@@ -10,14 +13,22 @@ ghost use Rattle.rv_isa.specs.declared.op.CsrOp.{CsrOp};
 ghost use Rattle.rv_isa.specs.declared.op.ShiftOp.{ShiftOp};
 ghost use Rattle.rv_isa.specs.declared.op.AluOp.{AluOp};
 
-/// A branch's condition.
+/// The condition under which a branch is taken, of its two registers.
+///
+/// RISC-V Unprivileged ISA 20191213, section 2.5. `branch_taken` is what each one asks.
 #[derive(Clone, Copy, PartialEq, Eq, Debug)]
 pub enum Cond {
+    /// BEQ: equal.
     Eq,
+    /// BNE: not equal.
     Ne,
+    /// BLT: the first is less, as signed numbers.
     Lt,
+    /// BGE: the first is not less, as signed numbers.
     Ge,
+    /// BLTU: the first is less, as unsigned numbers.
     Ltu,
+    /// BGEU: the first is not less, as unsigned numbers.
     Geu,
 }
 
@@ -52,17 +63,24 @@ impl Cond {
 }
 
 /// What a load reads, and how it is extended to a word.
+///
+/// RISC-V Unprivileged ISA 20191213, section 2.6.
 #[derive(Clone, Copy, PartialEq, Eq, Debug)]
 pub enum LoadOp {
+    /// LB: one byte, extended with its sign.
     Lb,
+    /// LH: two bytes, extended with their sign.
     Lh,
+    /// LW: four bytes.
     Lw,
+    /// LBU: one byte, extended with zeros.
     Lbu,
+    /// LHU: two bytes, extended with zeros.
     Lhu,
 }
 
 impl LoadOp {
-    /// How many bytes the load reads.
+    /// How many bytes the load reads, all of which are asked for. Section 2.6.
     pub fn width(self) -> Width
         ensures { result ≡ load_width self }
     {
@@ -73,7 +91,8 @@ impl LoadOp {
         }
     }
 
-    /// Whether what is read is extended with its sign, or else with zeros.
+    /// Whether what is read is extended to a word with its sign, or else with zeros. At four bytes both are the same,
+    /// and LW counts as signed. Section 2.6.
     pub fn is_signed(self) -> bool
         ensures { result ≡ is_signed_load self }
     {
@@ -110,16 +129,21 @@ impl LoadOp {
     }
 }
 
-/// How many bytes a load or a store moves.
+/// How many bytes a load or a store moves. A store's operation is its width: SB, SH, SW.
+///
+/// RISC-V Unprivileged ISA 20191213, section 2.6.
 #[derive(Clone, Copy, PartialEq, Eq, Debug)]
 pub enum Width {
+    /// A byte.
     One,
+    /// A half word.
     Two,
+    /// A word.
     Four,
 }
 
 impl Width {
-    /// The number of bytes.
+    /// The number of bytes: 1, 2 or 4.
     pub fn bytes(self) -> u32
         ensures { result ≡ bytes_of self }
     {
@@ -130,7 +154,7 @@ impl Width {
         }
     }
 
-    /// Whether an address is a multiple of the number of bytes.
+    /// Whether a byte address is a multiple of the number of bytes, as a naturally aligned access's is. Section 2.6.
     pub fn is_aligned(self, addr: u32) -> bool
         ensures { result ≡ (addr % bytes_of self == 0) }
     {
@@ -165,18 +189,26 @@ impl Width {
 }
 
 /// An operation on a register and an immediate.
+///
+/// RISC-V Unprivileged ISA 20191213, section 2.4.
 #[derive(Clone, Copy, PartialEq, Eq, Debug)]
 pub enum ImmOp {
+    /// ADDI: the sum.
     Addi,
+    /// SLTI: 1 where the register is less, as signed numbers, else 0.
     Slti,
+    /// SLTIU: the same as unsigned numbers; the immediate is extended with its sign first.
     Sltiu,
+    /// XORI: bitwise exclusive or.
     Xori,
+    /// ORI: bitwise or.
     Ori,
+    /// ANDI: bitwise and.
     Andi,
 }
 
 impl ImmOp {
-    /// The operation on the register and the immediate.
+    /// The operation on the register and the immediate, which counts as a word (modulo 2^32). Section 2.4.
     pub fn alu_op(self) -> AluOp
         ensures { result ≡ imm_alu_op self }
     {
@@ -220,10 +252,15 @@ impl ImmOp {
 }
 
 /// What an instruction does to a control register.
+///
+/// RISC-V Unprivileged ISA 20191213, section 9.1.
 #[derive(Clone, Copy, PartialEq, Eq, Debug)]
 pub enum CsrOp {
+    /// CSRRW, CSRRWI: the source is written.
     Write,
+    /// CSRRS, CSRRSI: the bits of the source are set.
     Set,
+    /// CSRRC, CSRRCI: the bits of the source are cleared.
     Clear,
 }
 
@@ -251,16 +288,21 @@ impl CsrOp {
     }
 }
 
-/// A shift by an amount in the instruction.
+/// A shift of a register by an amount that stands in the instruction.
+///
+/// RISC-V Unprivileged ISA 20191213, section 2.4.
 #[derive(Clone, Copy, PartialEq, Eq, Debug)]
 pub enum ShiftOp {
+    /// SLLI: to the left.
     Slli,
+    /// SRLI: to the right, with zeros shifted in.
     Srli,
+    /// SRAI: to the right, with copies of the sign shifted in.
     Srai,
 }
 
 impl ShiftOp {
-    /// The operation on the register and the amount.
+    /// The operation on the register and the amount, which counts as a word. Section 2.4.
     pub fn alu_op(self) -> AluOp
         ensures { result ≡ shift_alu_op self }
     {
@@ -305,26 +347,46 @@ impl ShiftOp {
     }
 }
 
-/// An operation on two registers.
+/// An operation on two words. `alu` is what each one gives.
+///
+/// RISC-V Unprivileged ISA 20191213, section 2.4, and from `Mul` on chapter 7.
 #[derive(Clone, Copy, PartialEq, Eq, Debug)]
 pub enum AluOp {
+    /// ADD: the sum.
     Add,
+    /// SLL: the first to the left, by the low five bits of the second.
     Sll,
+    /// SLT: 1 where the first is less, as signed numbers, else 0.
     Slt,
+    /// SLTU: 1 where the first is less, as unsigned numbers, else 0.
     Sltu,
+    /// XOR: bitwise exclusive or.
     Xor,
+    /// SRL: the first to the right, by the low five bits of the second, with zeros shifted in.
     Srl,
+    /// OR: bitwise or.
     Or,
+    /// AND: bitwise and.
     And,
+    /// SUB: the difference.
     Sub,
+    /// SRA: the first to the right, by the low five bits of the second, with copies of the sign shifted in.
     Sra,
+    /// MUL: the low word of the product.
     Mul,
+    /// MULH: the high word of the product of two signed numbers.
     Mulh,
+    /// MULHSU: the high word of the product of a signed and an unsigned number.
     Mulhsu,
+    /// MULHU: the high word of the product of two unsigned numbers.
     Mulhu,
+    /// DIV: the quotient of signed numbers, rounded towards zero; of a zero divisor all ones.
     Div,
+    /// DIVU: the quotient of unsigned numbers, rounded down; of a zero divisor all ones.
     Divu,
+    /// REM: the remainder of signed numbers, with the dividend's sign; of a zero divisor the dividend.
     Rem,
+    /// REMU: the remainder of unsigned numbers; of a zero divisor the dividend.
     Remu,
 }
 

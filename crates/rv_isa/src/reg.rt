@@ -1,9 +1,11 @@
-//! Registers.
+//! The integer registers.
 ghost use Rattle.std.specs.Prelude.{◌≡◌, ◌<◌, ◌%◌, ◌↔◌, ℕ, IsSome, IfSome};
 
 use std::marker::Model;
 
-/// One of the registers x0 to x31, seen as its number.
+/// One of the integer registers x0 to x31, seen as its number.
+///
+/// RISC-V Unprivileged ISA 20191213, section 2.1. Its text is the number's name, as `x10`.
 #[derive(Clone, Copy, PartialEq, Eq, Debug)]
 pub struct Reg(pub(crate) u8);
 
@@ -20,6 +22,7 @@ impl Model for Reg {
 }
 
 impl Reg {
+    /// The register with a number, or `None` exactly from 32 on.
     pub fn new(number: u8) -> Option<Reg>
         ensures valid { IsSome result ↔ (number < 32) }
         ensures value { IfSome result (λ r. r ≡ number) }
@@ -27,6 +30,7 @@ impl Reg {
         if number < 32 { Some(Reg(number)) } else { None }
     }
 
+    /// The number: 0 to 31.
     pub fn number(self) -> u8
         ensures value { result ≡ self }
         ensures below { result < 32 }
@@ -34,7 +38,7 @@ impl Reg {
         self.0
     }
 
-    /// The place of the register among the 32.
+    /// The number as an index into the 32 registers.
     pub fn index(self) -> usize
         ensures value { result ≡ self }
         ensures below { result < 32 }
@@ -42,7 +46,7 @@ impl Reg {
         self.0 as usize
     }
 
-    /// The register whose number is in the low five bits.
+    /// The register whose number stands in the low five bits, whatever the others are.
     pub(crate) fn from_low_bits(bits: u32) -> Reg
         ensures value { result ≡ bits % 32 }
         ensures below { result < 32 }

@@ -1,0 +1,320 @@
+//! Words to their instructions.
+//!
+//! `decode` jumps on the opcode; each major opcode has a function of its own, and each field of a word one that takes
+//! it out. RISC-V Unprivileged ISA 20191213, sections 2.2 and 2.3 and chapter 24.
+ghost use Rattle.std.specs.Prelude.{◌≡◌, ◌≢◌, ◌<◌, ◌≤◌, ◌*◌, ◌/◌, ◌%◌, ◌^◌};
+ghost use Rattle.rv_isa.specs.Number.{modulo, IsWithin, IsDistance};
+ghost use Rattle.rv_isa.specs.Word.{Means};
+ghost use Rattle.rv_isa.specs.Meaning.{means};
+
+use crate::encoding::one_meaning;
+use crate::{AluOp, Cond, CsrOp, ImmOp, Instr, Kind, LoadOp, Reg, ShiftOp, Width, opcode};
+
+/// The instruction that has a word, or `None` where no instruction has it.
+///
+/// Every 32-bit word is answered. An instruction has one word and a word at most one instruction, as `words_differ`
+/// says, so the answer undoes `encode`. RISC-V Unprivileged ISA 20191213, chapter 24.
+pub fn decode(word: u32) -> Option<Instr>
+    ensures means { result ≡ means word }
+    ensures inverse { Means word result }
+{
+    one_meaning();
+    by_opcode(word)
+}
+
+/// The function `means` reads the table of words backwards.
+#[tactic(auto, using(crate::proofs::Meaning::means_inverts))]
+pub fn meaning_inverts(word: u32)
+    ensures { Means word (means word) }
+{}
+
+#[tactic(auto, unfolding(crate::specs::Word::word, crate::specs::Word::Means))]
+fn by_opcode(word: u32) -> Option<Instr>
+    ensures { Means word result }
+{
+    match word % 128 {
+        opcode::LUI => Some(Instr::of(Kind::Lui {
+            rd: rd(word),
+            imm: u_imm(word),
+        })),
+        opcode::AUIPC => Some(Instr::of(Kind::Auipc {
+            rd: rd(word),
+            imm: u_imm(word),
+        })),
+        opcode::JAL => Some(Instr::of(Kind::Jal {
+            rd: rd(word),
+            offset: j_imm(word),
+        })),
+        opcode::JALR => jalr(word),
+        opcode::BRANCH => branch(word),
+        opcode::LOAD => load(word),
+        opcode::STORE => store(word),
+        opcode::OP_IMM => op_imm(word),
+        opcode::OP => op(word),
+        opcode::MISC_MEM => misc_mem(word),
+        opcode::SYSTEM => system(word),
+        _ => None,
+    }
+}
+
+#[tactic(auto, unfolding(crate::specs::Word::word, crate::specs::Word::Means))]
+fn jalr(word: u32) -> Option<Instr>
+    requires { word % 2 ^ 7 ≡ 0x67 }
+    ensures { Means word result }
+{
+    match funct3(word) {
+        0 => Some(Instr::of(Kind::Jalr {
+            rd: rd(word),
+            base: rs1(word),
+            offset: i_imm(word),
+        })),
+        _ => None,
+    }
+}
+
+#[tactic(auto, unfolding(crate::specs::Word::word, crate::specs::Word::Means))]
+fn branch(word: u32) -> Option<Instr>
+    requires { word % 2 ^ 7 ≡ 0x63 }
+    ensures { Means word result }
+{
+    let cond = Cond::from_funct3(funct3(word))?;
+    Some(Instr::of(Kind::Branch {
+        cond,
+        rs1: rs1(word),
+        rs2: rs2(word),
+        offset: b_imm(word),
+    }))
+}
+
+#[tactic(auto, unfolding(crate::specs::Word::word, crate::specs::Word::Means))]
+fn load(word: u32) -> Option<Instr>
+    requires { word % 2 ^ 7 ≡ 0x03 }
+    ensures { Means word result }
+{
+    let op = LoadOp::from_funct3(funct3(word))?;
+    Some(Instr::of(Kind::Load {
+        op,
+        rd: rd(word),
+        base: rs1(word),
+        offset: i_imm(word),
+    }))
+}
+
+#[tactic(auto, unfolding(crate::specs::Word::word, crate::specs::Word::Means))]
+fn store(word: u32) -> Option<Instr>
+    requires { word % 2 ^ 7 ≡ 0x23 }
+    ensures { Means word result }
+{
+    let width = Width::from_funct3(funct3(word))?;
+    Some(Instr::of(Kind::Store {
+        width,
+        source: rs2(word),
+        base: rs1(word),
+        offset: s_imm(word),
+    }))
+}
+
+/// Under the function codes 1 and 5 the high seven bits are a code of the shift, else part of the immediate.
+#[tactic(auto, unfolding(crate::specs::Word::word, crate::specs::Word::Means))]
+fn op_imm(word: u32) -> Option<Instr>
+    requires { word % 2 ^ 7 ≡ 0x13 }
+    ensures { Means word result }
+{
+    match funct3(word) {
+        1 | 5 => {
+            let op = ShiftOp::from_codes(funct7(word), funct3(word))?;
+            Some(Instr::of(Kind::Shift {
+                op,
+                rd: rd(word),
+                rs1: rs1(word),
+                amount: rs2(word).number(),
+            }))
+        }
+        funct3 => {
+            let op = ImmOp::from_funct3(funct3)?;
+            Some(Instr::of(Kind::OpImm {
+                op,
+                rd: rd(word),
+                rs1: rs1(word),
+                imm: i_imm(word),
+            }))
+        }
+    }
+}
+
+#[tactic(auto, unfolding(crate::specs::Word::word, crate::specs::Word::Means))]
+fn op(word: u32) -> Option<Instr>
+    requires { word % 2 ^ 7 ≡ 0x33 }
+    ensures { Means word result }
+{
+    let op = AluOp::from_codes(funct7(word), funct3(word))?;
+    Some(Instr::of(Kind::Op {
+        op,
+        rd: rd(word),
+        rs1: rs1(word),
+        rs2: rs2(word),
+    }))
+}
+
+#[tactic(auto, unfolding(crate::specs::Word::word, crate::specs::Word::Means))]
+fn misc_mem(word: u32) -> Option<Instr>
+    requires { word % 2 ^ 7 ≡ 0x0f }
+    ensures { Means word result }
+{
+    match funct3(word) {
+        0 => Some(Instr::of(Kind::Fence {
+            rd: rd(word),
+            rs1: rs1(word),
+            imm: high_12(word),
+        })),
+        1 => Some(Instr::of(Kind::FenceI {
+            rd: rd(word),
+            rs1: rs1(word),
+            imm: high_12(word),
+        })),
+        _ => None,
+    }
+}
+
+#[tactic(auto, unfolding(crate::specs::Word::word, crate::specs::Word::Means))]
+fn system(word: u32) -> Option<Instr>
+    requires { word % 2 ^ 7 ≡ 0x73 }
+    ensures { Means word result }
+{
+    match funct3(word) {
+        0 => match word {
+            opcode::ECALL => Some(Instr::of(Kind::Ecall)),
+            opcode::EBREAK => Some(Instr::of(Kind::Ebreak)),
+            opcode::MRET => Some(Instr::of(Kind::Mret)),
+            opcode::WFI => Some(Instr::of(Kind::Wfi)),
+            _ => None,
+        },
+        // Each operation stands once with a register, and 4 codes above with an immediate.
+        funct3 if funct3 < 4 => {
+            let op = CsrOp::from_funct3(funct3)?;
+            Some(Instr::of(Kind::Csr {
+                op,
+                rd: rd(word),
+                rs1: rs1(word),
+                csr: high_12(word),
+            }))
+        }
+        funct3 => {
+            let op = CsrOp::from_funct3(funct3 - 4)?;
+            Some(Instr::of(Kind::CsrImm {
+                op,
+                rd: rd(word),
+                imm: rs1(word).number(),
+                csr: high_12(word),
+            }))
+        }
+    }
+}
+
+// ---- the fields of a word
+
+fn funct7(word: u32) -> u32
+    ensures { result ≡ word / 2 ^ 25 }
+{
+    word >> 25
+}
+
+fn funct3(word: u32) -> u32
+    ensures value { result ≡ word / 2 ^ 12 % 2 ^ 3 }
+    ensures below { result < 8 }
+{
+    (word >> 12) % 8
+}
+
+fn rd(word: u32) -> Reg
+    ensures value { result ≡ word / 2 ^ 7 % 2 ^ 5 }
+    ensures below { result < 32 }
+{
+    Reg::from_low_bits(word >> 7)
+}
+
+fn rs1(word: u32) -> Reg
+    ensures value { result ≡ word / 2 ^ 15 % 2 ^ 5 }
+    ensures below { result < 32 }
+{
+    Reg::from_low_bits(word >> 15)
+}
+
+fn rs2(word: u32) -> Reg
+    ensures value { result ≡ word / 2 ^ 20 % 2 ^ 5 }
+    ensures below { result < 32 }
+{
+    Reg::from_low_bits(word >> 20)
+}
+
+/// The high twelve bits as they are: the number of a control register, or the sets of a fence.
+fn high_12(word: u32) -> u16
+    ensures { result ≡ word / 2 ^ 20 }
+{
+    (word >> 20) as u16
+}
+
+// ---- the immediates: each clause says where some of its bits stand in the word
+
+fn i_imm(word: u32) -> i32
+    ensures within { IsWithin (2 ^ 11) result }
+    ensures bits { modulo result (2 ^ 12) ≡ word / 2 ^ 20 }
+{
+    sign_extend(word >> 20, 1 << 11)
+}
+
+fn s_imm(word: u32) -> i32
+    ensures within { IsWithin (2 ^ 11) result }
+    ensures low { modulo result (2 ^ 12) % 2 ^ 5 ≡ word / 2 ^ 7 % 2 ^ 5 }
+    ensures high { modulo result (2 ^ 12) / 2 ^ 5 ≡ word / 2 ^ 25 }
+{
+    sign_extend((word >> 25 << 5) + (word >> 7) % 32, 1 << 11)
+}
+
+fn b_imm(word: u32) -> i32
+    ensures distance { IsDistance (2 ^ 12) result }
+    ensures bit_11 { modulo result (2 ^ 13) / 2 ^ 11 % 2 ≡ word / 2 ^ 7 % 2 }
+    ensures low { modulo result (2 ^ 13) / 2 % 2 ^ 4 ≡ word / 2 ^ 8 % 2 ^ 4 }
+    ensures high { modulo result (2 ^ 13) / 2 ^ 5 % 2 ^ 6 ≡ word / 2 ^ 25 % 2 ^ 6 }
+    ensures sign { modulo result (2 ^ 13) / 2 ^ 12 ≡ word / 2 ^ 31 }
+{
+    let bits = ((word >> 31) << 12)
+        + ((word >> 7) % 2 << 11)
+        + ((word >> 25) % 64 << 5)
+        + ((word >> 8) % 16 << 1);
+    sign_extend(bits, 1 << 12)
+}
+
+fn u_imm(word: u32) -> u32
+    ensures { result ≡ word / 2 ^ 12 }
+{
+    word >> 12
+}
+
+fn j_imm(word: u32) -> i32
+    ensures distance { IsDistance (2 ^ 20) result }
+    ensures high { modulo result (2 ^ 21) / 2 ^ 12 % 2 ^ 8 ≡ word / 2 ^ 12 % 2 ^ 8 }
+    ensures bit_11 { modulo result (2 ^ 21) / 2 ^ 11 % 2 ≡ word / 2 ^ 20 % 2 }
+    ensures low { modulo result (2 ^ 21) / 2 % 2 ^ 10 ≡ word / 2 ^ 21 % 2 ^ 10 }
+    ensures sign { modulo result (2 ^ 21) / 2 ^ 20 ≡ word / 2 ^ 31 }
+{
+    let bits = ((word >> 31) << 20)
+        + ((word >> 12) % 256 << 12)
+        + ((word >> 20) % 2 << 11)
+        + ((word >> 21) % 1024 << 1);
+    sign_extend(bits, 1 << 20)
+}
+
+/// The number with these bits, of which the highest, `sign`, stands for `-sign`.
+fn sign_extend(bits: u32, sign: u32) -> i32
+    requires bits { bits < 2 * sign }
+    requires sign { sign ≤ 2 ^ 20 }
+    ensures within { IsWithin sign result }
+    ensures bits { modulo result (2 * sign) ≡ bits }
+{
+    if bits < sign {
+        bits as i32
+    } else {
+        bits as i32 - (2 * sign) as i32
+    }
+}

@@ -1,0 +1,188 @@
+//! Instructions to their words.
+//!
+//! Each format has a function that puts the fields into their places. RISC-V Unprivileged ISA 20191213, sections 2.2
+//! and 2.3 and chapter 24.
+ghost use Rattle.std.specs.Prelude.{◌≡◌, ◌<◌, ◌^◌};
+ghost use Rattle.rv_isa.specs.Number.{modulo, IsWithin};
+ghost use Rattle.rv_isa.specs.Word as spec;
+ghost use Rattle.rv_isa.specs.Word.{Means, IsInRange, OneMeaning};
+ghost use Rattle.rv_isa.specs.declared.kind.Kind.{Kind};
+
+use crate::{Instr, Kind, Reg, opcode};
+
+/// The word of an instruction: the sum of its fields, each times the power of two of its place.
+///
+/// RISC-V Unprivileged ISA 20191213, sections 2.2 and 2.3 and chapter 24.
+#[tactic(auto, unfolding(crate::specs::Word::word))]
+pub fn encode(instr: Instr) -> u32
+    ensures { result ≡ spec.word instr }
+{
+    match instr.kind() {
+        Kind::Lui { rd, imm } => u_type(opcode::LUI, rd, imm),
+        Kind::Auipc { rd, imm } => u_type(opcode::AUIPC, rd, imm),
+        Kind::Jal { rd, offset } => j_type(opcode::JAL, rd, offset),
+        Kind::Jalr { rd, base, offset } => i_signed(opcode::JALR, rd, 0, base, offset),
+        Kind::Branch {
+            cond,
+            rs1,
+            rs2,
+            offset,
+        } => b_type(opcode::BRANCH, cond.funct3(), rs1, rs2, offset),
+        Kind::Load {
+            op,
+            rd,
+            base,
+            offset,
+        } => { i_signed(opcode::LOAD, rd, op.funct3(), base, offset) }
+        Kind::Store {
+            width,
+            source,
+            base,
+            offset,
+        } => { s_type(opcode::STORE, width.funct3(), base, source, offset) }
+        Kind::OpImm { op, rd, rs1, imm } => { i_signed(opcode::OP_IMM, rd, op.funct3(), rs1, imm) }
+        Kind::Shift {
+            op,
+            rd,
+            rs1,
+            amount,
+        } => { r_type(opcode::OP_IMM, rd, op.funct3(), rs1, amount, op.funct7()) }
+        Kind::Op { op, rd, rs1, rs2 } => {
+            r_type(opcode::OP, rd, op.funct3(), rs1, rs2.number(), op.funct7())
+        }
+        Kind::Fence { rd, rs1, imm } => i_plain(opcode::MISC_MEM, rd, 0, rs1.number(), imm),
+        Kind::FenceI { rd, rs1, imm } => i_plain(opcode::MISC_MEM, rd, 1, rs1.number(), imm),
+        Kind::Csr { op, rd, rs1, csr } => {
+            i_plain(opcode::SYSTEM, rd, op.funct3(), rs1.number(), csr)
+        }
+        // With an immediate each operation has the code 4 above its own.
+        Kind::CsrImm { op, rd, imm, csr } => {
+            i_plain(opcode::SYSTEM, rd, op.funct3() + 4, imm, csr)
+        }
+        Kind::Ecall => opcode::ECALL,
+        Kind::Ebreak => opcode::EBREAK,
+        Kind::Mret => opcode::MRET,
+        Kind::Wfi => opcode::WFI,
+    }
+}
+
+/// A word of the R format: bits 24:20 are a register, or the amount of a shift.
+fn r_type(opcode: u32, rd: Reg, funct3: u32, rs1: Reg, rs2: u8, funct7: u32) -> u32
+    requires opcode { opcode < 2 ^ 7 }
+    requires funct3 { funct3 < 2 ^ 3 }
+    requires rs2 { rs2 < 2 ^ 5 }
+    requires funct7 { funct7 < 2 ^ 7 }
+    ensures { result ≡ spec.r_type opcode rd funct3 rs1 rs2 funct7 }
+{
+    opcode
+        + ((rd.number() as u32) << 7)
+        + (funct3 << 12)
+        + ((rs1.number() as u32) << 15)
+        + ((rs2 as u32) << 20)
+        + (funct7 << 25)
+}
+
+/// A word of the I format with a signed immediate.
+fn i_signed(opcode: u32, rd: Reg, funct3: u32, rs1: Reg, imm: i32) -> u32
+    requires opcode { opcode < 2 ^ 7 }
+    requires funct3 { funct3 < 2 ^ 3 }
+    requires imm { IsWithin (2 ^ 11) imm }
+    ensures { result ≡ spec.i_type opcode rd funct3 rs1 (modulo imm (2 ^ 12)) }
+{
+    i_plain(opcode, rd, funct3, rs1.number(), low_12(imm))
+}
+
+/// A word of the I format whose high twelve bits stand as they are; bits 19:15 are a register, or a small number.
+fn i_plain(opcode: u32, rd: Reg, funct3: u32, rs1: u8, imm: u16) -> u32
+    requires opcode { opcode < 2 ^ 7 }
+    requires funct3 { funct3 < 2 ^ 3 }
+    requires rs1 { rs1 < 2 ^ 5 }
+    requires imm { imm < 2 ^ 12 }
+    ensures { result ≡ spec.i_type opcode rd funct3 rs1 imm }
+{
+    opcode
+        + ((rd.number() as u32) << 7)
+        + (funct3 << 12)
+        + ((rs1 as u32) << 15)
+        + ((imm as u32) << 20)
+}
+
+/// A word of the S format.
+fn s_type(opcode: u32, funct3: u32, rs1: Reg, rs2: Reg, offset: i32) -> u32
+    requires opcode { opcode < 2 ^ 7 }
+    requires funct3 { funct3 < 2 ^ 3 }
+    requires offset { IsWithin (2 ^ 11) offset }
+    ensures { result ≡ spec.s_type opcode funct3 rs1 rs2 (modulo offset (2 ^ 12)) }
+{
+    let imm = low_12(offset) as u32;
+    opcode
+        + (imm % 32 << 7)
+        + (funct3 << 12)
+        + ((rs1.number() as u32) << 15)
+        + ((rs2.number() as u32) << 20)
+        + (imm >> 5 << 25)
+}
+
+/// A word of the B format: the lowest bit of the distance is 0 and has no place.
+fn b_type(opcode: u32, funct3: u32, rs1: Reg, rs2: Reg, offset: i32) -> u32
+    requires opcode { opcode < 2 ^ 7 }
+    requires funct3 { funct3 < 2 ^ 3 }
+    requires offset { IsWithin (2 ^ 12) offset }
+    ensures { result ≡ spec.b_type opcode funct3 rs1 rs2 (modulo offset (2 ^ 13)) }
+{
+    let imm = offset.cast_unsigned() % (1 << 13);
+    opcode
+        + ((imm >> 11) % 2 << 7)
+        + ((imm >> 1) % 16 << 8)
+        + (funct3 << 12)
+        + ((rs1.number() as u32) << 15)
+        + ((rs2.number() as u32) << 20)
+        + ((imm >> 5) % 64 << 25)
+        + (imm >> 12 << 31)
+}
+
+/// A word of the U format.
+fn u_type(opcode: u32, rd: Reg, imm: u32) -> u32
+    requires opcode { opcode < 2 ^ 7 }
+    requires imm { imm < 2 ^ 20 }
+    ensures { result ≡ spec.u_type opcode rd imm }
+{
+    opcode + ((rd.number() as u32) << 7) + (imm << 12)
+}
+
+/// A word of the J format: the lowest bit of the distance is 0 and has no place.
+fn j_type(opcode: u32, rd: Reg, offset: i32) -> u32
+    requires opcode { opcode < 2 ^ 7 }
+    requires offset { IsWithin (2 ^ 20) offset }
+    ensures { result ≡ spec.j_type opcode rd (modulo offset (2 ^ 21)) }
+{
+    let imm = offset.cast_unsigned() % (1 << 21);
+    opcode
+        + ((rd.number() as u32) << 7)
+        + ((imm >> 12) % 256 << 12)
+        + ((imm >> 11) % 2 << 20)
+        + ((imm >> 1) % 1024 << 21)
+        + (imm >> 20 << 31)
+}
+
+/// The twelve bits of a signed immediate.
+fn low_12(imm: i32) -> u16
+    requires { IsWithin (2 ^ 11) imm }
+    ensures value { result ≡ modulo imm (2 ^ 12) }
+    ensures below { result < 2 ^ 12 }
+{
+    (imm.cast_unsigned() % (1 << 12)) as u16
+}
+
+/// No two instructions have one word, so a word says all of its instruction.
+#[tactic(auto, unfolding(crate::specs::Word::word))]
+pub fn words_differ()
+    ensures { (a b : Kind) → IsInRange a → IsInRange b → spec.word a ≡ spec.word b → a ≡ b }
+{}
+
+/// A word has one meaning: one instruction, or none. So `decode` could give no other answer.
+pub fn one_meaning()
+    ensures { OneMeaning }
+{
+    words_differ();
+}
