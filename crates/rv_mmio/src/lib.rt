@@ -3,6 +3,8 @@
 
 mod halt;
 mod serial;
+#[cfg(test)]
+mod tests;
 mod timer;
 
 pub use halt::Halt;

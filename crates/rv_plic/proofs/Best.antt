@@ -1,0 +1,178 @@
+-- The best source by its property.
+use Rattle.std.proofs.Common.{◌≡◌, ℕ, zero, suc, ◌+◌, ◌<◌, ◌≤◌, ◌⊎◌, Bool, true, false, cond, refl, sym, ◌∙◌, ap, subst, arith, inl, inr}
+use Rattle.std.specs.Prelude.{◌==◌, ◌&&◌, ◌||◌, not, nat_lt, slice_index, Option, Some, None}
+use Rattle.std.specs.List.{range_with_len, find, list_any}
+use Rattle.std.specs.Option.{option_map_or}
+use Rattle.std.specs.FinSet.{contains, intersection, empty, contains-empty, contains-intersection}
+use Rattle.std.specs.Ordering.{nat_cmp}
+use Rattle.std.specs.Cmp.{nat_cmp_total}
+use Rattle.std.proofs.lemmas.Bool.{cases_eq, cases_lt, and_parts, and_from, or_from, or_left, or_right, and_left, and_right, not_from_false, not-true, le-ltb, lt-ltb, ltb-true, eq-eqb, ne_eqb, both_ways, false_from_ne_true}
+use Rattle.rv_plic.specs.Sources.{sources}
+use Rattle.rv_plic.specs.Words.{any-range}
+use Rattle.rv_plic.specs.Plic.{PlicState, is_waiting, is_candidate, priority_of, best, is_notified}
+use Rattle.rv_plic.specs.Leads.{IsFirst, LeadsBelow, Leads}
+
+and_unless : (x y : Bool) → (x ≡ true → y ≡ false) → (x && y) ≡ false
+and_unless true y h = h refl
+and_unless false y h = refl
+
+none-range : (test : ℕ → Bool) (a n : ℕ) → ((t : ℕ) → a ≤ t → t < a + n → test t ≡ false) → list_any test (range_with_len a n) ≡ false
+none-range test a zero none = refl
+none-range test a (suc n) none =
+    or_from (test a) _ (none a (omega arith) (omega arith)) (none-range test (a + 1) n (λ t low high. none t (omega arith) (omega arith)))
+
+find_none-range : (test : ℕ → Bool) (a n : ℕ) → ((t : ℕ) → a ≤ t → t < a + n → test t ≡ false) → find test (range_with_len a n) ≡ None
+find_none-range test a zero none = refl
+find_none-range test a (suc n) none =
+    ap (λ b. cond b (Some a) (find test (range_with_len (a + 1) n))) (none a (omega arith) (omega arith))
+    ∙ find_none-range test (a + 1) n (λ t low high. none t (omega arith) (omega arith))
+
+-- the only number that passes is found
+find_first : (test : ℕ → Bool) (a b : ℕ) (later : Option ℕ) (v : Bool) → test a ≡ v → (test a ≡ true → a ≡ b) → (test a ≡ false → later ≡ Some b) → cond v (Some a) later ≡ Some b
+find_first test a b later true is first rest = ap (λ t. Some t) (first is)
+find_first test a b later false is first rest = rest is
+
+find_only-range : (test : ℕ → Bool) (a n b : ℕ) → a ≤ b → b < a + n → test b ≡ true → ((t : ℕ) → a ≤ t → t < a + n → test t ≡ true → t ≡ b) → find test (range_with_len a n) ≡ Some b
+find_only-range test a zero b low high is only = absurd (omega arith)
+find_only-range test a (suc n) b low high is only =
+    find_first test a b (find test (range_with_len (a + 1) n)) (test a) refl (only a (omega arith) (omega arith)) (λ fails.
+    elim (cases_eq a b) [
+      | inl e ↦ absurd (both_ways (test a) fails (ap test e ∙ is))
+      | inr other ↦ find_only-range test (a + 1) n b (omega arith) (omega arith) is (λ t l h p. only t (omega arith) (omega arith) p)
+    ])
+
+module _ (passes : ℕ → Bool) (priority : ℕ → ℕ) where
+  abbrev before : ℕ → ℕ → Bool
+  before first second = nat_lt (priority second) (priority first) || (priority first == priority second && nat_lt first second)
+
+  not_before : (source other : ℕ) → IsFirst priority source other → before other source ≡ false
+  not_before source other first =
+      or_from _ _ (le-ltb (priority source) (priority other) first.higher)
+      (elim (cases_eq (priority other) (priority source)) [
+        | inl e ↦ and_right _ _ (le-ltb other source (first.lower e))
+        | inr differ ↦ and_left _ _ (ne_eqb (priority other) (priority source) differ)
+      ])
+
+  before_other : (source other : ℕ) → IsFirst priority source other → (other ≡ source → ⊥) → before source other ≡ true
+  before_other source other first is_other =
+      elim (cases_eq (priority other) (priority source)) [
+        | inl e ↦ or_right _ _ (and_from _ _ (eq-eqb (priority source) (priority other) (sym e)) (let least : source ≤ other = first.lower e in lt-ltb source other (grind arith)))
+        | inr differ ↦ let most : priority other ≤ priority source = first.higher in or_left _ _ (lt-ltb (priority other) (priority source) (grind arith))
+      ]
+
+  module _ (n : ℕ) where
+    abbrev leads : ℕ → Bool
+    leads source = passes source && not (list_any (λ other. passes other && before other source) (range_with_len 1 n))
+
+    leads_alone : (source : ℕ) → LeadsBelow (1 + n) passes priority (Some source) → leads source ≡ true
+    leads_alone source is =
+        and_from _ _ is.2 (not_from_false _ (none-range (λ other. passes other && before other source) 1 n (λ t low high. and_unless (passes t) _ (λ p. not_before source t (is.3 t low high p)))))
+
+    only_leads : (source other : ℕ) → LeadsBelow (1 + n) passes priority (Some source) → 1 ≤ other → other < 1 + n → leads other ≡ true → other ≡ source
+    only_leads source other is low high lead =
+        let parts : (passes other ≡ true) × (not (list_any (λ t. passes t && before t other) (range_with_len 1 n)) ≡ true) = and_parts _ _ lead in
+        elim (cases_eq other source) [
+          | inl e ↦ e
+          | inr differ ↦ absurd (both_ways _ (not-true _ parts.1) (any-range (λ t. passes t && before t other) 1 n source is.0 is.1 (and_from _ _ is.2 (before_other source other (is.3 other low high parts.0) differ))))
+        ]
+
+    leads_found : (found : Option ℕ) → LeadsBelow (1 + n) passes priority found → find leads (range_with_len 1 n) ≡ found
+    leads_found None none = find_none-range leads 1 n (λ t low high. and_left (passes t) _ (none t low high))
+    leads_found (Some source) is =
+        find_only-range leads 1 n source is.0 is.1 (leads_alone source is) (λ t low high lead. only_leads source t is low high lead)
+
+pub best_leads : (plic : PlicState) (found : Option ℕ) → Leads plic found → best plic ≡ found
+unfolding best sources
+best_leads plic found is = leads_found (is_candidate plic) (priority_of plic) 31 found is
+
+-- ---- the search over the sources from 1 on
+module _ (is_in : ℕ → Bool) (priority : ℕ → ℕ) where
+  abbrev in_with_priority : ℕ → Bool
+  in_with_priority source = is_in source && nat_lt 0 (priority source)
+
+  step_above : (end other : ℕ) → other < end + 1 → (other ≡ end) ⊎ (other < end)
+  step_above end other below = elim (cases_eq other end) [ inl e ↦ inl e | inr differ ↦ inr (grind arith) ]
+
+  has_priority : (source : ℕ) → is_in source ≡ true → 0 < priority source → in_with_priority source ≡ true
+  has_priority source is more = and_from _ _ is (lt-ltb 0 (priority source) more)
+
+  -- the new source goes before each one so far
+  taken_first : (number : ℕ) (found : Option ℕ) → LeadsBelow number in_with_priority priority found → option_map_or priority found 0 < priority number → (other : ℕ) → 0 < other → other < number → in_with_priority other ≡ true → IsFirst priority number other
+  taken_first number None leads more other low high passes = absurd (both_ways _ (leads other low high) passes)
+  taken_first number (Some source) leads more other low high passes =
+      let first : IsFirst priority source other = leads.3 other low high passes in
+      record { higher = omega (arith, first.higher); lower = λ e. absurd (omega (arith, first.higher)) }
+
+  itself_first : (number other : ℕ) → other ≡ number → IsFirst priority number other
+  itself_first number other e = record { higher = let same : priority other ≡ priority number = ap priority e in omega arith; lower = λ _. omega arith }
+
+  pub leads_taken : (number : ℕ) (found : Option ℕ) → LeadsBelow number in_with_priority priority found → 0 < number → is_in number ≡ true → option_map_or priority found 0 < priority number → LeadsBelow (number + 1) in_with_priority priority (Some number)
+  leads_taken number found leads low is more = (
+    low,
+    omega arith,
+    has_priority number is (omega arith),
+    λ other above below passes. elim (step_above number other below) [
+      | inl e ↦ itself_first number other e
+      | inr lower ↦ taken_first number found leads more other above lower passes
+    ],
+  )
+
+  pub leads_kept : (number : ℕ) (found : Option ℕ) → LeadsBelow number in_with_priority priority found → 0 < number → (is_in number ≡ true → priority number ≤ option_map_or priority found 0) → LeadsBelow (number + 1) in_with_priority priority found
+  leads_kept number None leads low less =
+      λ other above below. elim (step_above number other below) [
+        | inl e ↦ ap in_with_priority e ∙ and_unless (is_in number) _ (λ is. le-ltb 0 (priority number) (less is))
+        | inr lower ↦ leads other above lower
+      ]
+  leads_kept number (Some source) leads low less = (
+    leads.0,
+    omega (arith, leads.1),
+    leads.2,
+    λ other above below passes. elim (step_above number other below) [
+      | inl e ↦ let is : is_in number ≡ true = (and_parts _ _ (ap in_with_priority (sym e) ∙ passes)).0 in
+          let same : priority other ≡ priority number = ap priority e in
+          record { higher = omega (arith, less is); lower = λ _. omega (arith, leads.1) }
+      | inr lower ↦ leads.3 other above lower passes
+    ],
+  )
+
+pub leads_among : (plic : PlicState) (found : Option ℕ) → LeadsBelow 32 (λ s. contains (intersection plic.pending plic.enabled) s && nat_lt 0 (slice_index plic.priorities s)) (slice_index plic.priorities) found → Leads plic found
+leads_among plic found is =
+    let same : (λ s. contains (intersection plic.pending plic.enabled) s) ≡ is_waiting plic = λ i s. contains-intersection nat_cmp_total plic.pending plic.enabled s i in
+    subst (λ (w : ℕ → Bool). LeadsBelow 32 (λ s. w s && nat_lt 0 (slice_index plic.priorities s)) (slice_index plic.priorities) found) same is
+
+pub leads_none : (plic : PlicState) → intersection plic.pending plic.enabled ≡ empty → Leads plic None
+leads_none plic none =
+    λ t low high. and_left (is_waiting plic t) _ (sym (contains-intersection nat_cmp_total plic.pending plic.enabled t) ∙ ap (λ s. contains s t) none ∙ contains-empty nat_cmp t)
+
+-- ---- the external line
+module _ (is_in : ℕ → Bool) (priority : ℕ → ℕ) (threshold n : ℕ) where
+  abbrev above_threshold : ℕ → Bool
+  above_threshold source = is_in source && nat_lt threshold (priority source)
+
+  above_leads : (found : Option ℕ) → LeadsBelow (1 + n) (in_with_priority is_in priority) priority found → option_map_or priority found 0 ≤ threshold → list_any above_threshold (range_with_len 1 n) ≡ false
+  above_leads None none low =
+      none-range above_threshold 1 n (λ t above below. and_unless (is_in t) _ (λ is. false_from_ne_true _ (λ over.
+      let high : threshold < priority t = ltb-true threshold (priority t) over in
+      both_ways _ (none t above below) (has_priority is_in priority t is (omega arith)))))
+  above_leads (Some source) leads low =
+      none-range above_threshold 1 n (λ t above below. and_unless (is_in t) _ (λ is. false_from_ne_true _ (λ over.
+      let high : threshold < priority t = ltb-true threshold (priority t) over in
+      let first : IsFirst priority source t = leads.3 t above below (has_priority is_in priority t is (omega arith)) in
+      omega (arith, first.higher))))
+
+  leads_above : (source : ℕ) → LeadsBelow (1 + n) (in_with_priority is_in priority) priority (Some source) → list_any above_threshold (range_with_len 1 n) ≡ nat_lt threshold (priority source)
+  leads_above source leads =
+      elim (cases_lt threshold (priority source)) [
+        | inl over ↦ any-range above_threshold 1 n source leads.0 leads.1 (and_from _ _ (and_parts _ _ leads.2).0 (lt-ltb threshold (priority source) over)) ∙ sym (lt-ltb threshold (priority source) over)
+        | inr under ↦ above_leads (Some source) leads under ∙ sym (le-ltb threshold (priority source) under)
+      ]
+
+pub notified_by : (plic : PlicState) (source : ℕ) → Leads plic (Some source) → is_notified plic ≡ nat_lt plic.threshold (priority_of plic source)
+unfolding is_notified sources
+notified_by plic source leads = leads_above (is_waiting plic) (priority_of plic) plic.threshold 31 source leads
+
+pub not_notified : (plic : PlicState) → Leads plic None → is_notified plic ≡ false
+unfolding is_notified sources
+not_notified plic none = above_leads (is_waiting plic) (priority_of plic) plic.threshold 31 None none (omega arith)
+
+pub ruleset leading = (best_leads, leads_among, leads_none, notified_by, not_notified)

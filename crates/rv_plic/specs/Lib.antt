@@ -1,0 +1,6 @@
+pub mod Codes
+pub mod Gateways
+pub mod Leads
+pub mod Plic
+pub mod Sources
+pub mod Words

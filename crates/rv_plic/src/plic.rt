@@ -1,0 +1,203 @@
+//! The interrupt controller.
+ghost use Rattle.std.specs.Prelude.{◌≡◌, ◌%◌, ◌<◌, ◌&&◌, nat_lt, slice_index, unwrap_or};
+ghost use Rattle.std.specs.FinSet as set;
+ghost use Rattle.rv_plic.specs.Leads.{Leads, LeadsBelow};
+ghost use Rattle.rv_plic.specs.Plic.{reset, with_line, forwarded, priority_of, best, is_notified, claimed, completed, word_at, with_word, load_value, after_load, stored};
+
+use crate::Source;
+use crate::gateway::Gateways;
+use crate::register::PlicReg;
+use crate::set::SourceSet;
+use std::marker::Model;
+
+/// The platform-level interrupt controller: 31 sources and one context.
+#[derive(Clone, Copy, PartialEq, Eq, Debug)]
+pub struct Plic {
+    gateways: Gateways,
+    pending: SourceSet,
+    enabled: SourceSet,
+    priorities: [u8; 32],
+    threshold: u8,
+}
+
+impl Model for Plic {
+    ghost use Rattle.rv_plic.specs.Codes.{plic_code};
+    ghost use Rattle.rv_plic.specs.Plic.{PlicState};
+
+    ghost Value = { PlicState };
+
+    ghost coded = { plic_code };
+
+    ghost view = { λ p. record { gateways = p.gateways; pending = p.pending; enabled = p.enabled; priorities = p.priorities; threshold = p.threshold } };
+
+    ghost inverse = { λ p. record { gateways = p.gateways; pending = p.pending; enabled = p.enabled; priorities = p.priorities; threshold = p.threshold } };
+}
+
+impl Plic {
+    /// The controller after a reset: all lines low, nothing pending or enabled, and priorities and threshold 0.
+    pub fn new() -> Plic
+        ensures { result ≡ reset }
+    {
+        Plic {
+            gateways: Gateways::new(),
+            pending: SourceSet::new(),
+            enabled: SourceSet::new(),
+            priorities: [0; 32],
+            threshold: 0,
+        }
+    }
+
+    /// Sets the level of a source's line, and nothing else.
+    pub fn set_line(&mut self, source: Source, high: bool)
+        ensures { self.new ≡ with_line self.old source high }
+    {
+        self.gateways.set_line(source, high);
+    }
+
+    /// Each gateway forwards its request, if it has one.
+    pub fn forward(&mut self)
+        ensures { self.new ≡ forwarded self.old }
+    {
+        let requests = self.gateways.forward(self.pending);
+        self.pending = self.pending.union(requests);
+    }
+
+    /// What a load at an offset gives. A load of the claim register claims. Where no register is, it gives 0.
+    #[tactic(auto, unfolding(crate::specs::Plic::load_value, crate::specs::Plic::after_load))]
+    pub fn load(&mut self, off: u32) -> u32
+        requires aligned { off % 4 ≡ 0 }
+        requires within { off < 0x4000000 }
+        ensures value { result ≡ load_value self.old off }
+        ensures after { self.new ≡ after_load self.old off }
+    {
+        match PlicReg::at(off) {
+            Some(PlicReg::Claim) => self.claim(),
+            Some(reg) => self.read(reg),
+            None => 0,
+        }
+    }
+
+    /// What a load at an offset would give. Nothing is claimed.
+    #[tactic(auto, unfolding(crate::specs::Plic::load_value))]
+    pub fn peek(&self, off: u32) -> u32
+        requires aligned { off % 4 ≡ 0 }
+        requires within { off < 0x4000000 }
+        ensures { result ≡ load_value self.now off }
+    {
+        match PlicReg::at(off) {
+            Some(reg) => self.read(reg),
+            None => 0,
+        }
+    }
+
+    /// A store at an offset. Where no register is, nothing changes.
+    #[tactic(auto, unfolding(crate::specs::Plic::stored))]
+    pub fn store(&mut self, off: u32, word: u32)
+        requires aligned { off % 4 ≡ 0 }
+        requires within { off < 0x4000000 }
+        ensures { self.new ≡ stored self.old off word }
+    {
+        if let Some(reg) = PlicReg::at(off) {
+            self.write(reg, word);
+        }
+    }
+
+    /// The level of the external interrupt line.
+    #[tactic(auto, using(crate::proofs::Best::leading))]
+    pub fn external(&self) -> bool
+        ensures { result ≡ is_notified self.now }
+    {
+        match self.best() {
+            Some(source) => self.priority(source) > self.threshold,
+            None => false,
+        }
+    }
+
+    fn priority(&self, source: Source) -> u8
+        ensures { result ≡ priority_of self.now source }
+    {
+        self.priorities[source.number() as usize]
+    }
+
+    #[tactic(auto, using(crate::proofs::Best::leading))]
+    fn read(&self, reg: PlicReg) -> u32
+        ensures { result ≡ word_at self.now reg }
+    {
+        match reg {
+            PlicReg::Priority(source) => self.priority(source) as u32,
+            PlicReg::Pending => self.pending.word(),
+            PlicReg::Enables => self.enabled.word(),
+            PlicReg::Threshold => self.threshold as u32,
+            PlicReg::Claim => match self.best() {
+                Some(source) => source.number() as u32,
+                None => 0,
+            },
+        }
+    }
+
+    fn write(&mut self, reg: PlicReg, word: u32)
+        ensures { self.new ≡ with_word self.old reg word }
+    {
+        match reg {
+            PlicReg::Priority(source) => self.priorities[source.number() as usize] = (word
+                % 8) as u8,
+            PlicReg::Pending => (),
+            PlicReg::Enables => self.enabled = SourceSet::from_word(word),
+            PlicReg::Threshold => self.threshold = (word % 8) as u8,
+            PlicReg::Claim => self.complete(word),
+        }
+    }
+
+    #[tactic(auto, using(crate::proofs::Best::leading))]
+    fn claim(&mut self) -> u32
+        ensures value { result ≡ unwrap_or (best self.old) 0 }
+        ensures after { self.new ≡ claimed self.old (best self.old) }
+    {
+        match self.best() {
+            Some(source) => {
+                self.pending.remove(source);
+                source.number() as u32
+            }
+            None => 0,
+        }
+    }
+
+    fn complete(&mut self, word: u32)
+        ensures { self.new ≡ completed self.old word }
+    {
+        if let Some(source) = self.enabled.get(word) {
+            self.gateways.complete(source);
+        }
+    }
+
+    /// The source that a claim gives.
+    #[tactic(auto, using(crate::proofs::Best::leading))]
+    fn best(&self) -> Option<Source>
+        ensures { Leads self.now result }
+    {
+        let waiting = self.pending.intersection(self.enabled);
+        if waiting.is_empty() {
+            return None;
+        }
+        highest(waiting, &self.priorities)
+    }
+}
+
+/// Of the sources of a set with a priority above 0, the one of the highest priority, and of equal ones the one with the
+/// lowest number.
+fn highest(waiting: SourceSet, priorities: &[u8; 32]) -> Option<Source>
+    ensures { LeadsBelow 32 (λ s. set.contains waiting s && nat_lt 0 (slice_index priorities.now s)) (slice_index priorities.now) result }
+{
+    let mut best = None;
+    let mut priority = 0;
+    for number in 1..32u8 {
+        let other = priorities[number as usize];
+        if let Some(source) = waiting.get(number as u32)
+            && other > priority
+        {
+            best = Some(source);
+            priority = other;
+        }
+    }
+    best
+}

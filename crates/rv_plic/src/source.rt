@@ -1,0 +1,44 @@
+//! Interrupt sources.
+ghost use Rattle.std.specs.Prelude.{◌≡◌, ◌<◌, ◌↔◌, IsSome, IfSome};
+
+use std::marker::Model;
+
+/// An interrupt source, seen as its number from 1 to 31. The number 0 means that there is no interrupt.
+#[derive(Clone, Copy, PartialEq, Eq, Debug)]
+pub struct Source {
+    number: u8,
+}
+
+impl Model for Source {
+    ghost use Rattle.std.specs.Prelude.{ℕ, ◌<◌};
+
+    ghost Value = { ℕ };
+
+    ghost view = { λ s. s.number };
+
+    ghost invariant = { λ s. (0 < s.number) × (s.number < 32) };
+
+    ghost inverse = { λ n. record { number = n } };
+}
+
+impl Source {
+    /// The source of a number, if there is one.
+    pub fn new(number: u8) -> Option<Source>
+        ensures valid { IsSome result ↔ ((0 < number) × (number < 32)) }
+        ensures value { IfSome result (λ s. s ≡ number) }
+    {
+        if number > 0 && number < 32 {
+            Some(Source { number })
+        } else {
+            None
+        }
+    }
+
+    /// The number of the source.
+    pub fn number(self) -> u8
+        ensures value { result ≡ self }
+        ensures range { (0 < result) × (result < 32) }
+    {
+        self.number
+    }
+}
