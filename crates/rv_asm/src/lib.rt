@@ -1,0 +1,15 @@
+//! Assembles a source text into the image that a board boots.
+//!
+//! The language is this project's own: see docs/ASSEMBLER.md.
+#![tactic(auto)]
+
+mod assembler;
+mod fault;
+mod line;
+mod program;
+mod symbols;
+mod token;
+
+pub use assembler::assemble;
+pub use fault::{AsmFault, FaultKind};
+pub use program::Program;
