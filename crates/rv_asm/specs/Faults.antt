@@ -1,6 +1,6 @@
 -- Faults, and answers that may fail.
 -- Own language; see docs/ASSEMBLER.md.
-use Rattle.std.specs.Prelude.{◌≡◌, ℕ, List, Result, Ok, Err, codes}
+use Rattle.std.specs.Prelude.{◌≡◌, ℕ, List, Option, Some, None, Result, Ok, Err, codes}
 use Rattle.rv_asm.specs.declared.fault.FaultKind.{FaultKind}
 use Rattle.rv_asm.specs.declared.fault.FaultKind.TheVariants.{Syntax, DuplicateSymbol, NotConstant, TooLarge, Undefined, OutOfRange, OutOfMemory}
 use Rattle.rv_asm.specs.declared.fault.AsmFault.{AsmFault}
@@ -50,6 +50,11 @@ KindGives view (Err kind) meaning = KindFails kind meaning
 abbrev pub KindBecomes : {A B : Type 0} → B → Result A FaultKind → Result B FaultKind → Type 0
 KindBecomes new (Ok x) meaning = meaning ≡ Ok new
 KindBecomes new (Err kind) meaning = KindFails kind meaning
+
+-- where nothing is meant, the line isn't one of the language
+abbrev pub or_syntax : {A : Type 0} → Option A → Result A FaultKind
+or_syntax (Some x) = Ok x
+or_syntax None = Err Syntax
 
 -- the fault of a kind at a line; want of memory is at line 0
 abbrev pub IsFaultAt : ℕ → FaultKind → AsmFault → Type 0

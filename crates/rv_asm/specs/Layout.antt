@@ -85,9 +85,13 @@ symbols lines = joined (symbol_at lines) (length lines)
 abbrev pub is_duplicate : List Line → ℕ → Bool
 is_duplicate lines k = elim (line_at lines k).label as (λ _. Bool) [ None ↦ false | Some label ↦ is_some (definition_before lines k label) ]
 
--- the value of `li` fits no word
+-- the value of `li` is one of 32 bits, with or without a sign
+abbrev pub is_fit : Statement → Bool
+is_fit (Li rd v) = is_word v
+is_fit _ = true
+
 abbrev pub is_unfit : Line → Bool
-is_unfit line = elim line.statement as (λ _. Bool) [ Some (Li rd v) ↦ not (is_word v) | _ ↦ false ]
+is_unfit line = elim line.statement as (λ _. Bool) [ None ↦ false | Some s ↦ not (is_fit s) ]
 
 -- the image passes its limit with line k
 abbrev pub is_past_limit : List Line → ℕ → Bool

@@ -6,3 +6,4 @@ pub mod Values
 pub mod Layout
 pub mod Listing
 pub mod Assembly
+pub mod Steps

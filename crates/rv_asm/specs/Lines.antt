@@ -42,12 +42,6 @@ signed_number (Number n ∷ []) = Some (pos n)
 signed_number (Minus ∷ Number n ∷ []) = Some (pos 0 -ℤ pos n)
 signed_number _ = None
 
--- N(name)
-abbrev pub indexed_of : List Token → Option (ℤ × List ℕ)
-indexed_of (Number n ∷ Open ∷ Name name ∷ Close ∷ []) = Some (pos n, name)
-indexed_of (Minus ∷ Number n ∷ Open ∷ Name name ∷ Close ∷ []) = Some (pos 0 -ℤ pos n, name)
-indexed_of _ = None
-
 -- a name other than `.`
 abbrev pub is_symbol : List ℕ → Bool
 is_symbol name = if bytes_eq name (codes ".") then false else true
@@ -63,10 +57,16 @@ addi_of (Name rd ∷ Comma ∷ Name rs1 ∷ Comma ∷ ts) =
     option_and_then (λ rd. option_and_then (λ rs1. option_map (λ imm. Addi rd rs1 imm) (signed_number ts)) (register rs1)) (register rd)
 addi_of _ = None
 
+-- N(rs1)
+abbrev pub indexed_of : List Token → Option (ℤ × ℕ)
+indexed_of (Number n ∷ Open ∷ Name base ∷ Close ∷ []) = option_map (λ base. (pos n, base)) (register base)
+indexed_of (Minus ∷ Number n ∷ Open ∷ Name base ∷ Close ∷ []) = option_map (λ base. (pos 0 -ℤ pos n, base)) (register base)
+indexed_of _ = None
+
 -- rs2,N(rs1)
 abbrev pub sw_of : List Token → Option Statement
 sw_of (Name source ∷ Comma ∷ ts) =
-    option_and_then (λ source. option_and_then (λ i. option_map (λ base. Sw source base i.0) (register i.1)) (indexed_of ts)) (register source)
+    option_and_then (λ source. option_map (λ i. Sw source i.1 i.0) (indexed_of ts)) (register source)
 sw_of _ = None
 
 -- rd,NAME

@@ -1,6 +1,6 @@
 -- How tokens are spelled, and which tokens a line has.
 -- Own language; see docs/ASSEMBLER.md.
-use Rattle.std.specs.Prelude.{◌≡◌, ℕ, zero, suc, pred, ◌+◌, ◌-◌, ◌*◌, Bool, true, false, not, ◌&&◌, ◌||◌, List, [], ◌∷◌, length, take, drop, fold, if◌then◌else◌, ◌==◌, nat_le, nat_lt, Option, Some, None, option_and_then, slice_index}
+use Rattle.std.specs.Prelude.{◌≡◌, ℕ, zero, suc, pred, ◌+◌, ◌-◌, ◌*◌, Bool, true, false, not, ◌&&◌, ◌||◌, List, [], ◌∷◌, ◌++◌, length, take, drop, fold, if◌then◌else◌, ◌==◌, nat_le, nat_lt, Option, Some, None, option_and_then, slice_index}
 use Rattle.std.specs.List.{list_all}
 use Rattle.std.specs.Option.{option_map, option_or}
 use Rattle.std.specs.Char.{is_ascii_digit, is_ascii_alphabetic}
@@ -96,6 +96,9 @@ is_blank b = (b == 32) || (b == 9)
 abbrev pub begins_comment : List ℕ → Bool
 begins_comment line = (slice_index line 0 == 35) || (nat_lt 1 (length line) && ((slice_index line 0 == 47) && (slice_index line 1 == 47)))
 
+abbrev pub with_tokens : List Token → Option (List Token) → Option (List Token)
+with_tokens ts = option_map (λ us. ts ++ us)
+
 -- the tokens of a line after its first n bytes, from left to right; None where no token begins
 unfoldable pub cut : List ℕ → ℕ → Option (List Token)
 cut [] n = Some []
@@ -103,7 +106,7 @@ cut (b ∷ bs) (suc n) = cut bs n
 cut (b ∷ bs) zero =
     if is_blank b then cut bs zero
     else (if begins_comment (b ∷ bs) then Some []
-    else option_and_then (λ f. option_map (λ ts. f.0 ∷ ts) (cut bs (pred f.1))) (front (b ∷ bs)))
+    else option_and_then (λ found. with_tokens (found.0 ∷ []) (cut bs (pred found.1))) (front (b ∷ bs)))
 
 abbrev pub tokens : List ℕ → Option (List Token)
 tokens line = cut line 0

@@ -44,3 +44,7 @@ unfoldable pub loading : ℕ → ℕ → List Kind
 loading rd w =
     if is_between (negsuc 2047) (pos 2047) (signed w) then OpImm Addi rd 0 (signed w) ∷ []
     else Lui rd (hi w) ∷ (if w % 4096 == 0 then [] else OpImm Addi rd rd (lo w) ∷ [])
+
+abbrev pub listed_if : Option Kind → List Kind
+listed_if None = []
+listed_if (Some kind) = kind ∷ []

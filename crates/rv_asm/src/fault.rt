@@ -99,3 +99,17 @@ impl AsmFault {
         AsmFault { line, kind }
     }
 }
+
+impl From<AllocError> for AsmFault {
+    ghost use Rattle.std.specs.Prelude.{◌≡◌};
+    ghost use Rattle.rv_asm.specs.declared.fault.FaultKind.TheVariants.{OutOfMemory};
+
+    ghost from_gives = { λ _ fault. fault ≡ record { line = 0; kind = OutOfMemory } };
+
+    fn from(_: AllocError) -> Self {
+        AsmFault {
+            line: 0,
+            kind: FaultKind::OutOfMemory,
+        }
+    }
+}

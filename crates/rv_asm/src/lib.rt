@@ -5,10 +5,14 @@
 
 mod assembler;
 mod fault;
+mod instructions;
+mod layout;
 mod line;
 mod program;
+mod scan;
 mod symbols;
 mod token;
+mod values;
 
 pub use assembler::assemble;
 pub use fault::{AsmFault, FaultKind};

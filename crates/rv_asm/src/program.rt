@@ -26,6 +26,14 @@ impl Program {
     ghost use Rattle.std.specs.Prelude.{◌≡◌, ◌≤◌, ◌%◌, length};
     ghost use Rattle.rv_asm.specs.Symbols.{value_of};
 
+    pub(crate) fn new(bytes: Vec<u8>, symbols: Symbols) -> Self
+        requires size { length bytes.items ≤ 16777216 }
+        requires words { length bytes.items % 4 ≡ 0 }
+        ensures value { result ≡ record { bytes = bytes.items; symbols = symbols } }
+    {
+        Program { bytes, symbols }
+    }
+
     /// The image, which lies from 0x80000000 on: the words of the instructions, each with its low
     /// byte first.
     pub fn bytes(&self) -> &[u8]
