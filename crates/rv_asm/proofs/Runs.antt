@@ -1,0 +1,67 @@
+-- A run, item by item.
+use Rattle.std.proofs.Common.{◌≡◌, ℕ, suc, ◌+◌, ◌<◌, ◌≤◌, List, [], ◌∷◌, ◌++◌, drop, get_or, length, ap, sym, ◌∙◌, refl, arith, add-one}
+use Rattle.std.specs.Prelude.{Result, Ok, Err}
+use Rattle.std.proofs.Math.Seq.{drop-cons}
+use Rattle.std.proofs.lemmas.List.{drop_all}
+use Rattle.rv_asm.specs.declared.fault.FaultKind.{FaultKind}
+use Rattle.rv_asm.specs.declared.fault.FaultKind.TheVariants.{Syntax, DuplicateSymbol, NotConstant, TooLarge, Undefined, OutOfRange, OutOfMemory}
+use Rattle.rv_asm.specs.declared.fault.AsmFault.{AsmFault}
+use Rattle.rv_asm.specs.Faults.{Fails, FailsBy, KindFails, IsFaultAt}
+use Rattle.rv_asm.specs.Steps.{◌>>=◌, at_line, run}
+
+pub bind_bind : {A B C E : Type 0} (r : Result A E) (f : A → Result B E) (g : B → Result C E) → ((r >>= f) >>= g) ≡ (r >>= λ x. f x >>= g)
+bind_bind (Ok x) f g = refl
+bind_bind (Err e) f g = refl
+
+pub bind_ok : {A E : Type 0} (r : Result A E) → (r >>= λ x. Ok x) ≡ r
+bind_ok (Ok x) = refl
+bind_ok (Err e) = refl
+
+-- a fault stays one
+pub fails_bind : {A B : Type 0} (kind : FaultKind) (fault : AsmFault) (r : Result A AsmFault) (f : A → Result B AsmFault) → FailsBy kind fault r → FailsBy kind fault (r >>= f)
+fails_bind Syntax fault r f h = rw h refl
+fails_bind DuplicateSymbol fault r f h = rw h refl
+fails_bind NotConstant fault r f h = rw h refl
+fails_bind TooLarge fault r f h = rw h refl
+fails_bind Undefined fault r f h = rw h refl
+fails_bind OutOfRange fault r f h = rw h refl
+fails_bind OutOfMemory fault r f h = h
+
+bind_same : {A B E : Type 0} (r : Result A E) (f g : A → Result B E) → ((x : A) → f x ≡ g x) → (r >>= f) ≡ (r >>= g)
+bind_same (Ok x) f g h = h x
+bind_same (Err e) f g h = refl
+
+pub run_append : {S X E : Type 0} (step : S → X → Result S E) (s : S) (xs ys : List X) → run step s (xs ++ ys) ≡ (run step s xs >>= λ t. run step t ys)
+unfolding run
+run_append step s [] ys = refl
+run_append step s (x ∷ xs) ys =
+    bind_same (step s x) (λ t. run step t (xs ++ ys)) (λ t. run step t xs >>= λ u. run step u ys) (λ t. run_append step t xs ys)
+    ∙ sym (bind_bind (step s x) (λ t. run step t xs) (λ u. run step u ys))
+
+module _ {S X E : Type 0} (step : S → X → Result S E) (s : S) (xs : List X) (i : ℕ) where
+  run_at : (d : X) → i < length xs → run step s (drop i xs) ≡ (step s (get_or xs i d) >>= λ t. run step t (drop (i + 1) xs))
+  unfolding run
+  run_at d h = let e : drop i xs ≡ get_or xs i d ∷ drop (suc i) xs = drop-cons xs i d h in rw (e, add-one) refl
+
+  pub run_end : length xs ≤ i → run step s (drop i xs) ≡ Ok s
+  unfolding run
+  run_end h = let e : drop i xs ≡ [] = drop_all i xs h in rw e refl
+
+module _ {S X E : Type 0} (step : S → X → Result S E) (s : S) (xs : List X) (i : ℕ) (x : X) (item : x ≡ get_or xs i x) (within : i < length xs) where
+  pub run_more : (t : S) → step s x ≡ Ok t → run step s (drop i xs) ≡ run step t (drop (i + 1) xs)
+  run_more t e = run_at step s xs i x within ∙ ap (λ r. r >>= λ u. run step u (drop (i + 1) xs)) (ap (step s) (sym item) ∙ e)
+
+pub fails_at : {B : Type 0} (line : ℕ) (kind : FaultKind) (fault : AsmFault) (meaning : Result B AsmFault) → IsFaultAt line kind fault → meaning ≡ Err (record { line = line; kind = kind }) → Fails fault meaning
+fails_at line Syntax fault m e h = rw (e, h) refl
+fails_at line DuplicateSymbol fault m e h = rw (e, h) refl
+fails_at line NotConstant fault m e h = rw (e, h) refl
+fails_at line TooLarge fault m e h = rw (e, h) refl
+fails_at line Undefined fault m e h = rw (e, h) refl
+fails_at line OutOfRange fault m e h = rw (e, h) refl
+fails_at line OutOfMemory fault m e h = rw e refl
+
+module _ {S X : Type 0} (step : S → X → Result S AsmFault) (s : S) (xs : List X) (i : ℕ) (x : X) (item : x ≡ get_or xs i x) (within : i < length xs) where
+  -- the run fails where its step does
+  pub run_fails_at : (line : ℕ) (kind : FaultKind) (fault : AsmFault) → step s x ≡ Err (record { line = line; kind = kind }) → IsFaultAt line kind fault → Fails fault (run step s (drop i xs))
+  run_fails_at line kind fault is e =
+      fails_at line kind fault (run step s (drop i xs)) e (run_at step s xs i x within ∙ ap (λ r. r >>= λ u. run step u (drop (i + 1) xs)) (ap (step s) (sym item) ∙ is))

@@ -1,0 +1,62 @@
+-- Faults, and answers that may fail.
+-- Own language; see docs/ASSEMBLER.md.
+use Rattle.std.specs.Prelude.{◌≡◌, ℕ, List, Option, Some, None, Result, Ok, Err, codes}
+use Rattle.rv_asm.specs.declared.fault.FaultKind.{FaultKind}
+use Rattle.rv_asm.specs.declared.fault.FaultKind.TheVariants.{Syntax, DuplicateSymbol, NotConstant, TooLarge, Undefined, OutOfRange, OutOfMemory}
+use Rattle.rv_asm.specs.declared.fault.AsmFault.{AsmFault}
+
+abbrev pub number_of : FaultKind → ℕ
+number_of Syntax = 3
+number_of DuplicateSymbol = 6
+number_of NotConstant = 7
+number_of TooLarge = 9
+number_of Undefined = 10
+number_of OutOfRange = 11
+number_of OutOfMemory = 12
+
+abbrev pub name_of : FaultKind → List ℕ
+name_of Syntax = codes "Syntax"
+name_of DuplicateSymbol = codes "DuplicateSymbol"
+name_of NotConstant = codes "NotConstant"
+name_of TooLarge = codes "TooLarge"
+name_of Undefined = codes "Undefined"
+name_of OutOfRange = codes "OutOfRange"
+name_of OutOfMemory = codes "OutOfMemory"
+
+-- a fault of this kind is want of memory, which is at line 0, or else the fault that is meant
+abbrev pub FailsBy : {B : Type 0} → FaultKind → AsmFault → Result B AsmFault → Type 0
+FailsBy OutOfMemory fault meaning = fault.line ≡ 0
+FailsBy kind fault meaning = meaning ≡ Err fault
+
+abbrev pub Fails : {B : Type 0} → AsmFault → Result B AsmFault → Type 0
+Fails fault meaning = FailsBy fault.kind fault meaning
+
+-- an answer, seen by view, is what is meant, unless memory ran out
+abbrev pub Gives : {A B : Type 0} → (A → B) → Result A AsmFault → Result B AsmFault → Type 0
+Gives view (Ok x) meaning = meaning ≡ Ok (view x)
+Gives view (Err fault) meaning = Fails fault meaning
+
+-- ---- the same of an answer that doesn't know its line
+
+abbrev pub KindFails : {B : Type 0} → FaultKind → Result B FaultKind → Type 0
+KindFails OutOfMemory meaning = Unit {0}
+KindFails kind meaning = meaning ≡ Err kind
+
+abbrev pub KindGives : {A B : Type 0} → (A → B) → Result A FaultKind → Result B FaultKind → Type 0
+KindGives view (Ok x) meaning = meaning ≡ Ok (view x)
+KindGives view (Err kind) meaning = KindFails kind meaning
+
+-- what a call left behind it is what is meant, unless memory ran out
+abbrev pub KindBecomes : {A B : Type 0} → B → Result A FaultKind → Result B FaultKind → Type 0
+KindBecomes new (Ok x) meaning = meaning ≡ Ok new
+KindBecomes new (Err kind) meaning = KindFails kind meaning
+
+-- where nothing is meant, the line isn't one of the language
+abbrev pub or_syntax : {A : Type 0} → Option A → Result A FaultKind
+or_syntax (Some x) = Ok x
+or_syntax None = Err Syntax
+
+-- the fault of a kind at a line; want of memory is at line 0
+abbrev pub IsFaultAt : ℕ → FaultKind → AsmFault → Type 0
+IsFaultAt line OutOfMemory fault = fault ≡ record { line = 0; kind = OutOfMemory }
+IsFaultAt line kind fault = fault ≡ record { line = line; kind = kind }
