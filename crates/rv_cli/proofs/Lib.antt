@@ -1,0 +1,4 @@
+pub mod AsmFaults
+pub mod Digits
+pub mod RunLemmas
+pub mod StepLemmas
