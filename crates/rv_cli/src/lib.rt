@@ -15,3 +15,6 @@ pub use memory::{MemoryIn, MemoryOut};
 pub use run::run_text;
 pub use rv_words::{Options, Words, read_words};
 pub use text::{InFailed, OutFailed, TextIn, TextOut};
+
+#[cfg(test)]
+mod tests;

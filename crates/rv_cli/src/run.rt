@@ -56,6 +56,7 @@ fn read_source<S: TextIn>(alloc: Global, source: &mut S) -> Result<Vec<u8>, CliF
 }
 
 /// Boots the program's image, gives it the steps, and answers what is to be printed.
+#[tactic(auto, using(crate::proofs::Boots::slots_are_good))]
 fn run_program(alloc: Global, program: &Program, options: Options) -> Result<Printed, CliFault>
     ensures ok { IfOk result (λ p. output_of_assembly options (Ok program.now) ≡ Ok (p.text.items, p.ending)) }
     ensures err { IfErr result (RefusedBy (output_of_assembly options (Ok program.now))) }
