@@ -1,0 +1,5 @@
+pub mod AsmFaults
+pub mod Boots
+pub mod Digits
+pub mod RunLemmas
+pub mod StepLemmas

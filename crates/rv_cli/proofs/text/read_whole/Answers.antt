@@ -1,0 +1,23 @@
+use Rattle.std.proofs.Common.{◌++◌, arith, inr, take, length-append, length-take}
+use Rattle.std.proofs.KnownBytes.{Consumes-trans}
+use Rattle.rv_cli.proofs.text.read_whole.Goals as goal
+
+pub returns-then-len-count-clause-err : goal.returns-then-len-count-clause-err
+returns-then-len-count-clause-err g c = λ _.
+    let more = take c.in-Ok.count c.read.new.buffer in
+    let within = c.in-Ok.ensures.within in
+    inr (record {
+      bytes = c.loop-count.text.items ++ more;
+      gave = Consumes-trans _ _ _ c.loop-count.text.items more c.loop-count.invariant.gave c.in-Ok.ensures.bytes.0;
+      more = omega (arith, length-append c.loop-count.text.items more, length-take c.in-Ok.count c.read.new.buffer, c.if-len-count.true, c.len.ensures);
+    })
+
+pub returns-then-is_err-clause-part : goal.returns-then-is_err-clause-part
+returns-then-is_err-clause-part g c = λ _.
+    let more = take c.in-Ok.count c.read.new.buffer in
+    let within = c.in-Ok.ensures.within in
+    record {
+      bytes = c.loop-count.text.items ++ more;
+      gave = Consumes-trans _ _ _ c.loop-count.text.items more c.loop-count.invariant.gave c.in-Ok.ensures.bytes.0;
+      within = omega (arith, length-append c.loop-count.text.items more, length-take c.in-Ok.count c.read.new.buffer, c.if-len-count.false, c.len.ensures, c.loop-count.invariant.within);
+    }

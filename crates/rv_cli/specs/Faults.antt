@@ -1,0 +1,37 @@
+-- The line of a fault, and the exit statuses (this project's own: docs/BOARD.md).
+use Rattle.std.specs.Prelude.{ℕ, List, [], ◌∷◌, ◌++◌, Result, Ok, Err, codes, zero, suc}
+use Rattle.std.specs.Fmt.{decimal}
+use Rattle.rv_asm.specs.Faults.{name_of, number_of}
+use Rattle.rv_asm.specs.declared.fault.AsmFault.{AsmFault}
+use Rattle.rv_cli.specs.declared.fault.CliFault.{CliFault}
+use Rattle.rv_cli.specs.declared.fault.CliFault.TheVariants.{ReadSource, Source, BadPages, ImageTooLarge, OutOfMemory, Write}
+use Rattle.rv_cli.specs.declared.fault.Ending.{Ending}
+use Rattle.rv_cli.specs.declared.fault.Ending.TheVariants.{Halted, Running}
+
+-- a text with a line end
+abbrev pub ended : List ℕ → List ℕ
+ended text = text ++ 10 ∷ []
+
+-- as `source line 3: E6 DuplicateSymbol`
+abbrev pub source_line_of : AsmFault → List ℕ
+source_line_of fault = codes "source line " ++ decimal fault.line
+    ++ codes ": E" ++ decimal (number_of fault.kind) ++ codes " " ++ name_of fault.kind
+
+abbrev pub line_of : CliFault → List ℕ
+line_of ReadSource = ended (codes "cannot read source")
+line_of (Source fault) = ended (source_line_of fault)
+line_of BadPages = ended (codes "bad pages")
+line_of ImageTooLarge = ended (codes "image too large")
+line_of OutOfMemory = ended (codes "out of memory")
+line_of Write = ended (codes "cannot write")
+
+abbrev pub status_of : Result Ending CliFault → ℕ
+status_of (Ok (Halted zero)) = 0
+status_of (Ok (Halted (suc code))) = 1
+status_of (Ok Running) = 2
+status_of (Err (Source fault)) = 3
+status_of (Err BadPages) = 3
+status_of (Err ImageTooLarge) = 3
+status_of (Err ReadSource) = 4
+status_of (Err OutOfMemory) = 4
+status_of (Err Write) = 4

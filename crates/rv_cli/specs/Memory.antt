@@ -1,0 +1,21 @@
+-- What a reader or a writer over memory or a file is.
+use Rattle.std.specs.Prelude.{ℕ, Bool, List, Option, Some, None, zero, suc}
+
+-- over memory: its bytes (those left to a reader, those taken by a writer), the most that a call
+-- moves, the good calls before one that fails if there is such a call, and whether one has failed
+pub record MemoryText : Type 0 where
+  pub bytes : List ℕ
+  pub most : ℕ
+  pub good_calls : Option ℕ
+  pub has_failed : Bool
+
+-- the good calls that are left after a call: none are counted after the one that fails
+abbrev pub after_call : Option ℕ → Option ℕ
+after_call None = None
+after_call (Some zero) = None
+after_call (Some (suc calls)) = Some calls
+
+-- over std: the bytes, where the reader or the writer tells them, and whether a call has failed
+pub record FileText : Type 0 where
+  pub bytes : Option (List ℕ)
+  pub has_failed : Bool

@@ -1,0 +1,35 @@
+-- What a reader gave and a writer took.
+use Rattle.std.specs.Prelude.{◌≡◌, ◌⊎◌, ◌<◌, ◌≤◌, ℕ, Bool, true, List, Option, length, take}
+use Rattle.std.specs.Io.KnownBytes.{Appends, Consumes, IsAtEnd}
+
+-- the most bytes that a text may have
+abbrev pub most_bytes : ℕ
+most_bytes = 16777216
+
+-- the reader gave the text and has nothing left
+pub record GaveWhole (old new : Option (List ℕ)) (text : List ℕ) : Type 0 where
+  pub gave : Consumes old new text
+  pub ended : IsAtEnd new
+  pub within : length text ≤ most_bytes
+
+-- the reader gave no more bytes than a text may have
+pub record GavePart (old new : Option (List ℕ)) : Type 0 where
+  pub bytes : List ℕ
+  pub gave : Consumes old new bytes
+  pub within : length bytes ≤ most_bytes
+
+-- the reader gave more bytes than a text may have
+pub record GaveTooMuch (old new : Option (List ℕ)) : Type 0 where
+  pub bytes : List ℕ
+  pub gave : Consumes old new bytes
+  pub more : most_bytes < length bytes
+
+-- the reader failed or gave too much
+abbrev pub IsUnreadable : Bool → Option (List ℕ) → Option (List ℕ) → Type 0
+IsUnreadable failed old new = (failed ≡ true) ⊎ GaveTooMuch old new
+
+-- the writer took a beginning of the text
+pub record WroteBeginning (old new : Option (List ℕ)) (text : List ℕ) : Type 0 where
+  pub count : ℕ
+  pub some : count ≤ length text
+  pub took : Appends old new (take count text)

@@ -1,0 +1,89 @@
+//! How a run ends, why one gives no text, the line that says so, and what the program exits with.
+ghost use Rattle.std.specs.Prelude.{◌≡◌, ◌++◌, OnErr, OnOk, Some};
+ghost use Rattle.rv_cli.specs.Faults.{line_of, source_line_of, status_of};
+
+use rv_asm::AsmFault;
+use rv_isa::NoMemory;
+use std::fmt;
+use thiserror::Error;
+
+/// How a run ended.
+#[derive(Clone, Copy, Debug, PartialEq, Eq)]
+pub enum Ending {
+    /// The program halted the board with this code.
+    Halted(u16),
+    /// All steps were done, and the board runs on.
+    Running,
+}
+
+/// Why a run gave no ending. The text of `Display` is the variant's name; `fault_line` gives the
+/// line that is printed.
+#[derive(Clone, Copy, Debug, PartialEq, Eq, Error)]
+pub enum CliFault {
+    /// The source's reader failed, or gave more than 16,777,216 bytes.
+    #[error("ReadSource")]
+    ReadSource,
+    /// The source can't be assembled.
+    #[error("Source")]
+    Source(AsmFault),
+    /// There are not 1 to 4096 pages of RAM.
+    #[error("BadPages")]
+    BadPages,
+    /// The image is larger than the RAM.
+    #[error("ImageTooLarge")]
+    ImageTooLarge,
+    /// The allocator refused a growth.
+    #[error("OutOfMemory")]
+    OutOfMemory,
+    /// The writer failed, or took none of some bytes.
+    #[error("Write")]
+    Write,
+}
+
+/// The line of a source that can't be assembled, without its line end.
+#[derive(Clone, Copy)]
+struct SourceLine(AsmFault);
+
+impl fmt::Display for SourceLine {
+    ghost output = { λ s. Some (source_line_of s.0) };
+
+    fn fmt<W: fmt::Write>(&self, f: &mut fmt::Formatter<W>) -> fmt::Result {
+        let AsmFault { line, kind } = self.0;
+        let number = kind.number();
+        let name = kind.name();
+        write!(f, "source line {line}: E{number} {name}")
+    }
+}
+
+/// Appends the line that says the fault, with its line end. Refused, it leaves the text as it was.
+pub fn fault_line(fault: &CliFault, line: &mut Vec<u8>) -> Result<(), NoMemory>
+    ensures ok { OnOk result (line.new.items ≡ line.old.items ++ line_of fault.now) }
+    ensures err { OnErr result (line.new.items ≡ line.old.items) }
+{
+    match *fault {
+        CliFault::ReadSource => line.extend_from_slice(b"cannot read source\n")?,
+        CliFault::Source(fault) => {
+            let text = format!(in *line.allocator(); "{}\n", SourceLine(fault))?;
+            line.extend_from_slice(text.as_bytes())?
+        }
+        CliFault::BadPages => line.extend_from_slice(b"bad pages\n")?,
+        CliFault::ImageTooLarge => line.extend_from_slice(b"image too large\n")?,
+        CliFault::OutOfMemory => line.extend_from_slice(b"out of memory\n")?,
+        CliFault::Write => line.extend_from_slice(b"cannot write\n")?,
+    }
+    Ok(())
+}
+
+/// What the program exits with: 0 halted with 0, 1 halted otherwise, 2 running, 3 where the source,
+/// the pages or the image are refused, and 4 where a text, the memory or the writer failed.
+pub fn exit_status(outcome: &Result<Ending, CliFault>) -> u8
+    ensures { result ≡ status_of outcome.now }
+{
+    match outcome {
+        Ok(Ending::Halted(0)) => 0,
+        Ok(Ending::Halted(_)) => 1,
+        Ok(Ending::Running) => 2,
+        Err(CliFault::Source(_) | CliFault::BadPages | CliFault::ImageTooLarge) => 3,
+        Err(CliFault::ReadSource | CliFault::OutOfMemory | CliFault::Write) => 4,
+    }
+}

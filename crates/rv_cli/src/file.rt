@@ -1,0 +1,117 @@
+//! Files, and all else that std reads and writes, as texts.
+ghost use Rattle.std.specs.Prelude.{◌≡◌, false};
+
+use crate::text::{InFailed, OutFailed, TextIn, TextOut};
+use std::io::{ErrorKind, Read, Write};
+use std::marker::Model;
+
+/// A reader of std as a text. A read that was interrupted is tried again.
+#[derive(Drop)]
+pub struct FileIn<R: Read> {
+    reader: R,
+    has_failed: bool,
+}
+
+impl<R: Read> Model for FileIn<R> {
+    ghost use Rattle.rv_cli.specs.Memory.{FileText};
+
+    ghost Value = { FileText };
+
+    ghost view = { λ f. record { bytes = R.remaining f.reader; has_failed = f.has_failed } };
+}
+
+impl<R: Read> FileIn<R> {
+    /// The text that the reader gives from here on.
+    pub fn new(reader: R) -> FileIn<R>
+        ensures { result ≡ record { bytes = R.remaining reader; has_failed = false } }
+    {
+        FileIn {
+            reader,
+            has_failed: false,
+        }
+    }
+}
+
+impl<R: Read> TextIn for FileIn<R> {
+    ghost left = { λ f. f.bytes };
+
+    ghost has_failed = { λ f. f.has_failed };
+
+    fn read(&mut self, buffer: &mut [u8]) -> Result<usize, InFailed> {
+        'tries: for _ in 0..u64::MAX {
+            match self.reader.read(buffer) {
+                Ok(count) => return Ok(count),
+                Err(error) => {
+                    if error.kind() != ErrorKind::Interrupted {
+                        break 'tries;
+                    }
+                }
+            }
+        }
+        self.has_failed = true;
+        Err(InFailed)
+    }
+
+    fn failed(&self) -> bool {
+        self.has_failed
+    }
+}
+
+/// A writer of std as a text. A write that was interrupted is tried again.
+///
+/// What the writer holds back, as a `BufWriter` does, is its owner's to flush.
+#[derive(Drop)]
+pub struct FileOut<W: Write> {
+    writer: W,
+    has_failed: bool,
+}
+
+impl<W: Write> Model for FileOut<W> {
+    ghost use Rattle.rv_cli.specs.Memory.{FileText};
+
+    ghost Value = { FileText };
+
+    ghost view = { λ f. record { bytes = W.contents f.writer; has_failed = f.has_failed } };
+}
+
+impl<W: Write> FileOut<W> {
+    /// What the writer takes from here on.
+    pub fn new(writer: W) -> FileOut<W>
+        ensures { result ≡ record { bytes = W.contents writer; has_failed = false } }
+    {
+        FileOut {
+            writer,
+            has_failed: false,
+        }
+    }
+}
+
+impl<W: Write> TextOut for FileOut<W> {
+    ghost taken = { λ f. f.bytes };
+
+    ghost has_failed = { λ f. f.has_failed };
+
+    fn write(&mut self, bytes: &[u8]) -> Result<usize, OutFailed> {
+        'tries: for _ in 0..u64::MAX {
+            match self.writer.write(bytes) {
+                Ok(count) => {
+                    if count == 0 && !bytes.is_empty() {
+                        self.has_failed = true;
+                    }
+                    return Ok(count);
+                }
+                Err(error) => {
+                    if error.kind() != ErrorKind::Interrupted {
+                        break 'tries;
+                    }
+                }
+            }
+        }
+        self.has_failed = true;
+        Err(OutFailed)
+    }
+
+    fn failed(&self) -> bool {
+        self.has_failed
+    }
+}

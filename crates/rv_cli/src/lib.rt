@@ -1,0 +1,20 @@
+//! Texts in and out, and the run from a source text to the text that is printed.
+#![tactic(auto)]
+
+mod fault;
+mod file;
+mod memory;
+mod print;
+mod run;
+mod steps;
+mod text;
+
+pub use fault::{CliFault, Ending, exit_status, fault_line};
+pub use file::{FileIn, FileOut};
+pub use memory::{MemoryIn, MemoryOut};
+pub use run::run_text;
+pub use rv_words::{Options, Words, read_words};
+pub use text::{InFailed, OutFailed, TextIn, TextOut};
+
+#[cfg(test)]
+mod tests;

@@ -1,0 +1,88 @@
+//! What is printed of a board.
+ghost use Rattle.std.specs.Prelude.{◌≡◌, IfOk, Some};
+ghost use Rattle.rv_board.specs.State.{halted_of};
+ghost use Rattle.rv_cli.specs.Output.{eight_digits, ending_of, printed, status_text, with_line_end};
+
+use crate::fault::Ending;
+use rv_board::Board;
+use rv_cache::Decoded;
+use rv_isa::NoMemory;
+use rv_ram::ByteMemory;
+use std::alloc::{AllocError, Global};
+use std::fmt;
+
+/// A pc, as eight hexadecimal digits.
+#[derive(Clone, Copy)]
+struct Pc(u32);
+
+impl fmt::Display for Pc {
+    ghost output = { λ p. Some (eight_digits p.0) };
+
+    #[tactic(auto, using(crate::proofs::Digits::padded_pc))]
+    fn fmt<W: fmt::Write>(&self, f: &mut fmt::Formatter<W>) -> fmt::Result {
+        let pc = self.0;
+        write!(f, "{pc:08x}")
+    }
+}
+
+/// How a board stands after its steps, as it is printed.
+#[derive(Clone, Copy)]
+struct Status {
+    halted: Option<u16>,
+    pc: u32,
+    steps: u64,
+}
+
+impl fmt::Display for Status {
+    ghost output = { λ s. Some (status_text s.halted s.pc s.steps) };
+
+    fn fmt<W: fmt::Write>(&self, f: &mut fmt::Formatter<W>) -> fmt::Result {
+        let Status { halted, pc, steps } = *self;
+        match halted {
+            Some(code) => write!(f, "halted {code} after {steps} steps"),
+            None => {
+                let pc = Pc(pc);
+                write!(f, "running at {pc} after {steps} steps")
+            }
+        }
+    }
+}
+
+/// The text, with a line end unless it is empty or has one at its end.
+fn whole_lines(alloc: Global, text: &[u8]) -> Result<Vec<u8>, AllocError>
+    ensures { IfOk result (λ lines. lines.items ≡ with_line_end text.now) }
+{
+    let mut lines = Vec::from_slice(alloc, text)?;
+    if !(text.is_empty() || text.ends_with(b"\n")) {
+        lines.push(b'\n')?;
+    }
+    Ok(lines)
+}
+
+/// The console and the status line.
+pub(crate) fn print_board<M: ByteMemory, C: Decoded>(
+    alloc: Global,
+    board: &Board<M, C>,
+) -> Result<Vec<u8>, NoMemory>
+    ensures { IfOk result (λ text. text.items ≡ printed board.now) }
+{
+    let status = Status {
+        halted: board.halted(),
+        pc: board.pc(),
+        steps: board.steps(),
+    };
+    let mut text = whole_lines(alloc, board.console())?;
+    let line = format!(in alloc; "{status}\n")?;
+    text.extend_from_slice(line.as_bytes())?;
+    Ok(text)
+}
+
+/// How the board's run ended.
+pub(crate) fn ending<M: ByteMemory, C: Decoded>(board: &Board<M, C>) -> Ending
+    ensures { result ≡ ending_of (halted_of board.now) }
+{
+    match board.halted() {
+        Some(code) => Ending::Halted(code),
+        None => Ending::Running,
+    }
+}

@@ -1,0 +1,142 @@
+-- The parse of the program's words, by the command alone.
+use Rattle.std.proofs.Common.{◌≡◌, ◌∙◌, ◌<◌, ◌≤◌, ◌^◌, ap, subst, sym, refl, arith, ℕ, true, List, Option, Some, Result, Ok}
+use Rattle.std.specs.Prelude.{codes, pos, option_map}
+use Rattle.std.specs.Option.{option_map_or}
+use Rattle.std.specs.Borrow.{Bor}
+use Rattle.std.specs.Str.Parse.{ParsesUnsigned, digits_value, without_leading_plus}
+use Rattle.clap.specs.Matches.{ReadsOne}
+use Rattle.clap.proofs.CallerReads.{signed_reads}
+use Rattle.clap.proofs.WalkLemmas.{first_value-rows, one_text-rows}
+use Rattle.rv_words.specs.Read.{number_of}
+use Rattle.clap.specs.Lexer.{without_minus}
+use Rattle.clap.specs.declared.builder.value_parser.ValueParser.TheVariants.{Signed}
+use Rattle.clap.specs.Built.{IsParsedFrom}
+use Rattle.clap.specs.Words.{App, HasMatchesOf, Row, Text, app_of, first_of, first_value, found_of, is_simple, is_simple_and_free, matches_of, one_of, one_text}
+use Rattle.clap.specs.declared.builder.command.Command.{Command}
+use Rattle.clap.specs.declared.parser.matches.ArgMatches.{ArgMatches}
+use Rattle.clap.proofs.SimpleLemmas.{plain_fields}
+use Rattle.rv_words.specs.Board.{board_app, number_rule, pages_rule, source_rule, steps_rule}
+use Rattle.rv_words.specs.Parse.{HasNumber, IsBoardParse}
+use Rattle.rv_words.proofs.Defaults.{HasDefaultAt, IsParseOf, are_simple_free, has_value, reads}
+
+-- the command is one of which clap says the matches
+pub board_simple : is_simple board_app ≡ true
+unfolding board_app
+board_simple = refl
+
+board_plain : board_app.top.is_plain ≡ true
+unfolding board_app
+board_plain = refl
+
+board_simple_free : are_simple_free board_app.top.rules ≡ true
+unfolding board_app
+board_simple_free = refl
+
+source_at : HasDefaultAt board_app.top.rules 0 source_rule
+unfolding board_app
+source_at = record {
+  within = omega arith;
+  at = refl;
+  only = refl;
+  action = refl;
+  range = refl;
+  defaults = omega arith;
+  named = refl;
+  no_help = refl;
+  no_version = refl;
+}
+
+steps_at : HasDefaultAt board_app.top.rules 1 steps_rule
+unfolding board_app
+steps_at = record {
+  within = omega arith;
+  at = refl;
+  only = refl;
+  action = refl;
+  range = refl;
+  defaults = omega arith;
+  named = refl;
+  no_help = refl;
+  no_version = refl;
+}
+
+pages_at : HasDefaultAt board_app.top.rules 2 pages_rule
+unfolding board_app
+pages_at = record {
+  within = omega arith;
+  at = refl;
+  only = refl;
+  action = refl;
+  range = refl;
+  defaults = omega arith;
+  named = refl;
+  no_help = refl;
+  no_version = refl;
+}
+
+parse_of : (c : Command) (m : ArgMatches) → app_of c ≡ board_app → IsParsedFrom c m → IsParseOf board_app.top.rules c m
+parse_of c m is parsed =
+    let fields = plain_fields c (ap (λ (a : App). a.top.is_plain) is ∙ board_plain) in
+    record {
+      rules_are = ap (λ (a : App). a.top.rules) is;
+      simple_free = board_simple_free;
+      groups = fields.groups;
+      globals = fields.globals;
+      parsed = parsed;
+    }
+
+number : (c : Command) (m : ArgMatches) (k : ℕ) (name default : Text) (low high : ℕ) → IsParseOf board_app.top.rules c m
+    → HasDefaultAt board_app.top.rules k (number_rule name default low high) → HasNumber m name low high
+number c m k name default low high p at =
+    let got = reads board_app.top.rules c m p k (number_rule name default low high) at (Signed (pos low) (pos high)) refl in
+    record { text = got.0; one = got.1; accepted = got.2 }
+
+pub board_parse : (c : Command) (m : ArgMatches) (words : List Text) → app_of c ≡ board_app → IsParsedFrom c m → HasMatchesOf (app_of c) words m
+    → IsBoardParse words m
+board_parse c m words is parsed matches =
+    let p = parse_of c m is parsed in
+    record {
+      rows = (matches (ap is_simple is ∙ board_simple)).0 ∙ ap (λ a. matches_of a words) is;
+      source = has_value board_app.top.rules c m p 0 source_rule source_at;
+      steps = number c m 1 (codes "steps") (codes "1000000") 0 1000000000 p steps_at;
+      pages = number c m 2 (codes "pages") (codes "256") 1 4096 p pages_at;
+    }
+
+-- and of which clap says the errors
+pub board_free : is_simple_and_free board_app ≡ true
+unfolding board_app
+board_free = refl
+
+-- ---- the fields, by the getters
+
+-- what `get_one` gives of such an option: a number in the range, which the option's value says
+pub record IsNumberOf (rows : List Row) (id : Text) (low high : ℕ) (r : Option ℕ) : Type 0 where
+  pub value : ℕ
+  pub is : r ≡ Some value
+  pub least : low ≤ value
+  pub most : value ≤ high
+  pub said : value ≡ number_of id rows
+
+pub number_got : (E : Type 0) (G : List ℕ → Result ℕ E → Type 0) (bits low high : ℕ) (words : List Text) (m : ArgMatches) (id : Text) (r : Option ℕ)
+    → ((t : List ℕ) → one_text (found_of m) id ≡ Some t → ReadsOne G t r)
+    → ((u : List ℕ) (x : Result ℕ E) → G u x → ParsesUnsigned bits 10 u x) → high < 2 ^ bits
+    → IsBoardParse words m → HasNumber m id low high → IsNumberOf (matches_of board_app words) id low high r
+number_got E G bits low high words m id r gives only fits p h =
+    let one = gives (without_minus h.text) h.one in
+    let got = signed_reads E G bits low high h.text r one only fits h.accepted in
+    let read : ReadsOne G (without_minus h.text) (Some got.0) = subst (λ (o : Option ℕ). ReadsOne G (without_minus h.text) o) got.1 one in
+    let parsed = only (without_minus h.text) (Ok got.0) read in
+    let text : one_of id (matches_of board_app words) ≡ Some (without_minus h.text) =
+    ap (one_of id) (sym p.rows) ∙ (sym (one_text-rows (found_of m) id) ∙ h.one) in
+    record {
+      value = got.0;
+      is = got.1;
+      least = got.2;
+      most = got.3;
+      said = parsed.1 ∙ sym (ap (λ (o : Option Text). option_map_or (λ t. digits_value 10 (without_leading_plus t)) o 0) text);
+    }
+
+-- what `get_str` gives
+pub text_got : (words : List Text) (m : ArgMatches) (id : Text) (r : Option (Bor Text)) → IsBoardParse words m
+    → option_map (λ s. s.now) r ≡ first_value (found_of m) id → first_of id (matches_of board_app words) ≡ option_map (λ s. s.now) r
+text_got words m id r p e = ap (first_of id) (sym p.rows) ∙ (sym (first_value-rows (found_of m) id) ∙ sym e)

@@ -1,0 +1,376 @@
+-- What a parse of a simple command has of an argument with a default value: a value that passed the
+-- argument's parser, whatever the words.
+use Rattle.std.proofs.Common.{true≢false, ◌≡◌, ◌∙◌, ◌<◌, ◌≤◌, ◌&&◌, ap, subst, sym, refl, ℕ, Bool, true, false, not, cond, zero, suc, List, [], ◌∷◌, length, map, is_some, Option, Some, None, inl, inr, arith}
+use Rattle.std.specs.Prelude.{codes, find, option_map, slice_get}
+use Rattle.std.specs.List.{All, list_all, slice_index_or}
+use Rattle.std.specs.Str.{bytes_eq}
+use Rattle.std.specs.Borrow.{Bor}
+use Rattle.std.proofs.Math.ListN.{get_or-map}
+use Rattle.std.proofs.lemmas.List.{get_or_default, length-map}
+use Rattle.std.proofs.lemmas.List.Elements.{All-nil, All-cons, All-get_or}
+use Rattle.std.proofs.lemmas.Slice.Eq.{bytes_eq-Decides}
+use Rattle.clap.specs.Texts.{items_of}
+use Rattle.clap.specs.Facts.{IsParsed, args_of, groups_of, Entry, EntryPasses, HasId, HasReading, PassesArg, ValuesPass, WantsDefault, least_values, parser_of, parser_of_value, unwrap_or_range}
+use Rattle.clap.specs.declared.builder.range.ValueRange.{ValueRange}
+use Rattle.clap.specs.Built.{IsAuto, IsParsedFrom, IsPlain, IsPlainArg, SameRules}
+use Rattle.clap.specs.Matches.{first_value, found_of, has_subcommand, matched_of, one_text}
+use Rattle.clap.specs.Values.{Accepts, read_as, reading_of}
+use Rattle.clap.specs.Walk.{Rule, Text, is_empty, rule_of}
+use Rattle.clap.specs.declared.builder.action.ArgAction.TheVariants.{Count, Set}
+use Rattle.clap.specs.declared.builder.arg.Arg.{Arg}
+use Rattle.clap.specs.declared.builder.command.Command.{Command}
+use Rattle.clap.specs.declared.builder.command.Command.TheViews.{out-Command}
+use Rattle.clap.specs.declared.builder.value_parser.Reading.{Reading}
+use Rattle.clap.specs.declared.builder.value_parser.ValueParser.{ValueParser}
+use Rattle.clap.specs.declared.parser.matches.ArgMatches.{ArgMatches}
+use Rattle.clap.specs.declared.parser.matches.Found.{Found}
+use Rattle.clap.specs.declared.parser.matches.MatchedArg.{MatchedArg}
+use Rattle.clap.proofs.CallerLemmas.{default_present, entry_by_id, same_rules_by_id}
+use Rattle.clap.proofs.SimpleLemmas.{is_false, is_nil}
+use Rattle.clap.proofs.WalkLemmas.{both}
+
+-- ---- what the rule of an argument says of it
+
+no_option : {X : Type 0} (o : Option X) → not (is_some o) ≡ true → o ≡ None
+no_option None h = refl
+no_option (Some x) h = cc
+
+pub record IsSimpleFree (a : Arg) : Type 0 where
+  pub plain : IsPlainArg a
+  pub ifs : a.default_vals_ifs.items ≡ []
+  pub delimiter : a.val_delim ≡ None
+
+-- an argument of a simple command with no rule on another excludes nothing
+simple_free : (a : Arg) → ((rule_of a).is_simple && (rule_of a).is_free) ≡ true → IsSimpleFree a
+simple_free a h =
+    let p = both _ _ h in
+    let overrides = both _ _ p.0 in
+    let ifs = both _ _ overrides.1 in
+    let groups = both _ _ ifs.1 in
+    let delimiter = both _ _ groups.1 in
+    let exclusive = both _ _ p.1 in
+    let conflicts = both _ _ exclusive.1 in
+    record {
+      plain = (is_false _ exclusive.0, is_nil _ conflicts.0, is_nil _ overrides.0, is_nil _ groups.0);
+      ifs = is_nil _ ifs.0;
+      delimiter = no_option _ delimiter.0;
+    }
+
+abbrev pub are_simple_free : List Rule → Bool
+are_simple_free rules = list_all (λ r. r.is_simple && r.is_free) rules
+
+all_simple_free : (xs : List Arg) → are_simple_free (map rule_of xs) ≡ true → All IsSimpleFree xs
+all_simple_free [] h = All-nil IsSimpleFree
+all_simple_free (x ∷ xs) h =
+    let p = both _ _ h in
+    All-cons IsSimpleFree x xs (simple_free x p.0) (all_simple_free xs p.1)
+
+-- no rule but the k-th has the id
+abbrev pub none_has : Text → List Rule → Bool
+none_has id rules = list_all (λ r. not (bytes_eq r.id id)) rules
+
+abbrev pub only_at : Text → ℕ → List Rule → Bool
+only_at id k [] = true
+only_at id zero (r ∷ rs) = none_has id rs
+only_at id (suc k) (r ∷ rs) = not (bytes_eq r.id id) && only_at id k rs
+
+none_there : (xs : List Arg) (id : Text) (j : ℕ) (e : Arg) → none_has id (map rule_of xs) ≡ true → j < length xs
+    → bytes_eq (slice_index_or xs j e).id.now id ≡ true → ⊥
+none_there [] id j e h lt same = absurd (omega arith)
+none_there (x ∷ xs) id zero e h lt same =
+    let p = both (not (bytes_eq x.id.now id)) (none_has id (map rule_of xs)) h in
+    let no = is_false (bytes_eq x.id.now id) p.0 in
+    cc
+none_there (x ∷ xs) id (suc j) e h lt same = none_there xs id j e (both (not (bytes_eq x.id.now id)) (none_has id (map rule_of xs)) h).1 (omega arith) same
+
+only_there : (xs : List Arg) (id : Text) (k j : ℕ) (e : Arg) → only_at id k (map rule_of xs) ≡ true → j < length xs
+    → bytes_eq (slice_index_or xs j e).id.now id ≡ true → j ≡ k
+only_there [] id k j e h lt same = absurd (omega arith)
+only_there (x ∷ xs) id zero zero e h lt same = refl
+only_there (x ∷ xs) id zero (suc j) e h lt same = absurd (none_there xs id j e h (omega arith) same)
+only_there (x ∷ xs) id (suc k) zero e h lt same =
+    let p = both (not (bytes_eq x.id.now id)) (only_at id k (map rule_of xs)) h in
+    let no = is_false (bytes_eq x.id.now id) p.0 in
+    cc
+only_there (x ∷ xs) id (suc k) (suc j) e h lt same = ap suc (only_there xs id k j e (both (not (bytes_eq x.id.now id)) (only_at id k (map rule_of xs)) h).1 (omega arith) same)
+
+-- ---- the entry of an argument with a default
+
+found_in : (xs : List Entry) (id : Text) (i : ℕ) → i < length xs → ((d : Entry) → bytes_eq (slice_index_or xs i d).0.now id ≡ true)
+    → is_some (option_map (λ e. e.1) (find (λ e. bytes_eq e.0.now id) xs)) ≡ true
+found_in [] id i lt h = absurd (omega arith)
+found_in (x ∷ xs) id zero lt h = rw (h x) refl
+found_in (x ∷ xs) id (suc i) lt h = go (bytes_eq x.0.now id) (found_in xs id i (omega arith) h)
+  where
+    go : (b : Bool) → is_some (option_map (λ (e : Entry). e.1) (find (λ e. bytes_eq e.0.now id) xs)) ≡ true
+        → is_some (option_map (λ (e : Entry). e.1) (cond b (Some x) (find (λ e. bytes_eq e.0.now id) xs))) ≡ true
+    go true e = refl
+    go false e = e
+
+has_entry : (f : Found) (id : Text) → HasId f id → is_some (matched_of f id) ≡ true
+has_entry f id h = found_in f.entries.items id h.0 h.1 h.2
+
+first_some : (xs : List (Bor Text)) → 0 < length xs → is_some (option_map (λ s. s.now) (slice_get xs 0)) ≡ true
+first_some [] lt = absurd (omega arith)
+first_some (x ∷ xs) lt = refl
+
+-- ---- a parse of a simple command
+
+-- the rules of the command, and its parse
+pub record IsParseOf (rules : List Rule) (old : Command) (m : ArgMatches) : Type 0 where
+  pub rules_are : map rule_of (args_of old) ≡ rules
+  pub simple_free : are_simple_free rules ≡ true
+  pub groups : groups_of old ≡ []
+  pub globals : (out-Command old).has_globals ≡ false
+  pub parsed : IsParsedFrom old m
+
+-- the k-th rule is of an option with a default value and no like
+pub record HasDefaultAt (rules : List Rule) (k : ℕ) (r : Rule) : Type 0 where
+  pub within : k < length rules
+  pub at : slice_index_or rules k r ≡ r
+  pub only : only_at r.id k rules ≡ true
+  pub action : r.action ≡ Some Set
+  pub range : r.range ≡ None
+  pub defaults : 0 < length r.defaults
+  pub named : is_empty r.id ≡ false
+  pub no_help : bytes_eq r.id (codes "help") ≡ false
+  pub no_version : bytes_eq r.id (codes "version") ≡ false
+
+-- what is known of the k-th argument of the command
+pub record Argument (old : Command) (k : ℕ) (d : Arg) (id : Text) : Type 0 where
+  pub within : k < length (args_of old)
+  pub id_is : (slice_index_or (args_of old) k d).id.now ≡ id
+  pub facts : IsSimpleFree (slice_index_or (args_of old) k d)
+  pub action : (slice_index_or (args_of old) k d).action ≡ Some Set
+  pub least : 1 ≤ least_values (slice_index_or (args_of old) k d)
+  pub wants : WantsDefault (slice_index_or (args_of old) k d)
+  pub only : (j : ℕ) (e : Arg) → j < length (args_of old)
+      → bytes_eq (slice_index_or (args_of old) j e).id.now (slice_index_or (args_of old) k d).id.now ≡ true → j ≡ k
+  pub named : (slice_index_or (args_of old) k d).id.now ≡ [] → ⊥
+  pub own : IsAuto (slice_index_or (args_of old) k d) → ⊥
+
+nonempty_texts : (xs : List (Bor Text)) (ts : List Text) → map (λ s. s.now) xs ≡ ts → 0 < length ts → 0 < length xs
+nonempty_texts [] ts e lt = let bad : 0 < 0 = rw (← e) at lt in absurd (omega arith)
+nonempty_texts (x ∷ xs) ts e lt = omega arith
+
+-- ---- what an entry's first value is read as
+
+head_passes : (P : Bor (List ℕ) → Type 0) (how : Reading) (vs : List (Bor (List ℕ))) → All P vs
+    → is_some (option_map (λ s. s.now) (slice_get vs 0)) ≡ true
+    → (v : Bor (List ℕ)) × (option_map (λ s. read_as how s.now) (slice_get vs 0) ≡ Some (read_as how v.now)) × P v
+head_passes P how [] h some = cc
+head_passes P how (v ∷ vs) h some = (v, refl, All-get_or P (v ∷ vs) 0 v (omega arith) h)
+
+one_text_at_entry : (f : Found) (id : List ℕ) (x : MatchedArg) (how : Reading) (t : List ℕ) → matched_of f id ≡ Some x → x.reading ≡ how
+    → option_map (λ s. read_as how s.now) (slice_get x.vals.items 0) ≡ Some t → one_text f id ≡ Some t
+one_text_at_entry f id x how t found is v = rw (found, is) v
+
+-- an argument with the id of the caller's argument is read as the caller's parser says
+only_reading : (old : Command) (m : ArgMatches) (p : IsParsedFrom old m) (k : ℕ) (d : Arg) → k < length (args_of old)
+    → ((j : ℕ) (e : Arg) → j < length (args_of old)
+    → bytes_eq (slice_index_or (args_of old) j e).id.now (slice_index_or (args_of old) k d).id.now ≡ true → j ≡ k)
+    → (IsAuto (slice_index_or (args_of old) k d) → ⊥)
+    → (q : ValueParser) → (slice_index_or (args_of old) k d).value_parser ≡ Some q
+    → (r : Reading) → HasReading p.built (slice_index_or (args_of old) k d).id.now r → r ≡ reading_of q
+only_reading old m p k d lt unique own q parser r any =
+    let s = same_rules_by_id old m p k d lt unique own any.0 any.1 any.2 any.3 any.4.0 in
+    let is_q : parser_of any.1 ≡ q = ap parser_of_value (s.parser q parser) in
+    sym any.4.1 ∙ ap reading_of is_q
+
+accepts_of : (a y : Arg) (q : ValueParser) (t : List ℕ) → SameRules a y → a.value_parser ≡ Some q
+    → Accepts y.ignore_case (parser_of y) t → Accepts a.ignore_case q t
+accepts_of a y q t s parser read =
+    let is_q : parser_of y ≡ q = ap parser_of_value (s.parser q parser) in
+    let as_q : Accepts y.ignore_case q t = subst (λ (w : ValueParser). Accepts y.ignore_case w t) is_q read in
+    subst (λ (b : Bool). Accepts b q t) s.ignore_case as_q
+
+passes_read : (old : Command) (m : ArgMatches) (p : IsParsedFrom old m) (k : ℕ) (d : Arg) → k < length (args_of old)
+    → ((j : ℕ) (e : Arg) → j < length (args_of old)
+    → bytes_eq (slice_index_or (args_of old) j e).id.now (slice_index_or (args_of old) k d).id.now ≡ true → j ≡ k)
+    → (IsAuto (slice_index_or (args_of old) k d) → ⊥)
+    → (q : ValueParser) → (slice_index_or (args_of old) k d).value_parser ≡ Some q
+    → (w : List ℕ) (v : Bor (List ℕ)) → w ≡ (slice_index_or (args_of old) k d).id.now → PassesArg p.built w v.now
+    → Accepts (slice_index_or (args_of old) k d).ignore_case q v.now
+passes_read old m p k d lt unique own q parser w v key pass =
+    let same : bytes_eq pass.1.id.now (slice_index_or (args_of old) k d).id.now ≡ true =
+    subst (λ (u : List ℕ). bytes_eq pass.1.id.now u ≡ true) key pass.4.0 in
+    accepts_of _ pass.1 q v.now (same_rules_by_id old m p k d lt unique own pass.0 pass.1 pass.2 pass.3 same) parser pass.4.1
+
+-- what one entry gives
+read_of : (c : Command) (f : Found) (id : List ℕ) (Q : List ℕ → Type 0) (how : Reading) (x : MatchedArg) (e : Entry)
+    → groups_of c ≡ [] → (id ≡ [] → ⊥) → ((r : Reading) → HasReading c id r → r ≡ how)
+    → ((v : Bor (List ℕ)) → PassesArg c id v.now → Q v.now)
+    → matched_of f id ≡ Some x → is_some (option_map (λ s. s.now) (slice_get x.vals.items 0)) ≡ true
+    → e.1 ≡ x → e.0.now ≡ id → EntryPasses c e
+    → (t : List ℕ) × (one_text f id ≡ Some (read_as how t)) × Q t
+read_of c f id Q how x e no_groups named reads read found first same_x key_id pass =
+    let no_group : e.1.is_group ≡ true → ⊥ = λ g. elim (pass.3 g) [
+      | inl empty ↦ named (sym key_id ∙ empty)
+      | inr lots ↦
+          let bad : 0 < 0 = rw no_groups at lots in
+          absurd (omega arith)
+    ] in
+    let all : All (λ v. PassesArg c id v.now) x.vals.items = elim pass.0 [
+      | inl g ↦ absurd (no_group g)
+      | inr vals ↦ subst (λ (w : List ℕ). All (λ v. PassesArg c w v.now) x.vals.items) key_id (rw same_x at vals)
+    ] in
+    let is : e.1.reading ≡ how = elim pass.4 [
+      | inl g ↦ absurd (no_group g)
+      | inr h ↦ reads e.1.reading (subst (λ (w : List ℕ). HasReading c w e.1.reading) key_id h)
+    ] in
+    finish (head_passes (λ v. PassesArg c id v.now) how x.vals.items all first) (ap (λ (y : MatchedArg). y.reading) (sym same_x) ∙ is)
+  where
+    finish : ((v : Bor (List ℕ)) × (option_map (λ s. read_as how s.now) (slice_get x.vals.items 0) ≡ Some (read_as how v.now)) × PassesArg c id v.now)
+        → x.reading ≡ how → (t : List ℕ) × (one_text f id ≡ Some (read_as how t)) × Q t
+    finish hd is = (hd.0.now, one_text_at_entry f id x how (read_as how hd.0.now) found is hd.1, read hd.0 hd.2)
+
+-- what the entry of an id gives, where it is an argument's with a first value
+entry_read : (c : Command) (f : Found) (id : List ℕ) (Q : List ℕ → Type 0) (how : Reading) → ValuesPass c f → groups_of c ≡ [] → (id ≡ [] → ⊥)
+    → is_some (first_value f id) ≡ true → ((r : Reading) → HasReading c id r → r ≡ how)
+    → ((v : Bor (List ℕ)) → PassesArg c id v.now → Q v.now)
+    → (t : List ℕ) × (one_text f id ≡ Some (read_as how t)) × Q t
+entry_read c f id Q how values no_groups named has reads read = go (matched_of f id) refl has
+  where
+    step : (x : MatchedArg) → matched_of f id ≡ Some x → is_some (option_map (λ s. s.now) (slice_get x.vals.items 0)) ≡ true
+        → ((e : Entry) × (e.1 ≡ x) × (bytes_eq e.0.now id ≡ true) × EntryPasses c e)
+        → (t : List ℕ) × (one_text f id ≡ Some (read_as how t)) × Q t
+    step x found first got =
+        read_of c f id Q how x got.0 no_groups named reads read found first got.1 ((bytes_eq-Decides got.0.0.now id).0 got.2) got.3
+
+    go : (o : Option MatchedArg) → matched_of f id ≡ o → is_some (first_value f id) ≡ true → (t : List ℕ) × (one_text f id ≡ Some (read_as how t)) × Q t
+    go None e h =
+        let bad : false ≡ true = rw e at h in
+        cc
+    go (Some x) e h = step x e (rw e at h) (entry_by_id (EntryPasses c) f.entries.items id x values e)
+
+module _ (rules : List Rule) (old : Command) (m : ArgMatches) (p : IsParseOf rules old m) (k : ℕ) (r : Rule) (h : HasDefaultAt rules k r) where
+  length_is : length (args_of old) ≡ length rules
+  length_is = sym (length-map (args_of old) rule_of) ∙ ap length p.rules_are
+
+  within_args : k < length (args_of old)
+  within_args = rw length_is h.within
+
+  -- the rule of the argument
+  rule_is : (d : Arg) → rule_of (slice_index_or (args_of old) k d) ≡ r
+  rule_is d =
+      let from : k < length (map rule_of (args_of old)) = rw (← p.rules_are) at h.within in
+      sym (get_or-map rule_of (args_of old) k d)
+      ∙ (get_or_default (map rule_of (args_of old)) k (rule_of d) r from ∙ (ap (λ l. slice_index_or l k r) p.rules_are ∙ h.at))
+
+  argument_facts : (d : Arg) → Argument old k d r.id
+  argument_facts d =
+      let a = slice_index_or (args_of old) k d in
+      let is : rule_of a ≡ r = rule_is d in
+      let id_is : a.id.now ≡ r.id = ap (λ (x : Rule). x.id) is in
+      let all = all_simple_free (args_of old) (rw p.rules_are p.simple_free) in
+      let facts : IsSimpleFree a = all k d within_args in
+      let range : a.num_vals ≡ None = ap (λ (x : Rule). x.range) is ∙ h.range in
+      let filled : 0 < length (items_of a.default_vals) =
+      nonempty_texts (items_of a.default_vals) r.defaults (ap (λ (x : Rule). x.defaults) is) h.defaults in
+      record {
+        within = within_args;
+        id_is = id_is;
+        facts = facts;
+        action = ap (λ (x : Rule). x.action) is ∙ h.action;
+        least = subst (λ (o : Option ValueRange). 1 ≤ (unwrap_or_range o).start_inclusive) (sym range) (omega arith);
+        wants = (facts.ifs, filled);
+        only = λ j e lt same. only_there (args_of old) r.id k j e (rw p.rules_are h.only) lt (rw id_is at same);
+        named = λ e.
+            let empty : is_empty r.id ≡ true = ap (λ (t : Text). is_empty t) (sym id_is ∙ e) in
+            absurd (true≢false (sym empty ∙ h.named));
+        own = λ auto. elim auto [
+          | inl e ↦
+              let help : bytes_eq r.id (codes "help") ≡ true = ap (λ t. bytes_eq t (codes "help")) (sym id_is ∙ e) in
+              absurd (true≢false (sym help ∙ h.no_help))
+          | inr e ↦
+              let version : bytes_eq r.id (codes "version") ≡ true = ap (λ t. bytes_eq t (codes "version")) (sym id_is ∙ e) in
+              absurd (true≢false (sym version ∙ h.no_version))
+        ];
+      }
+
+  plain : IsPlain old
+  plain = (
+    (λ j e lt. (all_simple_free (args_of old) (rw p.rules_are p.simple_free) j e lt).plain),
+    p.groups,
+  )
+
+  -- the entry of the argument has a value
+  has_value_with : (d : Arg) → is_some (first_value (found_of m) r.id) ≡ true
+  has_value_with d =
+      let a = argument_facts d in
+      let entry = has_entry (found_of m) _ (default_present old m p.parsed p.globals k d within_args a.wants) in
+      subst (λ (t : Text). is_some (first_value (found_of m) t) ≡ true) a.id_is (go (matched_of (found_of m) (slice_index_or (args_of old) k d).id.now) refl entry (p.parsed.parsed (p.parsed.from.globals ∙ p.globals)))
+    where
+      go : (o : Option MatchedArg) → matched_of (found_of m) (slice_index_or (args_of old) k d).id.now ≡ o
+          → is_some (matched_of (found_of m) (slice_index_or (args_of old) k d).id.now) ≡ true
+          → IsParsed p.parsed.built (found_of m) (has_subcommand m)
+          → is_some (first_value (found_of m) (slice_index_or (args_of old) k d).id.now) ≡ true
+      go None e some parsed = cc
+      go (Some x) e some parsed =
+          let a = argument_facts d in
+          let got = entry_by_id (EntryPasses p.parsed.built) (found_of m).entries.items (slice_index_or (args_of old) k d).id.now x parsed.values e in
+          let same_x : got.0.1 ≡ x = got.1 in
+          let key_id : got.0.0.now ≡ (slice_index_or (args_of old) k d).id.now = (bytes_eq-Decides _ _).0 got.2 in
+          let no_groups : groups_of p.parsed.built ≡ [] = (p.parsed.from.plain plain).1 in
+          elim got.3.1 [
+            | inl h ↦ elim h.1 [
+              | inl empty ↦ absurd (a.named (sym key_id ∙ empty))
+              | inr has ↦
+                  let bad : 0 < 0 = rw no_groups at has in
+                  absurd (omega arith)
+            ]
+            | inr (inl v) ↦ rw e (first_some x.vals.items (rw same_x at v))
+            | inr (inr (inl h)) ↦
+                let any = h.1 in
+                let s = same_rules_by_id old m p.parsed k d within_args a.only a.own any.0 any.1 any.2 any.3 (rw key_id at any.4.0) in
+                let is_set : any.1.action ≡ Some Set = s.action Set a.action in
+                let bad : Set ≡ Count = rw is_set at any.4.1 in
+                cc
+            | inr (inr (inr h)) ↦
+                let s = same_rules_by_id old m p.parsed k d within_args a.only a.own h.0 h.1 h.2 h.3 (rw key_id at h.4.0) in
+                elim h.4.1 [
+                  | inl none ↦
+                      let one = s.least a.action a.least in
+                      absurd (omega arith)
+                  | inr has ↦
+                      let bad : false ≡ true = rw (s.val_delim, a.facts.delimiter) at has in
+                      cc
+                ]
+          ]
+
+  -- and the value passed the parser of the argument, and is read as the parser says
+  reads_with : (d : Arg) (q : ValueParser) → r.parser ≡ Some q
+      → (t : Text) × (one_text (found_of m) r.id ≡ Some (read_as (reading_of q) t)) × Accepts r.ignore_case q t
+  reads_with d q parser =
+      let a = argument_facts d in
+      let x = slice_index_or (args_of old) k d in
+      let is : rule_of x ≡ r = rule_is d in
+      let x_parser : x.value_parser ≡ Some q = ap (λ (y : Rule). y.parser) is ∙ parser in
+      let parsed = p.parsed.parsed (p.parsed.from.globals ∙ p.globals) in
+      let has : is_some (first_value (found_of m) x.id.now) ≡ true =
+      subst (λ (t : Text). is_some (first_value (found_of m) t) ≡ true) (sym a.id_is) (has_value_with d) in
+      let got = entry_read p.parsed.built (found_of m) x.id.now
+      (λ (t : List ℕ). Accepts x.ignore_case q t) (reading_of q)
+      parsed.values (p.parsed.from.plain plain).1 a.named has
+      (only_reading old m p.parsed k d within_args a.only a.own q x_parser)
+      (λ v pass. passes_read old m p.parsed k d within_args a.only a.own q x_parser _ v refl pass) in (
+        got.0,
+        subst (λ (w : List ℕ). one_text (found_of m) w ≡ Some (read_as (reading_of q) got.0)) a.id_is got.1,
+        subst (λ (b : Bool). Accepts b q got.0) (ap (λ (y : Rule). y.ignore_case) is) got.2,
+      )
+
+-- an element of a list that has one
+some_element : {X : Type 0} (xs : List X) (k : ℕ) → k < length xs → X
+some_element [] k lt = absurd (omega arith)
+some_element (x ∷ xs) k lt = x
+
+-- the first value of an argument with a default is there
+pub has_value : (rules : List Rule) (old : Command) (m : ArgMatches) → IsParseOf rules old m → (k : ℕ) (r : Rule) → HasDefaultAt rules k r
+    → is_some (first_value (found_of m) r.id) ≡ true
+has_value rules old m p k r h = has_value_with rules old m p k r h (some_element (args_of old) k (within_args rules old m p k r h))
+
+-- and is read as the argument's parser says, which it passed
+pub reads : (rules : List Rule) (old : Command) (m : ArgMatches) → IsParseOf rules old m → (k : ℕ) (r : Rule) → HasDefaultAt rules k r
+    → (q : ValueParser) → r.parser ≡ Some q
+    → (t : Text) × (one_text (found_of m) r.id ≡ Some (read_as (reading_of q) t)) × Accepts r.ignore_case q t
+reads rules old m p k r h = reads_with rules old m p k r h (some_element (args_of old) k (within_args rules old m p k r h))

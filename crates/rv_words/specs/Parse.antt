@@ -1,0 +1,21 @@
+-- What a parse of the command has, whatever the words.
+use Rattle.std.specs.Prelude.{◌≡◌, ℕ, pos, Some, codes, is_some, true, List}
+use Rattle.clap.specs.Lexer.{without_minus}
+use Rattle.clap.specs.Values.{IsSignedIn}
+use Rattle.clap.specs.Words.{Text, first_value, found_of, matches_of, one_text, rows_of}
+use Rattle.clap.specs.declared.parser.matches.ArgMatches.{ArgMatches}
+use Rattle.rv_words.specs.Board.{board_app}
+
+-- the value of the option reads as a number from `low` to `high`
+pub record HasNumber (m : ArgMatches) (id : Text) (low high : ℕ) : Type 0 where
+  pub text : Text
+  pub one : one_text (found_of m) id ≡ Some (without_minus text)
+  pub accepted : IsSignedIn (pos low) (pos high) text
+
+-- the rows are those that clap's meaning of the command gives, and the options that have a default
+-- have a value
+pub record IsBoardParse (words : List Text) (m : ArgMatches) : Type 0 where
+  pub rows : rows_of (found_of m) ≡ matches_of board_app words
+  pub source : is_some (first_value (found_of m) (codes "source")) ≡ true
+  pub steps : HasNumber m (codes "steps") 0 1000000000
+  pub pages : HasNumber m (codes "pages") 1 4096

@@ -1,0 +1,19 @@
+-- What the fields of `Words` are, by the matches of the command.
+use Rattle.std.specs.Prelude.{◌≡◌, ◌≤◌, ℕ, List, Some, codes}
+use Rattle.std.specs.Option.{option_map_or}
+use Rattle.std.specs.Str.Parse.{digits_value, without_leading_plus}
+use Rattle.clap.specs.Words.{Row, Text, first_of, one_of}
+use Rattle.rv_words.specs.declared.Words.{Words}
+
+-- the decimal number that the value of an option says
+abbrev pub number_of : Text → List Row → ℕ
+number_of id rows = option_map_or (λ t. digits_value 10 (without_leading_plus t)) (one_of id rows) 0
+
+-- the fields say what the words say, and the numbers lie in their ranges
+pub record IsReadFrom (rows : List Row) (w : Words) : Type 0 where
+  pub source : first_of (codes "source") rows ≡ Some w.source.now
+  pub steps : w.options.steps ≡ number_of (codes "steps") rows
+  pub pages : w.options.pages ≡ number_of (codes "pages") rows
+  pub most_steps : w.options.steps ≤ 1000000000
+  pub least_pages : 1 ≤ w.options.pages
+  pub most_pages : w.options.pages ≤ 4096

@@ -1,0 +1,116 @@
+//! The words of the program `rvboard [SOURCE] [--steps N] [--pages P]`, read with `clap`.
+#![tactic(auto)]
+
+ghost use Rattle.std.specs.Prelude.{◌≡◌, codes, IfErr, IfOk, false, true};
+ghost use Rattle.clap.specs.Words.{FailsBy, app_of, fault_of, kind_of, matches_of, rule_of, takes};
+ghost use Rattle.rv_words.specs.Board.{board_app, number_rule, source_rule, texts_of};
+ghost use Rattle.rv_words.specs.Parse.{IsBoardParse};
+ghost use Rattle.rv_words.specs.Read.{IsReadFrom};
+
+use clap::error::ErrorKind;
+use clap::{Arg, ArgAction, ArgMatches, Command, Error, value_parser};
+use std::alloc::{AllocError, Global};
+
+/// How far a board runs, and how large its memory is.
+#[derive(Clone, Copy, Debug, PartialEq, Eq)]
+pub struct Options {
+    /// The most steps: 0 to 1,000,000,000 where words were read.
+    pub steps: u32,
+    /// The pages of RAM, of 4096 bytes each: 1 to 4096 where words were read.
+    pub pages: u16,
+}
+
+/// What the program's words ask for.
+#[derive(Clone, Copy, Debug)]
+pub struct Words<'a> {
+    /// The path of the source, or `-` for the standard input.
+    pub source: &'a str,
+    /// The numbers.
+    pub options: Options,
+}
+
+fn source_arg<'a>(alloc: Global) -> Arg<'a>
+    ensures rule { rule_of result ≡ source_rule }
+    ensures local { result.global ≡ false }
+{
+    Arg::new(alloc, "source")
+        .value_name("SOURCE")
+        .help("the assembly source, or - for the standard input")
+        .action(ArgAction::Set)
+        .default_value("-")
+}
+
+fn steps_arg<'a>(alloc: Global) -> Arg<'a>
+    ensures rule { rule_of result ≡ number_rule (codes "steps") (codes "1000000") 0 1000000000 }
+    ensures local { result.global ≡ false }
+{
+    Arg::new(alloc, "steps")
+        .long("steps")
+        .value_name("N")
+        .help("the most steps, 0 to 1000000000")
+        .action(ArgAction::Set)
+        .default_value("1000000")
+        .value_parser(value_parser!(u32).range(0..=1_000_000_000))
+}
+
+fn pages_arg<'a>(alloc: Global) -> Arg<'a>
+    ensures rule { rule_of result ≡ number_rule (codes "pages") (codes "256") 1 4096 }
+    ensures local { result.global ≡ false }
+{
+    Arg::new(alloc, "pages")
+        .long("pages")
+        .value_name("P")
+        .help("the pages of RAM of 4096 bytes each, 1 to 4096")
+        .action(ArgAction::Set)
+        .default_value("256")
+        .value_parser(value_parser!(u16).range(1..=4096))
+}
+
+/// The command that the program's words are read by.
+fn board_command<'a>(alloc: Global) -> Result<Command<'a>, AllocError>
+    ensures { IfOk result (λ c. app_of c ≡ board_app) }
+{
+    let command = Command::new(alloc, "rvboard")
+        .about("assembles a program and runs it on a small RISC-V board")
+        .arg(source_arg(alloc))?
+        .arg(steps_arg(alloc))?
+        .arg(pages_arg(alloc))?;
+    Ok(command)
+}
+
+/// The matches of the words.
+fn parse<'a>(alloc: Global, words: &'a [&'a str]) -> Result<ArgMatches<'a>, Error>
+    ensures parsed { IfOk result (IsBoardParse (texts_of words.entry.now)) }
+    ensures takes { IfErr result (λ e. takes board_app (texts_of words.entry.now) ≡ true
+        → kind_of e ≡ ErrorKind.OutOfMemory) }
+    ensures faults { FailsBy (fault_of board_app (texts_of words.entry.now)) result }
+{
+    let command = board_command(alloc)?;
+    command.try_get_matches_from(words)
+}
+
+/// What the words ask for, of which the first is the program's name.
+///
+/// The words are taken and refused exactly as `clap` does it for the command `board_app` of
+/// `specs/Board.antt`. An error may also be want of memory (`ErrorKind::OutOfMemory`), and is the
+/// help's text where help was asked for (`ErrorKind::DisplayHelp`).
+pub fn read_words<'a>(alloc: Global, words: &'a [&'a str]) -> Result<Words<'a>, Error>
+    ensures read { IfOk result (IsReadFrom (matches_of board_app (texts_of words.entry.now))) }
+
+    // Where the command takes the words, the only error is want of memory.
+    ensures takes { IfErr result (λ e. takes board_app (texts_of words.entry.now) ≡ true
+        → kind_of e ≡ ErrorKind.OutOfMemory) }
+
+    // Where it refuses them, the error is of a kind that the command gives them.
+    ensures faults { FailsBy (fault_of board_app (texts_of words.entry.now)) result }
+{
+    let matches = parse(alloc, words)?;
+    let source = matches.get_str("source").unwrap();
+    let steps = matches.get_one::<u32>("steps").unwrap();
+    let pages = matches.get_one::<u16>("pages").unwrap();
+    let options = Options { steps, pages };
+    Ok(Words { source, options })
+}
+
+#[cfg(test)]
+mod tests;
