@@ -2,13 +2,13 @@
 use Rattle.std.specs.Prelude.{◌≡◌, ◌<◌, ℕ, Bool, true, false, ◌+◌, ◌%◌, ◌^◌, List, [], ◌∷◌, ◌++◌, length, take, slice_get, Option, Some, None}
 use Rattle.circular_buffer.specs.Buffer.{keep_last}
 use Rattle.rv_hart.specs.State.{Machine}
-use Rattle.rv_hart.specs.Step.{step, receive}
+use Rattle.rv_hart.specs.Step.{step, with_line, receive}
 use Rattle.rv_hart.specs.Step as hart
 use Rattle.rv_hart.specs.declared.trap.Outcome.{Outcome}
 use Rattle.rv_hart.specs.declared.trap.Outcome.TheVariants.{Retired, Trapped, Halted}
 use Rattle.rv_board.specs.State.{BoardState}
 use Rattle.rv_board.specs.declared.event.Event.{Event}
-use Rattle.rv_board.specs.declared.event.Event.TheVariants.{Step, Rx}
+use Rattle.rv_board.specs.declared.event.Event.TheVariants.{Step, Line, Rx}
 use Rattle.rv_board.specs.declared.event.TrapRecord.{TrapRecord}
 
 -- the last 64 traps
@@ -24,6 +24,7 @@ stepped b (m, o) = record { machine = m; traps = with_trap b.traps o; steps = (b
 abbrev pub happens : Option ℕ → BoardState → Event → BoardState
 happens (Some code) b e = b
 happens None b Step = stepped b (step b.machine)
+happens None b (Line source high) = record b { machine = with_line b.machine source high }
 happens None b (Rx byte) = record b { machine = receive b.machine byte }
 
 -- what an event makes of a board
@@ -33,6 +34,7 @@ moved b e = happens b.machine.bus.halt b e
 abbrev pub writes_by : Option ℕ → BoardState → Event → Bool
 writes_by (Some code) b e = false
 writes_by None b Step = hart.writes b.machine
+writes_by None b (Line source high) = false
 writes_by None b (Rx byte) = false
 
 -- the event is a step that retires a store to the memory or the console

@@ -1,5 +1,8 @@
 -- All that a board is.
 use Rattle.std.specs.Prelude.{ℕ, List, slice_index, Option}
+use Rattle.rv_plic.specs.Plic.{PlicState}
+use Rattle.rv_mmio.specs.Timer.{TimerState}
+use Rattle.rv_mmio.specs.Serial.{SerialState}
 use Rattle.rv_bus.specs.Access.{ram_byte}
 use Rattle.rv_hart.specs.State.{Machine}
 use Rattle.rv_board.specs.declared.event.TrapRecord.{TrapRecord}
@@ -20,6 +23,15 @@ pc_of b = b.machine.pc
 
 abbrev pub byte_of : BoardState → ℕ → Option ℕ
 byte_of b a = ram_byte b.machine.bus.ram a
+
+abbrev pub plic_of : BoardState → PlicState
+plic_of b = b.machine.bus.plic
+
+abbrev pub timer_of : BoardState → TimerState
+timer_of b = b.machine.bus.timer
+
+abbrev pub serial_of : BoardState → SerialState
+serial_of b = b.machine.bus.serial
 
 abbrev pub console_of : BoardState → List ℕ
 console_of b = b.machine.bus.serial.sent

@@ -1,10 +1,18 @@
 //! What may happen to a board, and what it answers.
+use rv_plic::Source;
 
 /// One atomic action of one of the board's actors. Every interleaving of them is a list of events.
 #[derive(Clone, Copy, Debug, PartialEq, Eq)]
 pub enum Event {
     /// Time passes by one tick, and the hart does one step.
     Step,
+    /// The line of an interrupt source rises or falls.
+    Line {
+        /// The source.
+        source: Source,
+        /// The line's new level.
+        high: bool,
+    },
     /// A byte comes in at the serial port.
     Rx(u8),
 }

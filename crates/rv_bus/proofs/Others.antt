@@ -8,7 +8,7 @@ use Rattle.rv_ram.specs.Bytes.{word_at, put}
 use Rattle.rv_mmio.specs.declared.serial.SerialReg.TheVariants.{Tx, Rx, Status}
 use Rattle.rv_bus.specs.Places.{place_of, device_of, word_device}
 use Rattle.rv_bus.specs.declared.places.Place.{Place}
-use Rattle.rv_bus.specs.declared.places.Place.TheVariants.{Ram, Halt, Timer, Serial, Nowhere}
+use Rattle.rv_bus.specs.declared.places.Place.TheVariants.{Ram, Halt, Timer, Plic, Serial, Nowhere}
 use Rattle.rv_bus.specs.Access.{word_of, fetch}
 
 -- a write to one place leaves another
@@ -48,8 +48,10 @@ none_if xs false p q h k = k
 -- no device has a word to fetch
 none_word_device : (xs : List ℕ) (a : ℕ) → word_of xs (word_device a) ≡ None
 none_word_device xs a =
-    none_if xs (a == 0x00100000) Halt (if nat_le 0x02000000 a && nat_lt a 0x0200c000 then Timer (a - 0x02000000) else Nowhere) refl
-    (none_if xs (nat_le 0x02000000 a && nat_lt a 0x0200c000) (Timer (a - 0x02000000)) Nowhere refl refl)
+    let plic_or_nowhere : Place = if nat_le 0x0c000000 a && nat_lt a 0x10000000 then Plic (a - 0x0c000000) else Nowhere in
+    none_if xs (a == 0x00100000) Halt (if nat_le 0x02000000 a && nat_lt a 0x0200c000 then Timer (a - 0x02000000) else plic_or_nowhere) refl
+    (none_if xs (nat_le 0x02000000 a && nat_lt a 0x0200c000) (Timer (a - 0x02000000)) plic_or_nowhere refl
+    (none_if xs (nat_le 0x0c000000 a && nat_lt a 0x10000000) (Plic (a - 0x0c000000)) Nowhere refl refl))
 
 none_device : (xs : List ℕ) (a : ℕ) → word_of xs (device_of a Four) ≡ None
 none_device xs a =

@@ -5,6 +5,7 @@ use Rattle.rv_isa.specs.declared.op.Width.{Width}
 use Rattle.rv_isa.specs.declared.op.Width.TheVariants.{One, Two, Four}
 use Rattle.rv_isa.specs.declared.Lines.{Lines}
 use Rattle.rv_ram.specs.Bytes.{word_at, put, value_at}
+use Rattle.rv_plic.specs.Plic as plic
 use Rattle.rv_mmio.specs.Timer as timer
 use Rattle.rv_mmio.specs.Serial as serial
 use Rattle.rv_mmio.specs.Halt.{halted_by}
@@ -13,7 +14,7 @@ use Rattle.rv_mmio.specs.declared.serial.SerialReg.TheVariants.{Tx, Rx, Status}
 use Rattle.rv_bus.specs.State.{BusState}
 use Rattle.rv_bus.specs.Places.{place_of}
 use Rattle.rv_bus.specs.declared.places.Place.{Place}
-use Rattle.rv_bus.specs.declared.places.Place.TheVariants.{Ram, Halt, Timer, Serial, Nowhere}
+use Rattle.rv_bus.specs.declared.places.Place.TheVariants.{Ram, Halt, Timer, Plic, Serial, Nowhere}
 
 -- a narrow access of a register has its low bits
 abbrev pub low_bits : ℕ → Width → ℕ
@@ -26,14 +27,16 @@ abbrev pub load_at : BusState → Place → Width → Option ℕ
 load_at b (Ram off) w = Some (value_at b.ram off w)
 load_at b Halt w = Some 0
 load_at b (Timer off) w = timer.load b.timer off
+load_at b (Plic off) w = Some (plic.load_value b.plic off)
 load_at b (Serial reg) w = Some (low_bits (serial.load_value b.serial reg) w)
 load_at b Nowhere w = None
 
--- what it leaves: only a load of the serial port has an effect
+-- what it leaves: only loads of the interrupt controller and the serial port have an effect
 abbrev pub after_load_at : BusState → Place → BusState
 after_load_at b (Ram off) = b
 after_load_at b Halt = b
 after_load_at b (Timer off) = b
+after_load_at b (Plic off) = record b { plic = plic.after_load b.plic off }
 after_load_at b (Serial reg) = record b { serial = serial.after_load b.serial reg }
 after_load_at b Nowhere = b
 
@@ -42,6 +45,7 @@ abbrev pub store_at : BusState → Place → Width → ℕ → Option BusState
 store_at b (Ram off) w v = Some (record b { ram = put b.ram off w v })
 store_at b Halt w v = Some (record b { halt = halted_by b.halt v })
 store_at b (Timer off) w v = option_map (λ t. record b { timer = t }) (timer.store b.timer off v)
+store_at b (Plic off) w v = Some (record b { plic = plic.stored b.plic off v })
 store_at b (Serial reg) w v = Some (record b { serial = serial.stored b.serial reg v })
 store_at b Nowhere w v = None
 
@@ -55,6 +59,7 @@ abbrev pub grows_at : Place → Bool
 grows_at (Ram off) = true
 grows_at Halt = false
 grows_at (Timer off) = false
+grows_at (Plic off) = false
 grows_at (Serial reg) = is_transmit reg
 grows_at Nowhere = false
 
@@ -86,13 +91,17 @@ abbrev pub ram_byte : List ℕ → ℕ → Option ℕ
 ram_byte ram a =
     if nat_le 0x80000000 a && nat_lt (a - 0x80000000) (length ram) then Some (slice_index ram (a - 0x80000000)) else None
 
--- time passes
+-- time passes, and the gateways forward their requests
 abbrev pub ticked : BusState → BusState
-ticked b = record b { timer = timer.ticked b.timer }
+ticked b = record b { timer = timer.ticked b.timer; plic = plic.forwarded b.plic }
 
 -- the levels of the interrupt lines
 abbrev pub lines_of : BusState → Lines
-lines_of b = record { software = b.timer.software; timer = timer.is_due b.timer; external = false }
+lines_of b = record { software = b.timer.software; timer = timer.is_due b.timer; external = plic.is_notified b.plic }
+
+-- the line of an interrupt source rises or falls
+abbrev pub with_line : BusState → ℕ → Bool → BusState
+with_line b source level = record b { plic = plic.with_line b.plic source level }
 
 -- a byte comes in
 abbrev pub received : BusState → ℕ → BusState

@@ -4,13 +4,14 @@ use Rattle.rv_isa.specs.declared.op.Width.{Width}
 use Rattle.rv_isa.specs.declared.op.Width.TheVariants.{One, Two, Four}
 use Rattle.rv_mmio.specs.declared.serial.SerialReg.TheVariants.{Tx, Rx, Status}
 use Rattle.rv_bus.specs.declared.places.Place.{Place}
-use Rattle.rv_bus.specs.declared.places.Place.TheVariants.{Ram, Halt, Timer, Serial, Nowhere}
+use Rattle.rv_bus.specs.declared.places.Place.TheVariants.{Ram, Halt, Timer, Plic, Serial, Nowhere}
 
 -- the devices that only words reach
 abbrev pub word_device : ℕ → Place
 word_device a =
     if a == 0x00100000 then Halt else (
-    if nat_le 0x02000000 a && nat_lt a 0x0200c000 then Timer (a - 0x02000000) else Nowhere)
+    if nat_le 0x02000000 a && nat_lt a 0x0200c000 then Timer (a - 0x02000000) else (
+    if nat_le 0x0c000000 a && nat_lt a 0x10000000 then Plic (a - 0x0c000000) else Nowhere))
 
 abbrev pub of_width : ℕ → Width → Place
 of_width a One = Nowhere

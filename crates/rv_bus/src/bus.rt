@@ -4,13 +4,14 @@ ghost use Rattle.rv_isa.specs.Width.{bytes_of};
 ghost use Rattle.rv_ram.specs.Bytes.{value_at, HasPages};
 ghost use Rattle.rv_mmio.specs.Serial as serial;
 ghost use Rattle.rv_bus.specs.State.{reset};
-ghost use Rattle.rv_bus.specs.Access.{place, load, after_load, fetch, low_bits, ram_byte, ticked, lines_of, received};
+ghost use Rattle.rv_bus.specs.Access.{place, load, after_load, fetch, low_bits, ram_byte, ticked, lines_of, with_line, received};
 ghost use Rattle.rv_bus.specs.Within.{IsWithin};
 ghost use Rattle.rv_bus.specs.Stores.{Stores, Answers};
 
 use crate::places::{Place, find_place};
 use rv_isa::{Lines, NoMemory, Width};
 use rv_mmio::{Halt, Serial, SerialReg, Timer};
+use rv_plic::{Plic, Source};
 use rv_ram::ByteMemory;
 use std::marker::Model;
 
@@ -31,16 +32,21 @@ pub enum StoreRefusal {
 #[derive(Clone, Copy, Debug, PartialEq, Eq)]
 pub struct Mark {
     timer: Timer,
+    plic: Plic,
 }
 
 impl Model for Mark {
-    ghost use Rattle.rv_mmio.specs.Timer.{TimerState};
+    ghost use Rattle.std.specs.Coded.{codes};
+    ghost use Rattle.rv_plic.specs.Codes.{plic_code};
+    ghost use Rattle.rv_bus.specs.State.{MarkState};
 
-    ghost Value = { TimerState };
+    ghost Value = { MarkState };
 
-    ghost view = { λ m. m.timer };
+    ghost coded = { Prim.hlevel (codes, plic_code) };
 
-    ghost inverse = { λ t. record { timer = t } };
+    ghost view = { λ m. record { timer = m.timer; plic = m.plic } };
+
+    ghost inverse = { λ m. record { timer = m.timer; plic = m.plic } };
 }
 
 /// The memory and the devices, each at its addresses.
@@ -49,6 +55,7 @@ impl Model for Mark {
 /// |---|---|---|
 /// | 0x00100000 | halt register | 4 |
 /// | 0x02000000, +0x4000, +0x4004, +0xBFF8, +0xBFFC | timer: msip, mtimecmp low and high, mtime low and high | 4 |
+/// | 0x0C000000 to 0x0FFFFFFF | interrupt controller | 4 |
 /// | 0x10000000, +4, +8 | serial port: transmit, receive, status | 1, 2, 4 |
 /// | 0x80000000 and on | memory | 1, 2, 4, fetch |
 ///
@@ -57,16 +64,21 @@ impl Model for Mark {
 pub struct Bus<M: ByteMemory> {
     ram: M,
     timer: Timer,
+    plic: Plic,
     serial: Serial,
     halt: Halt,
 }
 
 impl<M: ByteMemory> Model for Bus<M> {
+    ghost use Rattle.std.specs.Coded.{codes};
+    ghost use Rattle.rv_plic.specs.Codes.{plic_code};
     ghost use Rattle.rv_bus.specs.State.{BusState};
 
     ghost Value = { BusState };
 
-    ghost view = { λ b. record { ram = M.bytes b.ram; timer = b.timer; serial = b.serial; halt = b.halt } };
+    ghost coded = { Prim.hlevel (codes, plic_code) };
+
+    ghost view = { λ b. record { ram = M.bytes b.ram; timer = b.timer; plic = b.plic; serial = b.serial; halt = b.halt } };
 }
 
 impl<M: ByteMemory> Bus<M> {
@@ -77,6 +89,7 @@ impl<M: ByteMemory> Bus<M> {
         Bus {
             ram,
             timer: Timer::new(),
+            plic: Plic::new(),
             serial,
             halt: Halt::new(),
         }
@@ -119,6 +132,7 @@ impl<M: ByteMemory> Bus<M> {
                 Some(word) => Ok(word),
                 None => Err(BusFault),
             },
+            Place::Plic(off) => Ok(self.plic.load(off)),
             Place::Serial(register) => Ok(self.load_serial(register, width)),
             Place::Nowhere => Err(BusFault),
         }
@@ -169,6 +183,10 @@ impl<M: ByteMemory> Bus<M> {
                 Some(()) => return Ok(()),
                 None => return Err(StoreRefusal::Fault),
             },
+            Place::Plic(off) => {
+                self.plic.store(off, value);
+                return Ok(());
+            }
             Place::Serial(register) => match self.serial.store(register, value) {
                 Ok(()) => return Ok(()),
                 Err(NoMemory) => return Err(StoreRefusal::NoMemory),
@@ -188,11 +206,12 @@ impl<M: ByteMemory> Bus<M> {
         }
     }
 
-    /// Time passes by one tick.
+    /// Time passes by one tick, and the gateways of the interrupt controller forward their requests.
     pub fn tick(&mut self)
         ensures { self.new ≡ ticked self.old }
     {
         self.timer.tick();
+        self.plic.forward();
     }
 
     /// The levels of the interrupt lines.
@@ -202,8 +221,15 @@ impl<M: ByteMemory> Bus<M> {
         Lines {
             software: self.timer.software(),
             timer: self.timer.due(),
-            external: false,
+            external: self.plic.external(),
         }
+    }
+
+    /// The line of an interrupt source rises or falls.
+    pub fn set_line(&mut self, source: Source, high: bool)
+        ensures { self.new ≡ with_line self.old source high }
+    {
+        self.plic.set_line(source, high);
     }
 
     /// A byte comes in at the serial port.
@@ -215,16 +241,20 @@ impl<M: ByteMemory> Bus<M> {
 
     /// What a tick changes, to be put back.
     pub fn mark(&self) -> Mark
-        ensures { result ≡ self.now.timer }
+        ensures { result ≡ record { timer = self.now.timer; plic = self.now.plic } }
     {
-        Mark { timer: self.timer }
+        Mark {
+            timer: self.timer,
+            plic: self.plic,
+        }
     }
 
     /// Makes what a tick changes what it was, and touches nothing else.
     pub fn put_back(&mut self, mark: Mark)
-        ensures { self.new ≡ record self.old { timer = mark } }
+        ensures { self.new ≡ record self.old { timer = mark.timer; plic = mark.plic } }
     {
         self.timer = mark.timer;
+        self.plic = mark.plic;
     }
 
     /// The code with which the board was halted, if it was.
@@ -239,6 +269,13 @@ impl<M: ByteMemory> Bus<M> {
         ensures { result.now ≡ self.now.timer }
     {
         &self.timer
+    }
+
+    /// The interrupt controller.
+    pub fn plic(&self) -> &Plic
+        ensures { result.now ≡ self.now.plic }
+    {
+        &self.plic
     }
 
     /// The serial port.

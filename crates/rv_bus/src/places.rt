@@ -18,6 +18,11 @@ const TIMER: u32 = 0x0200_0000;
 
 const TIMER_END: u32 = 0x0200_c000;
 
+/// The first address of the interrupt controller's window, and the first one after it.
+const PLIC: u32 = 0x0c00_0000;
+
+const PLIC_END: u32 = 0x1000_0000;
+
 /// What the address table has at an address.
 #[derive(Clone, Copy, Debug, PartialEq, Eq)]
 pub enum Place {
@@ -26,6 +31,8 @@ pub enum Place {
     Halt,
     /// An offset in the timer's window, which may hold no register.
     Timer(u32),
+    /// An offset in the interrupt controller's window.
+    Plic(u32),
     Serial(SerialReg),
     Nowhere,
 }
@@ -50,6 +57,7 @@ pub fn find_place(size: u32, addr: u32, width: Width) -> Place
 }
 
 fn device(addr: u32, width: Width) -> Place
+    requires { addr % bytes_of width ≡ 0 }
     ensures place { result ≡ device_of addr width }
     ensures within { (size : ℕ) → IsWithin size addr width result }
 {
@@ -66,6 +74,7 @@ fn device(addr: u32, width: Width) -> Place
 
 /// A device that only words reach.
 fn word_device(addr: u32) -> Place
+    requires { addr % 4 ≡ 0 }
     ensures place { result ≡ word_device addr }
     ensures within { (size : ℕ) (w : Width) → IsWithin size addr w result }
 {
@@ -74,6 +83,9 @@ fn word_device(addr: u32) -> Place
     }
     if addr >= TIMER && addr < TIMER_END {
         return Place::Timer(addr - TIMER);
+    }
+    if addr >= PLIC && addr < PLIC_END {
+        return Place::Plic(addr - PLIC);
     }
     Place::Nowhere
 }

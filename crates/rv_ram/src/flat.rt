@@ -27,11 +27,12 @@ impl Model for FlatMemory {
 
 impl FlatMemory {
     /// A memory of so many pages, all zero.
-    #[tactic(auto, unfolding(crate::specs::Bytes::zeros))]
+    #[tactic(auto, using(crate::proofs::Zeros::length_zeros), unfolding(crate::specs::Bytes::zeros))]
     pub fn new(alloc: Global, pages: u32) -> Result<FlatMemory, NoMemory>
         requires some { 1 ≤ pages }
         requires most { pages ≤ 4096 }
-        ensures { IfOk result (λ m. m ≡ zeros (4096 * pages)) }
+        ensures zeros { IfOk result (λ m. m ≡ zeros (4096 * pages)) }
+        ensures size { IfOk result (λ m. length m ≡ 4096 * pages) }
     {
         let bytes = vec![in alloc; 0u8; (PAGE_BYTES * pages) as usize]?;
         Ok(FlatMemory { bytes })

@@ -1,0 +1,12 @@
+-- Memories of zeros.
+use Rattle.std.proofs.Common.{◌≡◌, ℕ, ◌-◌, length, drop}
+use Rattle.std.proofs.lemmas.List.{length-replicate, drop-replicate}
+use Rattle.rv_ram.specs.Bytes.{zeros}
+
+pub length_zeros : (n : ℕ) → length (zeros n) ≡ n
+unfolding zeros
+length_zeros n = length-replicate n 0
+
+pub drop_zeros : (k n : ℕ) → drop k (zeros n) ≡ zeros (n - k)
+unfolding zeros
+drop_zeros k n = drop-replicate k n 0

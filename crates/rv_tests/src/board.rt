@@ -1,0 +1,140 @@
+//! Sources on a board.
+use crate::memory::Stubborn;
+use rv_asm::{Program, assemble};
+use rv_board::{Board, BootFault, Event, Stopped, TrapRecord};
+use rv_cache::{Decoded, NoCache};
+use rv_isa::{NoMemory, Reg};
+use rv_ram::{ByteMemory, FlatMemory};
+use std::alloc::Global;
+use std::test::Fail;
+
+const SLOTS: u32 = 1024;
+
+const HELLO: &[u8] =
+    b"lui t0,0x10000\nli a0,72\nsw a0,0(t0)\nlui t1,0x100\nli t2,0x5555\nsw t2,0(t1)";
+
+fn program(alloc: Global, source: &[u8]) -> Result<Program, Fail> {
+    Ok(assemble(alloc, source)?)
+}
+
+fn reg<M: ByteMemory, C: Decoded>(board: &Board<M, C>, number: u8) -> Option<u32> {
+    Some(board.reg(Reg::new(number)?))
+}
+
+#[test]
+fn hello_prints_and_halts(rt: HostRuntime) -> Result<(), Fail> {
+    let program = program(rt.alloc(), HELLO)?;
+    let mut board = Board::boot(rt.alloc(), &program, 256, SLOTS)?;
+    assert_eq!(rt; board.ram(0x8000_0000), Some(0xb7));
+    // Two events more than it takes: a halted board is changed by none.
+    assert_eq!(rt; board.run(&[Event::Step; 9]), Ok(()));
+    assert_eq!(rt; board.console(), b"H".as_slice());
+    assert_eq!(rt; board.halted(), Some(0));
+    assert_eq!(rt; board.steps(), 7);
+    assert_eq!(rt; board.pc(), 0x8000_001c);
+    Ok(())
+}
+
+#[test]
+fn the_empty_source_traps(rt: HostRuntime) -> Result<(), Fail> {
+    let program = program(rt.alloc(), b"")?;
+    let mut board = Board::boot(rt.alloc(), &program, 1, SLOTS)?;
+    assert_eq!(rt; board.run(&[Event::Step; 2]), Ok(()));
+    assert_eq!(rt; board.trap_count(), 2);
+    let illegal = TrapRecord {
+        cause: 2,
+        epc: 0x8000_0000,
+        tval: 0,
+    };
+    assert_eq!(rt; board.trap(0), Some(illegal));
+    let no_memory_there = TrapRecord {
+        cause: 1,
+        epc: 0,
+        tval: 0,
+    };
+    assert_eq!(rt; board.trap(1), Some(no_memory_there));
+    assert_eq!(rt; board.pc(), 0);
+    Ok(())
+}
+
+#[test]
+fn constants_are_loaded_in_one_or_two_words(rt: HostRuntime) -> Result<(), Fail> {
+    let source =
+        b"li a0,2047\nli a1,2048\nli a2,-2048\nli a3,0x80000800\nli a4,0xFFFFFFFF\nli a5,0x12345000";
+    let program = program(rt.alloc(), source)?;
+    assert_eq!(rt; program.bytes().len(), 32);
+    let mut board = Board::boot(rt.alloc(), &program, 1, SLOTS)?;
+    assert_eq!(rt; board.run(&[Event::Step; 8]), Ok(()));
+    let values = [
+        2047,
+        2048,
+        0xffff_f800,
+        0x8000_0800,
+        0xffff_ffff,
+        0x1234_5000,
+    ];
+    for (number, value) in (10..16u8).zip(values) {
+        assert_eq!(rt; reg(&board, number), Some(value));
+    }
+    Ok(())
+}
+
+#[test]
+fn stores_reach_the_memory_s_end(rt: HostRuntime) -> Result<(), Fail> {
+    let program = program(rt.alloc(), b"li t0,0x80000FFC\nsw t0,0(t0)\nsw t0,4(t0)")?;
+    let mut board = Board::boot(rt.alloc(), &program, 1, SLOTS)?;
+    assert_eq!(rt; board.run(&[Event::Step; 4]), Ok(()));
+    assert_eq!(rt; board.ram(0x8000_0fff), Some(0x80));
+    let beyond = TrapRecord {
+        cause: 7,
+        epc: 0x8000_000c,
+        tval: 0x8000_1000,
+    };
+    assert_eq!(rt; board.trap(0), Some(beyond));
+    Ok(())
+}
+
+#[test]
+fn boot_faults_come_in_their_order(rt: HostRuntime) -> Result<(), Fail> {
+    let mut source = Vec::new(rt.alloc());
+    for _ in 0..1025 {
+        source.extend_from_slice(b"addi x0,x0,0\n")?;
+    }
+    let program = program(rt.alloc(), source.as_slice())?;
+    for (pages, slots, fault) in [
+        (0, 100, BootFault::BadPages),
+        (4097, SLOTS, BootFault::BadPages),
+        (1, 100, BootFault::BadSlots),
+        (1, SLOTS, BootFault::ImageTooLarge),
+    ] {
+        assert_eq!(rt;
+            Board::boot(rt.alloc(), &program, pages, slots).err(),
+            Some(fault)
+        );
+    }
+    assert!(rt; Board::boot(rt.alloc(), &program, 2, SLOTS).is_ok());
+    Ok(())
+}
+
+#[test]
+fn a_refused_step_can_be_asked_again(rt: HostRuntime) -> Result<(), Fail> {
+    let program = program(rt.alloc(), b"lui t0,0x80001\nsw t0,0(t0)")?;
+    let memory = Stubborn {
+        memory: FlatMemory::new(rt.alloc(), 2)?,
+        good: 8,
+        refusals: 2,
+    };
+    let mut board = Board::with_parts(rt.alloc(), &program, memory, NoCache)?;
+    assert_eq!(rt; board.apply(Event::Step), Ok(()));
+    assert_eq!(rt; board.apply(Event::Step), Err(NoMemory));
+    assert_eq!(rt; board.steps(), 1);
+    assert_eq!(rt; board.pc(), 0x8000_0004);
+    assert_eq!(rt;
+        board.run(&[Event::Rx(1), Event::Step]),
+        Err(Stopped { done: 1 })
+    );
+    assert_eq!(rt; board.apply(Event::Step), Ok(()));
+    assert_eq!(rt; board.steps(), 2);
+    assert_eq!(rt; board.ram(0x8000_1003), Some(0x80));
+    Ok(())
+}

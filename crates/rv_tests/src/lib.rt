@@ -1,0 +1,9 @@
+//! Tests that cross crates: programs on a hart, and sources on a board.
+#![tactic(auto)]
+
+#[cfg(test)]
+mod board;
+#[cfg(test)]
+mod hart;
+#[cfg(test)]
+mod memory;
