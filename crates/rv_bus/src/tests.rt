@@ -2,6 +2,7 @@
 use crate::{Bus, BusFault, StoreRefusal};
 use rv_isa::{Lines, Width};
 use rv_mmio::Serial;
+use rv_plic::Source;
 use rv_ram::FlatMemory;
 use std::alloc::Global;
 use std::test::Fail;
@@ -72,6 +73,28 @@ fn a_mark_puts_the_time_back(rt: HostRuntime) -> Result<(), Fail> {
     assert_eq!(rt; bus.timer().load(0xbff8), Some(2));
     bus.put_back(mark);
     assert_eq!(rt; bus.load(0x0200_bff8, Width::Four), Ok(1));
+    Ok(())
+}
+
+#[test]
+fn the_interrupt_controller_takes_words(rt: HostRuntime) -> Result<(), Fail> {
+    let mut bus = bus(rt.alloc())?;
+    let source = Source::new(3).ok_or("no source")?;
+    assert_eq!(rt; bus.load(0x0c00_1000, Width::One), Err(BusFault));
+    assert_eq!(rt; bus.store(0x0c00_000c, Width::Four, 1), Ok(()));
+    assert_eq!(rt; bus.store(0x0c00_2000, Width::Four, 8), Ok(()));
+    bus.set_line(source, true);
+    let mark = bus.mark();
+    bus.tick();
+    assert_eq!(rt; bus.load(0x0c00_1000, Width::Four), Ok(8));
+    assert!(rt; bus.lines().external);
+    bus.put_back(mark);
+    assert_eq!(rt; bus.load(0x0c00_1000, Width::Four), Ok(0));
+    assert_eq!(rt; bus.timer().load(0xbff8), Some(0));
+    bus.tick();
+    assert_eq!(rt; bus.plic().peek(0x20_0004), 3);
+    assert_eq!(rt; bus.load(0x0c20_0004, Width::Four), Ok(3));
+    assert!(rt; !bus.lines().external);
     Ok(())
 }
 
