@@ -11,6 +11,8 @@ mod line;
 mod program;
 mod scan;
 mod symbols;
+#[cfg(test)]
+mod tests;
 mod token;
 mod values;
 
