@@ -3,13 +3,16 @@ use Rattle.std.specs.Prelude.{ℕ, List, slice_index, Option}
 use Rattle.rv_plic.specs.Plic.{PlicState}
 use Rattle.rv_mmio.specs.Timer.{TimerState}
 use Rattle.rv_mmio.specs.Serial.{SerialState}
-use Rattle.rv_bus.specs.Access.{ram_byte}
-use Rattle.rv_hart.specs.State.{Machine}
+use Rattle.rv_pmp.specs.declared.access.Mode.{Mode}
+use Rattle.rv_pmp.specs.declared.access.Mode.TheVariants.{Machine}
+use Rattle.rv_csr.specs.Registers.{read}
+use Rattle.rv_bus.specs.Access.{ram_byte, lines_of}
+use Rattle.rv_hart.specs.State as hart
 use Rattle.rv_board.specs.declared.event.TrapRecord.{TrapRecord}
 
 -- the machine, the last traps, oldest first, and the count of steps
 pub record BoardState : Type 0 where
-  pub machine : Machine
+  pub machine : hart.Machine
   pub traps : List TrapRecord
   pub steps : ℕ
 
@@ -20,6 +23,13 @@ reg_of b r = slice_index b.machine.registers r
 
 abbrev pub pc_of : BoardState → ℕ
 pc_of b = b.machine.pc
+
+abbrev pub mode_of : BoardState → Mode
+mode_of b = b.machine.mode
+
+-- as machine mode reads it
+abbrev pub csr_of : BoardState → ℕ → Option ℕ
+csr_of b addr = read b.machine.csrs addr Machine (lines_of b.machine.bus)
 
 abbrev pub byte_of : BoardState → ℕ → Option ℕ
 byte_of b a = ram_byte b.machine.bus.ram a

@@ -1,7 +1,5 @@
-//! The hart: registers, program counter and the instructions, over a bus and a cache of decoded instructions.
-//!
-//! So far the hart is always in machine mode, has no control registers and takes no interrupt: the instructions on
-//! control registers, MRET and WFI are illegal, and a trap goes to address 0, which is where mtvec stands at reset.
+//! The hart: registers, program counter, modes, control registers and the instructions, over a bus and a cache of
+//! decoded instructions.
 #![tactic(auto)]
 
 mod hart;

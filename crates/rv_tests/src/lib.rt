@@ -7,3 +7,5 @@ mod board;
 mod hart;
 #[cfg(test)]
 mod memory;
+#[cfg(test)]
+mod program;
