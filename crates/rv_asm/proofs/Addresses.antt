@@ -1,6 +1,6 @@
 -- The lines that have been laid out, one by one.
-use Rattle.std.proofs.Common.{◌≡◌, ℕ, zero, suc, ◌+◌, ◌≤◌, ◌<◌, Bool, true, false, not, cond, List, [], ◌∷◌, ◌++◌, ℤ, pos, refl, sym, ap, ◌∙◌, arith, append-nil, add_assoc, add-zero}
-use Rattle.std.specs.Prelude.{Option, None, Some, is_some, Result, Ok, Err, nat_lt}
+use Rattle.std.proofs.Common.{◌≡◌, ℕ, zero, suc, ◌+◌, ◌≤◌, Bool, true, false, not, cond, List, [], ◌∷◌, ◌++◌, ℤ, pos, refl, ap, arith, append-nil}
+use Rattle.std.specs.Prelude.{Option, None, Some, is_some, Result, Ok, nat_lt}
 use Rattle.std.specs.Option.{option_map, option_or}
 use Rattle.std.specs.Str.{bytes_eq}
 use Rattle.std.proofs.lemmas.Bool.Decides.{nat_tests}
@@ -11,9 +11,9 @@ use Rattle.rv_asm.specs.declared.fault.FaultKind.{FaultKind}
 use Rattle.rv_asm.specs.declared.fault.FaultKind.TheVariants.{DuplicateSymbol, NotConstant, TooLarge}
 use Rattle.rv_asm.specs.declared.fault.AsmFault.{AsmFault}
 use Rattle.rv_asm.specs.Symbols.{value_of}
-use Rattle.rv_asm.specs.Layout.{first, joined, total, line_at, address, base, limit, size_of, size_of_line, is_fit, is_labelled, definition_before, symbol_at, phase_two_fault}
+use Rattle.rv_asm.specs.Layout.{first, joined, total, line_at, address, base, limit, size_of, is_fit, definition_before, symbol_at, phase_two_fault}
 use Rattle.rv_asm.specs.Assembly.{first_fault}
-use Rattle.rv_asm.specs.Steps.{State, at_line, after_line, labelled, placed, placed_if, item_at, state_at, ◌>>=◌, unless, laid_out, extended}
+use Rattle.rv_asm.specs.Steps.{State, at_line, after_line, labelled, placed, placed_if, item_at, ◌>>=◌, unless, laid_out, extended}
 
 -- ---- names
 

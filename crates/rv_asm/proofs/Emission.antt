@@ -1,7 +1,7 @@
 -- The bytes of the statements, one by one.
-use Rattle.std.proofs.Common.{◌≡◌, ℕ, zero, suc, ◌+◌, ◌*◌, ◌%◌, ◌^◌, ◌≤◌, List, [], ◌∷◌, ◌++◌, length, ℤ, pos, refl, sym, ap, ◌∙◌, arith, append-nil, append_assoc, length-append}
+use Rattle.std.proofs.Common.{◌≡◌, ℕ, zero, suc, ◌*◌, ◌%◌, ◌^◌, List, [], ◌∷◌, ◌++◌, length, ℤ, refl, sym, ap, arith, append-nil, append_assoc, length-append}
 use Rattle.std.specs.Prelude.{Option, None, Some, Result, Ok, Err}
-use Rattle.std.specs.Option.{option_map, option_or}
+use Rattle.std.specs.Option.{option_map}
 use Rattle.std.specs.Int.{to_le_bytes, w32}
 use Rattle.rv_isa.specs.Word.{word}
 use Rattle.rv_isa.specs.declared.kind.Kind.{Kind}
@@ -14,12 +14,12 @@ use Rattle.rv_asm.specs.declared.fault.AsmFault.{AsmFault}
 use Rattle.rv_asm.specs.Symbols.{value_of}
 use Rattle.rv_isa.specs.Number.{modulo}
 use Rattle.rv_asm.specs.Values.{upper_immediate, immediate, distance, loading}
-use Rattle.rv_asm.specs.Layout.{first, joined, total, line_at, address, base, limit, size_of, size_of_line, definition, symbol_at}
+use Rattle.rv_asm.specs.Layout.{first, joined, total, line_at, address, size_of, size_of_line, definition}
 use Rattle.rv_asm.specs.Listing.{made, jump, instructions, instructions_at, phase_three_fault, listed, bytes}
 use Rattle.rv_asm.specs.Assembly.{first_fault}
-use Rattle.rv_asm.specs.Steps.{◌>>=◌, at_line, item_at, item_step, image_of, run, unless}
-use Rattle.rv_asm.proofs.Addresses.{value_of-symbols, none_last, none_before}
-use Rattle.rv_asm.proofs.Runs.{run_append, bind_ok}
+use Rattle.rv_asm.specs.Steps.{◌>>=◌, at_line, item_at, item_step, run, unless}
+use Rattle.rv_asm.proofs.Addresses.{none_last, none_before}
+use Rattle.rv_asm.proofs.Runs.{run_append}
 
 bytes-append : (ks ls : List Kind) → bytes (ks ++ ls) ≡ bytes ks ++ bytes ls
 bytes-append [] ls = refl

@@ -1,7 +1,7 @@
 -- How far the lines of a source have been read.
-use Rattle.std.proofs.Common.{◌≡◌, ℕ, zero, suc, ◌+◌, ◌-◌, ◌<◌, ◌≤◌, List, [], ◌∷◌, length, drop, get_or, map, refl, sym, ap, ◌∙◌, arith, add-one, add-zero, add-suc, inl, inr, length-drop}
-use Rattle.std.specs.Prelude.{Option, None, Some, Result, Ok, Err, ◌⊎◌}
-use Rattle.std.specs.Option.{option_map, option_or, unwrap_or}
+use Rattle.std.proofs.Common.{◌≡◌, ℕ, zero, suc, ◌+◌, ◌-◌, ◌<◌, ◌≤◌, List, [], ◌∷◌, length, drop, get_or, refl, sym, ap, ◌∙◌, arith, add-one, add-zero, add-suc, inl, inr, length-drop}
+use Rattle.std.specs.Prelude.{Option, None, Some, Ok, Err, ◌⊎◌}
+use Rattle.std.specs.Option.{unwrap_or}
 use Rattle.std.proofs.lemmas.List.{get_or-map}
 use Rattle.rv_asm.specs.declared.line.Line.{Line}
 use Rattle.rv_asm.specs.declared.fault.FaultKind.{FaultKind}
@@ -11,7 +11,7 @@ use Rattle.rv_asm.specs.Faults.{Fails, KindFails, IsFaultAt, or_syntax}
 use Rattle.rv_asm.specs.Lines.{lines, split, line_text}
 use Rattle.rv_asm.specs.Layout.{first, joined, total, line_at, blank}
 use Rattle.rv_asm.specs.Assembly.{first_fault, phase_one_fault, said}
-use Rattle.rv_asm.specs.Steps.{State, start, unless, laid_out, lines_laid_out, extended}
+use Rattle.rv_asm.specs.Steps.{start, laid_out, lines_laid_out, extended}
 use Rattle.rv_asm.proofs.Addresses.{extended_line}
 use Rattle.rv_asm.proofs.Runs.{fails_at}
 

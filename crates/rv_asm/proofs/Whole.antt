@@ -1,5 +1,5 @@
 -- What the phases make together is what is meant.
-use Rattle.std.proofs.Common.{◌≡◌, ℕ, ◌+◌, ◌≤◌, ◌%◌, List, length, ℤ, refl, sym, ap, ◌∙◌, arith}
+use Rattle.std.proofs.Common.{◌≡◌, ℕ, ◌≤◌, ◌%◌, List, length, ℤ, refl, sym, ap, ◌∙◌, arith}
 use Rattle.std.specs.Prelude.{Option, None, Some, Result, Ok, Err}
 use Rattle.std.specs.Option.{option_or, unwrap_or}
 use Rattle.std.proofs.lemmas.List.{length-map}
@@ -7,7 +7,7 @@ use Rattle.rv_asm.specs.declared.line.Line.{Line}
 use Rattle.rv_asm.specs.declared.fault.AsmFault.{AsmFault}
 use Rattle.rv_asm.specs.Symbols.{value_of}
 use Rattle.rv_asm.specs.Lines.{lines, line_text}
-use Rattle.rv_asm.specs.Layout.{joined, blank, definition, symbol_at, phase_two_fault, base, limit, address}
+use Rattle.rv_asm.specs.Layout.{joined, blank, definition, symbol_at, phase_two_fault}
 use Rattle.rv_asm.specs.Listing.{bytes, listed, instructions_at, phase_three_fault}
 use Rattle.rv_asm.specs.Assembly.{Assembly, first_fault, phase_one_fault, said, assembled}
 use Rattle.rv_asm.specs.Steps.{State, ◌>>=◌, unless, state_at, item_at, laid_out, lines_laid_out, image_of}

@@ -1,12 +1,12 @@
 -- Where the lines of a source lie, what its names stand for, and what is wrong with a line so far.
 -- Lines are counted from 0.
 -- Own language; see docs/ASSEMBLER.md.
-use Rattle.std.specs.Prelude.{◌≡◌, ℕ, zero, suc, ◌+◌, ◌*◌, ◌^◌, Bool, true, false, not, List, [], ◌∷◌, ◌++◌, length, get_or, ℤ, pos, nat_lt, Option, Some, None, is_some, if◌then◌else◌}
-use Rattle.std.specs.Option.{option_map, option_or}
+use Rattle.std.specs.Prelude.{ℕ, zero, suc, ◌+◌, ◌*◌, ◌^◌, Bool, true, false, not, List, [], ◌∷◌, ◌++◌, length, get_or, ℤ, pos, nat_lt, Option, Some, None, is_some, if◌then◌else◌}
+use Rattle.std.specs.Option.{option_or}
 use Rattle.std.specs.Str.{bytes_eq}
 use Rattle.rv_isa.specs.Number.{modulo}
 use Rattle.rv_asm.specs.declared.line.Statement.{Statement}
-use Rattle.rv_asm.specs.declared.line.Statement.TheVariants.{Lui, Addi, Sw, Jal, Li}
+use Rattle.rv_asm.specs.declared.line.Statement.TheVariants.{Li}
 use Rattle.rv_asm.specs.declared.line.Line.{Line}
 use Rattle.rv_asm.specs.declared.fault.FaultKind.{FaultKind}
 use Rattle.rv_asm.specs.declared.fault.FaultKind.TheVariants.{DuplicateSymbol, NotConstant, TooLarge}

@@ -1,6 +1,6 @@
 -- The lines of a source, and what a line says.
 -- Own language; see docs/ASSEMBLER.md.
-use Rattle.std.specs.Prelude.{◌≡◌, ℕ, zero, suc, ◌-◌, ◌+◌, Bool, true, false, ◌&&◌, List, [], ◌∷◌, length, take, map, if◌then◌else◌, ◌==◌, nat_lt, ℤ, pos, ◌-ℤ◌, Option, Some, None, option_and_then, slice_index, codes}
+use Rattle.std.specs.Prelude.{ℕ, ◌-◌, Bool, true, false, ◌&&◌, List, [], ◌∷◌, length, take, map, if◌then◌else◌, ◌==◌, nat_lt, ℤ, pos, ◌-ℤ◌, Option, Some, None, option_and_then, slice_index, codes}
 use Rattle.std.specs.Option.{option_map}
 use Rattle.std.specs.Str.{bytes_eq}
 use Rattle.rv_isa.specs.Names.{lookup, register_names}

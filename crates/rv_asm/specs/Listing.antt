@@ -1,6 +1,6 @@
 -- The instructions of a source, and what is wrong with a line once every name is known.
 -- Own language; see docs/ASSEMBLER.md.
-use Rattle.std.specs.Prelude.{◌≡◌, ℕ, zero, suc, ◌+◌, ◌^◌, List, [], ◌∷◌, ◌++◌, length, ℤ, pos, Option, Some, None, Result, Ok, Err}
+use Rattle.std.specs.Prelude.{ℕ, ◌^◌, List, [], ◌∷◌, ◌++◌, length, ℤ, Option, Some, None, Result, Ok, Err}
 use Rattle.std.specs.Int.{to_le_bytes, w32}
 use Rattle.rv_isa.specs.Number.{modulo}
 use Rattle.rv_isa.specs.Word.{word}

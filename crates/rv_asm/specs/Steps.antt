@@ -1,6 +1,6 @@
 -- What the program keeps from line to line, and how it goes on: of these speak the contracts of its parts.
 -- That the whole is what Assembly.antt says is proved in proofs/.
-use Rattle.std.specs.Prelude.{◌≡◌, ℕ, suc, ◌+◌, List, [], ◌∷◌, ◌++◌, length, ℤ, pos, nat_lt, Option, Some, None, is_some, if◌then◌else◌, Result, Ok, Err}
+use Rattle.std.specs.Prelude.{ℕ, suc, ◌+◌, List, [], ◌∷◌, ◌++◌, length, ℤ, pos, nat_lt, Option, Some, None, is_some, if◌then◌else◌, Result, Ok, Err}
 use Rattle.rv_asm.specs.declared.line.Statement.{Statement}
 use Rattle.rv_asm.specs.declared.line.Line.{Line}
 use Rattle.rv_asm.specs.declared.layout.Placed.{Placed}

@@ -1,6 +1,6 @@
 -- How tokens are spelled, and which tokens a line has.
 -- Own language; see docs/ASSEMBLER.md.
-use Rattle.std.specs.Prelude.{◌≡◌, ℕ, zero, suc, pred, ◌+◌, ◌-◌, ◌*◌, Bool, true, false, not, ◌&&◌, ◌||◌, List, [], ◌∷◌, ◌++◌, length, take, drop, fold, if◌then◌else◌, ◌==◌, nat_le, nat_lt, Option, Some, None, option_and_then, slice_index}
+use Rattle.std.specs.Prelude.{ℕ, zero, suc, pred, ◌+◌, ◌-◌, ◌*◌, Bool, true, not, ◌&&◌, ◌||◌, List, [], ◌∷◌, ◌++◌, length, take, drop, fold, if◌then◌else◌, ◌==◌, nat_le, nat_lt, Option, Some, None, option_and_then, slice_index}
 use Rattle.std.specs.List.{list_all}
 use Rattle.std.specs.Option.{option_map, option_or}
 use Rattle.std.specs.Char.{is_ascii_digit, is_ascii_alphabetic}

@@ -1,6 +1,6 @@
 -- Sets of interrupt sources, and their words in registers (PLIC Specification 1.0, "Interrupt Pending Bits" and
 -- "Interrupt Enables": bit s of a word is for source s, and there is no source 0).
-use Rattle.std.specs.Prelude.{◌≡◌, ℕ, ◌^◌, ◌%◌, ◌<◌, ◌==◌, if◌then◌else◌, List, filter}
+use Rattle.std.specs.Prelude.{ℕ, ◌^◌, ◌==◌, if◌then◌else◌, List, filter}
 use Rattle.std.specs.Ordering.{nat_cmp}
 use Rattle.std.specs.FinSet.{FinSet, contains, from_list}
 use Rattle.std.specs.Int.{bit_at}
@@ -21,8 +21,3 @@ sources_of word = from_list (filter (λ s. bit_at word s == 1) sources)
 -- the word with the bits of a set of sources
 unfoldable pub word_of : Sources → ℕ
 word_of set = sum_by (λ s. if contains set s then 2 ^ s else 0) sources
-
--- a word of sources: bit 0 is 0
-pub record IsSourceWord (word : ℕ) : Type 0 where
-  pub fits : word < 2 ^ 32
-  pub no_zero : word % 2 ≡ 0

@@ -11,7 +11,12 @@ use Rattle.std.proofs.lemmas.Nat.{mod-pow-add}
 use Rattle.std.proofs.lemmas.Nat.Bits.{bit_at_lowest, bit_at-lt, bit_at_above}
 use Rattle.std.proofs.lemmas.List.Sums.{sum_by-cons}
 use Rattle.std.proofs.lemmas.Map.Views.{any-filter_same}
-use Rattle.rv_plic.specs.Sources.{sources, sources_of, word_of, IsSourceWord}
+use Rattle.rv_plic.specs.Sources.{sources, sources_of, word_of}
+
+-- a word of sources: bit 0 is 0
+pub record IsSourceWord (word : ℕ) : Type 0 where
+  pub fits : word < 2 ^ 32
+  pub no_zero : word % 2 ≡ 0
 
 -- a test that one of n numbers from a on passes
 pub any-range : (test : ℕ → Bool) (a n q : ℕ) → a ≤ q → q < a + n → test q ≡ true → list_any test (range_with_len a n) ≡ true

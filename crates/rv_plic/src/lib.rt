@@ -6,6 +6,8 @@ mod plic;
 mod register;
 mod set;
 mod source;
+#[cfg(test)]
+mod tests;
 
 pub use plic::Plic;
 pub use source::Source;

@@ -1,5 +1,5 @@
 //! The interrupt controller.
-ghost use Rattle.std.specs.Prelude.{◌≡◌, ◌%◌, ◌<◌, ◌&&◌, nat_lt, slice_index, unwrap_or};
+ghost use Rattle.std.specs.Prelude.{◌≡◌, ◌%◌, ◌<◌, ◌&&◌, nat_lt, slice_index, slice_set, unwrap_or};
 ghost use Rattle.std.specs.FinSet as set;
 ghost use Rattle.rv_plic.specs.Leads.{Leads, LeadsBelow};
 ghost use Rattle.rv_plic.specs.Plic.{reset, with_line, forwarded, priority_of, best, is_notified, claimed, completed, word_at, with_word, load_value, after_load, stored};
@@ -119,6 +119,12 @@ impl Plic {
         self.priorities[source.number() as usize]
     }
 
+    fn set_priority(&mut self, source: Source, priority: u8)
+        ensures { self.new ≡ record self.old { priorities = slice_set self.old.priorities source priority } }
+    {
+        self.priorities[source.number() as usize] = priority;
+    }
+
     #[tactic(auto, using(crate::proofs::Best::leading))]
     fn read(&self, reg: PlicReg) -> u32
         ensures { result ≡ word_at self.now reg }
@@ -139,8 +145,7 @@ impl Plic {
         ensures { self.new ≡ with_word self.old reg word }
     {
         match reg {
-            PlicReg::Priority(source) => self.priorities[source.number() as usize] = (word
-                % 8) as u8,
+            PlicReg::Priority(source) => self.set_priority(source, (word % 8) as u8),
             PlicReg::Pending => (),
             PlicReg::Enables => self.enabled = SourceSet::from_word(word),
             PlicReg::Threshold => self.threshold = (word % 8) as u8,

@@ -1,8 +1,8 @@
-use Rattle.std.proofs.Common.{◌≡◌, ◌∙◌, ap, sym, refl, arith}
-use Rattle.std.specs.Prelude.{Ok, Err, Result}
+use Rattle.std.proofs.Common.{◌≡◌, refl}
+use Rattle.std.specs.Prelude.{Ok}
 use Rattle.std.proofs.lemmas.Result.{err_from_is_err_and}
 use Rattle.rv_asm.specs.Lines.{lines}
-use Rattle.rv_asm.specs.Steps.{State, ◌>>=◌, lines_laid_out, image_of}
+use Rattle.rv_asm.specs.Steps.{lines_laid_out, image_of}
 use Rattle.rv_asm.proofs.Runs.{fails_bind}
 use Rattle.rv_asm.proofs.Whole.{whole, finished, program_of, image_fits, IsImage}
 use Rattle.rv_asm.proofs.assembler.assemble.Goals as goal

@@ -1,8 +1,8 @@
-use Rattle.std.proofs.Common.{◌≡◌, ◌∙◌, ap, sym, arith, ◌+◌, ◌++◌, refl, rules}
+use Rattle.std.proofs.Common.{◌≡◌, ◌∙◌, sym, arith, ◌++◌, refl}
 use Rattle.std.specs.Prelude.{Ok, Err}
 use Rattle.rv_asm.specs.Symbols.{value_of}
 use Rattle.rv_asm.specs.Listing.{instructions, bytes}
-use Rattle.rv_asm.specs.Steps.{item_step, at_line, ◌>>=◌}
+use Rattle.rv_asm.specs.Steps.{item_step}
 use Rattle.rv_asm.proofs.Runs.{run_more, run_end, run_fails_at}
 use Rattle.rv_asm.proofs.assembler.image.Goals as goal
 

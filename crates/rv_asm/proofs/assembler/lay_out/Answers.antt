@@ -1,5 +1,5 @@
-use Rattle.std.proofs.Common.{◌≡◌, ◌≤◌, ◌+◌, ◌∙◌, length, ap, sym, refl, arith}
-use Rattle.std.specs.Prelude.{Ok, Err, Some}
+use Rattle.std.proofs.Common.{◌≡◌, ◌∙◌, ap, sym, arith}
+use Rattle.std.specs.Prelude.{Ok, Some}
 use Rattle.rv_asm.specs.Lines.{lines, line_text}
 use Rattle.rv_asm.specs.Assembly.{said}
 use Rattle.rv_asm.specs.Steps.{State, laid_out}

@@ -1,4 +1,4 @@
-use Rattle.std.proofs.Common.{◌≡◌, ◌≤◌, ◌+◌, length}
+use Rattle.std.proofs.Common.{◌≤◌, ◌+◌, length}
 use Rattle.rv_asm.specs.Faults.{Gives}
 use Rattle.rv_asm.specs.Lines.{lines}
 use Rattle.rv_asm.specs.Assembly.{said}

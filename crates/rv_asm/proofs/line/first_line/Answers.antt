@@ -1,4 +1,4 @@
-use Rattle.std.proofs.Common.{◌≡◌, ◌∷◌, [], List, ℕ, ◌∙◌, sym, drop, length, arith}
+use Rattle.std.proofs.Common.{◌≡◌, [], ◌∙◌, sym, drop, length, arith}
 use Rattle.std.proofs.lemmas.List.{drop_all}
 use Rattle.rv_asm.proofs.Splitting.{lines_feed, lines_last}
 use Rattle.rv_asm.proofs.line.first_line.Goals as goal

@@ -1,6 +1,5 @@
-use Rattle.std.proofs.Common.{◌≡◌, refl, sym, ap, ◌∙◌, arith, ◌<◌, false, get_or, length}
+use Rattle.std.proofs.Common.{sym, ap, ◌∙◌, arith}
 use Rattle.std.specs.Option.{option_map}
-use Rattle.rv_asm.specs.Tokens.{is_name_byte}
 use Rattle.rv_asm.proofs.Front.{front_word, front_sign}
 use Rattle.rv_asm.proofs.scan.front.Goals as goal
 

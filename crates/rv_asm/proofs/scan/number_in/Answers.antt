@@ -1,7 +1,7 @@
-use Rattle.std.proofs.Common.{◌≡◌, arith, sym, ◌∙◌}
+use Rattle.std.proofs.Common.{arith}
 use Rattle.std.proofs.lemmas.List.Folds.{list_all_at}
-use Rattle.rv_asm.specs.Tokens.{is_digit, digit_value}
-use Rattle.rv_asm.proofs.Digits.{number_in-empty, number_in-bad, next_large, next_so_far, whole}
+use Rattle.rv_asm.specs.Tokens.{is_digit}
+use Rattle.rv_asm.proofs.Digits.{number_in-empty, number_in-bad, next_large, whole}
 use Rattle.rv_asm.proofs.scan.number_in.Goals as goal
 
 pub returns-then-is_empty : goal.returns-then-is_empty

@@ -1,4 +1,3 @@
-use Rattle.std.proofs.Common.{◌≡◌, ◌≤◌}
 use Rattle.rv_asm.proofs.Digits.{SoFar}
 use Rattle.rv_asm.proofs.scan.number_in.Given as goal
 

@@ -1,4 +1,4 @@
-use Rattle.std.proofs.Common.{◌≡◌, refl, sym, ap, ◌∙◌, append-nil, arith, [], ◌∷◌}
+use Rattle.std.proofs.Common.{sym, ap, append-nil, arith, [], ◌∷◌}
 use Rattle.rv_asm.specs.Faults.{or_syntax}
 use Rattle.rv_asm.proofs.Cutting.{cut_blank, cut_token, cut_none, cut_comment, cut_end, with_tokens-append}
 use Rattle.rv_asm.proofs.scan.tokens.Goals as goal

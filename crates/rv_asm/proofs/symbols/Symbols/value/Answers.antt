@@ -1,4 +1,4 @@
-use Rattle.std.proofs.Common.{◌≡◌, ◌∙◌, ap}
+use Rattle.std.proofs.Common.{◌∙◌, ap}
 use Rattle.rv_asm.specs.Symbols.{value_of}
 use Rattle.rv_asm.proofs.Lookups.{lookup_value}
 use Rattle.rv_asm.proofs.symbols.Symbols.value.Goals as goal
