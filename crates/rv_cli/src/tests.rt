@@ -32,10 +32,34 @@ fn run_over_memory(
 fn runs_a_source(rt: HostRuntime) {
     let five = b"lui t1,0x100\nli t2,0x53333\nsw t2,0(t1)\n".as_slice();
     let rows = [
-        (HELLO, 1_000_000, "H\nhalted 0 after 7 steps\n", Ending::Halted(0), 0),
-        (five, 1_000_000, "halted 5 after 4 steps\n", Ending::Halted(5), 1),
-        (b"".as_slice(), 2, "running at 00000000 after 2 steps\n", Ending::Running, 2),
-        (b"x: jal x0,x".as_slice(), 3, "running at 80000000 after 3 steps\n", Ending::Running, 2),
+        (
+            HELLO,
+            1_000_000,
+            "H\nhalted 0 after 7 steps\n",
+            Ending::Halted(0),
+            0,
+        ),
+        (
+            five,
+            1_000_000,
+            "halted 5 after 4 steps\n",
+            Ending::Halted(5),
+            1,
+        ),
+        (
+            b"".as_slice(),
+            2,
+            "running at 00000000 after 2 steps\n",
+            Ending::Running,
+            2,
+        ),
+        (
+            b"x: jal x0,x".as_slice(),
+            3,
+            "running at 80000000 after 3 steps\n",
+            Ending::Running,
+            2,
+        ),
     ];
     for (source, steps, written, ending, status) in rows {
         let options = Options { steps, pages: 256 };
@@ -49,7 +73,10 @@ fn runs_a_source(rt: HostRuntime) {
 // To be tried with each allocation refused in turn.
 #[test]
 fn runs_or_wants_memory(rt: HostRuntime) {
-    let options = Options { steps: 10, pages: 1 };
+    let options = Options {
+        steps: 10,
+        pages: 1,
+    };
     let (outcome, out) = run_over_memory(rt.alloc(), HELLO, options);
     match outcome {
         Ok(_) => assert!(rt; out.bytes() == b"H\nhalted 0 after 7 steps\n".as_slice()),
@@ -73,7 +100,11 @@ fn refuses_a_source(rt: HostRuntime) -> Result<(), Fail> {
     }
     let rows = [
         (b"jal x0,y".as_slice(), 0, "source line 1: E10 Undefined\n"),
-        (b"li a0,-4294967295".as_slice(), 1, "source line 1: E7 NotConstant\n"),
+        (
+            b"li a0,-4294967295".as_slice(),
+            1,
+            "source line 1: E7 NotConstant\n",
+        ),
         (large.as_slice(), 0, "bad pages\n"),
         (large.as_slice(), 1, "image too large\n"),
     ];
@@ -90,7 +121,9 @@ fn refuses_a_source(rt: HostRuntime) -> Result<(), Fail> {
 
 #[test]
 fn stops_at_a_failed_write(rt: HostRuntime) {
-    let failing = MemoryOut::new(rt.alloc()).with_most(3).with_failure_after(1);
+    let failing = MemoryOut::new(rt.alloc())
+        .with_most(3)
+        .with_failure_after(1);
     let taking_none = MemoryOut::new(rt.alloc()).with_most(0);
     for (mut out, taken) in [(failing, "H\nh"), (taking_none, "")] {
         let outcome = run_text(rt.alloc(), &mut MemoryIn::new(HELLO), DEFAULTS, &mut out);
@@ -153,10 +186,20 @@ fn names_each_fault(rt: HostRuntime) -> Result<(), Fail> {
         kind: FaultKind::DuplicateSymbol,
     });
     let rows = [
-        (CliFault::ReadSource, "ReadSource", "cannot read source\n", 4),
+        (
+            CliFault::ReadSource,
+            "ReadSource",
+            "cannot read source\n",
+            4,
+        ),
         (source, "Source", "source line 3: E6 DuplicateSymbol\n", 3),
         (CliFault::BadPages, "BadPages", "bad pages\n", 3),
-        (CliFault::ImageTooLarge, "ImageTooLarge", "image too large\n", 3),
+        (
+            CliFault::ImageTooLarge,
+            "ImageTooLarge",
+            "image too large\n",
+            3,
+        ),
         (CliFault::OutOfMemory, "OutOfMemory", "out of memory\n", 4),
         (CliFault::Write, "Write", "cannot write\n", 4),
     ];

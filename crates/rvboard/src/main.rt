@@ -9,10 +9,10 @@ use rv_cli::{
     CliFault, Ending, FileIn, FileOut, Words, exit_status, fault_line, read_words, run_text,
 };
 use std::alloc::AllocError;
+use std::env;
 use std::fs::File;
 use std::io::{self, Write};
 use std::process::ExitCode;
-use std::env;
 
 /// The status of refused words.
 const REFUSED: u8 = 3;
