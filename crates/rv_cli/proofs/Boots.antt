@@ -1,7 +1,6 @@
 -- A board is never refused for its cache's slots.
-use Rattle.std.proofs.Common.{◌≡◌, ℕ, Bool, true, false, ◌&&◌, ◌*◌, not, nat_le, nat_lt, Option, Some, None, cond}
+use Rattle.std.proofs.Common.{◌≡◌, ℕ, Bool, true, false, ◌&&◌, ◌*◌, not, nat_le, nat_lt, Some, None, cond}
 use Rattle.rv_board.specs.Boot.{boot_fault}
-use Rattle.rv_board.specs.declared.event.BootFault.{BootFault}
 use Rattle.rv_board.specs.declared.event.BootFault.TheVariants.{BadPages, BadSlots, ImageTooLarge}
 use Rattle.rv_cli.specs.Output.{cache_slots}
 

@@ -1,46 +1,23 @@
 //! Words that are taken, and words that are refused.
-use crate::{Options, read_words};
+use crate::read_words;
 use clap::error::ErrorKind;
 use std::test::Fail;
 
 #[test]
-fn reads_each_word(rt: HostRuntime) -> Result<(), Fail> {
-    let words = read_words(rt.alloc(), &["rvboard", "a.s", "--steps", "2", "--pages=1"])?;
-    assert!(rt; words.source == "a.s");
-    assert!(rt; words.options == Options { steps: 2, pages: 1 });
-    Ok(())
-}
-
-#[test]
-fn takes_the_defaults(rt: HostRuntime) -> Result<(), Fail> {
-    let words = read_words(rt.alloc(), &["rvboard"])?;
-    assert!(rt; words.source == "-");
-    assert!(rt;
-        words.options
-            == Options {
-                steps: 1_000_000,
-                pages: 256
-            }
-    );
-    Ok(())
-}
-
-#[test]
-fn reads_numbers_as_rust_does(rt: HostRuntime) -> Result<(), Fail> {
-    let words = read_words(
-        rt.alloc(),
-        &[
-            "rvboard", "--steps", "+0005", "--pages", "4096", "--", "--x",
-        ],
-    )?;
-    assert!(rt; words.source == "--x");
-    assert!(rt;
-        words.options
-            == Options {
-                steps: 5,
-                pages: 4096
-            }
-    );
+fn reads_the_words(rt: HostRuntime) -> Result<(), Fail> {
+    let given = ["rvboard", "a.s", "--steps", "2", "--pages=1"];
+    let after_dashes = ["rvboard", "--steps", "+0005", "--", "--x"];
+    let rows: [(&[&str], &str, u32, u16); 3] = [
+        (&["rvboard"], "-", 1_000_000, 256),
+        (&given, "a.s", 2, 1),
+        (&after_dashes, "--x", 5, 256),
+    ];
+    for (words, source, steps, pages) in rows {
+        let read = read_words(rt.alloc(), words)?;
+        assert!(rt; read.source == source);
+        assert_eq!(rt; read.options.steps, steps);
+        assert_eq!(rt; read.options.pages, pages);
+    }
     Ok(())
 }
 

@@ -1,4 +1,3 @@
-use Rattle.std.proofs.Common.{rules, ◌≡◌}
 use Rattle.std.proofs.lemmas.Result.{err_from_is_err_and}
 use Rattle.rv_cli.specs.Run.{side}
 use Rattle.rv_cli.proofs.RunLemmas.{refused_run}
