@@ -4,6 +4,7 @@
 
 mod hart;
 mod trap;
+mod values;
 
 pub use hart::Hart;
 pub use trap::{Outcome, Trap};

@@ -1,0 +1,90 @@
+//! The instructions on control registers, the return from a trap, and waiting.
+ghost use Rattle.std.specs.Prelude.{◌≡◌, OnErr};
+ghost use Rattle.rv_isa.specs.Word as spec;
+ghost use Rattle.rv_isa.specs.declared.kind.Kind.{Kind};
+ghost use Rattle.rv_hart.specs.Effect.{csr_effect, return_effect, wait_effect};
+ghost use Rattle.rv_hart.specs.Tries.{Does};
+
+use super::Hart;
+use crate::trap::Trap;
+use crate::values::{combine, illegal, is_write};
+use rv_cache::Decoded;
+use rv_isa::{CsrOp, Instr, Kind, Reg};
+use rv_pmp::Mode;
+use rv_ram::ByteMemory;
+
+/// What an instruction on a control register asks for.
+#[derive(Clone, Copy)]
+pub(super) struct Exchange {
+    pub(super) op: CsrOp,
+    /// The source field: a register's number, or the operand.
+    pub(super) field: u8,
+    pub(super) operand: u32,
+    pub(super) rd: Reg,
+    pub(super) csr: u16,
+}
+
+impl<M: ByteMemory, C: Decoded> Hart<M, C> {
+    /// An instruction on a control register.
+    #[tactic(auto, unfolding(crate::specs::Effect::csr_effect))]
+    pub(super) fn exchange(&mut self, instr: Instr, exchange: Exchange) -> Result<(), Trap>
+        ensures does { Does self.new.machine result (csr_effect instr self.old.machine exchange.op exchange.field exchange.operand exchange.rd exchange.csr) }
+        ensures err { OnErr result (self.new.machine ≡ self.old.machine) }
+        ensures cache { self.new.cache ≡ self.old.cache }
+    {
+        let Some(old) = self.csrs.read(exchange.csr, self.mode, self.bus.lines()) else {
+            return Err(illegal(instr));
+        };
+        if is_write(exchange.op, exchange.field) {
+            let value = combine(exchange.op, old, exchange.operand);
+            match self.csrs.write(exchange.csr, self.mode, value) {
+                Some(()) => (),
+                None => return Err(illegal(instr)),
+            }
+        }
+        self.retire(exchange.rd, old);
+        Ok(())
+    }
+
+    /// The return from a trap. The word is that of MRET.
+    #[tactic(auto, unfolding(crate::specs::Effect::return_effect))]
+    pub(super) fn leave(&mut self, word: u32) -> Result<(), Trap>
+        requires { word ≡ spec.word Kind.Mret }
+        ensures does { Does self.new.machine result (return_effect self.old.machine self.old.machine.mode) }
+        ensures err { OnErr result (self.new.machine ≡ self.old.machine) }
+        ensures cache { self.new.cache ≡ self.old.cache }
+    {
+        match self.mode {
+            Mode::User => {
+                return Err(Trap {
+                    cause: 2,
+                    tval: word,
+                });
+            }
+            Mode::Machine => {
+                let (mode, pc) = self.csrs.leave_trap();
+                self.mode = mode;
+                self.pc = pc;
+                return Ok(());
+            }
+        }
+    }
+
+    /// Waiting for an interrupt, which ends at once. The word is that of WFI.
+    #[tactic(auto, unfolding(crate::specs::Effect::wait_effect))]
+    pub(super) fn wait(&mut self, word: u32) -> Result<(), Trap>
+        requires { word ≡ spec.word Kind.Wfi }
+        ensures does { Does self.new.machine result (wait_effect self.old.machine) }
+        ensures err { OnErr result (self.new.machine ≡ self.old.machine) }
+        ensures cache { self.new.cache ≡ self.old.cache }
+    {
+        if self.mode == Mode::User && self.csrs.traps_wfi() {
+            return Err(Trap {
+                cause: 2,
+                tval: word,
+            });
+        }
+        self.pass();
+        Ok(())
+    }
+}
