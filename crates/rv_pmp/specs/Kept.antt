@@ -1,0 +1,21 @@
+-- What the code keeps beside the registers, so that an access computes nothing of it.
+use Rattle.std.specs.Prelude.{◌≡◌, ℕ, Bool, List, IsTrue, All}
+use Rattle.std.specs.List.{list_any}
+use Rattle.rv_pmp.specs.declared.entry.Entry.{Entry}
+use Rattle.rv_pmp.specs.declared.span.Span.{Span}
+use Rattle.rv_pmp.specs.Entry.{is_matching}
+use Rattle.rv_pmp.specs.Pmp.{AllReadable}
+use Rattle.rv_pmp.specs.Span.{spans_from}
+
+-- some entry matches addresses, and some entry is locked
+abbrev pub some_on : List Entry → Bool
+some_on entries = list_any (λ entry. is_matching entry.matching) entries
+
+abbrev pub some_locked : List Entry → Bool
+some_locked entries = list_any (λ entry. entry.locked) entries
+
+pub record IsKept (entries : List Entry) (spans : List Span) (any_on any_locked : Bool) : Type 0 where
+  pub regions : spans ≡ spans_from 0 entries
+  pub on : any_on ≡ some_on entries
+  pub locked : any_locked ≡ some_locked entries
+  pub readable : AllReadable entries
