@@ -1,12 +1,18 @@
 -- An entry of physical memory protection, and the bytes that it protects.
 -- RISC-V Privileged Architecture 20211203, section 3.7.1.
-use Rattle.std.specs.Prelude.{◌≡◌, ℕ, zero, suc, ◌+◌, ◌-◌, ◌*◌, ◌/◌, ◌%◌, ◌^◌, Bool, true, false, ◌==◌, ◌&&◌, nat_le, nat_lt, if◌then◌else◌}
+use Rattle.std.specs.Prelude.{ℕ, zero, suc, ◌+◌, ◌-◌, ◌*◌, ◌/◌, ◌%◌, ◌^◌, Bool, true, false, ◌==◌, ◌&&◌, ◌||◌, not, nat_le, nat_lt, if◌then◌else◌}
 use Rattle.rv_isa.specs.Number.{truth}
 use Rattle.rv_pmp.specs.declared.access.Access.{Access}
 use Rattle.rv_pmp.specs.declared.access.Access.TheVariants.{Read, Write, Execute}
+use Rattle.rv_pmp.specs.declared.access.Mode.{Mode}
+use Rattle.rv_pmp.specs.declared.access.Mode.TheVariants.{User, Machine}
 use Rattle.rv_pmp.specs.declared.entry.Entry.{Entry}
 use Rattle.rv_pmp.specs.declared.entry.Matching.{Matching}
 use Rattle.rv_pmp.specs.declared.entry.Matching.TheVariants.{Off, Tor, Na4, Napot}
+
+abbrev pub is_machine : Mode → Bool
+is_machine User = false
+is_machine Machine = true
 
 -- ---- the configuration byte: R in bit 0, W in bit 1, X in bit 2, A in bits 4 and 3, L in bit 7; bits 6 and 5 are zero
 
@@ -40,18 +46,20 @@ config_byte entry =
     truth entry.readable + truth entry.writable * 2 + truth entry.executable * 4 + matching_code entry.matching * 8
     + truth entry.locked * 128
 
--- what an entry keeps of a written byte: nothing if it is locked, and W only together with R
+-- the entry with a byte's fields; W is kept only together with R
+abbrev pub with_fields : Entry → ℕ → Entry
+with_fields entry byte = record {
+    address = entry.address;
+    readable = byte % 2 == 1;
+    writable = (byte % 2 == 1) && (byte / 2 % 2 == 1);
+    executable = byte / 4 % 2 == 1;
+    locked = byte / 128 % 2 == 1;
+    matching = matching_of (byte / 8 % 4)
+}
+
+-- what an entry keeps of a written byte: nothing if it is locked
 unfoldable pub configured : Entry → ℕ → Entry
-configured entry byte =
-    if entry.locked then entry
-    else record {
-        address = entry.address;
-        readable = byte % 2 == 1;
-        writable = (byte % 2 == 1) && (byte / 2 % 2 == 1);
-        executable = byte / 4 % 2 == 1;
-        locked = byte / 128 % 2 == 1;
-        matching = matching_of (byte / 8 % 4)
-    }
+configured entry byte = if entry.locked then entry else with_fields entry byte
 
 -- what it keeps of a written address: nothing if it is locked
 unfoldable pub addressed : Entry → ℕ → Entry
@@ -62,6 +70,10 @@ abbrev pub permits : Entry → Access → Bool
 permits entry Read = entry.readable
 permits entry Write = entry.writable
 permits entry Execute = entry.executable
+
+-- an entry that isn't locked lets machine mode do all; otherwise the bit decides
+abbrev pub entry_grants : Entry → Mode → Access → Bool
+entry_grants entry mode access = (is_machine mode && not entry.locked) || permits entry access
 
 -- ---- the region, as a set of byte addresses: whole numbers without limit
 

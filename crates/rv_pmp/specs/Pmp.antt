@@ -1,16 +1,15 @@
 -- Physical memory protection. RISC-V Privileged Architecture 20211203, section 3.7.1.
-use Rattle.std.specs.Prelude.{◌≡◌, ℕ, zero, suc, ◌+◌, ◌-◌, ◌*◌, ◌/◌, ◌%◌, ◌^◌, Bool, true, false, ◌==◌, ◌&&◌, ◌||◌, not, nat_le, if◌then◌else◌, IsTrue, List, [], ◌∷◌, replicate, All, find, slice_get, slice_set, Option, Some, None}
+use Rattle.std.specs.Prelude.{◌≡◌, ℕ, zero, suc, ◌+◌, ◌-◌, ◌*◌, ◌/◌, ◌%◌, ◌^◌, Bool, true, false, ◌&&◌, nat_le, if◌then◌else◌, IsTrue, List, [], ◌∷◌, replicate, All, find, slice_get, slice_set, Option, Some, None}
 use Rattle.std.specs.List.{list_any, list_all}
 use Rattle.std.specs.Option.{option_map, option_map_or}
 use Rattle.rv_pmp.specs.declared.pmp.TheConstants.{ENTRIES}
 use Rattle.rv_pmp.specs.declared.access.Access.{Access}
 use Rattle.rv_pmp.specs.declared.access.Mode.{Mode}
-use Rattle.rv_pmp.specs.declared.access.Mode.TheVariants.{User, Machine}
 use Rattle.rv_pmp.specs.declared.entry.Entry.{Entry}
 use Rattle.rv_pmp.specs.declared.entry.Matching.TheVariants.{Off}
 use Rattle.rv_pmp.specs.declared.pmp.Register.{Register}
 use Rattle.rv_pmp.specs.declared.pmp.Register.TheVariants.{Config, Address}
-use Rattle.rv_pmp.specs.Entry.{is_top, config_byte, configured, addressed, region, permits}
+use Rattle.rv_pmp.specs.Entry.{is_machine, is_top, config_byte, configured, addressed, region, entry_grants}
 
 -- the entries, of which the least has the highest priority
 pub record PmpState : Type 0 where
@@ -32,10 +31,6 @@ WritableIsReadable pmp = AllReadable pmp.entries
 
 -- ---- who may access which bytes
 
-abbrev pub is_machine : Mode → Bool
-is_machine User = false
-is_machine Machine = true
-
 -- an entry beside the set of bytes that it protects
 pub record Guard : Type 0 where
   pub entry : Entry
@@ -55,7 +50,7 @@ bytes_from first (suc count) = first ∷ bytes_from (first + 1) count
 abbrev pub answer : Mode → Access → List ℕ → Option Guard → Bool
 answer mode access bytes None = is_machine mode
 answer mode access bytes (Some guard) =
-    list_all guard.region bytes && ((is_machine mode && not guard.entry.locked) || permits guard.entry access)
+    list_all guard.region bytes && entry_grants guard.entry mode access
 
 -- the least entry whose region meets any byte of the access decides
 unfoldable pub grants : PmpState → Mode → Access → ℕ → ℕ → Bool

@@ -1,9 +1,9 @@
 //! An entry, and the span of bytes that it protects.
 ghost use Rattle.std.specs.Prelude.{◌≡◌};
-ghost use Rattle.rv_pmp.specs.Entry.{is_matching, matching_code, matching_of, config_byte};
+ghost use Rattle.rv_pmp.specs.Entry.{is_matching, matching_code, matching_of, config_byte, entry_grants};
 ghost use Rattle.rv_pmp.specs.Entry as spec;
 
-use crate::Access;
+use crate::{Access, Mode};
 
 /// How an entry's address is matched: the field A of its configuration byte.
 #[derive(Clone, Copy, PartialEq, Eq, Debug)]
@@ -23,6 +23,16 @@ impl Matching {
             Matching::Tor => 1,
             Matching::Na4 => 2,
             Matching::Napot => 3,
+        }
+    }
+
+    /// Whether the address is the end of a region that begins at the address of the entry before.
+    pub(crate) fn is_top(self) -> bool
+        ensures { result ≡ spec.is_top self }
+    {
+        match self {
+            Matching::Tor => true,
+            Matching::Off | Matching::Na4 | Matching::Napot => false,
         }
     }
 
@@ -106,17 +116,21 @@ impl Entry {
     pub(crate) fn addressed(self, word: u32) -> Entry
         ensures { result ≡ spec.addressed self word }
     {
-        if self.locked {
-            return self;
-        }
         Entry {
-            address: word,
+            address: if self.locked { self.address } else { word },
             ..self
         }
     }
 
+    /// Whether the entry, where it holds all bytes of an access, grants it.
+    pub(crate) fn grants(&self, mode: Mode, access: Access) -> bool
+        ensures { result ≡ entry_grants self.now mode access }
+    {
+        mode.is_machine() && !self.locked || self.permits(access)
+    }
+
     /// The bit of a kind of access.
-    pub(crate) fn permits(&self, access: Access) -> bool
+    fn permits(&self, access: Access) -> bool
         ensures { result ≡ spec.permits self.now access }
     {
         match access {

@@ -6,6 +6,8 @@ mod access;
 mod entry;
 mod pmp;
 mod span;
+#[cfg(test)]
+mod tests;
 
 pub use access::{Access, Mode};
 pub use pmp::Pmp;

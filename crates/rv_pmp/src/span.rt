@@ -1,7 +1,8 @@
 //! The span of bytes that an entry protects, computed when one of its registers is written.
-ghost use Rattle.std.specs.Prelude.{◌≡◌, ◌+◌, ◌≤◌, ◌<◌, ◌^◌, ◌↔◌, IsTrue, nat_le, nat_lt, ◌&&◌};
-ghost use Rattle.rv_pmp.specs.Span.{no_bytes, span_of};
-ghost use Rattle.rv_pmp.specs.Entry as spec;
+ghost use Rattle.std.specs.Prelude.{◌≡◌, ◌+◌, ◌≤◌, ◌^◌};
+ghost use Rattle.rv_pmp.specs.Entry as ones;
+ghost use Rattle.rv_pmp.specs.Kept as spec;
+ghost use Rattle.rv_pmp.specs.Span.{span_of};
 
 use crate::entry::{Entry, Matching};
 
@@ -50,14 +51,14 @@ impl Span {
 
     /// Whether a byte of the span is among those from `first` up to but not including `end`.
     pub(crate) fn meets(&self, first: u64, end: u64) -> bool
-        ensures { result ≡ (nat_lt self.now.first end && nat_lt first self.now.end) }
+        ensures { result ≡ spec.meets self.now first end }
     {
         self.first < end && first < self.end
     }
 
     /// Whether all bytes from `first` up to but not including `end` are in the span.
     pub(crate) fn holds(&self, first: u64, end: u64) -> bool
-        ensures { result ≡ (nat_le self.now.first first && nat_le end self.now.end) }
+        ensures { result ≡ spec.holds self.now first end }
     {
         self.first <= first && end <= self.end
     }
@@ -65,7 +66,7 @@ impl Span {
 
 /// How many of the lowest bits are ones, up to the first zero.
 fn trailing_ones(number: u32) -> u32
-    ensures value { result ≡ spec.trailing_ones 32 number }
+    ensures value { result ≡ ones.trailing_ones 32 number }
     ensures at_most { result ≤ 32 }
     ensures below { 2 ^ result ≤ number + 1 }
 {
