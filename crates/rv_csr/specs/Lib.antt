@@ -1,0 +1,3 @@
+pub mod Registers
+pub mod State
+pub mod Traps

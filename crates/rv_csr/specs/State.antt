@@ -1,0 +1,27 @@
+-- What the control registers hold. RISC-V Privileged Architecture 20211203, section 3.1.
+use Rattle.std.specs.Prelude.{ℕ, false}
+use Rattle.rv_isa.specs.declared.Lines.{Lines}
+use Rattle.rv_pmp.specs.Pmp as protection
+use Rattle.rv_pmp.specs.Pmp.{PmpState}
+use Rattle.rv_pmp.specs.declared.access.Mode.TheVariants.{User}
+use Rattle.rv_csr.specs.declared.counters.Counters.{Counters}
+use Rattle.rv_csr.specs.declared.status.Status.{Status}
+use Rattle.rv_csr.specs.declared.trap.TrapRegisters.{TrapRegisters}
+
+-- mstatus; the interrupts that mie enables; the registers of traps; mcycle and minstret; physical memory protection
+pub record CsrState : Type 0 where
+  pub status : Status
+  pub enables : Lines
+  pub trap : TrapRegisters
+  pub counters : Counters
+  pub pmp : PmpState
+
+-- after a reset all is 0
+abbrev pub reset : CsrState
+reset = record {
+    status = record { interrupts = false; previous_interrupts = false; previous_mode = User; modify_privilege = false; timeout_wait = false };
+    enables = record { software = false; timer = false; external = false };
+    trap = record { vector = 0; scratch = 0; epc = 0; cause = 0; value = 0 };
+    counters = record { cycles = 0; retired = 0 };
+    pmp = protection.reset
+}

@@ -1,0 +1,64 @@
+-- Interrupts, traps and the return from them. RISC-V Privileged Architecture 20211203, sections 3.1.6, 3.1.7, 3.1.9 and 3.3.2.
+use Rattle.std.specs.Prelude.{ℕ, ◌+◌, ◌-◌, ◌*◌, ◌/◌, ◌%◌, ◌^◌, Bool, true, false, ◌==◌, ◌&&◌, not, nat_le, if◌then◌else◌, Option, Some, None}
+use Rattle.rv_isa.specs.declared.Lines.{Lines}
+use Rattle.rv_pmp.specs.Entry.{is_machine}
+use Rattle.rv_pmp.specs.declared.access.Mode.{Mode}
+use Rattle.rv_pmp.specs.declared.access.Mode.TheVariants.{User, Machine}
+use Rattle.rv_csr.specs.Registers.{aligned}
+use Rattle.rv_csr.specs.State.{CsrState}
+use Rattle.rv_csr.specs.declared.status.Status.{Status}
+
+-- ---- interrupts
+
+-- the causes
+abbrev pub software_interrupt : ℕ
+software_interrupt = 0x80000003
+
+abbrev pub timer_interrupt : ℕ
+timer_interrupt = 0x80000007
+
+abbrev pub external_interrupt : ℕ
+external_interrupt = 0x8000000B
+
+-- the first of external, software and timer whose line is high and which is enabled
+abbrev pub first_enabled : Lines → Lines → Option ℕ
+first_enabled lines enables =
+    if lines.external && enables.external then Some external_interrupt
+    else (if lines.software && enables.software then Some software_interrupt
+    else (if lines.timer && enables.timer then Some timer_interrupt
+    else None))
+
+-- the cause of the interrupt that is taken: always in user mode, in machine mode only with MIE
+unfoldable pub pending : CsrState → Mode → Lines → Option ℕ
+pending state mode lines =
+    if is_machine mode && not state.status.interrupts then None else first_enabled lines state.enables
+
+-- ---- trap entry and return
+
+-- MPIE takes MIE, which becomes 0, and MPP the mode; mepc, mcause and mtval are set
+unfoldable pub entered : CsrState → ℕ → ℕ → ℕ → Mode → CsrState
+entered state cause epc tval mode = record state {
+    status = record state.status { interrupts = false; previous_interrupts = state.status.interrupts; previous_mode = mode };
+    trap = record state.trap { epc = aligned epc; cause = cause; value = tval }
+}
+
+-- where a trap goes: to the base of mtvec, or, for an interrupt in vectored mode, to the place of its number from there
+unfoldable pub trap_pc : CsrState → ℕ → ℕ
+trap_pc state cause =
+    let base = aligned state.trap.vector in
+    if (state.trap.vector % 2 == 1) && nat_le (2 ^ 31) cause then (base + 4 * (cause - 2 ^ 31)) % 2 ^ 32 else base
+
+-- MIE takes MPIE, which becomes 1; MPP becomes user mode; MPRV is cleared where the mode that follows isn't machine mode
+unfoldable pub left : CsrState → CsrState
+left state = record state {
+    status = record state.status {
+        interrupts = state.status.previous_interrupts;
+        previous_interrupts = true;
+        previous_mode = User;
+        modify_privilege = state.status.modify_privilege && is_machine state.status.previous_mode
+    }
+}
+
+-- loads and stores go by the previous mode where MPRV is 1
+abbrev pub data_mode : CsrState → Mode → Mode
+data_mode state mode = if state.status.modify_privilege then state.status.previous_mode else mode

@@ -1,0 +1,50 @@
+//! The counters mcycle and minstret. Privileged Architecture 20211203, section 3.1.10.
+ghost use Rattle.std.specs.Prelude.{◌≡◌, ◌/◌, ◌%◌, ◌^◌};
+ghost use Rattle.rv_csr.specs.Registers.{counted, grown, with_low, with_high, wrote_cycles, wrote_retired};
+
+use crate::register;
+
+#[derive(Clone, Copy, PartialEq, Eq, Debug)]
+pub(crate) struct Counters {
+    pub(crate) cycles: u64,
+    pub(crate) retired: u64,
+}
+
+impl Counters {
+    /// The counters after a step: whether its instruction retired, and the control register that it wrote.
+    #[tactic(auto, unfolding(crate::specs::Registers::counted))]
+    pub(crate) fn count(&mut self, retired: bool, wrote: Option<u16>)
+        ensures { self.new ≡ counted self.old retired wrote }
+    {
+        if !register::wrote_cycles(wrote) {
+            self.cycles = self.cycles.wrapping_add(1);
+        }
+        if retired && !register::wrote_retired(wrote) {
+            self.retired = self.retired.wrapping_add(1);
+        }
+    }
+}
+
+pub(crate) fn low_word(number: u64) -> u32
+    ensures { result ≡ number % 2 ^ 32 }
+{
+    (number % (1 << 32)) as u32
+}
+
+pub(crate) fn high_word(number: u64) -> u32
+    ensures { result ≡ number / 2 ^ 32 }
+{
+    (number >> 32) as u32
+}
+
+pub(crate) fn with_low_word(number: u64, word: u32) -> u64
+    ensures { result ≡ with_low number word }
+{
+    (number >> 32 << 32) + word as u64
+}
+
+pub(crate) fn with_high_word(number: u64, word: u32) -> u64
+    ensures { result ≡ with_high number word }
+{
+    number % (1 << 32) + ((word as u64) << 32)
+}

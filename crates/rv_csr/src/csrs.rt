@@ -1,0 +1,245 @@
+//! The control registers, and the entry into traps and the return from them.
+ghost use Rattle.std.specs.Prelude.{◌≡◌, ◌%◌, true, false, None};
+ghost use Rattle.rv_csr.specs.Registers.{value_of, with_value, Writes};
+ghost use Rattle.rv_csr.specs.Registers as registers;
+ghost use Rattle.rv_csr.specs.State.{reset};
+ghost use Rattle.rv_csr.specs.Traps as traps;
+ghost use Rattle.rv_pmp.specs.declared.access.Mode.{Mode};
+ghost use Rattle.rv_pmp.specs.declared.access.Mode.TheVariants.{User};
+
+use crate::counters::{Counters, high_word, low_word, with_high_word, with_low_word};
+use crate::register::{Register, may_read, may_write};
+use crate::status::{Status, lines_of, lines_word};
+use crate::trap::TrapRegisters;
+use rv_isa::Lines;
+use rv_pmp::{Mode, Pmp};
+use std::marker::Model;
+
+/// The cause of a software interrupt.
+const SOFTWARE_INTERRUPT: u32 = 0x80000003;
+/// The cause of a timer interrupt.
+const TIMER_INTERRUPT: u32 = 0x80000007;
+/// The cause of an external interrupt.
+const EXTERNAL_INTERRUPT: u32 = 0x8000000B;
+
+/// The control registers of machine mode, with physical memory protection.
+///
+/// mepc is always a multiple of 4.
+#[derive(Drop, Debug)]
+pub struct Csrs {
+    status: Status,
+    enables: Lines,
+    trap: TrapRegisters,
+    counters: Counters,
+    pmp: Pmp,
+}
+
+impl Model for Csrs {
+    ghost use Rattle.std.specs.Prelude.{◌≡◌, ◌%◌};
+    ghost use Rattle.rv_csr.specs.State.{CsrState};
+
+    ghost Value = { CsrState };
+
+    ghost view = { λ c. record { status = c.status; enables = c.enables; trap = c.trap; counters = c.counters; pmp = c.pmp } };
+
+    ghost invariant = { λ c. c.trap.epc % 4 ≡ 0 };
+}
+
+impl Csrs {
+    /// The registers after a reset.
+    pub fn new() -> Csrs
+        ensures { result ≡ reset }
+    {
+        Csrs {
+            status: Status {
+                interrupts: false,
+                previous_interrupts: false,
+                previous_mode: Mode::User,
+                modify_privilege: false,
+                timeout_wait: false,
+            },
+            enables: Lines {
+                software: false,
+                timer: false,
+                external: false,
+            },
+            trap: TrapRegisters {
+                vector: 0,
+                scratch: 0,
+                epc: 0,
+                cause: 0,
+                value: 0,
+            },
+            counters: Counters {
+                cycles: 0,
+                retired: 0,
+            },
+            pmp: Pmp::new(),
+        }
+    }
+
+    /// What a mode reads at an address while the interrupt lines have these levels, or None where it may not: no
+    /// register is there, or the mode is too low. User mode may read none.
+    #[tactic(auto, unfolding(crate::specs::Registers::read))]
+    pub fn read(&self, addr: u16, mode: Mode, lines: Lines) -> Option<u32>
+        ensures value { result ≡ registers.read self.now addr mode lines }
+        ensures user { mode ≡ User → result ≡ None }
+    {
+        if !may_read(addr, mode) {
+            return None;
+        }
+        match Register::at(addr) {
+            Some(register) => Some(self.value(register, lines)),
+            None => self.pmp.read_csr(addr),
+        }
+    }
+
+    fn value(&self, register: Register, lines: Lines) -> u32
+        ensures { result ≡ value_of self.now lines register }
+    {
+        match register {
+            Register::Mstatus => self.status.word(),
+            Register::Misa => 0x40101100,
+            Register::Mie => lines_word(self.enables),
+            Register::Mtvec => self.trap.vector,
+            Register::Mscratch => self.trap.scratch,
+            Register::Mepc => self.trap.epc,
+            Register::Mcause => self.trap.cause,
+            Register::Mtval => self.trap.value,
+            Register::Mip => lines_word(lines),
+            Register::Mcycle => low_word(self.counters.cycles),
+            Register::Mcycleh => high_word(self.counters.cycles),
+            Register::Minstret => low_word(self.counters.retired),
+            Register::Minstreth => high_word(self.counters.retired),
+            Register::Zero => 0,
+        }
+    }
+
+    /// Writes the register at an address, which keeps of the value what it can. None where the mode may not, as in
+    /// `read` or because the register is read-only: nothing has changed.
+    #[tactic(auto, unfolding(crate::specs::Registers::write))]
+    pub fn write(&mut self, addr: u16, mode: Mode, value: u32) -> Option<()>
+        ensures written { Writes self.old addr mode value self.new result }
+        ensures user { mode ≡ User → result ≡ None }
+    {
+        if !may_write(addr, mode) {
+            return None;
+        }
+        match Register::at(addr) {
+            Some(register) => {
+                self.set_value(register, value);
+                Some(())
+            }
+            None => self.pmp.write_csr(addr, value),
+        }
+    }
+
+    fn set_value(&mut self, register: Register, value: u32)
+        ensures { self.new ≡ with_value self.old register value }
+    {
+        match register {
+            Register::Mstatus => self.status = self.status.written(value),
+            Register::Mie => self.enables = lines_of(value),
+            Register::Mtvec => self.trap.vector = value / 4 * 4 + value % 2,
+            Register::Mscratch => self.trap.scratch = value,
+            Register::Mepc => self.trap.epc = value / 4 * 4,
+            Register::Mcause => self.trap.cause = value,
+            Register::Mtval => self.trap.value = value,
+            Register::Mcycle => self.counters.cycles = with_low_word(self.counters.cycles, value),
+            Register::Mcycleh => self.counters.cycles = with_high_word(self.counters.cycles, value),
+            Register::Minstret => self.counters.retired = with_low_word(self.counters.retired, value),
+            Register::Minstreth => self.counters.retired = with_high_word(self.counters.retired, value),
+            Register::Misa | Register::Mip | Register::Zero => (),
+        }
+    }
+
+    /// The cause of the interrupt to be taken in a mode while the interrupt lines have these levels, if there is one.
+    #[tactic(auto, unfolding(crate::specs::Traps::pending))]
+    pub fn pending(&self, mode: Mode, lines: Lines) -> Option<u32>
+        ensures { result ≡ traps.pending self.now mode lines }
+    {
+        if mode.is_machine() && !self.status.interrupts {
+            return None;
+        }
+        if lines.external && self.enables.external {
+            Some(EXTERNAL_INTERRUPT)
+        } else if lines.software && self.enables.software {
+            Some(SOFTWARE_INTERRUPT)
+        } else if lines.timer && self.enables.timer {
+            Some(TIMER_INTERRUPT)
+        } else {
+            None
+        }
+    }
+
+    /// Enters a trap from a mode: of this cause, at the instruction at `epc`, with the value `tval`. The answer is the
+    /// address of the trap's code. The mode is machine mode from now on.
+    #[tactic(auto, unfolding(crate::specs::Traps::entered, crate::specs::Traps::trap_pc))]
+    pub fn enter_trap(&mut self, cause: u32, epc: u32, tval: u32, mode: Mode) -> u32
+        ensures state { self.new ≡ traps.entered self.old cause epc tval mode }
+        ensures pc { result ≡ traps.trap_pc self.old cause }
+        ensures aligned { result % 4 ≡ 0 }
+    {
+        self.status.previous_interrupts = self.status.interrupts;
+        self.status.interrupts = false;
+        self.status.previous_mode = mode;
+        self.trap.epc = epc / 4 * 4;
+        self.trap.cause = cause;
+        self.trap.value = tval;
+        let base = self.trap.vector / 4 * 4;
+        if self.trap.vector % 2 == 1 && cause >= 1 << 31 {
+            base.wrapping_add(cause << 2)
+        } else {
+            base
+        }
+    }
+
+    /// Returns from a trap. The answer is the mode and the address where the program goes on.
+    #[tactic(auto, unfolding(crate::specs::Traps::left))]
+    pub fn leave_trap(&mut self) -> (Mode, u32)
+        ensures state { self.new ≡ traps.left self.old }
+        ensures mode { result.0 ≡ self.old.status.previous_mode }
+        ensures pc { result.1 ≡ self.old.trap.epc }
+        ensures aligned { result.1 % 4 ≡ 0 }
+        ensures user { result.0 ≡ User → self.new.status.modify_privilege ≡ false }
+    {
+        let mode = self.status.previous_mode;
+        self.status.interrupts = self.status.previous_interrupts;
+        self.status.previous_interrupts = true;
+        self.status.previous_mode = Mode::User;
+        self.status.modify_privilege = self.status.modify_privilege && mode.is_machine();
+        (mode, self.trap.epc)
+    }
+
+    /// The mode by which loads and stores go in a mode.
+    pub fn data_mode(&self, mode: Mode) -> Mode
+        ensures { result ≡ traps.data_mode self.now mode }
+    {
+        if self.status.modify_privilege {
+            self.status.previous_mode
+        } else {
+            mode
+        }
+    }
+
+    /// Whether WFI in user mode is illegal.
+    pub fn traps_wfi(&self) -> bool
+        ensures { result ≡ self.now.status.timeout_wait }
+    {
+        self.status.timeout_wait
+    }
+
+    /// Counts a step: whether its instruction retired, and the address of the control register that it wrote, if any.
+    pub fn count(&mut self, retired: bool, wrote: Option<u16>)
+        ensures { self.new ≡ record self.old { counters = registers.counted self.old.counters retired wrote } }
+    {
+        self.counters.count(retired, wrote);
+    }
+
+    /// Physical memory protection, as these registers set it.
+    pub fn pmp(&self) -> &Pmp
+        ensures { result.now ≡ self.now.pmp }
+    {
+        &self.pmp
+    }
+}

@@ -1,0 +1,97 @@
+//! The addresses of the control registers. Privileged Architecture 20211203, section 2.1 and table 2.5.
+ghost use Rattle.std.specs.Prelude.{◌≡◌};
+ghost use Rattle.rv_csr.specs.Registers.{register_at};
+ghost use Rattle.rv_csr.specs.Registers as spec;
+
+use crate::status::mode_level;
+use rv_pmp::Mode;
+
+/// A control register, beside those of physical memory protection.
+#[derive(Clone, Copy, PartialEq, Eq, Debug)]
+pub(crate) enum Register {
+    Mstatus,
+    Misa,
+    Mie,
+    Mtvec,
+    Mscratch,
+    Mepc,
+    Mcause,
+    Mtval,
+    Mip,
+    Mcycle,
+    Mcycleh,
+    Minstret,
+    Minstreth,
+    /// One that reads 0.
+    Zero,
+}
+
+impl Register {
+    /// The register at an address, if there is one.
+    #[tactic(auto, unfolding(crate::specs::Registers::register_at))]
+    pub(crate) fn at(addr: u16) -> Option<Register>
+        ensures { result ≡ register_at addr }
+    {
+        match addr {
+            0x300 => Some(Register::Mstatus),
+            0x301 => Some(Register::Misa),
+            0x304 => Some(Register::Mie),
+            0x305 => Some(Register::Mtvec),
+            0x340 => Some(Register::Mscratch),
+            0x341 => Some(Register::Mepc),
+            0x342 => Some(Register::Mcause),
+            0x343 => Some(Register::Mtval),
+            0x344 => Some(Register::Mip),
+            0xB00 => Some(Register::Mcycle),
+            0xB80 => Some(Register::Mcycleh),
+            0xB02 => Some(Register::Minstret),
+            0xB82 => Some(Register::Minstreth),
+            _ => if is_zero(addr) { Some(Register::Zero) } else { None },
+        }
+    }
+}
+
+/// Whether the register at an address reads 0 and keeps nothing.
+fn is_zero(addr: u16) -> bool
+    ensures { result ≡ spec.is_zero addr }
+{
+    match addr {
+        0x306 | 0x30A | 0x310 | 0x31A | 0x320 => true,
+        0x323..=0x33F | 0xB03..=0xB1F | 0xB83..=0xB9F | 0xF11..=0xF15 => true,
+        _ => false,
+    }
+}
+
+/// Whether a mode may read at an address.
+pub(crate) fn may_read(addr: u16, mode: Mode) -> bool
+    ensures { result ≡ spec.may_read addr mode }
+{
+    (addr >> 8) as u32 % 4 <= mode_level(mode)
+}
+
+/// Whether a mode may write at an address.
+pub(crate) fn may_write(addr: u16, mode: Mode) -> bool
+    ensures { result ≡ spec.may_write addr mode }
+{
+    may_read(addr, mode) && (addr >> 10) % 4 != 3
+}
+
+/// Whether this is a half of mcycle.
+pub(crate) fn wrote_cycles(wrote: Option<u16>) -> bool
+    ensures { result ≡ spec.wrote_cycles wrote }
+{
+    match wrote {
+        Some(addr) => addr == 0xB00 || addr == 0xB80,
+        None => false,
+    }
+}
+
+/// Whether this is a half of minstret.
+pub(crate) fn wrote_retired(wrote: Option<u16>) -> bool
+    ensures { result ≡ spec.wrote_retired wrote }
+{
+    match wrote {
+        Some(addr) => addr == 0xB02 || addr == 0xB82,
+        None => false,
+    }
+}

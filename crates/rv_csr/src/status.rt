@@ -1,0 +1,96 @@
+//! The fields of mstatus, and the bits of mie and mip. Privileged Architecture 20211203, sections 3.1.6 and 3.1.9.
+ghost use Rattle.std.specs.Prelude.{◌≡◌, ◌<◌, ◌≤◌, ◌^◌};
+ghost use Rattle.rv_csr.specs.Registers.{flag, level, mode_kept, with_status, status_word};
+ghost use Rattle.rv_csr.specs.Registers as spec;
+
+use rv_isa::Lines;
+use rv_pmp::Mode;
+
+#[derive(Clone, Copy, PartialEq, Eq, Debug)]
+pub(crate) struct Status {
+    /// MIE: whether machine mode takes interrupts.
+    pub(crate) interrupts: bool,
+    /// MPIE: MIE before the last trap.
+    pub(crate) previous_interrupts: bool,
+    /// MPP: the mode before the last trap.
+    pub(crate) previous_mode: Mode,
+    /// MPRV: whether loads and stores go by MPP.
+    pub(crate) modify_privilege: bool,
+    /// TW: whether WFI in user mode is illegal.
+    pub(crate) timeout_wait: bool,
+}
+
+impl Status {
+    #[tactic(auto, unfolding(crate::specs::Registers::status_word))]
+    pub(crate) fn word(&self) -> u32
+        ensures { result ≡ status_word self.now }
+    {
+        ((self.interrupts as u32) << 3)
+            + ((self.previous_interrupts as u32) << 7)
+            + (mode_level(self.previous_mode) << 11)
+            + ((self.modify_privilege as u32) << 17)
+            + ((self.timeout_wait as u32) << 21)
+    }
+
+    /// The fields after a write.
+    #[tactic(auto, unfolding(crate::specs::Registers::with_status))]
+    pub(crate) fn written(&self, word: u32) -> Status
+        ensures { result ≡ with_status self.now word }
+    {
+        Status {
+            interrupts: is_set(word, 3),
+            previous_interrupts: is_set(word, 7),
+            previous_mode: mode_of(self.previous_mode, (word >> 11) % 4),
+            modify_privilege: is_set(word, 17),
+            timeout_wait: is_set(word, 21),
+        }
+    }
+}
+
+/// The level of a mode, as a field of two bits.
+pub(crate) fn mode_level(mode: Mode) -> u32
+    ensures level { result ≡ level mode }
+    ensures below { result < 4 }
+{
+    match mode {
+        Mode::User => 0,
+        Mode::Machine => 3,
+    }
+}
+
+#[tactic(auto, unfolding(crate::specs::Registers::mode_kept))]
+fn mode_of(old: Mode, field: u32) -> Mode
+    ensures { result ≡ mode_kept old field }
+{
+    match field {
+        0 => Mode::User,
+        3 => Mode::Machine,
+        _ => old,
+    }
+}
+
+fn is_set(word: u32, place: u32) -> bool
+    requires { place < 32 }
+    ensures { result ≡ flag word place }
+{
+    (word >> place) % 2 == 1
+}
+
+/// The bits of the interrupt lines, as mie and mip have them.
+#[tactic(auto, unfolding(crate::specs::Registers::lines_word))]
+pub(crate) fn lines_word(lines: Lines) -> u32
+    ensures { result ≡ spec.lines_word lines }
+{
+    ((lines.software as u32) << 3) + ((lines.timer as u32) << 7) + ((lines.external as u32) << 11)
+}
+
+#[tactic(auto, unfolding(crate::specs::Registers::lines_of))]
+pub(crate) fn lines_of(word: u32) -> Lines
+    ensures { result ≡ spec.lines_of word }
+{
+    Lines {
+        software: is_set(word, 3),
+        timer: is_set(word, 7),
+        external: is_set(word, 11),
+    }
+}

@@ -1,0 +1,275 @@
+-- The decision by the spans that are kept is that of the regions.
+use Rattle.std.proofs.Common.{◌≡◌, ℕ, zero, suc, ◌+◌, ◌-◌, ◌*◌, ◌/◌, ◌%◌, ◌^◌, ◌<◌, ◌≤◌, ◌==◌, ◌⊎◌, inl, inr, Bool, true, false, cond, List, [], ◌∷◌, length, drop, get_or, Option, Some, None, refl, ap, sym, subst, ◌∙◌, arith, add-one, add-zero, nat_lt, nat_le}
+use Rattle.std.specs.Prelude.{if◌then◌else◌, ◌&&◌, ◌||◌, not, find}
+use Rattle.std.specs.List.{list_any, list_all}
+use Rattle.std.proofs.lemmas.Bool.{ltb-true}
+use Rattle.std.proofs.lemmas.Bool.Decides.{nat_tests}
+use Rattle.std.proofs.lemmas.Nat.{pow_pos, pow-add}
+use Rattle.rv_pmp.specs.declared.access.Access.{Access}
+use Rattle.rv_pmp.specs.declared.access.Mode.{Mode}
+use Rattle.rv_pmp.specs.declared.access.Mode.TheVariants.{User, Machine}
+use Rattle.rv_pmp.specs.declared.entry.Entry.{Entry}
+use Rattle.rv_pmp.specs.declared.entry.Matching.{Matching}
+use Rattle.rv_pmp.specs.declared.entry.Matching.TheVariants.{Off, Tor, Na4, Napot}
+use Rattle.rv_pmp.specs.declared.span.Span.{Span}
+use Rattle.rv_pmp.specs.Entry.{is_machine, is_matching, is_between, entry_grants, matched, region, trailing_ones}
+use Rattle.rv_pmp.specs.Kept.{meets, holds, decided, some_on, some_locked}
+use Rattle.rv_pmp.specs.Pmp.{PmpState, Guard, guards_from, bytes_from, answer, grants}
+use Rattle.rv_pmp.specs.Span.{no_bytes, span, span_of, spans_from}
+
+-- ---- one step of the search
+
+-- what the entry at a place answers, or the rest
+step : Mode → Access → ℕ → ℕ → Entry → Span → Bool → Bool
+step mode access first last e s rest = if meets s first last then holds s first last && entry_grants e mode access else rest
+
+decided-drop : (mode : Mode) (access : Access) (first last : ℕ) (es : List Entry) (ss : List Span) (i : ℕ) (e : Entry) (s : Span)
+    → i < length es → i < length ss
+    → decided mode access first last (drop i es) (drop i ss)
+      ≡ step mode access first last (get_or es i e) (get_or ss i s) (decided mode access first last (drop (suc i) es) (drop (suc i) ss))
+unfolding decided step
+decided-drop mode access first last [] ss i e s h k = absurd (omega arith)
+decided-drop mode access first last (x ∷ es) [] i e s h k = absurd (omega arith)
+decided-drop mode access first last (x ∷ es) (y ∷ ss) zero e s h k = refl
+decided-drop mode access first last (x ∷ es) (y ∷ ss) (suc i) e s h k = decided-drop mode access first last es ss i e s (omega arith) (omega arith)
+
+pub decided-held : (mode : Mode) (access : Access) (first last : ℕ) (es : List Entry) (ss : List Span) (i : ℕ) (e : Entry) (s : Span)
+    → i < length es → i < length ss → meets (get_or ss i s) first last ≡ true → holds (get_or ss i s) first last ≡ true
+    → decided mode access first last (drop i es) (drop i ss) ≡ entry_grants (get_or es i e) mode access
+unfolding step
+decided-held mode access first last es ss i e s h k m o = decided-drop mode access first last es ss i e s h k ∙ rw (m, o) refl
+
+pub decided-cut : (mode : Mode) (access : Access) (first last : ℕ) (es : List Entry) (ss : List Span) (i : ℕ) (s : Span)
+    → i < length es → i < length ss → meets (get_or ss i s) first last ≡ true → holds (get_or ss i s) first last ≡ false
+    → decided mode access first last (drop i es) (drop i ss) ≡ false
+unfolding step
+decided-cut mode access first last [] ss i s h k m o = absurd (omega arith)
+decided-cut mode access first last (x ∷ es) ss i s h k m o = decided-drop mode access first last (x ∷ es) ss i x s h k ∙ rw (m, o) refl
+
+pub decided-passed : (mode : Mode) (access : Access) (first last : ℕ) (es : List Entry) (ss : List Span) (i : ℕ) (s : Span)
+    → i < length es → i < length ss → meets (get_or ss i s) first last ≡ false
+    → decided mode access first last (drop (i + 1) es) (drop (i + 1) ss) ≡ decided mode access first last (drop i es) (drop i ss)
+unfolding step
+decided-passed mode access first last [] ss i s h k m = absurd (omega arith)
+decided-passed mode access first last (x ∷ es) ss i s h k m = rw add-one (sym (decided-drop mode access first last (x ∷ es) ss i x s h k ∙ rw m refl))
+
+decided-none : (mode : Mode) (access : Access) (first last : ℕ) (es : List Entry) → decided mode access first last es [] ≡ is_machine mode
+unfolding decided
+decided-none mode access first last [] = refl
+decided-none mode access first last (e ∷ es) = refl
+
+pub decided-end : (mode : Mode) (access : Access) (first last : ℕ) (es : List Entry) (ss : List Span) (i : ℕ)
+    → length es ≤ i → decided mode access first last (drop i es) (drop i ss) ≡ is_machine mode
+unfolding decided
+decided-end mode access first last [] ss zero h = refl
+decided-end mode access first last [] [] (suc i) h = refl
+decided-end mode access first last [] (s ∷ ss) (suc i) h = refl
+decided-end mode access first last (x ∷ es) ss zero h = absurd (omega arith)
+decided-end mode access first last (x ∷ es) [] (suc i) h = decided-none mode access first last (drop i es)
+decided-end mode access first last (x ∷ es) (s ∷ ss) (suc i) h = decided-end mode access first last es ss i (omega arith)
+
+-- ---- a region is its span
+
+-- it begins and ends at words, and has a byte or ends at 0
+record IsWhole (s : Span) : Type 0 where
+  pub first_word : s.first % 4 ≡ 0
+  pub last_word : s.«end» % 4 ≡ 0
+  pub some_byte : (s.first < s.«end») ⊎ (s.«end» ≡ 0)
+
+whole_no_bytes : IsWhole no_bytes
+whole_no_bytes = record { first_word = refl; last_word = refl; some_byte = inr refl }
+
+whole_top : (b : Bool) (lower address : ℕ) → nat_lt lower address ≡ b → IsWhole (if b then record { first = 4 * lower; «end» = 4 * address } else no_bytes)
+whole_top true lower address e = record { first_word = omega arith; last_word = omega arith; some_byte = inl (grind (arith, nat_tests)) }
+whole_top false lower address e = whole_no_bytes
+
+pow_word : (k : ℕ) → (2 ^ (k + 3) % 4 ≡ 0) × (0 < 2 ^ (k + 3))
+pow_word k = (omega (arith, pow-add 2 k 3), omega (arith, pow_pos (k + 3)))
+
+whole_span : (m : Matching) (lower address : ℕ) → IsWhole (span m lower address)
+whole_span Off lower address = whole_no_bytes
+whole_span Tor lower address = whole_top (nat_lt lower address) lower address refl
+whole_span Na4 lower address = record { first_word = omega arith; last_word = omega arith; some_byte = inl (omega arith) }
+whole_span Napot lower address =
+    let p = pow_word (trailing_ones 32 address) in
+    record { first_word = omega arith; last_word = omega arith; some_byte = inl (omega arith) }
+
+whole : (lower : ℕ) (e : Entry) → IsWhole (span_of lower e)
+unfolding span_of
+whole lower e = whole_span e.matching lower e.address
+
+between_none : (f l byte : ℕ) → l ≤ f → is_between f l byte ≡ false
+between_none f l byte h = grind (arith, nat_tests)
+
+top_between : (b : Bool) (lower address byte : ℕ) → nat_lt lower address ≡ b
+    → is_between (4 * lower) (4 * address) byte ≡ is_between (if b then record { first = 4 * lower; «end» = 4 * address } else no_bytes).first (if b then record { first = 4 * lower; «end» = 4 * address } else no_bytes).«end» byte
+top_between true lower address byte e = refl
+top_between false lower address byte e = grind (arith, nat_tests)
+
+matched-between : (m : Matching) (lower address byte : ℕ) → matched m lower address byte ≡ is_between (span m lower address).first (span m lower address).«end» byte
+matched-between Off lower address byte = grind (arith, nat_tests)
+matched-between Tor lower address byte = top_between (nat_lt lower address) lower address byte refl
+matched-between Na4 lower address byte = refl
+matched-between Napot lower address byte = refl
+
+region-between : (lower : ℕ) (e : Entry) (byte : ℕ) → region lower e byte ≡ is_between (span_of lower e).first (span_of lower e).«end» byte
+unfolding region span_of
+region-between lower e byte = matched-between e.matching lower e.address byte
+
+-- ---- tests of the bytes of an access
+
+list_any-same : (p q : ℕ → Bool) → ((x : ℕ) → p x ≡ q x) → (xs : List ℕ) → list_any p xs ≡ list_any q xs
+list_any-same p q same [] = refl
+list_any-same p q same (x ∷ xs) = cc (same x, list_any-same p q same xs)
+
+list_all-same : (p q : ℕ → Bool) → ((x : ℕ) → p x ≡ q x) → (xs : List ℕ) → list_all p xs ≡ list_all q xs
+list_all-same p q same [] = refl
+list_all-same p q same (x ∷ xs) = cc (same x, list_all-same p q same xs)
+
+any_between : (f l a n : ℕ) → list_any (is_between f l) (bytes_from a (suc n)) ≡ (nat_lt f l && (nat_lt f (a + suc n) && nat_lt a l))
+any_between f l a zero = grind (arith, nat_tests)
+any_between f l a (suc n) = grind (arith, nat_tests, any_between f l (a + 1) n)
+
+all_between : (f l a n : ℕ) → list_all (is_between f l) (bytes_from a (suc n)) ≡ (nat_le f a && nat_le (a + suc n) l)
+all_between f l a zero = grind (arith, nat_tests)
+all_between f l a (suc n) = grind (arith, nat_tests, all_between f l (a + 1) n)
+
+any_meets : (s : Span) (a n : ℕ) → IsWhole s → list_any (is_between s.first s.«end») (bytes_from a (suc n)) ≡ meets s a (a + suc n)
+any_meets s a n w = any_between s.first s.«end» a n ∙ elim w.some_byte [ inl some ↦ grind (arith, nat_tests) | inr none ↦ grind (arith, nat_tests) ]
+
+list_any-region : (lower : ℕ) (e : Entry) (a n : ℕ) → list_any (region lower e) (bytes_from a (suc n)) ≡ meets (span_of lower e) a (a + suc n)
+list_any-region lower e a n = list_any-same (region lower e) (is_between (span_of lower e).first (span_of lower e).«end») (region-between lower e) (bytes_from a (suc n)) ∙ any_meets (span_of lower e) a n (whole lower e)
+
+list_all-region : (lower : ℕ) (e : Entry) (a n : ℕ) → list_all (region lower e) (bytes_from a (suc n)) ≡ holds (span_of lower e) a (a + suc n)
+list_all-region lower e a n = list_all-same (region lower e) (is_between (span_of lower e).first (span_of lower e).«end») (region-between lower e) (bytes_from a (suc n)) ∙ all_between (span_of lower e).first (span_of lower e).«end» a n
+
+-- ---- the decision by spans is that by regions
+
+pub decided-spans : (mode : Mode) (access : Access) (a n lower : ℕ) (es : List Entry)
+    → decided mode access a (a + suc n) es (spans_from lower es) ≡ answer mode access (bytes_from a (suc n)) (find (λ g. list_any g.region (bytes_from a (suc n))) (guards_from lower es))
+unfolding decided spans_from guards_from
+decided-spans mode access a n lower [] = refl
+decided-spans mode access a n lower (e ∷ es) =
+    rw (list_any-region lower e a n)
+    (go (meets (span_of lower e) a (a + suc n)) (decided-spans mode access a n e.address es))
+  where
+    rest : Bool
+    rest = decided mode access a (a + suc n) es (spans_from e.address es)
+    go : (b : Bool) → rest ≡ answer mode access (bytes_from a (suc n)) (find (λ g. list_any g.region (bytes_from a (suc n))) (guards_from e.address es))
+        → (if b then holds (span_of lower e) a (a + suc n) && entry_grants e mode access else rest)
+          ≡ answer mode access (bytes_from a (suc n)) (cond b (Some (record { entry = e; region = region lower e })) (find (λ g. list_any g.region (bytes_from a (suc n))) (guards_from e.address es)))
+    go true h = ap (λ b. b && entry_grants e mode access) (sym (list_all-region lower e a n))
+    go false h = h
+
+-- ---- the answers that need no search
+
+neither : (a b : Bool) → (a || b) ≡ false → (a ≡ false) × (b ≡ false)
+neither true b h = cc
+neither false b h = (refl, h)
+
+both : (a b : Bool) → (a && b) ≡ true → (a ≡ true) × (b ≡ true)
+both true b h = (refl, h)
+both false b h = cc
+
+off_meets : (m : Matching) (lower address first last : ℕ) → is_matching m ≡ false → meets (span m lower address) first last ≡ false
+off_meets Off lower address first last h = grind (arith, nat_tests)
+off_meets Tor lower address first last h = cc
+off_meets Na4 lower address first last h = cc
+off_meets Napot lower address first last h = cc
+
+-- where no entry matches addresses, none meets a byte
+pub decided-off : (mode : Mode) (access : Access) (first last lower : ℕ) (es : List Entry)
+    → some_on es ≡ false → decided mode access first last es (spans_from lower es) ≡ is_machine mode
+unfolding decided spans_from span_of
+decided-off mode access first last lower [] off = refl
+decided-off mode access first last lower (e ∷ es) off =
+    let parts = neither (is_matching e.matching) (some_on es) off in
+    rw (off_meets e.matching lower e.address first last parts.0) (decided-off mode access first last e.address es parts.1)
+
+-- a span that meets a part of a word holds it
+word_held : (s : Span) (first last : ℕ) → IsWhole s → first < last → first % 4 + (last - first) ≤ 4 → meets s first last ≡ true → holds s first last ≡ true
+word_held s first last w some within m =
+    let parts = both (nat_lt s.first last) (nat_lt first s.«end») m in
+    let below : s.first < last = ltb-true s.first last parts.0 in
+    let above : first < s.«end» = ltb-true first s.«end» parts.1 in
+    let words = w.first_word in
+    let ends = w.last_word in
+    let from : s.first ≤ first = omega arith in
+    let to : last ≤ s.«end» = omega arith in
+    grind (arith, nat_tests)
+
+-- so machine mode may access a part of a word where no entry is locked
+pub decided-word : (access : Access) (first last lower : ℕ) (es : List Entry)
+    → some_locked es ≡ false → first < last → first % 4 + (last - first) ≤ 4
+    → decided Machine access first last es (spans_from lower es) ≡ true
+unfolding decided spans_from
+decided-word access first last lower [] free some within = refl
+decided-word access first last lower (e ∷ es) free some within =
+    let parts = neither e.locked (some_locked es) free in
+    go (meets (span_of lower e) first last) refl parts.0 (decided-word access first last e.address es parts.1 some within)
+  where
+    rest : Bool
+    rest = decided Machine access first last es (spans_from e.address es)
+    go : (b : Bool) → meets (span_of lower e) first last ≡ b → e.locked ≡ false → rest ≡ true
+        → (if b then holds (span_of lower e) first last && entry_grants e Machine access else rest) ≡ true
+    go true m l r = rw (word_held (span_of lower e) first last (whole lower e) some within m, l) refl
+    go false m l r = r
+
+-- ---- an answer of the registers
+
+pub decided-grants : (pmp : PmpState) (mode : Mode) (access : Access) (first count : ℕ) → 0 < count
+    → decided mode access first (first + count) pmp.entries (spans_from 0 pmp.entries) ≡ grants pmp mode access first count
+unfolding grants
+decided-grants pmp mode access first zero h = absurd (omega arith)
+decided-grants pmp mode access first (suc n) h = decided-spans mode access first n 0 pmp.entries
+
+pub grants-off : (pmp : PmpState) (mode : Mode) (access : Access) (first count : ℕ) → 0 < count
+    → some_on pmp.entries ≡ false → grants pmp mode access first count ≡ is_machine mode
+grants-off pmp mode access first count h off =
+    sym (decided-grants pmp mode access first count h) ∙ decided-off mode access first (first + count) 0 pmp.entries off
+
+pub grants-word : (pmp : PmpState) (access : Access) (first count : ℕ) → 0 < count
+    → some_locked pmp.entries ≡ false → first % 4 + count ≤ 4 → grants pmp Machine access first count ≡ true
+grants-word pmp access first count h free within =
+    sym (decided-grants pmp Machine access first count h) ∙ decided-word access first (first + count) 0 pmp.entries free (omega arith) (omega arith)
+
+-- ---- bytes that are granted together are granted one by one
+
+any_byte : (p : ℕ → Bool) (first count i : ℕ) → i < count → list_any p (bytes_from first count) ≡ false → p (first + i) ≡ false
+any_byte p first zero i h none = absurd (omega arith)
+any_byte p first (suc count) zero h none = rw add-zero ((neither (p first) _ none).0)
+any_byte p first (suc count) (suc i) h none = subst (λ a. p a ≡ false) (omega arith) (any_byte p (first + 1) count i (omega arith) ((neither (p first) _ none).1))
+
+all_bytes : (p : ℕ → Bool) (first count i : ℕ) → i < count → list_all p (bytes_from first count) ≡ true → p (first + i) ≡ true
+all_bytes p first zero i h all = absurd (omega arith)
+all_bytes p first (suc count) zero h all = rw add-zero ((both (p first) _ all).0)
+all_bytes p first (suc count) (suc i) h all = subst (λ a. p a ≡ true) (omega arith) (all_bytes p (first + 1) count i (omega arith) ((both (p first) _ all).1))
+
+answer_of : Mode → Access → ℕ → ℕ → ℕ → List Entry → Bool
+answer_of mode access first count lower es = answer mode access (bytes_from first count) (find (λ g. list_any g.region (bytes_from first count)) (guards_from lower es))
+
+answer_each : (mode : Mode) (access : Access) (first count i lower : ℕ) (es : List Entry) → i < count
+    → answer_of mode access first count lower es ≡ true → answer_of mode access (first + i) 1 lower es ≡ true
+unfolding answer_of guards_from
+answer_each mode access first count i lower [] h granted = granted
+answer_each mode access first count i lower (e ∷ es) h granted =
+    go (list_any (region lower e) (bytes_from first count)) refl (answer_each mode access first count i e.address es h) granted
+  where
+    rest : ℕ → ℕ → Option Guard
+    rest a n = find (λ g. list_any g.region (bytes_from a n)) (guards_from e.address es)
+    go : (b : Bool) → list_any (region lower e) (bytes_from first count) ≡ b
+        → (answer mode access (bytes_from first count) (rest first count) ≡ true → answer mode access (bytes_from (first + i) 1) (rest (first + i) 1) ≡ true)
+        → answer mode access (bytes_from first count) (cond b (Some (record { entry = e; region = region lower e })) (rest first count)) ≡ true
+        → answer mode access (bytes_from (first + i) 1) (cond (region lower e (first + i) || false) (Some (record { entry = e; region = region lower e })) (rest (first + i) 1)) ≡ true
+    go true m tail r =
+        let parts = both (list_all (region lower e) (bytes_from first count)) (entry_grants e mode access) r in
+        let held = all_bytes (region lower e) first count i h parts.0 in
+        rw (held, held) parts.1
+    go false m tail r = rw (any_byte (region lower e) first count i h m) (tail r)
+
+pub grants_each : (pmp : PmpState) (mode : Mode) (access : Access) (first count i : ℕ) → i < count
+    → grants pmp mode access first count ≡ true → grants pmp mode access (first + i) 1 ≡ true
+unfolding grants answer_of
+grants_each pmp mode access first count i h granted = answer_each mode access first count i 0 pmp.entries h granted
+
+pub ruleset quick_answers = (grants-off, grants-word, decided-grants)

@@ -1,0 +1,4 @@
+pub mod Decided
+pub mod Ones
+pub mod Spans
+pub mod Writes

@@ -1,0 +1,39 @@
+-- What the code keeps beside the registers, so that an access computes nothing of it.
+use Rattle.std.specs.Prelude.{◌≡◌, ℕ, ◌&&◌, nat_le, nat_lt, if◌then◌else◌, Bool, List, [], ◌∷◌, IsTrue, All}
+use Rattle.std.specs.List.{list_any}
+use Rattle.rv_pmp.specs.declared.entry.Entry.{Entry}
+use Rattle.rv_pmp.specs.declared.span.Span.{Span}
+use Rattle.rv_pmp.specs.declared.access.Access.{Access}
+use Rattle.rv_pmp.specs.declared.access.Mode.{Mode}
+use Rattle.rv_pmp.specs.Entry.{is_machine, is_matching, entry_grants}
+use Rattle.rv_pmp.specs.Pmp.{AllReadable}
+use Rattle.rv_pmp.specs.Span.{spans_from}
+
+-- some entry matches addresses, and some entry is locked
+abbrev pub some_on : List Entry → Bool
+some_on entries = list_any (λ entry. is_matching entry.matching) entries
+
+abbrev pub some_locked : List Entry → Bool
+some_locked entries = list_any (λ entry. entry.locked) entries
+
+pub record IsKept (entries : List Entry) (spans : List Span) (any_on any_locked : Bool) : Type 0 where
+  pub regions : spans ≡ spans_from 0 entries
+  pub on : any_on ≡ some_on entries
+  pub locked : any_locked ≡ some_locked entries
+  pub readable : AllReadable entries
+
+-- ---- the decision by spans
+
+abbrev pub meets : Span → ℕ → ℕ → Bool
+meets span first end = nat_lt span.first end && nat_lt first span.end
+
+abbrev pub holds : Span → ℕ → ℕ → Bool
+holds span first end = nat_le span.first first && nat_le end span.end
+
+-- the first entry whose span meets the bytes decides
+unfoldable pub decided : Mode → Access → ℕ → ℕ → List Entry → List Span → Bool
+decided mode access first end [] spans = is_machine mode
+decided mode access first end (entry ∷ entries) [] = is_machine mode
+decided mode access first end (entry ∷ entries) (span ∷ spans) =
+    if meets span first end then holds span first end && entry_grants entry mode access
+    else decided mode access first end entries spans

@@ -1,0 +1,27 @@
+-- The span of bytes that the code keeps beside an entry, computed when a register is written: its region.
+use Rattle.std.specs.Prelude.{ℕ, ◌+◌, ◌-◌, ◌*◌, ◌^◌, nat_lt, if◌then◌else◌, List, [], ◌∷◌}
+use Rattle.rv_pmp.specs.declared.entry.Entry.{Entry}
+use Rattle.rv_pmp.specs.declared.entry.Matching.{Matching}
+use Rattle.rv_pmp.specs.declared.entry.Matching.TheVariants.{Off, Tor, Na4, Napot}
+use Rattle.rv_pmp.specs.declared.span.Span.{Span}
+use Rattle.rv_pmp.specs.Entry.{trailing_ones}
+
+abbrev pub no_bytes : Span
+no_bytes = record { first = 0; end = 0 }
+
+abbrev pub span : Matching → ℕ → ℕ → Span
+span Off lower address = no_bytes
+span Tor lower address = if nat_lt lower address then record { first = 4 * lower; end = 4 * address } else no_bytes
+span Na4 lower address = record { first = 4 * address; end = 4 * address + 4 }
+span Napot lower address =
+    let k = trailing_ones 32 address in
+    let first = 4 * (address + 1 - 2 ^ k) in
+    record { first = first; end = first + 2 ^ (k + 3) }
+
+unfoldable pub span_of : ℕ → Entry → Span
+span_of lower entry = span entry.matching lower entry.address
+
+-- the span of each entry
+unfoldable pub spans_from : ℕ → List Entry → List Span
+spans_from lower [] = []
+spans_from lower (entry ∷ entries) = span_of lower entry ∷ spans_from entry.address entries

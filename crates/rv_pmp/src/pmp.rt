@@ -1,0 +1,269 @@
+//! The entries, and what they grant.
+ghost use Rattle.std.specs.Prelude.{◌≡◌, ℕ, ◌+◌, ◌^◌, ◌<◌, true};
+ghost use Rattle.rv_isa.specs.Width.{bytes_of};
+ghost use Rattle.rv_pmp.specs.Kept.{some_on, some_locked, decided};
+ghost use Rattle.rv_pmp.specs.Pmp.{PmpState, reset, grants, load, register_at, config_at, with_config, with_address, with_word, AllReadable, WritableIsReadable, Stores};
+ghost use Rattle.rv_pmp.specs.Pmp as spec;
+ghost use Rattle.rv_pmp.specs.Span.{spans_from};
+ghost use Rattle.rv_pmp.specs.declared.access.Access.{Access};
+ghost use Rattle.rv_pmp.specs.declared.access.Mode.{Mode};
+
+use crate::entry::{Entry, Matching};
+use crate::span::Span;
+use crate::{Access, Mode};
+use rv_isa::Width;
+use std::marker::Model;
+
+/// How many entries there are.
+pub const ENTRIES: usize = 8;
+
+/// A register, with the entry that it belongs to: the first of four for a configuration register.
+#[derive(Clone, Copy, PartialEq, Eq, Debug)]
+enum Register {
+    Config(u8),
+    Address(u8),
+}
+
+impl Register {
+    /// The register at an address of the control registers, if there is one.
+    #[tactic(auto, unfolding(crate::specs::Pmp::register_at))]
+    fn at(addr: u16) -> Option<Register>
+        ensures { result ≡ register_at addr }
+    {
+        match addr {
+            0x3A0..=0x3A3 => Some(Register::Config((4 * (addr - 0x3A0)) as u8)),
+            0x3B0..=0x3BF => Some(Register::Address((addr - 0x3B0) as u8)),
+            _ => None,
+        }
+    }
+}
+
+/// The registers of physical memory protection, with the span of each entry's region beside them, so that an access
+/// computes none.
+#[derive(Drop, Debug)]
+pub struct Pmp {
+    entries: [Entry; ENTRIES],
+    spans: [Span; ENTRIES],
+    any_on: bool,
+    any_locked: bool,
+}
+
+impl Model for Pmp {
+    ghost use Rattle.rv_pmp.specs.Pmp.{PmpState};
+    ghost use Rattle.rv_pmp.specs.Kept.{IsKept};
+
+    ghost Value = { PmpState };
+
+    ghost view = { λ p. record { entries = p.entries } };
+
+    ghost invariant = { λ p. IsKept p.entries p.spans p.any_on p.any_locked };
+}
+
+impl Pmp {
+    /// The registers after a reset: all zero, so that no entry protects anything.
+    pub fn new() -> Pmp
+        ensures reset { result ≡ reset }
+        ensures readable { WritableIsReadable result }
+    {
+        Pmp::of([Entry::OFF; ENTRIES])
+    }
+
+    /// These entries, with what is kept beside them.
+    fn of(entries: [Entry; ENTRIES]) -> Pmp
+        requires { AllReadable entries }
+        ensures { result ≡ record { entries = entries } }
+    {
+        Pmp {
+            entries,
+            spans: spans(&entries),
+            any_on: any_on(&entries),
+            any_locked: any_locked(&entries),
+        }
+    }
+
+    /// What a read of the control register at an address gives, or None where that is no register of protection.
+    #[tactic(auto, unfolding(crate::specs::Pmp::load))]
+    pub fn read_csr(&self, addr: u16) -> Option<u32>
+        ensures value { result ≡ load self.now addr }
+    {
+        match Register::at(addr) {
+            Some(register) => Some(self.word(register)),
+            None => None,
+        }
+    }
+
+    /// Writes the control register at an address: a locked entry's part stays as it is, and so does an address where
+    /// the region of a locked entry begins. None where that is no register of protection: nothing has changed.
+    #[tactic(auto, unfolding(crate::specs::Pmp::store))]
+    pub fn write_csr(&mut self, addr: u16, value: u32) -> Option<()>
+        ensures stored { Stores self.old addr value self.new result }
+        ensures readable { WritableIsReadable self.new }
+    {
+        let mut entries = self.entries;
+        match Register::at(addr) {
+            Some(register) => {
+                write_word(&mut entries, register, value);
+                *self = Pmp::of(entries);
+                Some(())
+            }
+            None => None,
+        }
+    }
+
+    fn word(&self, register: Register) -> u32
+        ensures { result ≡ spec.word_of self.now register }
+    {
+        match register {
+            Register::Config(first) => {
+                let first = first as usize;
+                self.config(first) as u32
+                    + ((self.config(first + 1) as u32) << 8)
+                    + ((self.config(first + 2) as u32) << 16)
+                    + ((self.config(first + 3) as u32) << 24)
+            }
+            Register::Address(place) => match self.entries.get(place as usize) {
+                Some(entry) => entry.address,
+                None => 0,
+            },
+        }
+    }
+
+    fn config(&self, place: usize) -> u8
+        ensures { result ≡ config_at self.now place }
+    {
+        match self.entries.get(place) {
+            Some(entry) => entry.config(),
+            None => 0,
+        }
+    }
+
+    /// Whether a mode may access the bytes of this width from an address on, which may be any.
+    #[tactic(auto, using(crate::proofs::Decided::quick_answers))]
+    pub fn allowed(&self, mode: Mode, access: Access, addr: u32, width: Width) -> bool
+        ensures { result ≡ grants self.now mode access addr (bytes_of width) }
+    {
+        if !self.any_on {
+            return mode.is_machine();
+        }
+        let bytes = width.bytes();
+        if mode.is_machine() && !self.any_locked && addr % 4 + bytes <= 4 {
+            return true;
+        }
+        let first = addr as u64;
+        decide(&self.entries, &self.spans, mode, access, first, first + bytes as u64)
+    }
+}
+
+/// Writes a register.
+#[tactic(auto, unfolding(crate::specs::Pmp::with_word))]
+fn write_word(entries: &mut [Entry; ENTRIES], register: Register, word: u32)
+    requires { AllReadable entries.old }
+    ensures written { entries.new ≡ with_word entries.old register word }
+    ensures readable { AllReadable entries.new }
+{
+    match register {
+        Register::Config(first) => {
+            let first = first as usize;
+            set_config(entries, first, byte_of(word, 0));
+            set_config(entries, first + 1, byte_of(word, 1));
+            set_config(entries, first + 2, byte_of(word, 2));
+            set_config(entries, first + 3, byte_of(word, 3));
+        }
+        Register::Address(place) => set_address(entries, place as usize, word),
+    }
+}
+
+fn byte_of(word: u32, place: u32) -> u8
+    requires { place < 4 }
+    ensures { result ≡ spec.byte_of word place }
+{
+    (word >> (8 * place) & 0xFF) as u8
+}
+
+/// Writes the configuration byte of the entry at a place, if there is one.
+#[tactic(auto, using(crate::proofs::Writes::config_steps))]
+fn set_config(entries: &mut [Entry; ENTRIES], place: usize, byte: u8)
+    requires { AllReadable entries.old }
+    ensures written { entries.new ≡ with_config entries.old place byte }
+    ensures readable { AllReadable entries.new }
+{
+    if place < ENTRIES {
+        entries[place] = entries[place].configured(byte);
+    }
+}
+
+/// Writes the address of the entry at a place, if there is one, unless a locked region begins there.
+#[tactic(auto, using(crate::proofs::Writes::address_steps))]
+fn set_address(entries: &mut [Entry; ENTRIES], place: usize, word: u32)
+    requires small { place < 2 ^ 8 }
+    requires readable { AllReadable entries.old }
+    ensures written { entries.new ≡ with_address entries.old place word }
+    ensures readable { AllReadable entries.new }
+{
+    if place < ENTRIES && !is_locked_top(entries, place + 1) {
+        entries[place] = entries[place].addressed(word);
+    }
+}
+
+/// Whether the entry at a place is locked, and its region begins at the address of the one before.
+#[tactic(auto, unfolding(crate::specs::Pmp::is_locked_top))]
+fn is_locked_top(entries: &[Entry; ENTRIES], place: usize) -> bool
+    ensures { result ≡ spec.is_locked_top entries.now place }
+{
+    match entries.get(place) {
+        Some(entry) => entry.locked && entry.matching.is_top(),
+        None => false,
+    }
+}
+
+/// Bytes that are granted together are granted one by one.
+#[tactic(auto, using(crate::proofs::Decided::grants_each))]
+pub fn bytes_are_granted_alone()
+    ensures { (pmp : PmpState) (mode : Mode) (access : Access) (first count i : ℕ) → i < count → grants pmp mode access first count ≡ true → grants pmp mode access (first + i) 1 ≡ true }
+{}
+
+/// What the first entry answers whose span meets the bytes from `first` up to but not including `end`.
+fn decide(
+    entries: &[Entry; ENTRIES],
+    spans: &[Span; ENTRIES],
+    mode: Mode,
+    access: Access,
+    first: u64,
+    end: u64,
+) -> bool
+    ensures { result ≡ decided mode access first end entries.now spans.now }
+{
+    for place in 0..ENTRIES {
+        if spans[place].meets(first, end) {
+            return spans[place].holds(first, end) && entries[place].grants(mode, access);
+        }
+    }
+    mode.is_machine()
+}
+
+/// The span of each entry's region.
+fn spans(entries: &[Entry; ENTRIES]) -> [Span; ENTRIES]
+    ensures { result ≡ spans_from 0 entries.now }
+{
+    let mut spans = [Span::NO_BYTES; ENTRIES];
+    let mut lower = 0;
+    for place in 0..ENTRIES {
+        spans[place] = Span::of(lower, entries[place]);
+        lower = entries[place].address;
+    }
+    spans
+}
+
+/// Whether some entry matches addresses.
+fn any_on(entries: &[Entry; ENTRIES]) -> bool
+    ensures { result ≡ some_on entries.now }
+{
+    entries.iter().any(|entry| entry.is_on())
+}
+
+/// Whether some entry is locked.
+fn any_locked(entries: &[Entry; ENTRIES]) -> bool
+    ensures { result ≡ some_locked entries.now }
+{
+    entries.iter().any(|entry| entry.locked)
+}
