@@ -147,8 +147,14 @@ impl Csrs {
             Register::Mtval => self.trap.value = value,
             Register::Mcycle => self.counters.cycles = with_low_word(self.counters.cycles, value),
             Register::Mcycleh => self.counters.cycles = with_high_word(self.counters.cycles, value),
-            Register::Minstret => self.counters.retired = with_low_word(self.counters.retired, value),
-            Register::Minstreth => self.counters.retired = with_high_word(self.counters.retired, value),
+            Register::Minstret => self.counters.retired = with_low_word(
+                self.counters.retired,
+                value,
+            ),
+            Register::Minstreth => self.counters.retired = with_high_word(
+                self.counters.retired,
+                value,
+            ),
             Register::Misa | Register::Mip | Register::Zero => (),
         }
     }

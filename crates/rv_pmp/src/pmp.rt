@@ -150,7 +150,14 @@ impl Pmp {
             return true;
         }
         let first = addr as u64;
-        decide(&self.entries, &self.spans, mode, access, first, first + bytes as u64)
+        decide(
+            &self.entries,
+            &self.spans,
+            mode,
+            access,
+            first,
+            first + bytes as u64,
+        )
     }
 }
 

@@ -5,9 +5,13 @@ use std::process::Abort;
 use std::test::Fail;
 
 const CONFIG_0: u16 = 0x3A0;
+
 const ADDRESS_0: u16 = 0x3B0;
+
 const ADDRESS_1: u16 = 0x3B1;
+
 const ADDRESS_2: u16 = 0x3B2;
+
 const ADDRESS_3: u16 = 0x3B3;
 
 /// Registers after a reset and these writes.
