@@ -26,8 +26,10 @@ fn hello_prints_and_halts(rt: HostRuntime) -> Result<(), Fail> {
     let program = program(rt.alloc(), HELLO)?;
     let mut board = Board::boot(rt.alloc(), &program, 256, SLOTS)?;
     assert_eq!(rt; board.ram(0x8000_0000), Some(0xb7));
-    // Two events more than it takes: a halted board is changed by none.
-    assert_eq!(rt; board.run(&[Event::Step; 9]), Ok(()));
+    assert_eq!(rt; board.run(&[Event::Step; 7]), Ok(()));
+    // A halted board is changed by no event.
+    assert_eq!(rt; board.run(&[Event::Rx(1), Event::Step]), Ok(()));
+    assert_eq!(rt; board.serial().waiting(), 0);
     assert_eq!(rt; board.console(), b"H".as_slice());
     assert_eq!(rt; board.halted(), Some(0));
     assert_eq!(rt; board.steps(), 7);
