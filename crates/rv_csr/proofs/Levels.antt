@@ -27,12 +27,30 @@ level_0 addr h = omega (arith, leb-true (addr / 2 ^ 8 % 4) 0 h)
 register_at-user : (addr : ℕ) → addr / 2 ^ 8 % 4 ≡ 0 → register_at addr ≡ None
 unfolding register_at
 register_at-user addr h =
-    rw (other addr 0x300 h refl, other addr 0x301 h refl, other addr 0x304 h refl, other addr 0x305 h refl, other addr 0x340 h refl,
-        other addr 0x341 h refl, other addr 0x342 h refl, other addr 0x343 h refl, other addr 0x344 h refl, other addr 0xB00 h refl,
-        other addr 0xB80 h refl, other addr 0xB02 h refl, other addr 0xB82 h refl, other addr 0x306 h refl, other addr 0x30A h refl,
-        other addr 0x310 h refl, other addr 0x31A h refl, other addr 0x320 h refl, other_range addr 0x3 0x23 0x3F h refl (omega arith) (omega arith),
-        other_range addr 0xB 0x03 0x1F h refl (omega arith) (omega arith), other_range addr 0xB 0x83 0x9F h refl (omega arith) (omega arith),
-        other_range addr 0xF 0x11 0x15 h refl (omega arith) (omega arith)) refl
+    rw (
+      other addr 0x300 h refl,
+      other addr 0x301 h refl,
+      other addr 0x304 h refl,
+      other addr 0x305 h refl,
+      other addr 0x340 h refl,
+      other addr 0x341 h refl,
+      other addr 0x342 h refl,
+      other addr 0x343 h refl,
+      other addr 0x344 h refl,
+      other addr 0xB00 h refl,
+      other addr 0xB80 h refl,
+      other addr 0xB02 h refl,
+      other addr 0xB82 h refl,
+      other addr 0x306 h refl,
+      other addr 0x30A h refl,
+      other addr 0x310 h refl,
+      other addr 0x31A h refl,
+      other addr 0x320 h refl,
+      other_range addr 0x3 0x23 0x3F h refl (omega arith) (omega arith),
+      other_range addr 0xB 0x03 0x1F h refl (omega arith) (omega arith),
+      other_range addr 0xB 0x83 0x9F h refl (omega arith) (omega arith),
+      other_range addr 0xF 0x11 0x15 h refl (omega arith) (omega arith),
+    ) refl
 
 protection-user : (addr : ℕ) → addr / 2 ^ 8 % 4 ≡ 0 → protection.register_at addr ≡ None
 unfolding protection.register_at

@@ -73,11 +73,11 @@ mode_kept old field = if field == 0 then User else (if field == 3 then Machine e
 
 unfoldable pub with_status : Status → ℕ → Status
 with_status old word = record {
-    interrupts = flag word 3;
-    previous_interrupts = flag word 7;
-    previous_mode = mode_kept old.previous_mode (word / 2 ^ 11 % 4);
-    modify_privilege = flag word 17;
-    timeout_wait = flag word 21
+  interrupts = flag word 3;
+  previous_interrupts = flag word 7;
+  previous_mode = mode_kept old.previous_mode (word / 2 ^ 11 % 4);
+  modify_privilege = flag word 17;
+  timeout_wait = flag word 21;
 }
 
 -- mie and mip have the software interrupt in bit 3, the timer's in bit 7, the external one in bit 11
@@ -180,6 +180,6 @@ grown number = (number + 1) % 2 ^ 64
 -- of keeps what was written
 unfoldable pub counted : Counters → Bool → Option ℕ → Counters
 counted counters retired wrote = record {
-    cycles = if wrote_cycles wrote then counters.cycles else grown counters.cycles;
-    retired = if retired && not (wrote_retired wrote) then grown counters.retired else counters.retired
+  cycles = if wrote_cycles wrote then counters.cycles else grown counters.cycles;
+  retired = if retired && not (wrote_retired wrote) then grown counters.retired else counters.retired;
 }

@@ -38,8 +38,8 @@ pending state mode lines =
 -- MPIE takes MIE, which becomes 0, and MPP the mode; mepc, mcause and mtval are set
 unfoldable pub entered : CsrState → ℕ → ℕ → ℕ → Mode → CsrState
 entered state cause epc tval mode = record state {
-    status = record state.status { interrupts = false; previous_interrupts = state.status.interrupts; previous_mode = mode };
-    trap = record state.trap { epc = aligned epc; cause = cause; value = tval }
+  status = record state.status { interrupts = false; previous_interrupts = state.status.interrupts; previous_mode = mode };
+  trap = record state.trap { epc = aligned epc; cause = cause; value = tval };
 }
 
 -- where a trap goes: to the base of mtvec, or, for an interrupt in vectored mode, to the place of its number from there
@@ -51,12 +51,12 @@ trap_pc state cause =
 -- MIE takes MPIE, which becomes 1; MPP becomes user mode; MPRV is cleared where the mode that follows isn't machine mode
 unfoldable pub left : CsrState → CsrState
 left state = record state {
-    status = record state.status {
-        interrupts = state.status.previous_interrupts;
-        previous_interrupts = true;
-        previous_mode = User;
-        modify_privilege = state.status.modify_privilege && is_machine state.status.previous_mode
-    }
+  status = record state.status {
+    interrupts = state.status.previous_interrupts;
+    previous_interrupts = true;
+    previous_mode = User;
+    modify_privilege = state.status.modify_privilege && is_machine state.status.previous_mode;
+  };
 }
 
 -- loads and stores go by the previous mode where MPRV is 1

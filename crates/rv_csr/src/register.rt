@@ -46,7 +46,11 @@ impl Register {
             0xB80 => Some(Register::Mcycleh),
             0xB02 => Some(Register::Minstret),
             0xB82 => Some(Register::Minstreth),
-            _ => if is_zero(addr) { Some(Register::Zero) } else { None },
+            _ => if is_zero(addr) {
+                Some(Register::Zero)
+            } else {
+                None
+            },
         }
     }
 }

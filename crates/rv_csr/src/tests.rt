@@ -6,9 +6,13 @@ use std::process::Abort;
 use std::test::Fail;
 
 const MSTATUS: u16 = 0x300;
+
 const MISA: u16 = 0x301;
+
 const MIE: u16 = 0x304;
+
 const MTVEC: u16 = 0x305;
+
 const MEPC: u16 = 0x341;
 
 const LOW: Lines = Lines {
@@ -42,7 +46,10 @@ fn the_external_interrupt_comes_first(rt: HostRuntime) -> Result<(), Fail> {
     let mut csrs = after(&rt, &[(MIE, 0x888), (MSTATUS, 8), (MTVEC, 0x8000_0101)]);
     assert_eq!(rt; csrs.pending(Mode::Machine, HIGH), Some(0x8000_000B));
     assert_eq!(rt; csrs.pending(Mode::Machine, LOW), None);
-    assert_eq!(rt; csrs.enter_trap(0x8000_000B, 0x8000_0040, 0, Mode::Machine), 0x8000_012C);
+    assert_eq!(rt;
+        csrs.enter_trap(0x8000_000B, 0x8000_0040, 0, Mode::Machine),
+        0x8000_012C
+    );
     assert_eq!(rt; csrs.pending(Mode::Machine, HIGH), None);
     assert_eq!(rt; csrs.read(0x344, Mode::Machine, HIGH), Some(0x888));
     Ok(())
@@ -111,9 +118,15 @@ fn some_registers_cannot_be_changed(rt: HostRuntime) -> Result<(), Fail> {
 
 #[test]
 fn protection_is_among_the_registers(rt: HostRuntime) -> Result<(), Fail> {
-    let csrs = after(&rt, &[(0x3B0, 0xFFFF_FFFF), (0x3A0, 0x1F), (MSTATUS, 0x20_0000)]);
+    let csrs = after(
+        &rt,
+        &[(0x3B0, 0xFFFF_FFFF), (0x3A0, 0x1F), (MSTATUS, 0x20_0000)],
+    );
     assert_eq!(rt; read(&csrs, 0x3A0), Some(0x1F));
-    assert!(rt; csrs.pmp().allowed(Mode::User, Access::Execute, 0xFFFF_FFFC, Width::Four));
+    assert!(rt;
+        csrs.pmp()
+            .allowed(Mode::User, Access::Execute, 0xFFFF_FFFC, Width::Four)
+    );
     assert!(rt; csrs.traps_wfi());
     Ok(())
 }

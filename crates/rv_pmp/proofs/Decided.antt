@@ -26,7 +26,7 @@ step mode access first last e s rest = if meets s first last then holds s first 
 decided-drop : (mode : Mode) (access : Access) (first last : ℕ) (es : List Entry) (ss : List Span) (i : ℕ) (e : Entry) (s : Span)
     → i < length es → i < length ss
     → decided mode access first last (drop i es) (drop i ss)
-      ≡ step mode access first last (get_or es i e) (get_or ss i s) (decided mode access first last (drop (suc i) es) (drop (suc i) ss))
+    ≡ step mode access first last (get_or es i e) (get_or ss i s) (decided mode access first last (drop (suc i) es) (drop (suc i) ss))
 unfolding decided step
 decided-drop mode access first last [] ss i e s h k = absurd (omega arith)
 decided-drop mode access first last (x ∷ es) [] i e s h k = absurd (omega arith)
@@ -155,9 +155,10 @@ decided-spans mode access a n lower (e ∷ es) =
   where
     rest : Bool
     rest = decided mode access a (a + suc n) es (spans_from e.address es)
+
     go : (b : Bool) → rest ≡ answer mode access (bytes_from a (suc n)) (find (λ g. list_any g.region (bytes_from a (suc n))) (guards_from e.address es))
         → (if b then holds (span_of lower e) a (a + suc n) && entry_grants e mode access else rest)
-          ≡ answer mode access (bytes_from a (suc n)) (cond b (Some (record { entry = e; region = region lower e })) (find (λ g. list_any g.region (bytes_from a (suc n))) (guards_from e.address es)))
+        ≡ answer mode access (bytes_from a (suc n)) (cond b (Some (record { entry = e; region = region lower e })) (find (λ g. list_any g.region (bytes_from a (suc n))) (guards_from e.address es)))
     go true h = ap (λ b. b && entry_grants e mode access) (sym (list_all-region lower e a n))
     go false h = h
 
@@ -210,6 +211,7 @@ decided-word access first last lower (e ∷ es) free some within =
   where
     rest : Bool
     rest = decided Machine access first last es (spans_from e.address es)
+
     go : (b : Bool) → meets (span_of lower e) first last ≡ b → e.locked ≡ false → rest ≡ true
         → (if b then holds (span_of lower e) first last && entry_grants e Machine access else rest) ≡ true
     go true m l r = rw (word_held (span_of lower e) first last (whole lower e) some within m, l) refl
@@ -257,6 +259,7 @@ answer_each mode access first count i lower (e ∷ es) h granted =
   where
     rest : ℕ → ℕ → Option Guard
     rest a n = find (λ g. list_any g.region (bytes_from a n)) (guards_from e.address es)
+
     go : (b : Bool) → list_any (region lower e) (bytes_from first count) ≡ b
         → (answer mode access (bytes_from first count) (rest first count) ≡ true → answer mode access (bytes_from (first + i) 1) (rest (first + i) 1) ≡ true)
         → answer mode access (bytes_from first count) (cond b (Some (record { entry = e; region = region lower e })) (rest first count)) ≡ true

@@ -15,7 +15,7 @@ spans_from-drop lower (x ∷ es) (suc i) e h = spans_from-drop lower es i e (ome
 
 pub spans-more : (lower : ℕ) (es : List Entry) (ss : List Span) (i : ℕ) (e : Entry) → i < length es → i < length ss
     → take (i + 1) (set ss i (span_of lower (get_or es i e))) ++ spans_from (get_or es i e).address (drop (i + 1) es)
-      ≡ take i ss ++ spans_from lower (drop i es)
+    ≡ take i ss ++ spans_from lower (drop i es)
 spans-more lower es ss i e h k =
     rw (take_more_set ss i (span_of lower (get_or es i e)) k, spans_from-drop lower es i e h, add-one, append_assoc) refl
 

@@ -49,12 +49,12 @@ config_byte entry =
 -- the entry with a byte's fields; W is kept only together with R
 abbrev pub with_fields : Entry → ℕ → Entry
 with_fields entry byte = record {
-    address = entry.address;
-    readable = byte % 2 == 1;
-    writable = (byte % 2 == 1) && (byte / 2 % 2 == 1);
-    executable = byte / 4 % 2 == 1;
-    locked = byte / 128 % 2 == 1;
-    matching = matching_of (byte / 8 % 4)
+  address = entry.address;
+  readable = byte % 2 == 1;
+  writable = (byte % 2 == 1) && (byte / 2 % 2 == 1);
+  executable = byte / 4 % 2 == 1;
+  locked = byte / 128 % 2 == 1;
+  matching = matching_of (byte / 8 % 4);
 }
 
 -- what an entry keeps of a written byte: nothing if it is locked

@@ -5,9 +5,13 @@ use std::process::Abort;
 use std::test::Fail;
 
 const CONFIG_0: u16 = 0x3A0;
+
 const ADDRESS_0: u16 = 0x3B0;
+
 const ADDRESS_1: u16 = 0x3B1;
+
 const ADDRESS_2: u16 = 0x3B2;
+
 const ADDRESS_3: u16 = 0x3B3;
 
 /// Registers after a reset and these writes.
@@ -43,6 +47,7 @@ fn a_locked_region_stays(rt: HostRuntime) -> Result<(), Fail> {
 #[test]
 fn all_ones_hold_all_addresses(rt: HostRuntime) -> Result<(), Fail> {
     let pmp = after(&rt, &[(ADDRESS_0, 0xFFFF_FFFF), (CONFIG_0, 0x1F)]);
+    assert!(rt; !Mode::User.is_machine());
     assert!(rt; pmp.allowed(Mode::User, Access::Execute, 0xFFFF_FFFC, Width::Four));
     Ok(())
 }

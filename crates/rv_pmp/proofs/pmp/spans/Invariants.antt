@@ -6,5 +6,5 @@ use Rattle.rv_pmp.proofs.pmp.spans.Given as goal
 abbrev pub invariant-loop-place : goal.invariant-loop-place
 invariant-loop-place l = record {
   sized : length l.spans ≡ ENTRIES;
-  done : take l.place l.spans ++ spans_from l.lower (drop l.place l.entries) ≡ spans_from 0 l.entries
+  done : take l.place l.spans ++ spans_from l.lower (drop l.place l.entries) ≡ spans_from 0 l.entries;
 }

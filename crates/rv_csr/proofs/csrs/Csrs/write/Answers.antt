@@ -12,4 +12,4 @@ pub returns-in-None-clause-user : goal.returns-in-None-clause-user
 returns-in-None-clause-user c h =
     let may = may_read-from_write c.args.addr c.args.mode (sym c.if-not-may_write.ensures) in
     none-from_Stores _ c.args.addr c.args.value _ c.write_csr.result c.write_csr.ensures.stored
-        (store-below c.self.inside.pmp c.args.addr c.args.value c.args.mode may h)
+    (store-below c.self.inside.pmp c.args.addr c.args.value c.args.mode may h)
