@@ -25,7 +25,7 @@ const EXTERNAL_INTERRUPT: u32 = 0x8000000B;
 /// The control registers of machine mode, with physical memory protection.
 ///
 /// mepc is always a multiple of 4.
-#[derive(Clone, Copy, Debug)]
+#[derive(Drop, Debug)]
 pub struct Csrs {
     status: Status,
     enables: Lines,
@@ -43,8 +43,6 @@ impl Model for Csrs {
     ghost view = { λ c. record { status = c.status; enables = c.enables; trap = c.trap; counters = c.counters; pmp = c.pmp } };
 
     ghost invariant = { λ c. c.trap.epc % 4 ≡ 0 };
-
-    ghost inverse = { λ c. record { status = c.status; enables = c.enables; trap = c.trap; counters = c.counters; pmp = c.pmp } };
 }
 
 impl Csrs {

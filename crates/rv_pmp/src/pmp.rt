@@ -1,5 +1,5 @@
 //! The entries, and what they grant.
-ghost use Rattle.std.specs.Prelude.{◌≡◌, ℕ, ◌+◌, ◌<◌, true};
+ghost use Rattle.std.specs.Prelude.{◌≡◌, ℕ, ◌+◌, ◌^◌, ◌<◌, true};
 ghost use Rattle.rv_isa.specs.Width.{bytes_of};
 ghost use Rattle.rv_pmp.specs.Kept.{some_on, some_locked, decided};
 ghost use Rattle.rv_pmp.specs.Pmp.{PmpState, reset, grants, load, register_at, config_at, with_config, with_address, with_word, AllReadable, WritableIsReadable, Stores};
@@ -8,7 +8,7 @@ ghost use Rattle.rv_pmp.specs.Span.{spans_from};
 ghost use Rattle.rv_pmp.specs.declared.access.Access.{Access};
 ghost use Rattle.rv_pmp.specs.declared.access.Mode.{Mode};
 
-use crate::entry::Entry;
+use crate::entry::{Entry, Matching};
 use crate::span::Span;
 use crate::{Access, Mode};
 use rv_isa::Width;
@@ -38,10 +38,9 @@ impl Register {
     }
 }
 
-/// The registers of physical memory protection. Privileged Architecture 20211203, section 3.7.1.
-///
-/// The span of each entry's region stands beside them, so that an access computes none.
-#[derive(Clone, Copy, Debug)]
+/// The registers of physical memory protection, with the span of each entry's region beside them, so that an access
+/// computes none.
+#[derive(Drop, Debug)]
 pub struct Pmp {
     entries: [Entry; ENTRIES],
     spans: [Span; ENTRIES],
@@ -50,20 +49,14 @@ pub struct Pmp {
 }
 
 impl Model for Pmp {
-    ghost use Rattle.std.proofs.Common.{sym};
-    ghost use Rattle.rv_pmp.specs.Kept.{IsKept, some_on, some_locked};
     ghost use Rattle.rv_pmp.specs.Pmp.{PmpState};
-    ghost use Rattle.rv_pmp.specs.Span.{spans_from};
+    ghost use Rattle.rv_pmp.specs.Kept.{IsKept};
 
     ghost Value = { PmpState };
 
     ghost view = { λ p. record { entries = p.entries } };
 
     ghost invariant = { λ p. IsKept p.entries p.spans p.any_on p.any_locked };
-
-    ghost inverse = { λ v. record { entries = v.entries; spans = spans_from 0 v.entries; any_on = some_on v.entries; any_locked = some_locked v.entries } };
-
-    ghost inverse_ok = { λ p h i. record { entries = p.entries; spans = sym h.regions i; any_on = sym h.on i; any_locked = sym h.locked i } };
 }
 
 impl Pmp {
@@ -183,7 +176,7 @@ fn write_word(entries: &mut [Entry; ENTRIES], register: Register, word: u32)
             set_config(entries, first + 2, byte_of(word, 2));
             set_config(entries, first + 3, byte_of(word, 3));
         }
-        Register::Address(place) => set_address(entries, place, word),
+        Register::Address(place) => set_address(entries, place as usize, word),
     }
 }
 
@@ -208,12 +201,12 @@ fn set_config(entries: &mut [Entry; ENTRIES], place: usize, byte: u8)
 
 /// Writes the address of the entry at a place, if there is one, unless a locked region begins there.
 #[tactic(auto, using(crate::proofs::Writes::address_steps))]
-fn set_address(entries: &mut [Entry; ENTRIES], place: u8, word: u32)
-    requires { AllReadable entries.old }
+fn set_address(entries: &mut [Entry; ENTRIES], place: usize, word: u32)
+    requires small { place < 2 ^ 8 }
+    requires readable { AllReadable entries.old }
     ensures written { entries.new ≡ with_address entries.old place word }
     ensures readable { AllReadable entries.new }
 {
-    let place = place as usize;
     if place < ENTRIES && !is_locked_top(entries, place + 1) {
         entries[place] = entries[place].addressed(word);
     }

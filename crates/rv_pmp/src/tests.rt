@@ -47,7 +47,6 @@ fn a_locked_region_stays(rt: HostRuntime) -> Result<(), Fail> {
 #[test]
 fn all_ones_hold_all_addresses(rt: HostRuntime) -> Result<(), Fail> {
     let pmp = after(&rt, &[(ADDRESS_0, 0xFFFF_FFFF), (CONFIG_0, 0x1F)]);
-    assert!(rt; !Mode::User.is_machine());
     assert!(rt; pmp.allowed(Mode::User, Access::Execute, 0xFFFF_FFFC, Width::Four));
     Ok(())
 }
