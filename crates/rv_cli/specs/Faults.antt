@@ -4,7 +4,7 @@ use Rattle.std.specs.Fmt.{decimal}
 use Rattle.rv_asm.specs.Faults.{name_of, number_of}
 use Rattle.rv_asm.specs.declared.fault.AsmFault.{AsmFault}
 use Rattle.rv_cli.specs.declared.fault.CliFault.{CliFault}
-use Rattle.rv_cli.specs.declared.fault.CliFault.TheVariants.{ReadSource, Source, BadPages, ImageTooLarge, OutOfMemory, Write}
+use Rattle.rv_cli.specs.declared.fault.CliFault.TheVariants.{ReadSource, Source, BadPages, BadSlots, ImageTooLarge, OutOfMemory, Write}
 use Rattle.rv_cli.specs.declared.fault.Ending.{Ending}
 use Rattle.rv_cli.specs.declared.fault.Ending.TheVariants.{Halted, Running}
 
@@ -21,6 +21,7 @@ abbrev pub line_of : CliFault → List ℕ
 line_of ReadSource = ended (codes "cannot read source")
 line_of (Source fault) = ended (source_line_of fault)
 line_of BadPages = ended (codes "bad pages")
+line_of BadSlots = ended (codes "bad slots")
 line_of ImageTooLarge = ended (codes "image too large")
 line_of OutOfMemory = ended (codes "out of memory")
 line_of Write = ended (codes "cannot write")
@@ -31,6 +32,7 @@ status_of (Ok (Halted (suc code))) = 1
 status_of (Ok Running) = 2
 status_of (Err (Source fault)) = 3
 status_of (Err BadPages) = 3
+status_of (Err BadSlots) = 3
 status_of (Err ImageTooLarge) = 3
 status_of (Err ReadSource) = 4
 status_of (Err OutOfMemory) = 4

@@ -14,7 +14,7 @@ use Rattle.rv_board.specs.declared.event.Event.TheVariants.{Step}
 use Rattle.rv_words.specs.declared.Options.{Options}
 use Rattle.rv_cli.specs.Faults.{ended}
 use Rattle.rv_cli.specs.declared.fault.CliFault.{CliFault}
-use Rattle.rv_cli.specs.declared.fault.CliFault.TheVariants.{Source, BadPages, ImageTooLarge}
+use Rattle.rv_cli.specs.declared.fault.CliFault.TheVariants.{Source, BadPages, BadSlots, ImageTooLarge}
 use Rattle.rv_cli.specs.declared.fault.Ending.{Ending}
 use Rattle.rv_cli.specs.declared.fault.Ending.TheVariants.{Halted, Running}
 
@@ -58,23 +58,20 @@ steps_of_count n = replicate n Step
 abbrev pub board_after : List ℕ → Options → BoardState
 board_after bytes options = run (start bytes options.pages) (steps_of_count options.steps)
 
--- the slots of the decode cache
-abbrev pub cache_slots : ℕ
-cache_slots = 1024
-
 -- a board that can't be had, or what it prints and how it ends
 abbrev pub output_of_board : Option BootFault → BoardState → Result (List ℕ × Ending) CliFault
 output_of_board (Some boot.BadPages) b = Err BadPages
+output_of_board (Some boot.BadSlots) b = Err BadSlots
 output_of_board (Some boot.ImageTooLarge) b = Err ImageTooLarge
 output_of_board _ b = Ok (printed b, ending_of (halted_of b))
 
 abbrev pub output_of_assembly : Options → Result Assembly AsmFault → Result (List ℕ × Ending) CliFault
 output_of_assembly options (Err fault) = Err (Source fault)
 output_of_assembly options (Ok assembly) = output_of_board
-    (boot_fault (length assembly.bytes) options.pages cache_slots)
+    (boot_fault (length assembly.bytes) options.pages options.slots)
     (board_after assembly.bytes options)
 
 -- what the run of a source prints and how it ends, or why there is none: the source is refused, then
--- the number of pages, then the image
+-- the number of pages, then that of slots, then the image
 unfoldable pub output : List ℕ → Options → Result (List ℕ × Ending) CliFault
 output source options = output_of_assembly options (assembled source)

@@ -5,7 +5,7 @@ use Rattle.rv_words.specs.declared.Options.{Options}
 use Rattle.rv_cli.specs.Output.{output}
 use Rattle.rv_cli.specs.Texts.{GavePart, GaveWhole, IsUnreadable, WroteBeginning}
 use Rattle.rv_cli.specs.declared.fault.CliFault.{CliFault}
-use Rattle.rv_cli.specs.declared.fault.CliFault.TheVariants.{ReadSource, Source, BadPages, ImageTooLarge, OutOfMemory, Write}
+use Rattle.rv_cli.specs.declared.fault.CliFault.TheVariants.{ReadSource, Source, BadPages, BadSlots, ImageTooLarge, OutOfMemory, Write}
 use Rattle.rv_cli.specs.declared.fault.Ending.{Ending}
 
 -- a reader or a writer over a call: its known bytes before and after, and whether it has failed
@@ -64,6 +64,7 @@ abbrev pub Refused : Side → Side → Options → CliFault → Type 0
 Refused source out options ReadSource = IsUnreadable source.failed source.old source.new
 Refused source out options (Source fault) = HasNoRun source options (Source fault)
 Refused source out options BadPages = HasNoRun source options BadPages
+Refused source out options BadSlots = HasNoRun source options BadSlots
 Refused source out options ImageTooLarge = HasNoRun source options ImageTooLarge
 Refused source out options OutOfMemory = IsInOrder source
 Refused source out options Write = CutShort source out options

@@ -29,6 +29,9 @@ pub enum CliFault {
     /// There are not 1 to 4096 pages of RAM.
     #[error("BadPages")]
     BadPages,
+    /// The cache is not to have a power of two of slots, from 64 to 4096.
+    #[error("BadSlots")]
+    BadSlots,
     /// The image is larger than the RAM.
     #[error("ImageTooLarge")]
     ImageTooLarge,
@@ -67,6 +70,7 @@ pub fn fault_line(fault: &CliFault, line: &mut Vec<u8>) -> Result<(), NoMemory>
             line.extend_from_slice(text.as_bytes())?
         }
         CliFault::BadPages => line.extend_from_slice(b"bad pages\n")?,
+        CliFault::BadSlots => line.extend_from_slice(b"bad slots\n")?,
         CliFault::ImageTooLarge => line.extend_from_slice(b"image too large\n")?,
         CliFault::OutOfMemory => line.extend_from_slice(b"out of memory\n")?,
         CliFault::Write => line.extend_from_slice(b"cannot write\n")?,
@@ -75,7 +79,7 @@ pub fn fault_line(fault: &CliFault, line: &mut Vec<u8>) -> Result<(), NoMemory>
 }
 
 /// What the program exits with: 0 halted with 0, 1 halted otherwise, 2 running, 3 where the source,
-/// the pages or the image are refused, and 4 where a text, the memory or the writer failed.
+/// the pages, the slots or the image are refused, and 4 where a text, the memory or the writer failed.
 pub fn exit_status(outcome: &Result<Ending, CliFault>) -> u8
     ensures { result ≡ status_of outcome.now }
 {
@@ -83,7 +87,8 @@ pub fn exit_status(outcome: &Result<Ending, CliFault>) -> u8
         Ok(Ending::Halted(0)) => 0,
         Ok(Ending::Halted(_)) => 1,
         Ok(Ending::Running) => 2,
-        Err(CliFault::Source(_) | CliFault::BadPages | CliFault::ImageTooLarge) => 3,
+        Err(CliFault::Source(_)) => 3,
+        Err(CliFault::BadPages | CliFault::BadSlots | CliFault::ImageTooLarge) => 3,
         Err(CliFault::ReadSource | CliFault::OutOfMemory | CliFault::Write) => 4,
     }
 }

@@ -17,9 +17,6 @@ use rv_ram::FlatMemory;
 use rv_words::Options;
 use std::alloc::Global;
 
-/// The slots of the decode cache.
-const CACHE_SLOTS: u32 = 1024;
-
 /// What a run prints, and how it ended.
 #[derive(Drop)]
 struct Printed {
@@ -56,18 +53,18 @@ fn read_source<S: TextIn>(alloc: Global, source: &mut S) -> Result<Vec<u8>, CliF
 }
 
 /// Boots the program's image, gives it the steps, and answers what is to be printed.
-#[tactic(auto, using(crate::proofs::Boots::slots_are_good))]
 fn run_program(alloc: Global, program: &Program, options: Options) -> Result<Printed, CliFault>
     ensures ok { IfOk result (λ p. output_of_assembly options (Ok program.now) ≡ Ok (p.text.items, p.ending)) }
     ensures err { IfErr result (RefusedBy (output_of_assembly options (Ok program.now))) }
 {
     let pages = u32::from(options.pages);
-    let mut board = match Board::<FlatMemory, NoCache>::boot(alloc, program, pages, CACHE_SLOTS) {
+    let slots = u32::from(options.slots);
+    let mut board = match Board::<FlatMemory, NoCache>::boot(alloc, program, pages, slots) {
         Ok(board) => board,
         Err(BootFault::BadPages) => return Err(CliFault::BadPages),
+        Err(BootFault::BadSlots) => return Err(CliFault::BadSlots),
         Err(BootFault::ImageTooLarge) => return Err(CliFault::ImageTooLarge),
         Err(BootFault::OutOfMemory) => return Err(CliFault::OutOfMemory),
-        Err(BootFault::BadSlots) => unreachable!(),
     };
     run_steps(&mut board, options.steps)?;
     let text = print_board(alloc, &board)?;
@@ -93,7 +90,7 @@ fn run_source(alloc: Global, source: &[u8], options: Options) -> Result<Printed,
 /// Reads the source to its end, assembles it, boots its image, runs all steps, and then writes what
 /// is printed: the console, a line end where it has none, and the status line.
 ///
-/// The faults come in the order `ReadSource`, `Source`, `BadPages`, `ImageTooLarge`, and before
+/// The faults come in the order `ReadSource`, `Source`, `BadPages`, `BadSlots`, `ImageTooLarge`, and before
 /// `Write` nothing was written. Want of memory may stand in place of any answer but a fault of the
 /// reader or the writer that occurred.
 pub fn run_text<S: TextIn, W: TextOut>(

@@ -15,6 +15,7 @@ const HELLO: &[u8] =
 const DEFAULTS: Options = Options {
     steps: 1_000_000,
     pages: 256,
+    slots: 1024,
 };
 
 /// What a run of a text over memory ended with and wrote.
@@ -62,7 +63,7 @@ fn runs_a_source(rt: HostRuntime) {
         ),
     ];
     for (source, steps, written, ending, status) in rows {
-        let options = Options { steps, pages: 256 };
+        let options = Options { steps, ..DEFAULTS };
         let (outcome, out) = run_over_memory(rt.alloc(), source, options);
         assert!(rt; outcome == Ok(ending));
         assert!(rt; out.bytes() == written.as_bytes());
@@ -76,6 +77,7 @@ fn runs_or_wants_memory(rt: HostRuntime) {
     let options = Options {
         steps: 10,
         pages: 1,
+        slots: 64,
     };
     let (outcome, out) = run_over_memory(rt.alloc(), HELLO, options);
     match outcome {
@@ -99,17 +101,28 @@ fn refuses_a_source(rt: HostRuntime) -> Result<(), Fail> {
         large.extend_from_slice(b"addi x0,x0,0\n")?;
     }
     let rows = [
-        (b"jal x0,y".as_slice(), 0, "source line 1: E10 Undefined\n"),
+        (
+            b"jal x0,y".as_slice(),
+            0,
+            1024,
+            "source line 1: E10 Undefined\n",
+        ),
         (
             b"li a0,-4294967295".as_slice(),
             1,
+            1024,
             "source line 1: E7 NotConstant\n",
         ),
-        (large.as_slice(), 0, "bad pages\n"),
-        (large.as_slice(), 1, "image too large\n"),
+        (large.as_slice(), 0, 100, "bad pages\n"),
+        (large.as_slice(), 1, 100, "bad slots\n"),
+        (large.as_slice(), 1, 128, "image too large\n"),
     ];
-    for (source, pages, line) in rows {
-        let options = Options { steps: 2, pages };
+    for (source, pages, slots, line) in rows {
+        let options = Options {
+            steps: 2,
+            pages,
+            slots,
+        };
         let (outcome, out) = run_over_memory(rt.alloc(), source, options);
         assert_eq!(rt; exit_status(&outcome), 3);
         let fault = outcome.err().ok_or("no fault")?;
@@ -173,7 +186,10 @@ fn reads_and_writes_by_std(rt: HostRuntime) {
     let mut source = FileIn::new(b"x: jal x0,x".as_slice());
     let mut printed = Vec::new(rt.alloc());
     let mut out = FileOut::new(&mut printed);
-    let options = Options { steps: 0, pages: 1 };
+    let options = Options {
+        steps: 0,
+        ..DEFAULTS
+    };
     let outcome = run_text(rt.alloc(), &mut source, options, &mut out);
     assert!(rt; outcome == Ok(Ending::Running));
     assert!(rt; printed.as_slice() == b"running at 80000000 after 0 steps\n".as_slice());
@@ -194,6 +210,7 @@ fn names_each_fault(rt: HostRuntime) -> Result<(), Fail> {
         ),
         (source, "Source", "source line 3: E6 DuplicateSymbol\n", 3),
         (CliFault::BadPages, "BadPages", "bad pages\n", 3),
+        (CliFault::BadSlots, "BadSlots", "bad slots\n", 3),
         (
             CliFault::ImageTooLarge,
             "ImageTooLarge",

@@ -15,7 +15,7 @@ use Rattle.clap.specs.Words.{App, HasMatchesOf, Row, Text, app_of, first_of, fir
 use Rattle.clap.specs.declared.builder.command.Command.{Command}
 use Rattle.clap.specs.declared.parser.matches.ArgMatches.{ArgMatches}
 use Rattle.clap.proofs.SimpleLemmas.{plain_fields}
-use Rattle.rv_words.specs.Board.{board_app, number_rule, pages_rule, source_rule, steps_rule}
+use Rattle.rv_words.specs.Board.{board_app, number_rule, pages_rule, slots_rule, source_rule, steps_rule}
 use Rattle.rv_words.specs.Parse.{HasNumber, IsBoardParse}
 use Rattle.rv_words.proofs.Defaults.{HasDefaultAt, IsParseOf, are_simple_free, has_value, reads}
 
@@ -74,6 +74,20 @@ pages_at = record {
   no_version = refl;
 }
 
+slots_at : HasDefaultAt board_app.top.rules 3 slots_rule
+unfolding board_app
+slots_at = record {
+  within = omega arith;
+  at = refl;
+  only = refl;
+  action = refl;
+  range = refl;
+  defaults = omega arith;
+  named = refl;
+  no_help = refl;
+  no_version = refl;
+}
+
 parse_of : (c : Command) (m : ArgMatches) → app_of c ≡ board_app → IsParsedFrom c m → IsParseOf board_app.top.rules c m
 parse_of c m is parsed =
     let fields = plain_fields c (ap (λ (a : App). a.top.is_plain) is ∙ board_plain) in
@@ -100,6 +114,7 @@ board_parse c m words is parsed matches =
       source = has_value board_app.top.rules c m p 0 source_rule source_at;
       steps = number c m 1 (codes "steps") (codes "1000000") 0 1000000000 p steps_at;
       pages = number c m 2 (codes "pages") (codes "256") 1 4096 p pages_at;
+      slots = number c m 3 (codes "slots") (codes "1024") 64 4096 p slots_at;
     }
 
 -- and of which clap says the errors

@@ -1,4 +1,4 @@
--- The command `rvboard [SOURCE] [--steps N] [--pages P]`, as what a parse by `clap` reads of it.
+-- The command `rvboard [SOURCE] [--steps N] [--pages P] [--slots S]`, as what a parse by `clap` reads of it.
 use Rattle.std.specs.Prelude.{ℕ, pos, List, [], ◌∷◌, Some, codes, map}
 use Rattle.std.specs.Borrow.{Bor}
 use Rattle.clap.specs.Words.{App, Rule, Text, new_app, new_rule, with_rule}
@@ -35,7 +35,11 @@ steps_rule = number_rule (codes "steps") (codes "1000000") 0 1000000000
 abbrev pub pages_rule : Rule
 pages_rule = number_rule (codes "pages") (codes "256") 1 4096
 
+-- `--slots S`
+abbrev pub slots_rule : Rule
+slots_rule = number_rule (codes "slots") (codes "1024") 64 4096
+
 -- the command
 unfoldable pub board_app : App
-board_app = with_rule (with_rule (with_rule (new_app (codes "rvboard"))
-    source_rule) steps_rule) pages_rule
+board_app = with_rule (with_rule (with_rule (with_rule (new_app (codes "rvboard"))
+    source_rule) steps_rule) pages_rule) slots_rule

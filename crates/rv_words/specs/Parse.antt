@@ -19,3 +19,4 @@ pub record IsBoardParse (words : List Text) (m : ArgMatches) : Type 0 where
   pub source : is_some (first_value (found_of m) (codes "source")) ≡ true
   pub steps : HasNumber m (codes "steps") 0 1000000000
   pub pages : HasNumber m (codes "pages") 1 4096
+  pub slots : HasNumber m (codes "slots") 64 4096

@@ -14,6 +14,9 @@ pub record IsReadFrom (rows : List Row) (w : Words) : Type 0 where
   pub source : first_of (codes "source") rows ≡ Some w.source.now
   pub steps : w.options.steps ≡ number_of (codes "steps") rows
   pub pages : w.options.pages ≡ number_of (codes "pages") rows
+  pub slots : w.options.slots ≡ number_of (codes "slots") rows
   pub most_steps : w.options.steps ≤ 1000000000
   pub least_pages : 1 ≤ w.options.pages
   pub most_pages : w.options.pages ≤ 4096
+  pub least_slots : 64 ≤ w.options.slots
+  pub most_slots : w.options.slots ≤ 4096

@@ -1,4 +1,4 @@
-//! The words of the program `rvboard [SOURCE] [--steps N] [--pages P]`, read with `clap`.
+//! The words of the program `rvboard [SOURCE] [--steps N] [--pages P] [--slots S]`, read with `clap`.
 #![tactic(auto)]
 
 ghost use Rattle.std.specs.Prelude.{◌≡◌, codes, IfErr, IfOk, false, true};
@@ -11,13 +11,15 @@ use clap::error::ErrorKind;
 use clap::{Arg, ArgAction, ArgMatches, Command, Error, value_parser};
 use std::alloc::{AllocError, Global};
 
-/// How far a board runs, and how large its memory is.
+/// How far a board runs, and how large its memory and its cache are.
 #[derive(Clone, Copy, Debug, PartialEq, Eq)]
 pub struct Options {
     /// The most steps: 0 to 1,000,000,000 where words were read.
     pub steps: u32,
     /// The pages of RAM, of 4096 bytes each: 1 to 4096 where words were read.
     pub pages: u16,
+    /// The slots of the cache of decoded instructions: 64 to 4096 where words were read. A board takes powers of two.
+    pub slots: u16,
 }
 
 /// What the program's words ask for.
@@ -66,6 +68,19 @@ fn pages_arg<'a>(alloc: Global) -> Arg<'a>
         .value_parser(value_parser!(u16).range(1..=4096))
 }
 
+fn slots_arg<'a>(alloc: Global) -> Arg<'a>
+    ensures rule { rule_of result ≡ number_rule (codes "slots") (codes "1024") 64 4096 }
+    ensures local { result.global ≡ false }
+{
+    Arg::new(alloc, "slots")
+        .long("slots")
+        .value_name("S")
+        .help("the slots of the instruction cache, a power of two from 64 to 4096")
+        .action(ArgAction::Set)
+        .default_value("1024")
+        .value_parser(value_parser!(u16).range(64..=4096))
+}
+
 /// The command that the program's words are read by.
 fn board_command<'a>(alloc: Global) -> Result<Command<'a>, AllocError>
     ensures { IfOk result (λ c. app_of c ≡ board_app) }
@@ -74,7 +89,8 @@ fn board_command<'a>(alloc: Global) -> Result<Command<'a>, AllocError>
         .about("assembles a program and runs it on a small RISC-V board")
         .arg(source_arg(alloc))?
         .arg(steps_arg(alloc))?
-        .arg(pages_arg(alloc))?;
+        .arg(pages_arg(alloc))?
+        .arg(slots_arg(alloc))?;
     Ok(command)
 }
 
@@ -108,7 +124,12 @@ pub fn read_words<'a>(alloc: Global, words: &'a [&'a str]) -> Result<Words<'a>, 
     let source = matches.get_str("source").unwrap();
     let steps = matches.get_one::<u32>("steps").unwrap();
     let pages = matches.get_one::<u16>("pages").unwrap();
-    let options = Options { steps, pages };
+    let slots = matches.get_one::<u16>("slots").unwrap();
+    let options = Options {
+        steps,
+        pages,
+        slots,
+    };
     Ok(Words { source, options })
 }
 

@@ -1,4 +1,4 @@
-//! The program: `rvboard [SOURCE] [--steps N] [--pages P]`.
+//! The program: `rvboard [SOURCE] [--steps N] [--pages P] [--slots S]`.
 //!
 //! It reads its words, opens the source, runs it, and exits with the status of the run. Fault lines
 //! go to the standard error.
