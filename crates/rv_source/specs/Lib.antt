@@ -1,0 +1,4 @@
+pub mod Faults
+pub mod Tokens
+pub mod Said
+pub mod Reading

@@ -1,0 +1,20 @@
+//! Lines of a source: their tokens, and what they say.
+//!
+//! The language is this project's own: see docs/ASSEMBLER.md.
+#![tactic(auto)]
+
+mod expression;
+mod fault;
+mod line;
+mod name;
+mod reader;
+mod scan;
+mod statement;
+mod token;
+
+pub use expression::{Atom, Direction, Expression, Term};
+pub use fault::LineFault;
+pub use line::{Label, Line};
+pub use name::Name;
+pub use reader::read_line;
+pub use statement::{Csr, Immediate, Statement, Upper};
