@@ -1,4 +1,6 @@
 pub mod Faults
 pub mod Tokens
+pub mod Expressions
+pub mod Partial
 pub mod Said
 pub mod Reading

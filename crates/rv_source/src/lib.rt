@@ -10,6 +10,7 @@ mod name;
 mod reader;
 mod scan;
 mod statement;
+mod terms;
 mod token;
 
 pub use expression::{Atom, Direction, Expression, Term};
