@@ -52,9 +52,9 @@ terms (Value sign more) [] = Err Syntax
 terms (Value sign more) (t ∷ ts) = elim (sign_of t) as (λ _. Result (List Term) LineFault) [
   | Some other ↦ (if more then terms (Value (times sign other) false) ts else Err Syntax)
   | None ↦ (elim (atom_of t) as (λ _. Result (List Term) LineFault) [
-      | Some atom ↦ with_terms (record { negative = sign; atom = atom } ∷ []) (terms Sign ts)
-      | None ↦ Err Syntax
-    ])
+    | Some atom ↦ with_terms (record { negative = sign; atom = atom } ∷ []) (terms Sign ts)
+    | None ↦ Err Syntax
+  ])
 ]
 
 -- an expression, spelled by all of the tokens: at most one sign before its first value

@@ -7,6 +7,7 @@ mod expression;
 mod fault;
 mod line;
 mod name;
+mod operand;
 mod reader;
 mod scan;
 mod statement;

@@ -126,7 +126,7 @@ impl<'a> Reader<'a> {
 
 /// The expression that all of the tokens spell.
 #[tactic(auto, unfolding(crate::specs::Expressions::terms))]
-pub fn expression<'a>(alloc: Global, tokens: &[Token<'a>]) -> Result<Expression<'a>, LineFault>
+pub fn read_expression<'a>(alloc: Global, tokens: &[Token<'a>]) -> Result<Expression<'a>, LineFault>
     requires { length tokens.now ≤ 1024 }
     ensures { Gives (λ e. e) result (sum_of tokens.now) }
 {

@@ -1,7 +1,7 @@
 use Rattle.std.proofs.Common.{◌+◌, drop}
 use Rattle.std.proofs.lemmas.Result.{err_from_is_err_and}
 use Rattle.rv_source.proofs.Sums.{fails_here}
-use Rattle.rv_source.proofs.terms.expression.Goals as goal
+use Rattle.rv_source.proofs.terms.read_expression.Goals as goal
 
 pub returns-in_err-take : goal.returns-in_err-take
 returns-in_err-take c =

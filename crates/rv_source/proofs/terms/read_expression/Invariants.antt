@@ -1,7 +1,7 @@
 use Rattle.std.proofs.Common.{◌≡◌, ◌≤◌, drop, length}
 use Rattle.rv_source.specs.Expressions.{sum_of}
 use Rattle.rv_source.specs.Partial.{completed}
-use Rattle.rv_source.proofs.terms.expression.Given as goal
+use Rattle.rv_source.proofs.terms.read_expression.Given as goal
 
 abbrev pub invariant-loop-token : goal.invariant-loop-token
 invariant-loop-token l =
