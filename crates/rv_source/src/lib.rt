@@ -11,6 +11,7 @@ mod operand;
 mod reader;
 mod scan;
 mod statement;
+mod table;
 mod terms;
 mod token;
 
@@ -19,4 +20,4 @@ pub use fault::LineFault;
 pub use line::{Label, Line};
 pub use name::Name;
 pub use reader::read_line;
-pub use statement::{Csr, Immediate, Statement, Upper};
+pub use statement::{Bytes, Csr, Immediate, Statement, Upper, Values};
