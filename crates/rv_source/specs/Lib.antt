@@ -4,5 +4,6 @@ pub mod Expressions
 pub mod Partial
 pub mod Operands
 pub mod Words
+pub mod Statements
 pub mod Said
 pub mod Reading

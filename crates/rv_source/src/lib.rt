@@ -8,6 +8,7 @@ mod fault;
 mod line;
 mod name;
 mod operand;
+mod places;
 mod reader;
 mod scan;
 mod statement;

@@ -39,6 +39,41 @@ pub enum Operand<'a> {
     Text(Text<'a>),
 }
 
+/// Operands by their number.
+#[derive(Drop)]
+pub enum Operands<'a> {
+    None,
+    One(Operand<'a>),
+    Two(Operand<'a>, Operand<'a>),
+    Three(Operand<'a>, Operand<'a>, Operand<'a>),
+    /// Four or more, which only lists of values and strings have.
+    More,
+}
+
+impl<'a> Operands<'a> {
+    ghost use Rattle.std.specs.Prelude.{◌≡◌};
+    ghost use Rattle.rv_source.specs.Statements.{counted};
+
+    /// The operands of a list.
+    pub fn of(mut list: Vec<Operand<'a>>) -> Operands<'a>
+        ensures { result ≡ counted list.entry.items }
+    {
+        if list.len() > 3 {
+            return Operands::More;
+        }
+        let Some(last) = list.pop() else {
+            return Operands::None;
+        };
+        let Some(middle) = list.pop() else {
+            return Operands::One(last);
+        };
+        match list.pop() {
+            Some(first) => Operands::Three(first, middle, last),
+            None => Operands::Two(middle, last),
+        }
+    }
+}
+
 /// The place of the first comma.
 fn comma(tokens: &[Token]) -> Option<usize>
     ensures value { result ≡ position is_comma tokens.now }
