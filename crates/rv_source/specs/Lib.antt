@@ -1,5 +1,10 @@
 pub mod Faults
 pub mod Tokens
+pub mod Expressions
+pub mod Partial
+pub mod Operands
+pub mod Words
+pub mod Statements
 pub mod Said
 pub mod Reading
 pub mod Lines

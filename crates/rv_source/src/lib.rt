@@ -8,9 +8,13 @@ mod fault;
 mod line;
 mod lines;
 mod name;
+mod operand;
+mod places;
 mod reader;
 mod scan;
 mod statement;
+mod table;
+mod terms;
 mod token;
 
 pub use expression::{Atom, Direction, Expression, Term};
@@ -19,7 +23,7 @@ pub use line::{Label, Line};
 pub use lines::{Cut, cut_lines};
 pub use name::Name;
 pub use reader::read_line;
-pub use statement::{Csr, Immediate, Statement, Upper};
 
 #[cfg(test)]
 mod lines_tests;
+pub use statement::{Bytes, Csr, Immediate, Statement, Upper, Values};

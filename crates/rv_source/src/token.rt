@@ -21,6 +21,15 @@ impl<'a> Model for Text<'a> {
 impl<'a> Text<'a> {
     ghost use Rattle.std.specs.Prelude.{◌≡◌, ◌++◌, OnOk};
 
+    /// The same string.
+    pub(crate) fn again(&self) -> Text<'a>
+        ensures { result ≡ self.now }
+    {
+        Text {
+            spelling: self.spelling,
+        }
+    }
+
     /// Appends the bytes that the string stands for.
     pub fn append_to(&self, out: &mut Vec<u8>) -> Result<(), AllocError>
         ensures { OnOk result (out.new.items ≡ out.old.items ++ self.now) }
