@@ -1,1 +1,5 @@
+pub mod Bools
+pub mod Digits
+pub mod Longest
+pub mod Spellings
 pub mod Splitting
