@@ -1,5 +1,5 @@
 //! Reads numbers, characters and strings.
-ghost use Rattle.std.specs.Prelude.{◌≡◌, ◌||◌, ◌<◌, ◌≤◌, IsTrue};
+ghost use Rattle.std.specs.Prelude.{◌≡◌, ◌||◌, ◌<◌, ◌≤◌, IsTrue, IfSome, length};
 ghost use Rattle.std.specs.Char.{is_ascii_digit};
 ghost use Rattle.rv_source.specs.Literals.{is_hex_letter, digit_value, is_digit, number_in, has_prefix, has_leading_zero, number, short_decimal, letter_escape, byte_in, escape, spelled, is_plain_in_character, is_plain_in_string, character, first_byte};
 
@@ -216,7 +216,9 @@ pub fn character(text: &[u8]) -> Option<u8>
 
 /// The first byte that a string's spelling stands for, and how many bytes spell it.
 pub fn first_byte(text: &[u8]) -> Option<(u8, usize)>
-    ensures { result ≡ first_byte text.now }
+    ensures longest { result ≡ first_byte text.now }
+    ensures moves { IfSome result (λ found. 0 < found.1) }
+    ensures within { IfSome result (λ found. found.1 ≤ length text.now) }
 {
     let mut n = text.len().min(4);
     while n > 0 {
