@@ -1,5 +1,6 @@
 pub mod Bools
 pub mod Digits
 pub mod Longest
+pub mod Front
 pub mod Spellings
 pub mod Splitting

@@ -1,5 +1,5 @@
 //! Cuts a line into tokens.
-ghost use Rattle.std.specs.Prelude.{◌≡◌, IfSome, IfOk, IsTrue, ◌<◌, ◌≤◌, length, true, false, take, slice_index};
+ghost use Rattle.std.specs.Prelude.{◌≡◌, ◌==◌, IfSome, IfOk, IsTrue, ◌<◌, ◌≤◌, length, true, false, take, slice_index};
 ghost use Rattle.std.specs.List.{list_all};
 ghost use Rattle.rv_source.specs.Faults.{Gives};
 ghost use Rattle.rv_source.specs.Tokens.{is_name_start, is_name_byte, local, word, sign, half, front, begins_comment, begins_with_name_byte, fault_at, is_blank, cut, tokens};
@@ -130,6 +130,71 @@ fn fault_at(b: u8) -> LineFault
         LineFault::Syntax
     } else {
         LineFault::BadByte
+    }
+}
+
+/// The longest token at the front of a line that begins with a name byte, and its length.
+fn word_front<'a>(line: &'a [u8]) -> Option<(Token<'a>, usize)>
+    requires some { 0 < length line.now }
+    requires first { is_name_byte (slice_index line.now 0) ≡ true }
+    ensures { result ≡ front line.now }
+{
+    let n = word_len(line);
+    match word(&line[..n]) {
+        Some(token) => Some((token, n)),
+        None => None,
+    }
+}
+
+/// The same of a line that begins with `'`.
+fn character_front<'a>(line: &'a [u8]) -> Option<(Token<'a>, usize)>
+    requires some { 0 < length line.now }
+    requires first { slice_index line.now 0 ≡ 39 }
+    ensures { result ≡ front line.now }
+{
+    let mut n = line.len().min(6);
+    while n > 0 {
+        if let Some(b) = character(&line[..n]) {
+            return Some((Token::Character(b), n));
+        }
+        n -= 1;
+    }
+    None
+}
+
+/// The same of a line that begins with `%`.
+fn half_front<'a>(line: &'a [u8]) -> Option<(Token<'a>, usize)>
+    requires some { 0 < length line.now }
+    requires first { slice_index line.now 0 ≡ 37 }
+    ensures { result ≡ front line.now }
+{
+    if line.len() < 3 {
+        return None;
+    }
+    let (text, rest) = line.split_at(3);
+    match half(text) {
+        Some(token) => {
+            if begins_with_name_byte(rest) {
+                return None;
+            }
+            Some((token, 3))
+        }
+        None => None,
+    }
+}
+
+/// The same of a line that begins with any other byte.
+fn sign_front<'a>(line: &'a [u8]) -> Option<(Token<'a>, usize)>
+    requires some { 0 < length line.now }
+    requires word { is_name_byte (slice_index line.now 0) ≡ false }
+    requires string { (slice_index line.now 0 == 34) ≡ false }
+    requires character { (slice_index line.now 0 == 39) ≡ false }
+    requires half { (slice_index line.now 0 == 37) ≡ false }
+    ensures { result ≡ front line.now }
+{
+    match sign(line[0]) {
+        Some(token) => Some((token, 1)),
+        None => None,
     }
 }
 
