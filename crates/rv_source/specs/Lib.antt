@@ -1,4 +1,5 @@
 pub mod Faults
+pub mod Literals
 pub mod Tokens
 pub mod Expressions
 pub mod Partial

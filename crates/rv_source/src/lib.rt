@@ -7,6 +7,7 @@ mod expression;
 mod fault;
 mod line;
 mod lines;
+mod literal;
 mod name;
 mod operand;
 mod places;
