@@ -24,7 +24,7 @@ pub use line::{Label, Line};
 pub use lines::{Cut, cut_lines};
 pub use name::Name;
 pub use reader::read_line;
+pub use statement::{Bytes, Csr, Immediate, Statement, Upper, Values};
 
 #[cfg(test)]
 mod lines_tests;
-pub use statement::{Bytes, Csr, Immediate, Statement, Upper, Values};
