@@ -1,0 +1,30 @@
+//! Lines of a source: their tokens, and what they say.
+//!
+//! The language is this project's own: see docs/ASSEMBLER.md.
+#![tactic(auto)]
+
+mod expression;
+mod fault;
+mod line;
+mod lines;
+mod literal;
+mod name;
+mod operand;
+mod places;
+mod reader;
+mod scan;
+mod statement;
+mod table;
+mod terms;
+mod token;
+
+pub use expression::{Atom, Direction, Expression, Term};
+pub use fault::LineFault;
+pub use line::{Label, Line};
+pub use lines::{Cut, cut_lines};
+pub use name::Name;
+pub use reader::read_line;
+pub use statement::{Bytes, Csr, Immediate, Statement, Upper, Values};
+
+#[cfg(test)]
+mod lines_tests;

@@ -1,0 +1,59 @@
+//! What a line says.
+use crate::{Name, Statement};
+use std::marker::Model;
+
+/// What is defined as the address of what follows.
+#[derive(Drop)]
+pub enum Label<'a> {
+    /// A name other than `.`, which has one definition in a source.
+    Name(Name<'a>),
+    /// A number from 0 to 9999, which may be defined again and again.
+    Local(u16),
+}
+
+/// A line that was read: its labels and its statement.
+#[derive(Drop)]
+pub struct Line<'a> {
+    labels: Vec<Label<'a>>,
+    statement: Option<Statement<'a>>,
+}
+
+impl<'a> Model for Line<'a> {
+    ghost use Rattle.rv_source.specs.Said.{Said};
+
+    ghost Value = { Said };
+
+    ghost view = { λ l. record { labels = l.labels.items; statement = l.statement } };
+}
+
+impl<'a> Line<'a> {
+    ghost use Rattle.std.specs.Prelude.{◌≡◌};
+    ghost use Rattle.std.specs.Option.{option_map};
+
+    pub(crate) fn new(labels: Vec<Label<'a>>, statement: Option<Statement<'a>>) -> Self
+        ensures { result ≡ record { labels = labels.entry.items; statement = statement.entry } }
+    {
+        Line { labels, statement }
+    }
+
+    /// The labels, from left to right.
+    pub fn labels(&self) -> &[Label<'a>]
+        ensures { result.now ≡ self.now.labels }
+    {
+        self.labels.as_slice()
+    }
+
+    /// The statement, if the line has one.
+    pub fn statement(&self) -> Option<&Statement<'a>>
+        ensures { option_map (λ s. s.now) result ≡ self.now.statement }
+    {
+        self.statement.as_ref()
+    }
+
+    /// The statement, if the line has one, without the rest of the line.
+    pub fn into_statement(self) -> Option<Statement<'a>>
+        ensures { result ≡ self.entry.statement }
+    {
+        self.statement
+    }
+}
