@@ -3,19 +3,7 @@
 //! The language is this project's own: see docs/ASSEMBLER.md.
 #![tactic(auto)]
 
-mod assembler;
 mod fault;
-mod instructions;
-mod layout;
-mod line;
-mod program;
-mod scan;
-mod symbols;
-#[cfg(test)]
-mod tests;
-mod token;
-mod values;
+mod locals;
 
-pub use assembler::assemble;
 pub use fault::{AsmFault, FaultKind};
-pub use program::Program;
