@@ -6,6 +6,7 @@
 mod expression;
 mod fault;
 mod line;
+mod lines;
 mod name;
 mod reader;
 mod scan;
@@ -15,6 +16,10 @@ mod token;
 pub use expression::{Atom, Direction, Expression, Term};
 pub use fault::LineFault;
 pub use line::{Label, Line};
+pub use lines::{Cut, cut_lines};
 pub use name::Name;
 pub use reader::read_line;
 pub use statement::{Csr, Immediate, Statement, Upper};
+
+#[cfg(test)]
+mod lines_tests;
