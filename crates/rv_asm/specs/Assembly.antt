@@ -38,11 +38,11 @@ line_bytes lines k =
 
 -- the fault of line k in phase three
 abbrev pub phase_three_fault : List Said → ℕ → Option FaultKind
-phase_three_fault lines k = elim (line_bytes lines k) as (λ _. Option FaultKind) [ Ok bytes ↦ None | Err kind ↦ Some kind ]
+phase_three_fault lines k = elim (line_bytes lines k) as (λ _. Option FaultKind) [ Ok bs ↦ None | Err kind ↦ Some kind ]
 
 -- the bytes of all lines, where no line has a fault
 abbrev pub bytes : List Said → List ℕ
-bytes lines = joined (λ k. elim (line_bytes lines k) as (λ _. List ℕ) [ Ok bytes ↦ bytes | Err kind ↦ [] ]) (length lines)
+bytes lines = joined (λ k. elim (line_bytes lines k) as (λ _. List ℕ) [ Ok bs ↦ bs | Err kind ↦ [] ]) (length lines)
 
 -- the first of n lines that has a fault; its number counts from 1
 abbrev pub first_fault : (ℕ → Option FaultKind) → ℕ → Option AsmFault

@@ -173,8 +173,8 @@ statement_fault k known statement =
     else (elim (constant_of k known statement) as (λ _. Option FaultKind) [
       | None ↦ Some NotConstant
       | Some c ↦ if is_instruction statement && not (known.address % 4 == 0) then Some Misplaced
-        else (if nat_lt (base + limit) (known.address + size_of known.address c statement) then Some TooLarge
-        else None)
+          else (if nat_lt (base + limit) (known.address + size_of known.address c statement) then Some TooLarge
+          else None)
     ])
 
 -- the fault of line k in phase two

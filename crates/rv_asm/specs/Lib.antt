@@ -4,3 +4,4 @@ pub mod Values
 pub mod Listing
 pub mod Layout
 pub mod Assembly
+pub mod Steps

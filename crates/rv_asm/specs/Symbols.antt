@@ -1,6 +1,6 @@
 -- What is defined in a source, and what an expression stands for.
 -- Own language; see docs/ASSEMBLER.md.
-use Rattle.std.specs.Prelude.{ℕ, ◌&&◌, List, [], ◌∷◌, ◌++◌, ℤ, pos, ◌+ℤ◌, ◌-ℤ◌, Bool, true, false, Option, Some, None, option_and_then, ◌==◌, nat_le, nat_lt, if◌then◌else◌}
+use Rattle.std.specs.Prelude.{ℕ, map, Vec, ◌&&◌, List, [], ◌∷◌, ◌++◌, ℤ, pos, ◌+ℤ◌, ◌-ℤ◌, Bool, true, false, Option, Some, None, option_and_then, ◌==◌, nat_le, nat_lt, if◌then◌else◌}
 use Rattle.std.specs.Option.{option_map, option_or}
 use Rattle.std.specs.Str.{bytes_eq}
 use Rattle.rv_source.specs.declared.expression.Atom.{Atom}
@@ -49,3 +49,7 @@ unfoldable pub sum_value : Definitions → ℕ → ℕ → List Term → Option 
 sum_value ds line here [] = Some (pos 0)
 sum_value ds line here (t ∷ ts) =
     option_and_then (λ v. option_map (λ w. if t.negative then w -ℤ v else v +ℤ w) (sum_value ds line here ts)) (atom_value ds line here t.atom)
+
+-- a map's entries as definitions
+abbrev pub definitions_of : {A : Type 0} → List (Vec ℕ A × ℤ) → List (List ℕ × ℤ)
+definitions_of = map (λ e. (e.0.items, e.1))

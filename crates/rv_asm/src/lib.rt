@@ -5,5 +5,8 @@
 
 mod fault;
 mod locals;
+mod names;
+mod placed;
+mod symbols;
 
 pub use fault::{AsmFault, FaultKind};

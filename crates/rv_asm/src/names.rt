@@ -1,0 +1,50 @@
+//! The names that a source defines.
+ghost use Rattle.std.specs.Prelude.{◌≡◌, List, [], ◌∷◌, ◌++◌, None, OnOk, OnErr};
+ghost use Rattle.rv_asm.specs.Symbols.{value_of};
+
+use indexmap::IndexMap;
+use std::alloc::{AllocError, Global};
+use std::marker::Model;
+
+/// Names and their values, in order of definition.
+#[derive(Drop)]
+pub struct Names {
+    map: IndexMap<Vec<u8>, i64>,
+}
+
+impl Model for Names {
+    ghost use Rattle.std.specs.Prelude.{List, ℕ, ℤ};
+    ghost use Rattle.rv_asm.specs.Symbols.{definitions_of};
+
+    ghost Value = { List (List ℕ × ℤ) };
+
+    ghost view = { λ s. definitions_of s.map.entries };
+}
+
+impl Names {
+    pub fn new(alloc: Global) -> Self
+        ensures { result ≡ [] }
+    {
+        Names {
+            map: IndexMap::new(alloc),
+        }
+    }
+
+    /// The value of a name.
+    pub fn value(&self, name: &[u8]) -> Option<i64>
+        ensures { result ≡ value_of self.now name.now }
+    {
+        self.map.get(name).copied()
+    }
+
+    /// Defines a name.
+    pub fn define(&mut self, alloc: Global, name: &[u8], value: i64) -> Result<(), AllocError>
+        requires { value_of self.old name.now ≡ None }
+        ensures ok { OnOk result (self.new ≡ self.old ++ (name.now, value) ∷ []) }
+        ensures err { OnErr result (self.new ≡ self.old) }
+    {
+        let key = name.to_vec(alloc)?;
+        self.map.insert(key, value)?;
+        Ok(())
+    }
+}
