@@ -1,7 +1,8 @@
 -- What is defined in a source, and what an expression stands for.
 -- Own language; see docs/ASSEMBLER.md.
-use Rattle.std.specs.Prelude.{ℕ, map, Vec, ◌&&◌, List, [], ◌∷◌, ◌++◌, ℤ, pos, ◌+ℤ◌, ◌-ℤ◌, Bool, true, false, Option, Some, None, option_and_then, ◌==◌, nat_le, nat_lt, if◌then◌else◌}
+use Rattle.std.specs.Prelude.{◌≡◌, ℕ, map, Vec, ◌&&◌, List, [], ◌∷◌, ◌++◌, ℤ, pos, ◌+ℤ◌, ◌-ℤ◌, Bool, true, false, Option, Some, None, option_and_then, ◌==◌, nat_le, nat_lt, if◌then◌else◌}
 use Rattle.std.specs.Option.{option_map, option_or}
+use Rattle.std.specs.List.{AllByRecursion}
 use Rattle.std.specs.Str.{bytes_eq}
 use Rattle.rv_source.specs.declared.expression.Atom.{Atom}
 use Rattle.rv_source.specs.declared.expression.Atom.TheVariants.{Number, Character, Symbol, Local, Here}
@@ -9,6 +10,7 @@ use Rattle.rv_source.specs.declared.expression.Term.{Term}
 use Rattle.rv_source.specs.declared.expression.Direction.{Direction}
 use Rattle.rv_source.specs.declared.expression.Direction.TheVariants.{Backward, Forward}
 use Rattle.rv_asm.specs.declared.locals.LocalLabel.{LocalLabel}
+use Rattle.rv_asm.specs.Values.{is_word}
 
 -- names and local labels with their values, in order of definition
 pub record Definitions : Type 0 where
@@ -53,3 +55,7 @@ sum_value ds line here (t ∷ ts) =
 -- a map's entries as definitions
 abbrev pub definitions_of : {A : Type 0} → List (Vec ℕ A × ℤ) → List (List ℕ × ℤ)
 definitions_of = map (λ e. (e.0.items, e.1))
+
+-- each value is one of 32 bits, with or without a sign
+abbrev pub AreWords : List (List ℕ × ℤ) → Type 0
+AreWords ds = AllByRecursion (λ d. is_word d.1 ≡ true) ds

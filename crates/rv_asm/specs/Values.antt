@@ -68,3 +68,8 @@ loading rd w =
 -- how many bytes there are from an address to the next multiple
 abbrev pub gap : ℕ → ℕ → ℕ
 gap here multiple = (multiple - here % multiple) % multiple
+
+-- an instruction that there may be
+abbrev pub listed_if : Option Kind → List Kind
+listed_if None = []
+listed_if (Some kind) = kind ∷ []

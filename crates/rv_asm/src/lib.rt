@@ -4,9 +4,11 @@
 #![tactic(auto)]
 
 mod fault;
+mod instructions;
 mod locals;
 mod names;
 mod placed;
 mod symbols;
+mod values;
 
 pub use fault::{AsmFault, FaultKind};
