@@ -1,6 +1,6 @@
 //! The names that a source defines.
 ghost use Rattle.std.specs.Prelude.{◌≡◌, List, [], ◌∷◌, ◌++◌, None, OnOk, OnErr};
-ghost use Rattle.rv_asm.specs.Symbols.{value_of};
+ghost use Rattle.rv_asm.specs.Symbols.{value_of, definitions_of};
 
 use indexmap::IndexMap;
 use std::alloc::{AllocError, Global};
@@ -35,6 +35,13 @@ impl Names {
         ensures { result ≡ value_of self.now name.now }
     {
         self.map.get(name).copied()
+    }
+
+    /// The names and their values, as a map.
+    pub fn map(&self) -> &IndexMap<Vec<u8>, i64>
+        ensures { definitions_of result.now.entries ≡ self.now }
+    {
+        &self.map
     }
 
     /// Defines a name.
