@@ -3,6 +3,7 @@
 use Rattle.std.specs.Prelude.{◌≡◌, ℕ, ◌+◌, List, [], ◌∷◌, ◌++◌, ℤ, pos, Bool, true, Option, Some, None, Result, Ok, Err}
 use Rattle.std.specs.Option.{unwrap_or}
 use Rattle.rv_source.specs.declared.statement.Statement.{Statement}
+use Rattle.rv_source.specs.declared.statement.Statement.TheVariants as s
 use Rattle.rv_asm.specs.declared.fault.FaultKind.{FaultKind}
 use Rattle.rv_asm.specs.Symbols.{Definitions, sum_value}
 use Rattle.rv_asm.specs.Layout.{Known, asked, size_of, constant_of, statement_fault}
@@ -29,6 +30,14 @@ placed k known statement = elim (statement_fault k known statement) as (λ _. Re
 -- the address of what follows an item
 abbrev pub end_of : Item → ℕ
 end_of item = item.address + size_of item.address item.constant item.statement
+
+-- the name that `.equ` defines, and its value
+abbrev pub defined : ℤ → Statement → Option (List ℕ × ℤ)
+defined c (s.Constant name value) = Some (name, c)
+defined c statement = None
+
+abbrev pub definition_in : Item → Option (List ℕ × ℤ)
+definition_in item = defined item.constant item.statement
 
 -- the bytes of an item, with every name known
 abbrev pub item_bytes : Definitions → Item → Result (List ℕ) FaultKind

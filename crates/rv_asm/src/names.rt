@@ -1,6 +1,6 @@
 //! The names that a source defines.
 ghost use Rattle.std.specs.Prelude.{◌≡◌, true, List, [], ◌∷◌, ◌++◌, None, IfSome, OnOk, OnErr};
-ghost use Rattle.rv_asm.specs.Symbols.{value_of};
+ghost use Rattle.rv_asm.specs.Symbols.{value_of, definitions_of};
 ghost use Rattle.rv_asm.specs.Values.{is_word};
 
 use indexmap::IndexMap;
@@ -39,6 +39,13 @@ impl Names {
         ensures word { IfSome result (λ v. is_word v ≡ true) }
     {
         self.map.get(name).copied()
+    }
+
+    /// The names and their values, as a map.
+    pub fn map(&self) -> &IndexMap<Vec<u8>, i64>
+        ensures { definitions_of result.now.entries ≡ self.now }
+    {
+        &self.map
     }
 
     /// Defines a name, whose value is one of 32 bits, with or without a sign.

@@ -13,25 +13,33 @@ pub struct Placed<'a> {
     /// Counted from 0.
     line: usize,
     address: u32,
+    /// The address of what follows.
+    end: u32,
     /// 0 where none is asked for.
     constant: i64,
     statement: Statement<'a>,
 }
 
 impl<'a> Model for Placed<'a> {
-    ghost use Rattle.rv_asm.specs.Steps.{Item, IsTaken};
+    ghost use Rattle.std.specs.Prelude.{◌≡◌, ◌≤◌};
+    ghost use Rattle.rv_asm.specs.Steps.{Item, IsTaken, end_of};
 
     ghost Value = { Item };
 
     ghost view = { λ p. record { line = p.line; address = p.address; constant = p.constant; statement = p.statement } };
 
-    ghost invariant = { λ p. IsTaken (record { line = p.line; address = p.address; constant = p.constant; statement = p.statement }) };
+    ghost invariant = {
+        λ p.
+        let item : Item = record { line = p.line; address = p.address; constant = p.constant; statement = p.statement } in
+        IsTaken item × (p.end ≡ end_of item) × (p.end ≤ 0x81000000)
+    };
 }
 
 impl<'a> Placed<'a> {
-    ghost use Rattle.std.specs.Prelude.{◌≡◌};
+    ghost use Rattle.std.specs.Prelude.{◌≡◌, ◌≤◌};
+    ghost use Rattle.std.specs.Option.{option_map};
     ghost use Rattle.rv_asm.specs.Faults.{KindGives, KindBecomes};
-    ghost use Rattle.rv_asm.specs.Steps.{placed, end_of, item_bytes, appended};
+    ghost use Rattle.rv_asm.specs.Steps.{placed, end_of, definition_in, item_bytes, appended};
 
     /// The place of a statement on a line, where its fault in phase two is none.
     pub fn new(
@@ -50,6 +58,24 @@ impl<'a> Placed<'a> {
         ensures { result ≡ self.now.line }
     {
         self.line
+    }
+
+    /// The address of what follows the statement.
+    pub fn end(&self) -> u32
+        ensures value { result ≡ end_of self.now }
+        ensures within { result ≤ 0x81000000 }
+    {
+        self.end
+    }
+
+    /// The name that `.equ` defines, and its value.
+    pub fn definition(&self) -> Option<(&'a [u8], i64)>
+        ensures { option_map (λ d. (d.0.now, d.1)) result ≡ definition_in self.now }
+    {
+        match &self.statement {
+            Statement::Constant { name, .. } => Some((name.bytes(), self.constant)),
+            _ => None,
+        }
     }
 
     /// Appends the bytes of the statement, with every name known.
