@@ -8,6 +8,7 @@ mod instructions;
 mod locals;
 mod names;
 mod placed;
+mod sizes;
 mod symbols;
 mod values;
 

@@ -6,7 +6,7 @@ ghost use Rattle.rv_asm.specs.Values.{is_between, is_word, fits, immediate, uppe
 use crate::instructions::{Instructions, lui, op_imm, zero};
 use rv_isa::{ImmOp, Reg, Width};
 
-fn is_between(low: i64, high: i64, value: i64) -> bool
+pub fn is_between(low: i64, high: i64, value: i64) -> bool
     ensures { result ≡ is_between low high value }
 {
     low <= value && value <= high
