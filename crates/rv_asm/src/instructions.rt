@@ -9,32 +9,41 @@ use rv_source::Csr;
 use std::alloc::AllocError;
 use std::marker::Model;
 
-/// One or two instructions.
+/// At most two instructions.
 #[derive(Drop)]
 pub struct Instructions {
-    first: Instr,
+    first: Option<Instr>,
     second: Option<Instr>,
 }
 
 impl Model for Instructions {
-    ghost use Rattle.std.specs.Prelude.{List, ◌∷◌};
+    ghost use Rattle.std.specs.Prelude.{List, ◌++◌};
     ghost use Rattle.rv_isa.specs.declared.kind.Kind.{Kind};
     ghost use Rattle.rv_asm.specs.Values.{listed_if};
 
     ghost Value = { List Kind };
 
-    ghost view = { λ i. i.first ∷ listed_if i.second };
+    ghost view = { λ i. listed_if i.first ++ listed_if i.second };
 }
 
 impl Instructions {
     ghost use Rattle.std.specs.Prelude.{◌≡◌, ◌++◌, ◌*◌, length, [], ◌∷◌, OnOk};
     ghost use Rattle.rv_asm.specs.Listing.{bytes};
 
+    pub fn none() -> Self
+        ensures { result ≡ [] }
+    {
+        Instructions {
+            first: None,
+            second: None,
+        }
+    }
+
     pub fn one(first: Instr) -> Self
         ensures { result ≡ first ∷ [] }
     {
         Instructions {
-            first,
+            first: Some(first),
             second: None,
         }
     }
@@ -43,7 +52,7 @@ impl Instructions {
         ensures { result ≡ first ∷ second ∷ [] }
     {
         Instructions {
-            first,
+            first: Some(first),
             second: Some(second),
         }
     }
@@ -52,14 +61,16 @@ impl Instructions {
     pub fn size(&self) -> u32
         ensures { result ≡ 4 * length self.now }
     {
-        if self.second.is_some() { 8 } else { 4 }
+        4 * (u32::from(self.first.is_some()) + u32::from(self.second.is_some()))
     }
 
     /// Appends the words of the instructions, each with its low byte first.
     pub fn write(&self, out: &mut Vec<u8>) -> Result<(), AllocError>
         ensures { OnOk result (out.new.items ≡ out.old.items ++ bytes self.now) }
     {
-        out.extend_from_slice(&encode(self.first).to_le_bytes())?;
+        if let Some(first) = self.first {
+            out.extend_from_slice(&encode(first).to_le_bytes())?;
+        }
         if let Some(second) = self.second {
             out.extend_from_slice(&encode(second).to_le_bytes())?;
         }
