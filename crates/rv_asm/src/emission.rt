@@ -1,19 +1,22 @@
 //! The bytes of statements, with their values put in.
 ghost use Rattle.std.specs.Prelude.{◌≡◌, ◌<◌, ◌^◌, Some, IfOk};
 ghost use Rattle.rv_isa.specs.Number.{IsWithin, IsDistance};
+ghost use Rattle.rv_asm.specs.Faults.{KindBecomes};
+ghost use Rattle.rv_asm.specs.Steps.{appended};
 ghost use Rattle.rv_asm.specs.Symbols.{sum_value};
 ghost use Rattle.rv_asm.specs.Values.{immediate, upper_immediate, five_bits, distance, hi, lo, far};
-ghost use Rattle.rv_asm.specs.Listing.{wanted, part_of, immediate_of, upper_of, instructions};
+ghost use Rattle.rv_asm.specs.Listing.{wanted, part_of, immediate_of, upper_of, fill_of, sums_bytes, instructions};
 
+use crate::data::write_value;
 use crate::instructions::{
     Instructions, auipc, branch, csr_imm, jal, jalr, load, lui, op_imm, shift, store,
 };
 use crate::symbols::Symbols;
 use crate::values::{
-    as_word, bits, branch_distance, far, five_bits, hi, jump_distance, lo, loading, upper_immediate,
+    as_word, bits, branch_distance, far, fits, five_bits, hi, jump_distance, lo, loading, upper_immediate,
 };
 use crate::{FaultKind, values};
-use rv_isa::ImmOp;
+use rv_isa::{ImmOp, Width};
 use rv_source::{Expression, Immediate, Statement, Upper};
 
 /// Where expressions are evaluated: what is defined, and the line, counted from 0, and the address of the statement.
@@ -217,6 +220,48 @@ impl<'a> Scope<'a> {
                 Ok(Instructions::two(auipc(*scratch, hi(far)), second))
             }
             _ => Ok(Instructions::none()),
+        }
+    }
+
+    /// Appends values, each in as many bytes as the width has. One that isn't defined comes before one out of range.
+    pub fn write_values(
+        &self,
+        width: Width,
+        values: &[Expression],
+        out: &mut Vec<u8>,
+    ) -> Result<(), FaultKind>
+        ensures { KindBecomes out.new.items result (appended out.old.items (sums_bytes (sum_value self.now.symbols.now self.now.line self.now.here) width values.now)) }
+    {
+        let mut in_range = true;
+        for expression in values {
+            let value = self.known(expression)?;
+            if fits(width, value) {
+                write_value(width, value, out)?;
+            } else {
+                in_range = false;
+            }
+        }
+        if in_range {
+            Ok(())
+        } else {
+            Err(FaultKind::OutOfRange)
+        }
+    }
+
+    /// The byte that fills a space: 0 where none is written.
+    pub fn fill(&self, fill: &Option<Expression>) -> Result<u8, FaultKind>
+        ensures { result ≡ fill_of (sum_value self.now.symbols.now self.now.line self.now.here) fill.now }
+    {
+        match fill {
+            None => Ok(0),
+            Some(sum) => {
+                let value = self.known(sum)?;
+                if fits(Width::One, value) {
+                    Ok(value.rem_euclid(0x100) as u8)
+                } else {
+                    Err(FaultKind::OutOfRange)
+                }
+            }
         }
     }
 }

@@ -3,6 +3,7 @@
 //! The language is this project's own: see docs/ASSEMBLER.md.
 #![tactic(auto)]
 
+mod data;
 mod emission;
 mod fault;
 mod instructions;

@@ -1,5 +1,5 @@
 //! What a statement asks for when it is placed, and how many bytes it has.
-ghost use Rattle.std.specs.Prelude.{◌≡◌, ◌≤◌, ◌^◌, true, None, IfSome};
+ghost use Rattle.std.specs.Prelude.{◌≡◌, ◌≤◌, ◌<◌, ◌+◌, ◌^◌, true, None, IfSome};
 ghost use Rattle.rv_asm.specs.Layout.{constant, size_of, is_instruction, is_multiple};
 ghost use Rattle.rv_asm.specs.Listing.{multiple_of};
 ghost use Rattle.rv_asm.specs.Steps.{IsTaken};
@@ -9,10 +9,10 @@ use crate::values::{bits, gap, is_between, is_word, loading};
 use rv_source::Statement;
 
 /// Where the image lies.
-pub const BASE: u32 = 0x8000_0000;
+const BASE: u32 = 0x8000_0000;
 
 /// How many bytes an image has at most.
-pub const LIMIT: u32 = 16_777_216;
+const LIMIT: u32 = 16_777_216;
 
 /// Whether a value is a power of two, from 1 to 4096.
 fn is_multiple(value: i64) -> bool
@@ -78,6 +78,16 @@ pub fn size_of(here: u32, constant: i64, statement: &Statement) -> Option<u32>
         Statement::Marker => Some(0),
         _ => Some(4),
     }
+}
+
+/// The address of what follows a statement; None where it is past the last byte that an image may have.
+pub fn end_of(here: u32, constant: i64, statement: &Statement) -> Option<u32>
+    requires { IsTaken (record { line = 0; address = here; constant = constant; statement = statement.now }) }
+    ensures some { IfSome result (λ end. (end ≡ here + size_of here constant statement.now) × (end ≤ 0x81000000)) }
+    ensures none { result ≡ None → 0x81000000 < here + size_of here constant statement.now }
+{
+    let end = here.checked_add(size_of(here, constant, statement)?)?;
+    (end <= BASE + LIMIT).then_some(end)
 }
 
 /// Whether a statement is placed as instructions.
