@@ -1,3 +1,4 @@
 pub mod Lookups
 pub mod Sums
 pub mod Nops
+pub mod Writing

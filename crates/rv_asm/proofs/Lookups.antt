@@ -1,6 +1,6 @@
 -- Looking names up in a list of definitions.
 use Rattle.std.proofs.Common.{◌≡◌, ℕ, List, [], ◌∷◌, ◌++◌, ℤ, Bool, true, false, cond, ap, refl, Vec}
-use Rattle.std.specs.Prelude.{Option, Some, None, IfSome, nat_eq}
+use Rattle.std.specs.Prelude.{Option, Some, IfSome, nat_eq}
 use Rattle.std.specs.Str.{bytes_eq}
 use Rattle.std.specs.Map.{lookup}
 use lib.Pointwise.{pointwise}

@@ -1,5 +1,5 @@
 -- Words of `nop`, one more at the end.
-use Rattle.std.proofs.Common.{◌≡◌, ◌∙◌, ℕ, zero, suc, ◌+◌, List, [], ◌++◌, ap, sym, refl, append-nil, append_assoc, add-one}
+use Rattle.std.proofs.Common.{◌≡◌, ◌∙◌, ℕ, zero, suc, ◌+◌, ◌++◌, ap, sym, append-nil, append_assoc, add-one}
 use Rattle.std.specs.Prelude.{pos}
 use Rattle.std.specs.Int.{to_le_bytes, w32}
 use Rattle.rv_isa.specs.Word.{word}

@@ -1,9 +1,8 @@
 -- The bytes of a statement, once the values of its expressions are known.
 -- Own language; see docs/ASSEMBLER.md.
-use Rattle.std.specs.Prelude.{ℕ, zero, suc, ◌-◌, ◌+◌, ◌*◌, ◌/◌, ◌^◌, List, [], ◌∷◌, ◌++◌, length, replicate, min, ℤ, pos, Option, Some, None, Result, Ok, Err, if◌then◌else◌}
+use Rattle.std.specs.Prelude.{ℕ, zero, suc, ◌-◌, ◌/◌, ◌^◌, List, [], ◌∷◌, ◌++◌, replicate, min, ℤ, pos, Option, Some, None, Result, Ok, Err, if◌then◌else◌}
 use Rattle.std.specs.Int.{to_le_bytes, w8, w16, w32}
 use Rattle.rv_isa.specs.Number.{modulo}
-use Rattle.rv_isa.specs.Width.{bytes_of}
 use Rattle.rv_isa.specs.Word.{word}
 use Rattle.rv_isa.specs.declared.kind.Kind.{Kind}
 use Rattle.rv_isa.specs.declared.kind.Kind.TheVariants as kind
@@ -19,7 +18,7 @@ use Rattle.rv_source.specs.declared.statement.Upper.{Upper}
 use Rattle.rv_source.specs.declared.statement.Upper.TheVariants as u
 use Rattle.rv_asm.specs.declared.fault.FaultKind.{FaultKind}
 use Rattle.rv_asm.specs.declared.fault.FaultKind.TheVariants.{Undefined, OutOfRange}
-use Rattle.rv_asm.specs.Values.{is_word, fits, immediate, upper_immediate, five_bits, distance, hi, lo, as_word, far, loading, gap}
+use Rattle.rv_asm.specs.Values.{fits, immediate, upper_immediate, five_bits, distance, hi, lo, as_word, far, loading, gap}
 
 infixl 10 ◌>>=◌
 abbrev pub ◌>>=◌ : {A B E : Type 0} → Result A E → (A → Result B E) → Result B E

@@ -13,7 +13,8 @@ use crate::instructions::{
 };
 use crate::symbols::Symbols;
 use crate::values::{
-    as_word, bits, branch_distance, far, fits, five_bits, hi, jump_distance, lo, loading, upper_immediate,
+    as_word, bits, branch_distance, far, fits, five_bits, hi, jump_distance, lo, loading,
+    upper_immediate,
 };
 use crate::{FaultKind, values};
 use rv_isa::{ImmOp, Width};
@@ -234,7 +235,9 @@ impl<'a> Scope<'a> {
     {
         let mut in_range = true;
         for expression in values {
-            let value = self.known(expression)?;
+            let Some(value) = self.value(expression) else {
+                return Err(FaultKind::Undefined);
+            };
             if fits(width, value) {
                 write_value(width, value, out)?;
             } else {

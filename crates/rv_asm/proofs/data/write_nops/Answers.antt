@@ -1,4 +1,4 @@
-use Rattle.std.proofs.Common.{◌≡◌, ◌∙◌, ◌++◌, append_assoc, refl}
+use Rattle.std.proofs.Common.{append_assoc, refl}
 use Rattle.rv_asm.proofs.Nops.{nops_more}
 use Rattle.rv_asm.proofs.data.write_nops.Goals as goal
 
