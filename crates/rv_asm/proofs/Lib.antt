@@ -1,10 +1,4 @@
 pub mod Lookups
-pub mod Digits
-pub mod Front
-pub mod Cutting
-pub mod Splitting
-pub mod Addresses
-pub mod Runs
-pub mod Emission
-pub mod Reading
-pub mod Whole
+pub mod Sums
+pub mod Nops
+pub mod Writing

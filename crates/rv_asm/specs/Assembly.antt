@@ -1,14 +1,16 @@
 -- What a source is assembled to.
 -- Own language; see docs/ASSEMBLER.md.
-use Rattle.std.specs.Prelude.{ℕ, suc, List, [], map, length, get_or, ℤ, Option, Some, None, is_some, if◌then◌else◌, Result, Ok, Err}
+use Rattle.std.specs.Prelude.{ℕ, suc, List, [], map, length, get_or, ℤ, pos, Option, Some, None, Result, Ok, Err}
 use Rattle.std.specs.Option.{option_map, option_or, unwrap_or}
+use Rattle.rv_source.specs.Said.{Said}
+use Rattle.rv_source.specs.Reading.{said}
+use Rattle.rv_source.specs.Lines.{lines}
 use Rattle.rv_asm.specs.declared.fault.FaultKind.{FaultKind}
-use Rattle.rv_asm.specs.declared.fault.FaultKind.TheVariants.{Syntax}
 use Rattle.rv_asm.specs.declared.fault.AsmFault.{AsmFault}
-use Rattle.rv_asm.specs.declared.line.Line.{Line}
-use Rattle.rv_asm.specs.Lines.{lines, line_text}
-use Rattle.rv_asm.specs.Layout.{first, blank, symbols, phase_two_fault}
-use Rattle.rv_asm.specs.Listing.{phase_three_fault, listing, bytes}
+use Rattle.rv_asm.specs.Faults.{kind_of}
+use Rattle.rv_asm.specs.Symbols.{sum_value}
+use Rattle.rv_asm.specs.Layout.{first, joined, blank, line_at, known_at, constant_of, definitions, phase_two_fault}
+use Rattle.rv_asm.specs.Listing.{statement_bytes}
 
 -- the bytes of the image, and the names with their values, in order of definition
 pub record Assembly : Type 0 where
@@ -17,11 +19,29 @@ pub record Assembly : Type 0 where
 
 -- the fault of line k in phase one
 abbrev pub phase_one_fault : List (List ℕ) → ℕ → Option FaultKind
-phase_one_fault texts k = if is_some (line_text (get_or texts k [])) then None else Some Syntax
+phase_one_fault texts k =
+    elim (said (get_or texts k [])) as (λ _. Option FaultKind) [ Ok line ↦ None | Err fault ↦ Some (kind_of fault) ]
 
--- what the lines say, where each is a line of the language
-abbrev pub said : List (List ℕ) → List Line
-said texts = map (λ text. unwrap_or (line_text text) blank) texts
+-- what the lines say, where each can be read
+abbrev pub all_said : List (List ℕ) → List Said
+all_said texts = map (λ text. elim (said text) as (λ _. Said) [ Ok line ↦ line | Err fault ↦ blank ]) texts
+
+-- the bytes of line k, with every name known
+abbrev pub line_bytes : List Said → ℕ → Result (List ℕ) FaultKind
+line_bytes lines k =
+    let known = known_at lines k in
+    elim (line_at lines k).statement as (λ _. Result (List ℕ) FaultKind) [
+      | None ↦ Ok []
+      | Some statement ↦ statement_bytes (sum_value (definitions lines) k known.address) known.address (unwrap_or (constant_of k known statement) (pos 0)) statement
+    ]
+
+-- the fault of line k in phase three
+abbrev pub phase_three_fault : List Said → ℕ → Option FaultKind
+phase_three_fault lines k = elim (line_bytes lines k) as (λ _. Option FaultKind) [ Ok bs ↦ None | Err kind ↦ Some kind ]
+
+-- the bytes of all lines, where no line has a fault
+abbrev pub bytes : List Said → List ℕ
+bytes lines = joined (λ k. elim (line_bytes lines k) as (λ _. List ℕ) [ Ok bs ↦ bs | Err kind ↦ [] ]) (length lines)
 
 -- the first of n lines that has a fault; its number counts from 1
 abbrev pub first_fault : (ℕ → Option FaultKind) → ℕ → Option AsmFault
@@ -32,7 +52,7 @@ abbrev pub fault_of : List (List ℕ) → Option AsmFault
 fault_of texts =
     let n = length texts in
     option_or (first_fault (phase_one_fault texts) n)
-    (option_or (first_fault (phase_two_fault (said texts)) n) (first_fault (phase_three_fault (said texts)) n))
+    (option_or (first_fault (phase_two_fault (all_said texts)) n) (first_fault (phase_three_fault (all_said texts)) n))
 
 -- the image and the names of a source, or its fault
 unfoldable pub assembled : List ℕ → Result Assembly AsmFault
@@ -40,5 +60,5 @@ assembled source =
     let texts = lines source in
     elim (fault_of texts) as (λ _. Result Assembly AsmFault) [
       | Some fault ↦ Err fault
-      | None ↦ Ok (record { bytes = bytes (listing (said texts)); symbols = symbols (said texts) })
+      | None ↦ Ok (record { bytes = bytes (all_said texts); symbols = (definitions (all_said texts)).names })
     ]

@@ -1,23 +1,35 @@
 -- Faults, and answers that may fail.
 -- Own language; see docs/ASSEMBLER.md.
-use Rattle.std.specs.Prelude.{◌≡◌, ℕ, List, Option, Some, None, Result, Ok, Err, codes}
+use Rattle.std.specs.Prelude.{◌≡◌, ℕ, List, Result, Ok, Err, codes}
+use Rattle.rv_source.specs.declared.fault.LineFault.{LineFault}
+use Rattle.rv_source.specs.declared.fault.LineFault.TheVariants as line
 use Rattle.rv_asm.specs.declared.fault.FaultKind.{FaultKind}
-use Rattle.rv_asm.specs.declared.fault.FaultKind.TheVariants.{Syntax, DuplicateSymbol, NotConstant, TooLarge, Undefined, OutOfRange, OutOfMemory}
+use Rattle.rv_asm.specs.declared.fault.FaultKind.TheVariants.{BadByte, LineTooLong, Syntax, UnknownWord, BadOperands, DuplicateSymbol, NotConstant, Misplaced, TooLarge, Undefined, OutOfRange, OutOfMemory}
 use Rattle.rv_asm.specs.declared.fault.AsmFault.{AsmFault}
 
 abbrev pub number_of : FaultKind → ℕ
+number_of BadByte = 1
+number_of LineTooLong = 2
 number_of Syntax = 3
+number_of UnknownWord = 4
+number_of BadOperands = 5
 number_of DuplicateSymbol = 6
 number_of NotConstant = 7
+number_of Misplaced = 8
 number_of TooLarge = 9
 number_of Undefined = 10
 number_of OutOfRange = 11
 number_of OutOfMemory = 12
 
 abbrev pub name_of : FaultKind → List ℕ
+name_of BadByte = codes "BadByte"
+name_of LineTooLong = codes "LineTooLong"
 name_of Syntax = codes "Syntax"
+name_of UnknownWord = codes "UnknownWord"
+name_of BadOperands = codes "BadOperands"
 name_of DuplicateSymbol = codes "DuplicateSymbol"
 name_of NotConstant = codes "NotConstant"
+name_of Misplaced = codes "Misplaced"
 name_of TooLarge = codes "TooLarge"
 name_of Undefined = codes "Undefined"
 name_of OutOfRange = codes "OutOfRange"
@@ -51,10 +63,14 @@ abbrev pub KindBecomes : {A B : Type 0} → B → Result A FaultKind → Result 
 KindBecomes new (Ok x) meaning = meaning ≡ Ok new
 KindBecomes new (Err kind) meaning = KindFails kind meaning
 
--- where nothing is meant, the line isn't one of the language
-abbrev pub or_syntax : {A : Type 0} → Option A → Result A FaultKind
-or_syntax (Some x) = Ok x
-or_syntax None = Err Syntax
+-- what is wrong with a line that can't be read
+abbrev pub kind_of : LineFault → FaultKind
+kind_of line.BadByte = BadByte
+kind_of line.LineTooLong = LineTooLong
+kind_of line.Syntax = Syntax
+kind_of line.UnknownWord = UnknownWord
+kind_of line.BadOperands = BadOperands
+kind_of line.OutOfMemory = OutOfMemory
 
 -- the fault of a kind at a line; want of memory is at line 0
 abbrev pub IsFaultAt : ℕ → FaultKind → AsmFault → Type 0

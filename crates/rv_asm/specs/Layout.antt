@@ -1,16 +1,21 @@
--- Where the lines of a source lie, what its names stand for, and what is wrong with a line so far.
+-- Where the lines of a source lie, what they define, and what is wrong with a line so far.
 -- Lines are counted from 0.
 -- Own language; see docs/ASSEMBLER.md.
-use Rattle.std.specs.Prelude.{ℕ, zero, suc, ◌+◌, ◌*◌, ◌^◌, Bool, true, false, not, List, [], ◌∷◌, ◌++◌, length, get_or, ℤ, pos, nat_lt, Option, Some, None, is_some, if◌then◌else◌}
-use Rattle.std.specs.Option.{option_or}
-use Rattle.std.specs.Str.{bytes_eq}
+use Rattle.std.specs.Prelude.{ℕ, zero, suc, ◌+◌, ◌*◌, ◌^◌, ◌%◌, Bool, true, false, not, ◌||◌, ◌&&◌, List, [], ◌∷◌, ◌++◌, length, get_or, ℤ, pos, nat_lt, ◌==◌, Option, Some, None, option_and_then, is_some, if◌then◌else◌}
+use Rattle.std.specs.Option.{option_or, unwrap_or}
 use Rattle.rv_isa.specs.Number.{modulo}
-use Rattle.rv_asm.specs.declared.line.Statement.{Statement}
-use Rattle.rv_asm.specs.declared.line.Statement.TheVariants.{Li}
-use Rattle.rv_asm.specs.declared.line.Line.{Line}
+use Rattle.rv_isa.specs.Width.{bytes_of}
+use Rattle.rv_source.specs.Said.{Said}
+use Rattle.rv_source.specs.declared.expression.Term.{Term}
+use Rattle.rv_source.specs.declared.line.Label.{Label}
+use Rattle.rv_source.specs.declared.line.Label.TheVariants as label
+use Rattle.rv_source.specs.declared.statement.Statement.{Statement}
+use Rattle.rv_source.specs.declared.statement.Statement.TheVariants as s
 use Rattle.rv_asm.specs.declared.fault.FaultKind.{FaultKind}
-use Rattle.rv_asm.specs.declared.fault.FaultKind.TheVariants.{DuplicateSymbol, NotConstant, TooLarge}
-use Rattle.rv_asm.specs.Values.{is_word, loading}
+use Rattle.rv_asm.specs.declared.fault.FaultKind.TheVariants.{DuplicateSymbol, NotConstant, Misplaced, TooLarge}
+use Rattle.rv_asm.specs.Symbols.{Definitions, value_of, sum_value}
+use Rattle.rv_asm.specs.Values.{is_between, is_word, loading, gap}
+use Rattle.rv_asm.specs.Listing.{multiple_of}
 
 -- ---- over the numbers below n, in their order
 
@@ -24,27 +29,7 @@ unfoldable pub joined : {A : Type 0} → (ℕ → List A) → ℕ → List A
 joined f zero = []
 joined f (suc n) = joined f n ++ f n
 
--- f 0 + f 1 + ..
-unfoldable pub total : (ℕ → ℕ) → ℕ → ℕ
-total f zero = 0
-total f (suc n) = total f n + f n
-
--- ---- addresses
-
--- a line that says nothing, as every one past the end
-abbrev pub blank : Line
-blank = record { label = None; statement = None }
-
-abbrev pub line_at : List Line → ℕ → Line
-line_at lines k = get_or lines k blank
-
--- an instruction has four bytes
-abbrev pub size_of : Statement → ℕ
-size_of (Li rd v) = 4 * length (loading rd (modulo v (2 ^ 32)))
-size_of _ = 4
-
-abbrev pub size_of_line : Line → ℕ
-size_of_line line = elim line.statement as (λ _. ℕ) [ None ↦ 0 | Some s ↦ size_of s ]
+-- ---- what a statement asks for when it is placed
 
 -- where the image lies
 abbrev pub base : ℕ
@@ -54,53 +39,146 @@ base = 0x80000000
 abbrev pub limit : ℕ
 limit = 16777216
 
--- line k lies behind all lines before it
-abbrev pub address : List Line → ℕ → ℕ
-address lines k = base + total (λ j. size_of_line (line_at lines j)) k
+-- a power of two from 1 to 4096
+abbrev pub is_multiple : ℤ → Bool
+is_multiple v = is_between (pos 1) (pos 4096) v && (4096 % modulo v (2 ^ 32) == 0)
 
--- ---- names
+-- the expression whose value has to be known where the statement stands, and the values that it takes
+abbrev pub asked : Statement → Option (List Term × (ℤ → Bool))
+asked (s.Li rd value) = Some (value, is_word)
+asked (s.Constant name value) = Some (value, is_word)
+asked (s.Space size fill) = Some (size, is_between (pos 0) (pos limit))
+asked (s.Align power) = Some (power, is_between (pos 0) (pos 12))
+asked (s.Balign multiple) = Some (multiple, is_multiple)
+asked statement = None
 
-abbrev pub is_labelled : List ℕ → Line → Bool
-is_labelled name line = elim line.label as (λ _. Bool) [ None ↦ false | Some label ↦ bytes_eq name label ]
+abbrev pub taken : (ℤ → Bool) → ℤ → Option ℤ
+taken takes v = if takes v then Some v else None
 
--- the address of the first of n lines with this label
-abbrev pub definition_before : List Line → ℕ → List ℕ → Option ℤ
-definition_before lines n name = first (λ k. if is_labelled name (line_at lines k) then Some (pos (address lines k)) else None) n
+-- that value, or 0 where none is asked for; None where it isn't known or isn't taken
+abbrev pub constant : Definitions → ℕ → ℕ → Statement → Option ℤ
+constant ds line here statement = elim (asked statement) as (λ _. Option ℤ) [
+  | None ↦ Some (pos 0)
+  | Some a ↦ option_and_then (taken a.1) (sum_value ds line here a.0)
+]
 
--- the value of a name: the address of the line with this label
-abbrev pub definition : List Line → List ℕ → Option ℤ
-definition lines name = definition_before lines (length lines) name
+-- how many bytes a statement at an address has; c is the value that was asked for
+abbrev pub size_of : ℕ → ℤ → Statement → ℕ
+size_of here c (s.Li rd value) = 4 * length (loading rd (modulo c (2 ^ 32)))
+size_of here c (s.La rd target) = 8
+size_of here c (s.Call link scratch target) = 8
+size_of here c (s.LoadFrom op rd target) = 8
+size_of here c (s.StoreTo width source scratch target) = 8
+size_of here c (s.Data width values) = bytes_of width * length values.items
+size_of here c (s.Bytes bytes) = length bytes.items
+size_of here c (s.Space size fill) = modulo c (2 ^ 32)
+size_of here c (s.Align power) = gap here (multiple_of (s.Align power) c)
+size_of here c (s.Balign multiple) = gap here (multiple_of (s.Balign multiple) c)
+size_of here c (s.Constant name value) = 0
+size_of here c s.Marker = 0
+size_of here c statement = 4
 
--- the label of line k with its value
-abbrev pub symbol_at : List Line → ℕ → List (List ℕ × ℤ)
-symbol_at lines k = elim (line_at lines k).label as (λ _. List (List ℕ × ℤ)) [ None ↦ [] | Some label ↦ (label, pos (address lines k)) ∷ [] ]
+-- whether a statement is placed as instructions
+abbrev pub is_instruction : Statement → Bool
+is_instruction (s.Data width values) = false
+is_instruction (s.Bytes bytes) = false
+is_instruction (s.Space size fill) = false
+is_instruction (s.Align power) = false
+is_instruction (s.Balign multiple) = false
+is_instruction (s.Constant name value) = false
+is_instruction s.Marker = false
+is_instruction statement = true
 
--- the names of a source and their values, in order of definition
-abbrev pub symbols : List Line → List (List ℕ × ℤ)
-symbols lines = joined (symbol_at lines) (length lines)
+-- ---- what is known before a line
+
+-- a line that says nothing, as every one past the end
+abbrev pub blank : Said
+blank = record { labels = []; statement = None }
+
+abbrev pub line_at : List Said → ℕ → Said
+line_at lines k = get_or lines k blank
+
+-- the address of what follows, and what was defined so far
+pub record Known : Type 0 where
+  pub address : ℕ
+  pub definitions : Definitions
+
+-- a label stands for the address of what follows
+abbrev pub labelled : ℕ → Known → Label → Known
+labelled k known (label.Name name) =
+    record known { definitions = record known.definitions { names = known.definitions.names ++ (name, pos known.address) ∷ [] } }
+labelled k known (label.Local number) =
+    record known { definitions = record known.definitions { locals = known.definitions.locals ++ record { number = number; line = k; address = known.address } ∷ [] } }
+
+abbrev pub with_labels : ℕ → Known → List Label → Known
+with_labels k known [] = known
+with_labels k known (l ∷ ls) = with_labels k (labelled k known l) ls
+
+-- `.equ` gives a name to its value
+abbrev pub named : Known → ℤ → Statement → Known
+named known c (s.Constant name value) =
+    record known { definitions = record known.definitions { names = known.definitions.names ++ (name, c) ∷ [] } }
+named known c statement = known
+
+-- a statement lies where it stands, and what follows lies behind it
+abbrev pub stated : Known → ℤ → Statement → Known
+stated known c statement =
+    let after = named known c statement in record after { address = known.address + size_of known.address c statement }
+
+-- the value that line k asks for, once its labels are defined
+abbrev pub constant_of : ℕ → Known → Statement → Option ℤ
+constant_of k known statement = constant known.definitions k known.address statement
+
+-- after a statement, which is on line k behind its labels
+abbrev pub with_statement : ℕ → Known → Option Statement → Known
+with_statement k known None = known
+with_statement k known (Some statement) = stated known (unwrap_or (constant_of k known statement) (pos 0)) statement
+
+-- before any line
+abbrev pub start : Known
+start = record { address = base; definitions = record { names = []; locals = [] } }
+
+-- before line k: what the lines before it define, and the address behind all of them
+unfoldable pub known_before : List Said → ℕ → Known
+known_before lines zero = start
+known_before lines (suc k) =
+    let line = line_at lines k in with_statement k (with_labels k (known_before lines k) line.labels) line.statement
+
+-- behind the labels of line k
+abbrev pub known_at : List Said → ℕ → Known
+known_at lines k = with_labels k (known_before lines k) (line_at lines k).labels
+
+-- what all lines define
+abbrev pub definitions : List Said → Definitions
+definitions lines = (known_before lines (length lines)).definitions
 
 -- ---- phase two
 
--- the label of line k is defined on an earlier line
-abbrev pub is_duplicate : List Line → ℕ → Bool
-is_duplicate lines k = elim (line_at lines k).label as (λ _. Bool) [ None ↦ false | Some label ↦ is_some (definition_before lines k label) ]
+-- the labels of a line define a name that was defined before
+abbrev pub relabels : List (List ℕ × ℤ) → List Label → Bool
+relabels names [] = false
+relabels names (label.Name name ∷ ls) = is_some (value_of names name) || relabels ((name, pos 0) ∷ names) ls
+relabels names (label.Local number ∷ ls) = relabels names ls
 
--- the value of `li` is one of 32 bits, with or without a sign
-abbrev pub is_fit : Statement → Bool
-is_fit (Li rd v) = is_word v
-is_fit _ = true
+-- so does `.equ`
+abbrev pub renames : List (List ℕ × ℤ) → Statement → Bool
+renames names (s.Constant name value) = is_some (value_of names name)
+renames names statement = false
 
-abbrev pub is_unfit : Line → Bool
-is_unfit line = elim line.statement as (λ _. Bool) [ None ↦ false | Some s ↦ not (is_fit s) ]
-
--- the image passes its limit with line k
-abbrev pub is_past_limit : List Line → ℕ → Bool
-is_past_limit lines k = nat_lt (base + limit) (address lines (suc k))
+-- what is wrong with a statement on line k behind its labels
+unfoldable pub statement_fault : ℕ → Known → Statement → Option FaultKind
+statement_fault k known statement =
+    if renames known.definitions.names statement then Some DuplicateSymbol
+    else (elim (constant_of k known statement) as (λ _. Option FaultKind) [
+      | None ↦ Some NotConstant
+      | Some c ↦ if is_instruction statement && not (known.address % 4 == 0) then Some Misplaced
+          else (if nat_lt (base + limit) (known.address + size_of known.address c statement) then Some TooLarge
+          else None)
+    ])
 
 -- the fault of line k in phase two
-unfoldable pub phase_two_fault : List Line → ℕ → Option FaultKind
+unfoldable pub phase_two_fault : List Said → ℕ → Option FaultKind
 phase_two_fault lines k =
-    if is_duplicate lines k then Some DuplicateSymbol
-    else (if is_unfit (line_at lines k) then Some NotConstant
-    else (if is_past_limit lines k then Some TooLarge
-    else None))
+    let line = line_at lines k in
+    if relabels (known_before lines k).definitions.names line.labels then Some DuplicateSymbol
+    else option_and_then (statement_fault k (known_at lines k)) line.statement

@@ -2,20 +2,31 @@
 ghost use Rattle.std.specs.Prelude.{◌≡◌};
 ghost use Rattle.rv_asm.specs.Faults.{number_of, name_of};
 
+use rv_source::LineFault;
 use std::alloc::{AllocError, AllocFailed};
 
 /// What is wrong with a line.
 #[derive(Clone, Copy, PartialEq, Eq, Debug)]
 pub enum FaultKind {
-    /// The line is no label and statement of the language.
+    /// A byte that no token has stands outside of strings, characters and comments.
+    BadByte,
+    /// The line has more than 1,024 bytes.
+    LineTooLong,
+    /// The line isn't labels and at most one statement.
     Syntax,
-    /// The name was defined on an earlier line.
+    /// The statement's word is neither a mnemonic nor a directive.
+    UnknownWord,
+    /// The word doesn't take these operands.
+    BadOperands,
+    /// The name was defined before.
     DuplicateSymbol,
-    /// The value isn't one that is known where it stands and fits a word.
+    /// The value isn't known where it stands, or isn't one that the statement takes.
     NotConstant,
+    /// The instruction's address isn't a multiple of 4.
+    Misplaced,
     /// The image passes 16,777,216 bytes.
     TooLarge,
-    /// No line defines the name.
+    /// No line defines the name or the local label.
     Undefined,
     /// The value doesn't fit the place where it stands.
     OutOfRange,
@@ -29,9 +40,14 @@ impl FaultKind {
         ensures { result ≡ number_of self }
     {
         match self {
+            FaultKind::BadByte => 1,
+            FaultKind::LineTooLong => 2,
             FaultKind::Syntax => 3,
+            FaultKind::UnknownWord => 4,
+            FaultKind::BadOperands => 5,
             FaultKind::DuplicateSymbol => 6,
             FaultKind::NotConstant => 7,
+            FaultKind::Misplaced => 8,
             FaultKind::TooLarge => 9,
             FaultKind::Undefined => 10,
             FaultKind::OutOfRange => 11,
@@ -44,13 +60,36 @@ impl FaultKind {
         ensures { result.now ≡ name_of self }
     {
         match self {
+            FaultKind::BadByte => "BadByte",
+            FaultKind::LineTooLong => "LineTooLong",
             FaultKind::Syntax => "Syntax",
+            FaultKind::UnknownWord => "UnknownWord",
+            FaultKind::BadOperands => "BadOperands",
             FaultKind::DuplicateSymbol => "DuplicateSymbol",
             FaultKind::NotConstant => "NotConstant",
+            FaultKind::Misplaced => "Misplaced",
             FaultKind::TooLarge => "TooLarge",
             FaultKind::Undefined => "Undefined",
             FaultKind::OutOfRange => "OutOfRange",
             FaultKind::OutOfMemory => "OutOfMemory",
+        }
+    }
+}
+
+impl From<LineFault> for FaultKind {
+    ghost use Rattle.std.specs.Prelude.{◌≡◌};
+    ghost use Rattle.rv_asm.specs.Faults.{kind_of};
+
+    ghost from_gives = { λ fault kind. kind ≡ kind_of fault };
+
+    fn from(fault: LineFault) -> Self {
+        match fault {
+            LineFault::BadByte => FaultKind::BadByte,
+            LineFault::LineTooLong => FaultKind::LineTooLong,
+            LineFault::Syntax => FaultKind::Syntax,
+            LineFault::UnknownWord => FaultKind::UnknownWord,
+            LineFault::BadOperands => FaultKind::BadOperands,
+            LineFault::OutOfMemory => FaultKind::OutOfMemory,
         }
     }
 }

@@ -3,19 +3,15 @@
 //! The language is this project's own: see docs/ASSEMBLER.md.
 #![tactic(auto)]
 
-mod assembler;
+mod data;
+mod emission;
 mod fault;
 mod instructions;
-mod layout;
-mod line;
-mod program;
-mod scan;
+mod locals;
+mod names;
+mod placed;
+mod sizes;
 mod symbols;
-#[cfg(test)]
-mod tests;
-mod token;
 mod values;
 
-pub use assembler::assemble;
 pub use fault::{AsmFault, FaultKind};
-pub use program::Program;

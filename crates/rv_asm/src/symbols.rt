@@ -1,50 +1,75 @@
-//! The names that a source defines.
-ghost use Rattle.std.specs.Prelude.{◌≡◌, List, [], ◌∷◌, ◌++◌, None, OnOk, OnErr};
-ghost use Rattle.rv_asm.specs.Symbols.{value_of};
+//! What a source defines, and what an expression stands for.
+ghost use Rattle.std.specs.Prelude.{◌≡◌, ◌^◌, true, [], IfSome};
+ghost use Rattle.rv_asm.specs.Symbols.{atom_value, sum_value, added, IsNear};
+ghost use Rattle.rv_asm.specs.Values.{is_word};
 
-use indexmap::IndexMap;
-use std::alloc::{AllocError, Global};
+use crate::locals::Locals;
+use crate::names::Names;
+use rv_source::{Atom, Expression};
+use std::alloc::Global;
 use std::marker::Model;
 
-/// Names and their values, in order of definition.
+/// Names and local labels with their values, in order of definition.
 #[derive(Drop)]
 pub struct Symbols {
-    map: IndexMap<Vec<u8>, i64>,
+    pub names: Names,
+    pub locals: Locals,
 }
 
 impl Model for Symbols {
-    ghost use Rattle.std.specs.Prelude.{List, ℕ, ℤ};
-    ghost use Rattle.rv_asm.specs.Symbols.{definitions_of};
+    ghost use Rattle.rv_asm.specs.Symbols.{Definitions};
 
-    ghost Value = { List (List ℕ × ℤ) };
+    ghost Value = { Definitions };
 
-    ghost view = { λ s. definitions_of s.map.entries };
+    ghost view = { λ s. record { names = s.names; locals = s.locals } };
 }
 
 impl Symbols {
     pub fn new(alloc: Global) -> Self
-        ensures { result ≡ [] }
+        ensures { result ≡ record { names = []; locals = [] } }
     {
         Symbols {
-            map: IndexMap::new(alloc),
+            names: Names::new(alloc),
+            locals: Locals::new(alloc),
         }
     }
 
-    /// The value of a name.
-    pub fn value(&self, name: &[u8]) -> Option<i64>
-        ensures { result ≡ value_of self.now name.now }
+    /// What an atom stands for.
+    fn atom(&self, atom: &Atom, line: usize, here: u32) -> Option<i64>
+        ensures value { result ≡ atom_value self.now line here atom.now }
+        ensures word { IfSome result (λ v. is_word v ≡ true) }
     {
-        self.map.get(name).copied()
+        match atom {
+            Atom::Number(n) => Some(i64::from(*n)),
+            Atom::Character(b) => Some(i64::from(*b)),
+            Atom::Symbol(name) => self.names.value(name.bytes()),
+            Atom::Local { number, direction } => {
+                let address = self.locals.nearest(*number, *direction, line)?;
+                Some(i64::from(address))
+            }
+            Atom::Here => Some(i64::from(here)),
+        }
     }
 
-    /// Defines a name.
-    pub fn define(&mut self, alloc: Global, name: &[u8], value: i64) -> Result<(), AllocError>
-        requires { value_of self.old name.now ≡ None }
-        ensures ok { OnOk result (self.new ≡ self.old ++ (name.now, value) ∷ []) }
-        ensures err { OnErr result (self.new ≡ self.old) }
+    /// What an expression stands for on a line, counted from 0, in a statement at an address; None where one of its
+    /// symbols isn't defined.
+    pub fn sum(&self, expression: &Expression, line: usize, here: u32) -> Option<i64>
+        ensures { result ≡ sum_value self.now line here expression.now }
     {
-        let key = name.to_vec(alloc)?;
-        self.map.insert(key, value)?;
-        Ok(())
+        let mut sum: i64 = 0;
+        for term in expression.terms() {
+            let value = self.atom(&term.atom, line, here)?;
+            sum = added(sum, term.negative, value);
+        }
+        Some(sum)
     }
+}
+
+/// A sum and one more value, which is subtracted where it is negative.
+fn added(sum: i64, negative: bool, value: i64) -> i64
+    requires sum { IsNear (2 ^ 62) sum }
+    requires value { is_word value ≡ true }
+    ensures { result ≡ added sum negative value }
+{
+    if negative { sum - value } else { sum + value }
 }

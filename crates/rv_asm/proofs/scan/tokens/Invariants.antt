@@ -1,9 +1,0 @@
-use Rattle.std.proofs.Common.{◌≡◌, length}
-use Rattle.rv_asm.specs.Tokens.{cut, with_tokens}
-use Rattle.rv_asm.proofs.scan.tokens.Given as goal
-
-abbrev pub invariant-loop-rest : goal.invariant-loop-rest
-invariant-loop-rest l = with_tokens l.out.items (cut l.rest 0) ≡ cut l.line 0
-
-abbrev pub decreases-loop-rest : goal.decreases-loop-rest
-decreases-loop-rest l = length l.rest
