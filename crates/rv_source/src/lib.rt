@@ -24,3 +24,5 @@ pub use statement::{Csr, Immediate, Statement, Upper};
 
 #[cfg(test)]
 mod lines_tests;
+#[cfg(test)]
+mod scan_tests;
