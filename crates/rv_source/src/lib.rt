@@ -28,3 +28,5 @@ pub use statement::{Bytes, Csr, Immediate, Statement, Upper, Values};
 
 #[cfg(test)]
 mod lines_tests;
+#[cfg(test)]
+mod scan_tests;
