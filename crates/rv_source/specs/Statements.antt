@@ -26,7 +26,7 @@ use Rattle.rv_source.specs.Expressions.{is_symbol}
 -- ---- what a place takes
 
 -- the name of a register
-abbrev pub register : Operand → Option ℕ
+unfoldable pub register : Operand → Option ℕ
 register (o.Name name value) = lookup name register_names
 register _ = None
 
@@ -35,37 +35,37 @@ abbrev pub csr_number : ℕ → Option ℕ
 csr_number n = if nat_lt n 4096 then Some n else None
 
 -- the name of a control register, or a number
-abbrev pub csr : Operand → Option ℕ
+unfoldable pub csr : Operand → Option ℕ
 csr (o.Name name value) = option_and_then csr_number (lookup name csr_names)
 csr (o.Number n value) = csr_number n
 csr _ = None
 
 -- E
-abbrev pub value : Operand → Option (List Term)
+unfoldable pub value : Operand → Option (List Term)
 value (o.Name name e) = Some e
 value (o.Number n e) = Some e
 value (o.Sum e) = Some e
 value _ = None
 
 -- E or %lo(E)
-abbrev pub immediate : Operand → Option Immediate
+unfoldable pub immediate : Operand → Option Immediate
 immediate (o.Low e) = Some (i.Low e)
 immediate operand = option_map (λ e. i.Sum e) (value operand)
 
 -- E or %hi(E)
-abbrev pub upper : Operand → Option Upper
+unfoldable pub upper : Operand → Option Upper
 upper (o.High e) = Some (u.High e)
 upper operand = option_map (λ e. u.Sum e) (value operand)
 
 -- (register), E(register) or %lo(E)(register): the offset and the base
-abbrev pub memory : Operand → Option (Immediate × ℕ)
+unfoldable pub memory : Operand → Option (Immediate × ℕ)
 memory (o.Base base) = option_map (λ r. (i.Zero, r)) (lookup base register_names)
 memory (o.Indexed e base) = option_map (λ r. (i.Sum e, r)) (lookup base register_names)
 memory (o.LowIndexed e base) = option_map (λ r. (i.Low e, r)) (lookup base register_names)
 memory _ = None
 
 -- a name other than `.`
-abbrev pub symbol : Operand → Option (List ℕ)
+unfoldable pub symbol : Operand → Option (List ℕ)
 symbol (o.Name name value) = if is_symbol name then Some name else None
 symbol _ = None
 
@@ -88,7 +88,7 @@ fence_letters name =
     if is_nothing w.1 && not (is_nothing name) then Some (8 * i.0 + 4 * o.0 + 2 * r.0 + w.0) else None
 
 -- what a fence orders
-abbrev pub fence_set : Operand → Option ℕ
+unfoldable pub fence_set : Operand → Option ℕ
 fence_set (o.Name name value) = fence_letters name
 fence_set _ = None
 
@@ -205,7 +205,7 @@ values (x ∷ []) = option_map (λ e. e ∷ []) (value x)
 values (x ∷ xs) = option_and_then (λ e. option_map (λ es. e ∷ es) (values xs)) (value x)
 
 -- the bytes of a string, with a byte 0 behind them or not
-abbrev pub string : Bool → Operand → Option (List ℕ)
+unfoldable pub string : Bool → Operand → Option (List ℕ)
 string terminated (o.Text bytes) = Some (if terminated then bytes ++ 0 ∷ [] else bytes)
 string terminated _ = None
 

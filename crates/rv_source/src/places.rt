@@ -20,6 +20,7 @@ fn named(name: &Name) -> Option<Reg>
 }
 
 /// A register.
+#[tactic(auto, unfolding(crate::specs::Statements::register))]
 pub fn register(operand: &Operand) -> Option<Reg>
     ensures value { result ≡ register operand.now }
     ensures below { IfSome result (λ r. r < 32) }
@@ -42,6 +43,7 @@ fn numbered(number: u32) -> Option<Csr>
 }
 
 /// A control register, by its name or its number.
+#[tactic(auto, unfolding(crate::specs::Statements::csr))]
 pub fn csr(operand: &Operand) -> Option<Csr>
     ensures { result ≡ csr operand.now }
 {
@@ -56,6 +58,7 @@ pub fn csr(operand: &Operand) -> Option<Csr>
 }
 
 /// A value.
+#[tactic(auto, unfolding(crate::specs::Statements::value))]
 pub fn value<'a>(operand: Operand<'a>) -> Option<Expression<'a>>
     ensures { result ≡ value operand.entry }
 {
@@ -68,6 +71,7 @@ pub fn value<'a>(operand: Operand<'a>) -> Option<Expression<'a>>
 }
 
 /// A value or the low part of one.
+#[tactic(auto, unfolding(crate::specs::Statements::immediate))]
 pub fn immediate<'a>(operand: Operand<'a>) -> Option<Immediate<'a>>
     ensures { result ≡ immediate operand.entry }
 {
@@ -81,6 +85,7 @@ pub fn immediate<'a>(operand: Operand<'a>) -> Option<Immediate<'a>>
 }
 
 /// A value or the high part of one.
+#[tactic(auto, unfolding(crate::specs::Statements::upper))]
 pub fn upper<'a>(operand: Operand<'a>) -> Option<Upper<'a>>
     ensures { result ≡ upper operand.entry }
 {
@@ -94,6 +99,7 @@ pub fn upper<'a>(operand: Operand<'a>) -> Option<Upper<'a>>
 }
 
 /// A register in brackets, with what stands before them: the offset and the base.
+#[tactic(auto, unfolding(crate::specs::Statements::memory))]
 pub fn memory<'a>(operand: Operand<'a>) -> Option<(Immediate<'a>, Reg)>
     ensures { result ≡ memory operand.entry }
 {
@@ -115,6 +121,7 @@ pub fn memory<'a>(operand: Operand<'a>) -> Option<(Immediate<'a>, Reg)>
 }
 
 /// A name other than `.`.
+#[tactic(auto, unfolding(crate::specs::Statements::symbol))]
 pub fn symbol<'a>(operand: &Operand<'a>) -> Option<Name<'a>>
     ensures { result ≡ symbol operand.now }
 {
@@ -166,6 +173,7 @@ fn fence_letters(name: &[u8]) -> Option<u16>
 }
 
 /// What a fence orders, below 16.
+#[tactic(auto, unfolding(crate::specs::Statements::fence_set))]
 pub fn fence_set(operand: &Operand) -> Option<u16>
     ensures value { result ≡ fence_set operand.now }
     ensures below { IfSome result (λ n. n < 16) }
