@@ -8,6 +8,8 @@ use Rattle.rv_isa.specs.declared.kind.Kind.TheVariants as k
 use Rattle.rv_isa.specs.declared.op.ImmOp.TheVariants.{Addi, Sltiu, Xori}
 use Rattle.rv_isa.specs.declared.op.AluOp.TheVariants.{Slt, Sltu, Sub}
 use Rattle.rv_isa.specs.declared.op.CsrOp.TheVariants.{Set}
+use Rattle.rv_isa.specs.declared.op.LoadOp.{LoadOp}
+use Rattle.rv_isa.specs.declared.op.Width.{Width}
 use Rattle.rv_source.specs.declared.expression.Term.{Term}
 use Rattle.rv_source.specs.declared.operand.Operand.{Operand}
 use Rattle.rv_source.specs.declared.operand.Operand.TheVariants as o
@@ -139,14 +141,25 @@ jal = either (two register value (λ rd target. s.Jal rd target)) (one value (λ
 
 abbrev pub jalr : Operands → Option Statement
 jalr =
-    either (two register memory (λ rd m. s.Jalr rd m.1 m.0))
+    either (two register register (λ rd base. s.Instruction (k.Jalr rd base (pos 0))))
+    (either (two register memory (λ rd m. s.Jalr rd m.1 m.0))
     (either (three register register immediate (λ rd base offset. s.Jalr rd base offset))
-    (either (two register register (λ rd base. s.Instruction (k.Jalr rd base (pos 0))))
     (one register (λ base. s.Instruction (k.Jalr 1 base (pos 0))))))
+
+abbrev pub load : LoadOp → Operands → Option Statement
+load op = either (two register value (λ rd target. s.LoadFrom op rd target)) (two register memory (λ rd m. s.Load op rd m.1 m.0))
+
+abbrev pub store : Width → Operands → Option Statement
+store width =
+    either (two register memory (λ source m. s.Store width source m.1 m.0))
+    (three register value register (λ source target scratch. s.StoreTo width source scratch target))
 
 -- iorw,iorw where no sets are written
 abbrev pub fence : Operands → Option Statement
 fence = either (none (s.Instruction (k.Fence 0 0 255))) (two fence_set fence_set (λ p q. s.Instruction (k.Fence 0 0 (16 * p + q))))
+
+abbrev pub space : Operands → Option Statement
+space = either (one value (λ size. s.Space size None)) (two value value (λ size fill. s.Space size (Some fill)))
 
 -- what a form and its operands stand for
 unfoldable pub stands : Form → Operands → Option Statement
@@ -155,8 +168,8 @@ stands f.Auipc = two register value (λ rd imm. s.Auipc rd imm)
 stands f.Jal = jal
 stands f.Jalr = jalr
 stands (f.Branch cond) = three register register value (λ rs1 rs2 target. s.Branch cond rs1 rs2 target)
-stands (f.Load op) = either (two register memory (λ rd m. s.Load op rd m.1 m.0)) (two register value (λ rd target. s.LoadFrom op rd target))
-stands (f.Store width) = either (two register memory (λ rs2 m. s.Store width rs2 m.1 m.0)) (three register value register (λ rs target rt. s.StoreTo width rs rt target))
+stands (f.Load op) = load op
+stands (f.Store width) = store width
 stands (f.OpImm op) = three register register immediate (λ rd rs1 imm. s.OpImm op rd rs1 imm)
 stands (f.Shift op) = three register register value (λ rd rs1 amount. s.Shift op rd rs1 amount)
 stands (f.Op op) = three register register register (λ rd rs1 rs2. s.Instruction (k.Op op rd rs1 rs2))
@@ -189,7 +202,7 @@ stands f.Li = two register value (λ rd v. s.Li rd v)
 stands f.La = two register value (λ rd target. s.La rd target)
 stands f.Call = one value (λ target. s.Call 1 1 target)
 stands f.Tail = one value (λ target. s.Call 0 6 target)
-stands f.Space = either (one value (λ size. s.Space size None)) (two value value (λ size fill. s.Space size (Some fill)))
+stands f.Space = space
 stands f.Align = one value (λ power. s.Align power)
 stands f.Balign = one value (λ multiple. s.Balign multiple)
 stands f.Constant = two symbol value (λ name v. s.Constant name v)

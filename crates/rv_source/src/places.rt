@@ -1,6 +1,5 @@
 //! What a place of a statement takes.
-ghost use Rattle.std.specs.Prelude.{◌≡◌, ◌<◌, ◌≤◌, ℕ, List, IfSome};
-ghost use Rattle.std.specs.Option.{option_map};
+ghost use Rattle.std.specs.Prelude.{◌≡◌, ◌<◌, ◌≤◌, IfSome, MatchResult};
 ghost use Rattle.rv_isa.specs.Names.{lookup, register_names};
 ghost use Rattle.rv_source.specs.Statements.{register, csr, csr_number, value, immediate, upper, memory, symbol, letter, fence_letters, fence_set};
 
@@ -57,16 +56,26 @@ pub fn csr(operand: &Operand) -> Option<Csr>
     }
 }
 
-/// A value.
+/// A value, or the operand again where it is none.
 #[tactic(auto, unfolding(crate::specs::Statements::value))]
+pub fn value_or_operand<'a>(operand: Operand<'a>) -> Result<Expression<'a>, Operand<'a>>
+    ensures { MatchResult result (λ e. value operand.entry ≡ Some e) (λ o. (value operand.entry ≡ None) × (o ≡ operand.entry)) }
+{
+    match operand {
+        Operand::Name { value, .. } => Ok(value),
+        Operand::Number { value, .. } => Ok(value),
+        Operand::Sum(value) => Ok(value),
+        operand => Err(operand),
+    }
+}
+
+/// A value.
 pub fn value<'a>(operand: Operand<'a>) -> Option<Expression<'a>>
     ensures { result ≡ value operand.entry }
 {
-    match operand {
-        Operand::Name { value, .. } => Some(value),
-        Operand::Number { value, .. } => Some(value),
-        Operand::Sum(value) => Some(value),
-        _ => None,
+    match value_or_operand(operand) {
+        Ok(value) => Some(value),
+        Err(_) => None,
     }
 }
 
