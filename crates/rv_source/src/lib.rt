@@ -5,6 +5,7 @@
 
 mod expression;
 mod fault;
+mod forms;
 mod line;
 mod lines;
 mod literal;
