@@ -14,11 +14,11 @@ use Rattle.std.proofs.lemmas.List.Folds.{list_all_at, list_all_more}
 use Rattle.rv_source.specs.declared.expression.Direction.TheVariants.{Backward, Forward}
 use Rattle.rv_source.specs.declared.token.Token.{Token}
 use Rattle.rv_source.specs.declared.token.Token.TheVariants.{Name, Digits, Number, Local, Character, Text, Comma, Open, Close, Plus, Minus, Colon, At, High, Low}
-use Rattle.rv_source.specs.Literals.{longest, number, short_decimal, string, character, spelled, is_plain_in_character}
+use Rattle.rv_source.specs.Literals.{longest, number, short_decimal, character, spelled, is_plain_in_character}
 use Rattle.rv_source.specs.Tokens.{is_name_start, is_name_byte, local, word, sign, half, token_of, token_in, begins_with_name_byte, may_precede, front}
 use Rattle.rv_source.proofs.Bools.{and_left, and_right, below_of}
 use Rattle.rv_source.proofs.Spellings.{spelled_long}
-use Rattle.rv_source.proofs.Longest.{longest_above, longest_none, longest_at, longest_zero, longest_less}
+use Rattle.rv_source.proofs.Longest.{longest_above, longest_none, longest_at}
 
 list_all_less : (xs : List ℕ) (m n : ℕ) → m ≤ n → list_all is_name_byte (take n xs) ≡ true → list_all is_name_byte (take m xs) ≡ true
 list_all_less xs zero n le h = refl
@@ -325,5 +325,5 @@ character_long xs long =
 pub character_within : (line : List ℕ) (n : ℕ) → n ≤ length line → ((m : ℕ) → n < m → m ≤ length line → 6 < m) → get_or line 0 0 ≡ 39 → longest (token_in line) n ≡ front line
 character_within line n le long e =
     sym (longest_above (token_in line) n (length line) le (λ m p q.
-      let len : length (take m line) ≡ m = omega (arith, length-take m line) in
-      character_in line m (omega arith) q e ∙ ap (option_map (λ n. Character n)) (character_long (take m line) (omega (arith, len, long m p q)))))
+    let len : length (take m line) ≡ m = omega (arith, length-take m line) in
+    character_in line m (omega arith) q e ∙ ap (option_map (λ n. Character n)) (character_long (take m line) (omega (arith, len, long m p q)))))

@@ -48,11 +48,11 @@ longest_is spells k n x l = longest_above spells n k l.within l.above ∙ longes
 
 found_more : {A : Type 0} (spells : ℕ → Option A) (k n : ℕ) (x : A) → spells (suc k) ≡ None → IsLongest spells k n x → IsLongest spells (suc k) n x
 found_more spells k n x e l = record {
-    some = l.some;
-    within = omega (arith, l.within);
-    is = l.is;
-    above = λ m p q. elim (dec_lt m (suc k)) [ yes lt ↦ l.above m p (omega arith) | no ge ↦ (let f : m ≡ suc k = omega arith in rw f e) ];
-  }
+  some = l.some;
+  within = omega (arith, l.within);
+  is = l.is;
+  above = λ m p q. elim (dec_lt m (suc k)) [ yes lt ↦ l.above m p (omega arith) | no ge ↦ (let f : m ≡ suc k = omega arith in rw f e) ];
+}
 
 found_pair : {A : Type 0} (k n : ℕ) (x y : A) → ◌≡◌ {A = Option (A × ℕ)} (Some (y, k)) (Some (x, n)) → ◌≡◌ {A = A × ℕ} (y, k) (x, n)
 found_pair k n x y h = cc

@@ -1,5 +1,5 @@
 -- How characters and strings are read.
-use Rattle.std.proofs.Common.{◌≡◌, ℕ, zero, suc, ◌+◌, ◌-◌, ◌<◌, ◌≤◌, Bool, true, false, cond, List, [], ◌∷◌, length, take, drop, refl, sym, ap, ◌∙◌, arith, length-take, ◌++◌, append_assoc, append-nil}
+use Rattle.std.proofs.Common.{◌≡◌, ℕ, zero, suc, ◌<◌, ◌≤◌, Bool, true, false, cond, List, [], ◌∷◌, length, take, drop, refl, sym, ap, ◌∙◌, arith, length-take, ◌++◌, append_assoc, append-nil}
 use Rattle.std.specs.Prelude.{Option, None, Some}
 use Rattle.std.specs.Bool.{◌==◌}
 use Rattle.std.specs.Option.{option_map}
@@ -27,8 +27,8 @@ spelled_by text n = spelled is_plain_in_string (take n text)
 pub first_byte_within : (text : List ℕ) (n : ℕ) → n ≤ length text → ((m : ℕ) → n < m → m ≤ length text → 4 < m) → longest (spelled_by text) n ≡ first_byte text
 first_byte_within text n le long =
     sym (longest_above (spelled_by text) n (length text) le (λ m p q.
-      let l : length (take m text) ≡ m = omega (arith, length-take m text) in
-      spelled_long is_plain_in_string (take m text) (omega (arith, l, long m p q))))
+    let l : length (take m text) ≡ m = omega (arith, length-take m text) in
+    spelled_long is_plain_in_string (take m text) (omega (arith, l, long m p q))))
 
 -- ---- the bytes that a spelling stands for
 

@@ -8,6 +8,8 @@ use Rattle.rv_isa.specs.declared.kind.Kind.TheVariants as k
 use Rattle.rv_isa.specs.declared.op.ImmOp.TheVariants.{Addi, Sltiu, Xori}
 use Rattle.rv_isa.specs.declared.op.AluOp.TheVariants.{Slt, Sltu, Sub}
 use Rattle.rv_isa.specs.declared.op.CsrOp.TheVariants.{Set}
+use Rattle.rv_isa.specs.declared.op.LoadOp.{LoadOp}
+use Rattle.rv_isa.specs.declared.op.Width.{Width}
 use Rattle.rv_source.specs.declared.expression.Term.{Term}
 use Rattle.rv_source.specs.declared.operand.Operand.{Operand}
 use Rattle.rv_source.specs.declared.operand.Operand.TheVariants as o
@@ -26,7 +28,7 @@ use Rattle.rv_source.specs.Expressions.{is_symbol}
 -- ---- what a place takes
 
 -- the name of a register
-abbrev pub register : Operand → Option ℕ
+unfoldable pub register : Operand → Option ℕ
 register (o.Name name value) = lookup name register_names
 register _ = None
 
@@ -35,37 +37,37 @@ abbrev pub csr_number : ℕ → Option ℕ
 csr_number n = if nat_lt n 4096 then Some n else None
 
 -- the name of a control register, or a number
-abbrev pub csr : Operand → Option ℕ
+unfoldable pub csr : Operand → Option ℕ
 csr (o.Name name value) = option_and_then csr_number (lookup name csr_names)
 csr (o.Number n value) = csr_number n
 csr _ = None
 
 -- E
-abbrev pub value : Operand → Option (List Term)
+unfoldable pub value : Operand → Option (List Term)
 value (o.Name name e) = Some e
 value (o.Number n e) = Some e
 value (o.Sum e) = Some e
 value _ = None
 
 -- E or %lo(E)
-abbrev pub immediate : Operand → Option Immediate
+unfoldable pub immediate : Operand → Option Immediate
 immediate (o.Low e) = Some (i.Low e)
 immediate operand = option_map (λ e. i.Sum e) (value operand)
 
 -- E or %hi(E)
-abbrev pub upper : Operand → Option Upper
+unfoldable pub upper : Operand → Option Upper
 upper (o.High e) = Some (u.High e)
 upper operand = option_map (λ e. u.Sum e) (value operand)
 
 -- (register), E(register) or %lo(E)(register): the offset and the base
-abbrev pub memory : Operand → Option (Immediate × ℕ)
+unfoldable pub memory : Operand → Option (Immediate × ℕ)
 memory (o.Base base) = option_map (λ r. (i.Zero, r)) (lookup base register_names)
 memory (o.Indexed e base) = option_map (λ r. (i.Sum e, r)) (lookup base register_names)
 memory (o.LowIndexed e base) = option_map (λ r. (i.Low e, r)) (lookup base register_names)
 memory _ = None
 
 -- a name other than `.`
-abbrev pub symbol : Operand → Option (List ℕ)
+unfoldable pub symbol : Operand → Option (List ℕ)
 symbol (o.Name name value) = if is_symbol name then Some name else None
 symbol _ = None
 
@@ -88,7 +90,7 @@ fence_letters name =
     if is_nothing w.1 && not (is_nothing name) then Some (8 * i.0 + 4 * o.0 + 2 * r.0 + w.0) else None
 
 -- what a fence orders
-abbrev pub fence_set : Operand → Option ℕ
+unfoldable pub fence_set : Operand → Option ℕ
 fence_set (o.Name name value) = fence_letters name
 fence_set _ = None
 
@@ -139,14 +141,25 @@ jal = either (two register value (λ rd target. s.Jal rd target)) (one value (λ
 
 abbrev pub jalr : Operands → Option Statement
 jalr =
-    either (two register memory (λ rd m. s.Jalr rd m.1 m.0))
+    either (two register register (λ rd base. s.Instruction (k.Jalr rd base (pos 0))))
+    (either (two register memory (λ rd m. s.Jalr rd m.1 m.0))
     (either (three register register immediate (λ rd base offset. s.Jalr rd base offset))
-    (either (two register register (λ rd base. s.Instruction (k.Jalr rd base (pos 0))))
     (one register (λ base. s.Instruction (k.Jalr 1 base (pos 0))))))
+
+abbrev pub load : LoadOp → Operands → Option Statement
+load op = either (two register value (λ rd target. s.LoadFrom op rd target)) (two register memory (λ rd m. s.Load op rd m.1 m.0))
+
+abbrev pub store : Width → Operands → Option Statement
+store width =
+    either (two register memory (λ source m. s.Store width source m.1 m.0))
+    (three register value register (λ source target scratch. s.StoreTo width source scratch target))
 
 -- iorw,iorw where no sets are written
 abbrev pub fence : Operands → Option Statement
 fence = either (none (s.Instruction (k.Fence 0 0 255))) (two fence_set fence_set (λ p q. s.Instruction (k.Fence 0 0 (16 * p + q))))
+
+abbrev pub space : Operands → Option Statement
+space = either (one value (λ size. s.Space size None)) (two value value (λ size fill. s.Space size (Some fill)))
 
 -- what a form and its operands stand for
 unfoldable pub stands : Form → Operands → Option Statement
@@ -155,8 +168,8 @@ stands f.Auipc = two register value (λ rd imm. s.Auipc rd imm)
 stands f.Jal = jal
 stands f.Jalr = jalr
 stands (f.Branch cond) = three register register value (λ rs1 rs2 target. s.Branch cond rs1 rs2 target)
-stands (f.Load op) = either (two register memory (λ rd m. s.Load op rd m.1 m.0)) (two register value (λ rd target. s.LoadFrom op rd target))
-stands (f.Store width) = either (two register memory (λ rs2 m. s.Store width rs2 m.1 m.0)) (three register value register (λ rs target rt. s.StoreTo width rs rt target))
+stands (f.Load op) = load op
+stands (f.Store width) = store width
 stands (f.OpImm op) = three register register immediate (λ rd rs1 imm. s.OpImm op rd rs1 imm)
 stands (f.Shift op) = three register register value (λ rd rs1 amount. s.Shift op rd rs1 amount)
 stands (f.Op op) = three register register register (λ rd rs1 rs2. s.Instruction (k.Op op rd rs1 rs2))
@@ -189,7 +202,7 @@ stands f.Li = two register value (λ rd v. s.Li rd v)
 stands f.La = two register value (λ rd target. s.La rd target)
 stands f.Call = one value (λ target. s.Call 1 1 target)
 stands f.Tail = one value (λ target. s.Call 0 6 target)
-stands f.Space = either (one value (λ size. s.Space size None)) (two value value (λ size fill. s.Space size (Some fill)))
+stands f.Space = space
 stands f.Align = one value (λ power. s.Align power)
 stands f.Balign = one value (λ multiple. s.Balign multiple)
 stands f.Constant = two symbol value (λ name v. s.Constant name v)
@@ -205,7 +218,7 @@ values (x ∷ []) = option_map (λ e. e ∷ []) (value x)
 values (x ∷ xs) = option_and_then (λ e. option_map (λ es. e ∷ es) (values xs)) (value x)
 
 -- the bytes of a string, with a byte 0 behind them or not
-abbrev pub string : Bool → Operand → Option (List ℕ)
+unfoldable pub string : Bool → Operand → Option (List ℕ)
 string terminated (o.Text bytes) = Some (if terminated then bytes ++ 0 ∷ [] else bytes)
 string terminated _ = None
 

@@ -5,6 +5,7 @@
 
 mod expression;
 mod fault;
+mod forms;
 mod line;
 mod lines;
 mod literal;
@@ -28,3 +29,5 @@ pub use statement::{Bytes, Csr, Immediate, Statement, Upper, Values};
 
 #[cfg(test)]
 mod lines_tests;
+#[cfg(test)]
+mod scan_tests;

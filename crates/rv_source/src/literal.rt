@@ -168,13 +168,7 @@ fn spelled_in_character(text: &[u8]) -> Option<u8>
                 None
             }
         }
-        [first, rest @ ..] => {
-            if *first == b'\\' {
-                escape(rest)
-            } else {
-                None
-            }
-        }
+        [first, rest @ ..] => { if *first == b'\\' { escape(rest) } else { None } }
     }
 }
 
@@ -192,13 +186,7 @@ fn spelled_in_string(text: &[u8]) -> Option<u8>
                 None
             }
         }
-        [first, rest @ ..] => {
-            if *first == b'\\' {
-                escape(rest)
-            } else {
-                None
-            }
-        }
+        [first, rest @ ..] => { if *first == b'\\' { escape(rest) } else { None } }
     }
 }
 

@@ -1,6 +1,5 @@
 //! What a place of a statement takes.
-ghost use Rattle.std.specs.Prelude.{◌≡◌, ◌<◌, ◌≤◌, ℕ, List, IfSome};
-ghost use Rattle.std.specs.Option.{option_map};
+ghost use Rattle.std.specs.Prelude.{◌≡◌, ◌<◌, ◌≤◌, IfSome, MatchResult};
 ghost use Rattle.rv_isa.specs.Names.{lookup, register_names};
 ghost use Rattle.rv_source.specs.Statements.{register, csr, csr_number, value, immediate, upper, memory, symbol, letter, fence_letters, fence_set};
 
@@ -20,6 +19,7 @@ fn named(name: &Name) -> Option<Reg>
 }
 
 /// A register.
+#[tactic(auto, unfolding(crate::specs::Statements::register))]
 pub fn register(operand: &Operand) -> Option<Reg>
     ensures value { result ≡ register operand.now }
     ensures below { IfSome result (λ r. r < 32) }
@@ -42,6 +42,7 @@ fn numbered(number: u32) -> Option<Csr>
 }
 
 /// A control register, by its name or its number.
+#[tactic(auto, unfolding(crate::specs::Statements::csr))]
 pub fn csr(operand: &Operand) -> Option<Csr>
     ensures { result ≡ csr operand.now }
 {
@@ -55,19 +56,31 @@ pub fn csr(operand: &Operand) -> Option<Csr>
     }
 }
 
+/// A value, or the operand again where it is none.
+#[tactic(auto, unfolding(crate::specs::Statements::value))]
+pub fn value_or_operand<'a>(operand: Operand<'a>) -> Result<Expression<'a>, Operand<'a>>
+    ensures { MatchResult result (λ e. value operand.entry ≡ Some e) (λ o. (value operand.entry ≡ None) × (o ≡ operand.entry)) }
+{
+    match operand {
+        Operand::Name { value, .. } => Ok(value),
+        Operand::Number { value, .. } => Ok(value),
+        Operand::Sum(value) => Ok(value),
+        operand => Err(operand),
+    }
+}
+
 /// A value.
 pub fn value<'a>(operand: Operand<'a>) -> Option<Expression<'a>>
     ensures { result ≡ value operand.entry }
 {
-    match operand {
-        Operand::Name { value, .. } => Some(value),
-        Operand::Number { value, .. } => Some(value),
-        Operand::Sum(value) => Some(value),
-        _ => None,
+    match value_or_operand(operand) {
+        Ok(value) => Some(value),
+        Err(_) => None,
     }
 }
 
 /// A value or the low part of one.
+#[tactic(auto, unfolding(crate::specs::Statements::immediate))]
 pub fn immediate<'a>(operand: Operand<'a>) -> Option<Immediate<'a>>
     ensures { result ≡ immediate operand.entry }
 {
@@ -81,6 +94,7 @@ pub fn immediate<'a>(operand: Operand<'a>) -> Option<Immediate<'a>>
 }
 
 /// A value or the high part of one.
+#[tactic(auto, unfolding(crate::specs::Statements::upper))]
 pub fn upper<'a>(operand: Operand<'a>) -> Option<Upper<'a>>
     ensures { result ≡ upper operand.entry }
 {
@@ -94,6 +108,7 @@ pub fn upper<'a>(operand: Operand<'a>) -> Option<Upper<'a>>
 }
 
 /// A register in brackets, with what stands before them: the offset and the base.
+#[tactic(auto, unfolding(crate::specs::Statements::memory))]
 pub fn memory<'a>(operand: Operand<'a>) -> Option<(Immediate<'a>, Reg)>
     ensures { result ≡ memory operand.entry }
 {
@@ -115,6 +130,7 @@ pub fn memory<'a>(operand: Operand<'a>) -> Option<(Immediate<'a>, Reg)>
 }
 
 /// A name other than `.`.
+#[tactic(auto, unfolding(crate::specs::Statements::symbol))]
 pub fn symbol<'a>(operand: &Operand<'a>) -> Option<Name<'a>>
     ensures { result ≡ symbol operand.now }
 {
@@ -166,6 +182,7 @@ fn fence_letters(name: &[u8]) -> Option<u16>
 }
 
 /// What a fence orders, below 16.
+#[tactic(auto, unfolding(crate::specs::Statements::fence_set))]
 pub fn fence_set(operand: &Operand) -> Option<u16>
     ensures value { result ≡ fence_set operand.now }
     ensures below { IfSome result (λ n. n < 16) }

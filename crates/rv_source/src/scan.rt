@@ -1,5 +1,5 @@
 //! Cuts a line into tokens.
-ghost use Rattle.std.specs.Prelude.{◌≡◌, ◌==◌, IfSome, IfOk, IsTrue, ◌<◌, ◌≤◌, length, true, false, take, slice_index};
+ghost use Rattle.std.specs.Prelude.{◌≡◌, ◌==◌, IfOk, IsTrue, ◌<◌, ◌≤◌, length, true, false, take, slice_index};
 ghost use Rattle.std.specs.List.{list_all};
 ghost use Rattle.rv_source.specs.Faults.{Gives};
 ghost use Rattle.rv_source.specs.Tokens.{is_name_start, is_name_byte, local, word, sign, half, front, begins_comment, begins_with_name_byte, fault_at, is_blank, cut, tokens};
@@ -162,6 +162,27 @@ fn character_front<'a>(line: &'a [u8]) -> Option<(Token<'a>, usize)>
     None
 }
 
+/// The same of a line that begins with `"`.
+fn string_front<'a>(line: &'a [u8]) -> Option<(Token<'a>, usize)>
+    requires some { 0 < length line.now }
+    requires first { slice_index line.now 0 ≡ 34 }
+    ensures { result ≡ front line.now }
+{
+    let text = line.split_at(1).1;
+    let mut n = 0;
+    while n < text.len() {
+        let (spelling, rest) = text.split_at(n);
+        if rest[0] == b'"' {
+            return Some((Token::Text(Text::new(spelling)), n + 2));
+        }
+        match first_byte(rest) {
+            Some((_, spelled)) => n += spelled,
+            None => return None,
+        }
+    }
+    None
+}
+
 /// The same of a line that begins with `%`.
 fn half_front<'a>(line: &'a [u8]) -> Option<(Token<'a>, usize)>
     requires some { 0 < length line.now }
@@ -198,10 +219,62 @@ fn sign_front<'a>(line: &'a [u8]) -> Option<(Token<'a>, usize)>
     }
 }
 
+/// The longest token at the front of a line, and its length.
+fn front<'a>(line: &'a [u8]) -> Option<(Token<'a>, usize)>
+    requires { 0 < length line.now }
+    ensures { result ≡ front line.now }
+{
+    let first = line[0];
+    if is_name_byte(first) {
+        word_front(line)
+    } else if first == b'"' {
+        string_front(line)
+    } else if first == b'\'' {
+        character_front(line)
+    } else if first == b'%' {
+        half_front(line)
+    } else {
+        sign_front(line)
+    }
+}
+
+/// The tokens of a line of any length.
+fn cut<'a>(alloc: Global, line: &'a [u8]) -> Result<Vec<Token<'a>>, LineFault>
+    ensures value { Gives (λ v. v.items) result (cut line.now 0) }
+    ensures short { IfOk result (λ v. length v.items ≤ length line.now) }
+{
+    let mut out = Vec::new(alloc);
+    let mut rest = line;
+    while !rest.is_empty() {
+        if is_blank(rest[0]) {
+            rest = rest.split_at(1).1;
+        } else if begins_comment(rest) {
+            return Ok(out);
+        } else {
+            match front(rest) {
+                Some((token, n)) => {
+                    out.push(token)?;
+                    rest = rest.split_at(n).1;
+                }
+                None => return Err(fault_at(rest[0])),
+            }
+        }
+    }
+    Ok(out)
+}
+
 /// The tokens of a line.
+///
+/// # Errors
+///
+/// `LineTooLong` comes before all. Where no token begins, the byte there says whether it is `BadByte` or `Syntax`.
+#[tactic(auto, unfolding(crate::specs::Tokens::tokens))]
 pub fn tokens<'a>(alloc: Global, line: &'a [u8]) -> Result<Vec<Token<'a>>, LineFault>
     ensures value { Gives (λ v. v.items) result (tokens line.now) }
     ensures short { IfOk result (λ v. length v.items ≤ 1024) }
 {
-    Err(LineFault::OutOfMemory)
+    if line.len() > LONGEST_LINE {
+        return Err(LineFault::LineTooLong);
+    }
+    cut(alloc, line)
 }

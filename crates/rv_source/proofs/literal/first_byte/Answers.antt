@@ -1,5 +1,4 @@
-use Rattle.std.proofs.Common.{◌≡◌, ◌<◌, ◌≤◌, length, sym, ap, ◌∙◌, arith}
-use Rattle.std.specs.Prelude.{Some, None}
+use Rattle.std.proofs.Common.{◌≡◌, ◌≤◌, length, sym, ◌∙◌, arith}
 use Rattle.rv_source.proofs.Longest.{longest_at, longest_less, longest_zero}
 use Rattle.rv_source.proofs.Spellings.{spelled_by, first_byte_within}
 use Rattle.rv_source.proofs.literal.first_byte.Goals as goal

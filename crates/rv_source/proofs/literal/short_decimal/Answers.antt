@@ -1,4 +1,4 @@
-use Rattle.std.proofs.Common.{sym, ◌∙◌, arith}
+use Rattle.std.proofs.Common.{sym, arith}
 use Rattle.rv_source.proofs.Digits.{few_digits_below}
 use Rattle.rv_source.proofs.literal.short_decimal.Goals as goal
 
