@@ -4,6 +4,7 @@
 #![tactic(auto)]
 
 mod fault;
+mod layout;
 mod locals;
 mod names;
 mod placed;
