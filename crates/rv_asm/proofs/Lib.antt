@@ -1,2 +1,4 @@
 pub mod Lookups
 pub mod Placing
+pub mod Runs
+pub mod Labels

@@ -4,6 +4,7 @@ ghost use Rattle.std.specs.List.{All};
 
 use crate::FaultKind;
 use crate::locals::LocalLabel;
+use crate::names::Names;
 use crate::placed::Placed;
 use crate::symbols::Symbols;
 use rv_source::{Label, Line, Statement};
@@ -71,6 +72,17 @@ impl Known {
         }
     }
 
+    /// Defines the labels of a line, from left to right.
+    fn labels(&mut self, alloc: Global, line: usize, labels: &[Label]) -> Result<(), FaultKind>
+        requires { All (λ d. d.line ≤ line) self.old.definitions.locals }
+        ensures { KindBecomes self.new result (all_labelled line self.old labels.now) }
+    {
+        for label in labels {
+            self.label(alloc, line, label)?;
+        }
+        Ok(())
+    }
+
     fn symbols(&self) -> &Symbols
         ensures { result.now ≡ self.now.definitions }
     {
@@ -78,7 +90,7 @@ impl Known {
     }
 
     /// Places a statement, and goes on behind it.
-    #[tactic(auto, unfolding(crate::specs::Steps::newly_stated))]
+    #[tactic(auto, using(crate::proofs::Placing::definition_new, crate::proofs::Placing::newly_defined, crate::proofs::Placing::newly_passed), unfolding(crate::specs::Steps::newly_stated))]
     fn place<'a>(
         &mut self,
         alloc: Global,
@@ -94,5 +106,71 @@ impl Known {
         }
         self.address = item.end();
         Ok(item)
+    }
+}
+
+/// What is known after some lines, and the statements that they placed.
+#[derive(Drop)]
+pub struct Layout<'a> {
+    known: Known,
+    items: Vec<Placed<'a>>,
+}
+
+impl<'a> Model for Layout<'a> {
+    ghost use Rattle.rv_asm.specs.Steps.{State};
+
+    ghost Value = { State };
+
+    ghost view = { λ l. record { known = l.known; items = l.items.items } };
+}
+
+impl<'a> Layout<'a> {
+    ghost use Rattle.std.specs.Prelude.{◌≡◌, ◌≤◌};
+    ghost use Rattle.std.specs.List.{All};
+    ghost use Rattle.rv_asm.specs.Faults.{KindBecomes};
+    ghost use Rattle.rv_asm.specs.Steps.{nothing, after_line};
+
+    pub fn new(alloc: Global) -> Self
+        ensures { result ≡ nothing }
+    {
+        Layout {
+            known: Known::new(alloc),
+            items: Vec::new(alloc),
+        }
+    }
+
+    /// Takes one more line, whose number counts from 0.
+    #[tactic(auto, unfolding(crate::specs::Steps::after_line))]
+    pub fn add(&mut self, alloc: Global, number: usize, line: Line<'a>) -> Result<(), FaultKind>
+        requires { All (λ d. d.line ≤ number) self.old.known.definitions.locals }
+        ensures { KindBecomes self.new result (after_line number self.old line.entry) }
+    {
+        self.known.labels(alloc, number, line.labels())?;
+        if let Some(statement) = line.into_statement() {
+            let item = self.known.place(alloc, number, statement)?;
+            self.items.push(item)?;
+        }
+        Ok(())
+    }
+
+    /// The statements in their order.
+    pub fn items(&self) -> &[Placed<'a>]
+        ensures { result.now ≡ self.now.items }
+    {
+        self.items.as_slice()
+    }
+
+    /// What was defined.
+    pub fn symbols(&self) -> &Symbols
+        ensures { result.now ≡ self.now.known.definitions }
+    {
+        &self.known.symbols
+    }
+
+    /// The names alone.
+    pub fn into_names(self) -> Names
+        ensures { result ≡ self.entry.known.definitions.names }
+    {
+        self.known.symbols.names
     }
 }

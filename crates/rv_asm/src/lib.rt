@@ -8,6 +8,8 @@ mod layout;
 mod locals;
 mod names;
 mod placed;
+mod program;
 mod symbols;
 
 pub use fault::{AsmFault, FaultKind};
+pub use program::Program;

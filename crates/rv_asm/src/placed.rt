@@ -28,11 +28,9 @@ impl<'a> Model for Placed<'a> {
 
     ghost view = { λ p. record { line = p.line; address = p.address; constant = p.constant; statement = p.statement } };
 
-    ghost invariant = {
-        λ p.
+    ghost invariant = { λ p.
         let item : Item = record { line = p.line; address = p.address; constant = p.constant; statement = p.statement } in
-        IsTaken item × (p.end ≡ end_of item) × (p.end ≤ 0x81000000)
-    };
+        IsTaken item × (p.end ≡ end_of item) × (p.end ≤ 0x81000000) };
 }
 
 impl<'a> Placed<'a> {
