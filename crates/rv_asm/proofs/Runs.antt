@@ -8,7 +8,7 @@ use Rattle.rv_asm.specs.declared.fault.FaultKind.TheVariants.{BadByte, LineTooLo
 use Rattle.rv_asm.specs.declared.fault.AsmFault.{AsmFault}
 use Rattle.rv_asm.specs.Faults.{Fails, FailsBy, KindFails, IsFaultAt}
 use Rattle.rv_asm.specs.Listing.{◌>>=◌}
-use Rattle.rv_asm.specs.Steps.{run}
+use Rattle.rv_asm.specs.Steps.{at_line, run}
 
 bind_bind : {A B C E : Type 0} (r : Result A E) (f : A → Result B E) (g : B → Result C E) → ((r >>= f) >>= g) ≡ (r >>= λ x. f x >>= g)
 bind_bind (Ok x) f g = refl
@@ -61,6 +61,20 @@ fails_at line TooLarge fault m e h = rw (e, h) refl
 fails_at line Undefined fault m e h = rw (e, h) refl
 fails_at line OutOfRange fault m e h = rw (e, h) refl
 fails_at line OutOfMemory fault m e h = rw e refl
+
+pub fails_at_line : {B : Type 0} (k : ℕ) (kind : FaultKind) (fault : AsmFault) (r : Result B FaultKind) → KindFails kind r → IsFaultAt (k + 1) kind fault → Fails fault (at_line k r)
+fails_at_line k BadByte fault r h e = fails_at (k + 1) BadByte fault (at_line k r) e (rw (h, add-one) refl)
+fails_at_line k LineTooLong fault r h e = fails_at (k + 1) LineTooLong fault (at_line k r) e (rw (h, add-one) refl)
+fails_at_line k Syntax fault r h e = fails_at (k + 1) Syntax fault (at_line k r) e (rw (h, add-one) refl)
+fails_at_line k UnknownWord fault r h e = fails_at (k + 1) UnknownWord fault (at_line k r) e (rw (h, add-one) refl)
+fails_at_line k BadOperands fault r h e = fails_at (k + 1) BadOperands fault (at_line k r) e (rw (h, add-one) refl)
+fails_at_line k DuplicateSymbol fault r h e = fails_at (k + 1) DuplicateSymbol fault (at_line k r) e (rw (h, add-one) refl)
+fails_at_line k NotConstant fault r h e = fails_at (k + 1) NotConstant fault (at_line k r) e (rw (h, add-one) refl)
+fails_at_line k Misplaced fault r h e = fails_at (k + 1) Misplaced fault (at_line k r) e (rw (h, add-one) refl)
+fails_at_line k TooLarge fault r h e = fails_at (k + 1) TooLarge fault (at_line k r) e (rw (h, add-one) refl)
+fails_at_line k Undefined fault r h e = fails_at (k + 1) Undefined fault (at_line k r) e (rw (h, add-one) refl)
+fails_at_line k OutOfRange fault r h e = fails_at (k + 1) OutOfRange fault (at_line k r) e (rw (h, add-one) refl)
+fails_at_line k OutOfMemory fault r h e = rw e refl
 
 -- ---- runs
 

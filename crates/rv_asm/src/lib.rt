@@ -3,6 +3,7 @@
 //! The language is this project's own: see docs/ASSEMBLER.md.
 #![tactic(auto)]
 
+mod assembler;
 mod fault;
 mod layout;
 mod locals;
@@ -11,5 +12,6 @@ mod placed;
 mod program;
 mod symbols;
 
+pub use assembler::assemble;
 pub use fault::{AsmFault, FaultKind};
 pub use program::Program;
