@@ -1,4 +1,7 @@
 pub mod Lookups
+pub mod Sums
+pub mod Nops
+pub mod Writing
 pub mod Placing
 pub mod Runs
 pub mod Labels

@@ -1,9 +1,8 @@
 -- What a source is assembled to.
 -- Own language; see docs/ASSEMBLER.md.
-use Rattle.std.specs.Prelude.{ℕ, suc, List, [], map, length, get_or, ℤ, pos, Option, Some, None, is_some, if◌then◌else◌, Result, Ok, Err}
+use Rattle.std.specs.Prelude.{ℕ, suc, List, [], map, length, get_or, ℤ, pos, Option, Some, None, Result, Ok, Err}
 use Rattle.std.specs.Option.{option_map, option_or, unwrap_or}
 use Rattle.rv_source.specs.Said.{Said}
-use Rattle.rv_source.specs.declared.fault.LineFault.{LineFault}
 use Rattle.rv_source.specs.Reading.{said}
 use Rattle.rv_source.specs.Lines.{lines}
 use Rattle.rv_asm.specs.declared.fault.FaultKind.{FaultKind}

@@ -1,6 +1,6 @@
 -- Faults, and answers that may fail.
 -- Own language; see docs/ASSEMBLER.md.
-use Rattle.std.specs.Prelude.{◌≡◌, ℕ, List, Option, Some, None, Result, Ok, Err, codes}
+use Rattle.std.specs.Prelude.{◌≡◌, ℕ, List, Result, Ok, Err, codes}
 use Rattle.rv_source.specs.declared.fault.LineFault.{LineFault}
 use Rattle.rv_source.specs.declared.fault.LineFault.TheVariants as line
 use Rattle.rv_asm.specs.declared.fault.FaultKind.{FaultKind}

@@ -1,9 +1,8 @@
 -- The bytes of a statement, once the values of its expressions are known.
 -- Own language; see docs/ASSEMBLER.md.
-use Rattle.std.specs.Prelude.{ℕ, zero, suc, ◌-◌, ◌+◌, ◌*◌, ◌/◌, ◌^◌, List, [], ◌∷◌, ◌++◌, length, replicate, min, ℤ, pos, Option, Some, None, Result, Ok, Err, if◌then◌else◌}
+use Rattle.std.specs.Prelude.{ℕ, zero, suc, ◌-◌, ◌/◌, ◌^◌, List, [], ◌∷◌, ◌++◌, replicate, min, ℤ, pos, Option, Some, None, Result, Ok, Err, if◌then◌else◌}
 use Rattle.std.specs.Int.{to_le_bytes, w8, w16, w32}
 use Rattle.rv_isa.specs.Number.{modulo}
-use Rattle.rv_isa.specs.Width.{bytes_of}
 use Rattle.rv_isa.specs.Word.{word}
 use Rattle.rv_isa.specs.declared.kind.Kind.{Kind}
 use Rattle.rv_isa.specs.declared.kind.Kind.TheVariants as kind
@@ -19,7 +18,7 @@ use Rattle.rv_source.specs.declared.statement.Upper.{Upper}
 use Rattle.rv_source.specs.declared.statement.Upper.TheVariants as u
 use Rattle.rv_asm.specs.declared.fault.FaultKind.{FaultKind}
 use Rattle.rv_asm.specs.declared.fault.FaultKind.TheVariants.{Undefined, OutOfRange}
-use Rattle.rv_asm.specs.Values.{is_word, fits, immediate, upper_immediate, five_bits, distance, hi, lo, as_word, far, loading, gap}
+use Rattle.rv_asm.specs.Values.{fits, immediate, upper_immediate, five_bits, distance, hi, lo, as_word, far, loading, gap}
 
 infixl 10 ◌>>=◌
 abbrev pub ◌>>=◌ : {A B E : Type 0} → Result A E → (A → Result B E) → Result B E
@@ -101,6 +100,10 @@ abbrev pub data_bytes : Width → List ℤ → Result (List ℕ) FaultKind
 data_bytes width [] = Ok []
 data_bytes width (v ∷ vs) = if fits width v then (data_bytes width vs >>= λ bs. Ok (value_bytes width v ++ bs)) else Err OutOfRange
 
+-- the bytes of sums, each in the same width
+abbrev pub sums_bytes : Valuation → Width → List (List Term) → Result (List ℕ) FaultKind
+sums_bytes value width es = values_of value es >>= λ vs. data_bytes width vs
+
 -- the byte that fills a space: 0 where none is written
 abbrev pub fill_of : Valuation → Option (List Term) → Result ℕ FaultKind
 fill_of value None = Ok 0
@@ -123,7 +126,7 @@ multiple_of statement c = 1
 
 -- the bytes of a statement at an address, with its values put in
 unfoldable pub statement_bytes : Valuation → ℕ → ℤ → Statement → Result (List ℕ) FaultKind
-statement_bytes value here c (s.Data width es) = values_of value es.items >>= λ vs. data_bytes width vs
+statement_bytes value here c (s.Data width es) = sums_bytes value width es.items
 statement_bytes value here c (s.Bytes bs) = Ok bs.items
 statement_bytes value here c (s.Space size fill) = fill_of value fill >>= λ b. Ok (replicate (modulo c (2 ^ 32)) b)
 statement_bytes value here c (s.Align power) = Ok (padding here (gap here (multiple_of (s.Align power) c)))

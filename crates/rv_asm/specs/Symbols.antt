@@ -1,7 +1,8 @@
 -- What is defined in a source, and what an expression stands for.
 -- Own language; see docs/ASSEMBLER.md.
-use Rattle.std.specs.Prelude.{ℕ, map, Vec, ◌&&◌, List, [], ◌∷◌, ◌++◌, ℤ, pos, ◌+ℤ◌, ◌-ℤ◌, Bool, true, false, Option, Some, None, option_and_then, ◌==◌, nat_le, nat_lt, if◌then◌else◌}
+use Rattle.std.specs.Prelude.{◌≡◌, ℕ, map, Vec, ◌&&◌, List, [], ◌∷◌, ℤ, pos, ◌+ℤ◌, ◌-ℤ◌, ◌≤ℤ◌, Bool, true, Option, Some, None, option_and_then, ◌==◌, nat_le, nat_lt, if◌then◌else◌}
 use Rattle.std.specs.Option.{option_map, option_or}
+use Rattle.std.specs.List.{AllByRecursion}
 use Rattle.std.specs.Str.{bytes_eq}
 use Rattle.rv_source.specs.declared.expression.Atom.{Atom}
 use Rattle.rv_source.specs.declared.expression.Atom.TheVariants.{Number, Character, Symbol, Local, Here}
@@ -9,6 +10,7 @@ use Rattle.rv_source.specs.declared.expression.Term.{Term}
 use Rattle.rv_source.specs.declared.expression.Direction.{Direction}
 use Rattle.rv_source.specs.declared.expression.Direction.TheVariants.{Backward, Forward}
 use Rattle.rv_asm.specs.declared.locals.LocalLabel.{LocalLabel}
+use Rattle.rv_asm.specs.Values.{is_word}
 
 -- names and local labels with their values, in order of definition
 pub record Definitions : Type 0 where
@@ -32,24 +34,37 @@ nearest_before [] number line = None
 nearest_before (d ∷ ds) number line =
     option_or (nearest_before ds number line) (if (d.number == number) && nat_le d.line line then Some d.address else None)
 
-abbrev pub local_value : Definitions → ℕ → ℕ → Direction → Option ℕ
-local_value ds line number Backward = nearest_before ds.locals number line
-local_value ds line number Forward = nearest_after ds.locals number line
+abbrev pub nearest : List LocalLabel → ℕ → ℕ → Direction → Option ℕ
+nearest labels number line Backward = nearest_before labels number line
+nearest labels number line Forward = nearest_after labels number line
 
 -- what an atom stands for, on a line and in a statement at this address
 abbrev pub atom_value : Definitions → ℕ → ℕ → Atom → Option ℤ
 atom_value ds line here (Number n) = Some (pos n)
 atom_value ds line here (Character b) = Some (pos b)
 atom_value ds line here (Symbol name) = value_of ds.names name
-atom_value ds line here (Local number direction) = option_map (λ a. pos a) (local_value ds line number direction)
+atom_value ds line here (Local number direction) = option_map (λ a. pos a) (nearest ds.locals number line direction)
 atom_value ds line here Here = Some (pos here)
+
+-- a value added to a sum, or taken from it
+abbrev pub added : ℤ → Bool → ℤ → ℤ
+added sum negative v = if negative then sum -ℤ v else sum +ℤ v
 
 -- a sum of whole numbers, where each of its atoms has a value
 unfoldable pub sum_value : Definitions → ℕ → ℕ → List Term → Option ℤ
 sum_value ds line here [] = Some (pos 0)
 sum_value ds line here (t ∷ ts) =
-    option_and_then (λ v. option_map (λ w. if t.negative then w -ℤ v else v +ℤ w) (sum_value ds line here ts)) (atom_value ds line here t.atom)
+    option_and_then (λ v. option_map (λ w. added w t.negative v) (sum_value ds line here ts)) (atom_value ds line here t.atom)
 
 -- a map's entries as definitions
 abbrev pub definitions_of : {A : Type 0} → List (Vec ℕ A × ℤ) → List (List ℕ × ℤ)
 definitions_of = map (λ e. (e.0.items, e.1))
+
+-- each value is one of 32 bits, with or without a sign
+abbrev pub AreWords : List (List ℕ × ℤ) → Type 0
+AreWords ds = AllByRecursion (λ d. is_word d.1 ≡ true) ds
+
+-- from -n to n
+pub record IsNear (n : ℕ) (v : ℤ) : Type 0 where
+  pub low : pos 0 ≤ℤ (v +ℤ pos n)
+  pub high : v ≤ℤ pos n

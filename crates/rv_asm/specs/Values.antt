@@ -1,6 +1,6 @@
 -- Values in the places of a statement.
 -- Own language; see docs/ASSEMBLER.md.
-use Rattle.std.specs.Prelude.{ℕ, ◌+◌, ◌-◌, ◌*◌, ◌/◌, ◌%◌, ◌^◌, Bool, ◌&&◌, List, [], ◌∷◌, ℤ, pos, negsuc, ◌-ℤ◌, int_le, nat_lt, ◌==◌, Option, Some, None, if◌then◌else◌}
+use Rattle.std.specs.Prelude.{ℕ, ◌+◌, ◌-◌, ◌/◌, ◌%◌, ◌^◌, Bool, ◌&&◌, List, [], ◌∷◌, ℤ, pos, negsuc, ◌-ℤ◌, int_le, nat_lt, ◌==◌, Option, Some, None, if◌then◌else◌}
 use Rattle.rv_isa.specs.Number.{modulo, signed}
 use Rattle.rv_isa.specs.declared.kind.Kind.{Kind}
 use Rattle.rv_isa.specs.declared.kind.Kind.TheVariants.{Lui, OpImm}
@@ -68,3 +68,8 @@ loading rd w =
 -- how many bytes there are from an address to the next multiple
 abbrev pub gap : ℕ → ℕ → ℕ
 gap here multiple = (multiple - here % multiple) % multiple
+
+-- an instruction that there may be
+abbrev pub listed_if : Option Kind → List Kind
+listed_if None = []
+listed_if (Some kind) = kind ∷ []

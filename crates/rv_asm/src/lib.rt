@@ -4,13 +4,18 @@
 #![tactic(auto)]
 
 mod assembler;
+mod data;
+mod emission;
 mod fault;
+mod instructions;
 mod layout;
 mod locals;
 mod names;
 mod placed;
 mod program;
+mod sizes;
 mod symbols;
+mod values;
 
 pub use assembler::assemble;
 pub use fault::{AsmFault, FaultKind};

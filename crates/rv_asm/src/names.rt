@@ -1,6 +1,7 @@
 //! The names that a source defines.
-ghost use Rattle.std.specs.Prelude.{◌≡◌, List, [], ◌∷◌, ◌++◌, None, OnOk, OnErr};
+ghost use Rattle.std.specs.Prelude.{◌≡◌, true, List, [], ◌∷◌, ◌++◌, None, IfSome, OnOk, OnErr};
 ghost use Rattle.rv_asm.specs.Symbols.{value_of, definitions_of};
+ghost use Rattle.rv_asm.specs.Values.{is_word};
 
 use indexmap::IndexMap;
 use std::alloc::{AllocError, Global};
@@ -14,11 +15,13 @@ pub struct Names {
 
 impl Model for Names {
     ghost use Rattle.std.specs.Prelude.{List, ℕ, ℤ};
-    ghost use Rattle.rv_asm.specs.Symbols.{definitions_of};
+    ghost use Rattle.rv_asm.specs.Symbols.{definitions_of, AreWords};
 
     ghost Value = { List (List ℕ × ℤ) };
 
     ghost view = { λ s. definitions_of s.map.entries };
+
+    ghost invariant = { λ s. AreWords (definitions_of s.map.entries) };
 }
 
 impl Names {
@@ -32,7 +35,8 @@ impl Names {
 
     /// The value of a name.
     pub fn value(&self, name: &[u8]) -> Option<i64>
-        ensures { result ≡ value_of self.now name.now }
+        ensures value { result ≡ value_of self.now name.now }
+        ensures word { IfSome result (λ v. is_word v ≡ true) }
     {
         self.map.get(name).copied()
     }
@@ -44,9 +48,10 @@ impl Names {
         &self.map
     }
 
-    /// Defines a name.
+    /// Defines a name, whose value is one of 32 bits, with or without a sign.
     pub fn define(&mut self, alloc: Global, name: &[u8], value: i64) -> Result<(), AllocError>
-        requires { value_of self.old name.now ≡ None }
+        requires absent { value_of self.old name.now ≡ None }
+        requires word { is_word value ≡ true }
         ensures ok { OnOk result (self.new ≡ self.old ++ (name.now, value) ∷ []) }
         ensures err { OnErr result (self.new ≡ self.old) }
     {

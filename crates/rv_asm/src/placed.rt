@@ -1,9 +1,15 @@
 //! Statements that have their place.
+ghost use Rattle.std.specs.Prelude.{◌≡◌};
 ghost use Rattle.rv_asm.specs.Faults.{KindGives};
+ghost use Rattle.rv_asm.specs.Layout.{renames};
 ghost use Rattle.rv_asm.specs.Steps.{placed};
 
 use crate::FaultKind;
+use crate::data::{self, pad};
+use crate::emission::Scope;
+use crate::sizes::{constant, end_of, is_instruction};
 use crate::symbols::Symbols;
+use crate::values::{bits, gap};
 use rv_source::Statement;
 use std::marker::Model;
 
@@ -33,6 +39,16 @@ impl<'a> Model for Placed<'a> {
         IsTaken item × (p.end ≡ end_of item) × (p.end ≤ 0x81000000) };
 }
 
+/// Whether `.equ` defines a name that was defined before.
+fn renames(symbols: &Symbols, statement: &Statement) -> bool
+    ensures { result ≡ renames symbols.now.names statement.now }
+{
+    match statement {
+        Statement::Constant { name, .. } => symbols.names.value(name.bytes()).is_some(),
+        _ => false,
+    }
+}
+
 impl<'a> Placed<'a> {
     ghost use Rattle.std.specs.Prelude.{◌≡◌, ◌≤◌};
     ghost use Rattle.std.specs.Option.{option_map};
@@ -40,6 +56,7 @@ impl<'a> Placed<'a> {
     ghost use Rattle.rv_asm.specs.Steps.{placed, end_of, definition_in, item_bytes, appended};
 
     /// The place of a statement on a line, where its fault in phase two is none.
+    #[tactic(auto, unfolding(crate::specs::Steps::placed, crate::specs::Layout::statement_fault))]
     pub fn new(
         symbols: &Symbols,
         line: usize,
@@ -48,7 +65,25 @@ impl<'a> Placed<'a> {
     ) -> Result<Placed<'a>, FaultKind>
         ensures { KindGives (λ p. p) result (placed line (record { address = address; definitions = symbols.now }) statement.entry) }
     {
-        Err(FaultKind::OutOfMemory)
+        if renames(symbols, &statement) {
+            return Err(FaultKind::DuplicateSymbol);
+        }
+        let Some(constant) = constant(symbols, line, address, &statement) else {
+            return Err(FaultKind::NotConstant);
+        };
+        if is_instruction(&statement) && address % 4 != 0 {
+            return Err(FaultKind::Misplaced);
+        }
+        let Some(end) = end_of(address, constant, &statement) else {
+            return Err(FaultKind::TooLarge);
+        };
+        Ok(Placed {
+            line,
+            address,
+            end,
+            constant,
+            statement,
+        })
     }
 
     /// The number of the line, counted from 0.
@@ -77,9 +112,34 @@ impl<'a> Placed<'a> {
     }
 
     /// Appends the bytes of the statement, with every name known.
+    #[tactic(auto, unfolding(crate::specs::Listing::statement_bytes))]
     pub fn write(&self, symbols: &Symbols, out: &mut Vec<u8>) -> Result<(), FaultKind>
         ensures { KindBecomes out.new.items result (appended out.old.items (item_bytes symbols.now self.now)) }
     {
-        Err(FaultKind::OutOfMemory)
+        let scope = Scope {
+            symbols,
+            line: self.line,
+            here: self.address,
+        };
+        match &self.statement {
+            Statement::Data { width, values } => scope.write_values(*width, values, out),
+            Statement::Bytes(bytes) => Ok(out.extend_from_slice(bytes)?),
+            Statement::Space { fill, .. } => {
+                let byte = scope.fill(fill)?;
+                Ok(data::fill(bits(self.constant), byte, out)?)
+            }
+            Statement::Align { .. } => {
+                let count = gap(self.address, 1 << bits(self.constant));
+                Ok(pad(self.address, count, out)?)
+            }
+            Statement::Balign { .. } => {
+                let count = gap(self.address, bits(self.constant));
+                Ok(pad(self.address, count, out)?)
+            }
+            statement => {
+                let instructions = scope.instructions(self.constant, statement)?;
+                Ok(instructions.write(out)?)
+            }
+        }
     }
 }

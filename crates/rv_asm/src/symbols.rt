@@ -1,8 +1,11 @@
-//! What a source defines.
-ghost use Rattle.std.specs.Prelude.{◌≡◌, [], None, OnOk, OnErr};
+//! What a source defines, and what an expression stands for.
+ghost use Rattle.std.specs.Prelude.{◌≡◌, ◌^◌, true, [], IfSome};
+ghost use Rattle.rv_asm.specs.Symbols.{atom_value, sum_value, added, IsNear};
+ghost use Rattle.rv_asm.specs.Values.{is_word};
 
 use crate::locals::Locals;
 use crate::names::Names;
+use rv_source::{Atom, Expression};
 use std::alloc::Global;
 use std::marker::Model;
 
@@ -30,4 +33,43 @@ impl Symbols {
             locals: Locals::new(alloc),
         }
     }
+
+    /// What an atom stands for.
+    fn atom(&self, atom: &Atom, line: usize, here: u32) -> Option<i64>
+        ensures value { result ≡ atom_value self.now line here atom.now }
+        ensures word { IfSome result (λ v. is_word v ≡ true) }
+    {
+        match atom {
+            Atom::Number(n) => Some(i64::from(*n)),
+            Atom::Character(b) => Some(i64::from(*b)),
+            Atom::Symbol(name) => self.names.value(name.bytes()),
+            Atom::Local { number, direction } => {
+                let address = self.locals.nearest(*number, *direction, line)?;
+                Some(i64::from(address))
+            }
+            Atom::Here => Some(i64::from(here)),
+        }
+    }
+
+    /// What an expression stands for on a line, counted from 0, in a statement at an address; None where one of its
+    /// symbols isn't defined.
+    pub fn sum(&self, expression: &Expression, line: usize, here: u32) -> Option<i64>
+        ensures { result ≡ sum_value self.now line here expression.now }
+    {
+        let mut sum: i64 = 0;
+        for term in expression.terms() {
+            let value = self.atom(&term.atom, line, here)?;
+            sum = added(sum, term.negative, value);
+        }
+        Some(sum)
+    }
+}
+
+/// A sum and one more value, which is subtracted where it is negative.
+fn added(sum: i64, negative: bool, value: i64) -> i64
+    requires sum { IsNear (2 ^ 62) sum }
+    requires value { is_word value ≡ true }
+    ensures { result ≡ added sum negative value }
+{
+    if negative { sum - value } else { sum + value }
 }

@@ -1,4 +1,4 @@
-use Rattle.std.proofs.Common.{◌≡◌, ◌∙◌, ◌+◌, sym, arith}
+use Rattle.std.proofs.Common.{◌≡◌, ◌∙◌, ◌+◌, sym, arith, refl}
 use Rattle.std.specs.Prelude.{Ok}
 use Rattle.rv_asm.specs.Faults.{Fails, IsFaultAt}
 use Rattle.rv_asm.specs.Steps.{item_step, item_bytes, appended, at_line}

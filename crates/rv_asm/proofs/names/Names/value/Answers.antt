@@ -1,9 +1,14 @@
-use Rattle.std.proofs.Common.{◌∙◌, ap}
-use Rattle.rv_asm.specs.Symbols.{value_of}
-use Rattle.rv_asm.proofs.Lookups.{lookup_value}
+use Rattle.std.proofs.Common.{◌≡◌, ◌∙◌, ap}
+use Rattle.rv_asm.specs.Symbols.{value_of, definitions_of}
+use Rattle.rv_asm.proofs.Lookups.{lookup_value, word_of_name}
 use Rattle.rv_asm.proofs.names.Names.value.Goals as goal
+use Rattle.rv_asm.proofs.names.Names.value.Goals.{After-copied}
 
-pub returns : goal.returns
-returns c =
-    ((c.copied.ensures ∙ c.get.ensures.value) ∙ lookup_value c.self.inside.map.entries c.args.name.now)
-    ∙ ap (λ ds. value_of ds c.args.name.now) c.self.view_is
+found : (c : After-copied) → c.copied.result ≡ value_of (definitions_of c.self.inside.map.entries) c.args.name.now
+found c = (c.copied.ensures ∙ c.get.ensures.value) ∙ lookup_value c.self.inside.map.entries c.args.name.now
+
+pub returns-clause-value : goal.returns-clause-value
+returns-clause-value c = found c ∙ ap (λ ds. value_of ds c.args.name.now) c.self.view_is
+
+pub returns-clause-word : goal.returns-clause-word
+returns-clause-word c = rw (found c) (word_of_name (definitions_of c.self.inside.map.entries) c.args.name.now c.self.invariant)

@@ -1,0 +1,49 @@
+//! The bytes of statements that aren't instructions.
+ghost use Rattle.std.specs.Prelude.{◌≡◌, ◌++◌, ◌<◌, ◌^◌, replicate, pos, OnOk, IfOk};
+ghost use Rattle.rv_isa.specs.declared.kind.Kind.TheVariants.{OpImm};
+ghost use Rattle.rv_isa.specs.declared.op.ImmOp.TheVariants.{Addi};
+ghost use Rattle.rv_asm.specs.Listing.{value_bytes, padding, bytes, nops};
+
+use crate::instructions::{op_imm, zero};
+use crate::values::{bits, gap};
+use rv_isa::{ImmOp, Width, encode};
+use std::alloc::AllocError;
+
+/// Appends a value in as many bytes as the width has, the low one first.
+pub fn write_value(width: Width, value: i64, out: &mut Vec<u8>) -> Result<(), AllocError>
+    ensures { OnOk result (out.new.items ≡ out.old.items ++ value_bytes width value) }
+{
+    match width {
+        Width::One => out.extend_from_slice(&(value.rem_euclid(0x100) as u8).to_le_bytes()),
+        Width::Two => out.extend_from_slice(&(value.rem_euclid(0x1_0000) as u16).to_le_bytes()),
+        Width::Four => out.extend_from_slice(&bits(value).to_le_bytes()),
+    }
+}
+
+/// Appends the same byte again and again.
+pub fn fill(count: u32, byte: u8, out: &mut Vec<u8>) -> Result<(), AllocError>
+    ensures { OnOk result (out.new.items ≡ out.old.items ++ replicate count byte) }
+{
+    let end = out.len() + count as usize;
+    out.resize(end, byte)
+}
+
+/// Appends words of `nop`.
+fn write_nops(count: u32, out: &mut Vec<u8>) -> Result<(), AllocError>
+    ensures { OnOk result (out.new.items ≡ out.old.items ++ bytes (nops count)) }
+{
+    let nop = encode(op_imm(ImmOp::Addi, zero(), zero(), 0));
+    for _ in 0..count {
+        out.extend_from_slice(&nop.to_le_bytes())?;
+    }
+    Ok(())
+}
+
+/// Appends padding: zeros up to a multiple of 4 or the end of the padding, and then words of `nop`.
+pub fn pad(here: u32, count: u32, out: &mut Vec<u8>) -> Result<(), AllocError>
+    ensures { OnOk result (out.new.items ≡ out.old.items ++ padding here count) }
+{
+    let zeros = count.min(gap(here, 4));
+    fill(zeros, 0, out)?;
+    write_nops((count - zeros) / 4, out)
+}

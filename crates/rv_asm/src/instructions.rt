@@ -1,0 +1,213 @@
+//! The instructions of a statement.
+ghost use Rattle.std.specs.Prelude.{◌≡◌, ◌<◌, ◌^◌};
+ghost use Rattle.rv_isa.specs.Number.{IsWithin, IsDistance};
+ghost use Rattle.rv_isa.specs.Word.{IsInRange};
+ghost use Rattle.rv_isa.specs.declared.kind.Kind.TheVariants.{Lui, Auipc, Jal, Jalr, Branch, Load, Store, OpImm, Shift, CsrImm};
+
+use rv_isa::{Cond, CsrOp, ImmOp, Instr, Kind, LoadOp, Reg, ShiftOp, Width, encode};
+use rv_source::Csr;
+use std::alloc::AllocError;
+use std::marker::Model;
+
+/// At most two instructions.
+#[derive(Drop)]
+pub struct Instructions {
+    first: Option<Instr>,
+    second: Option<Instr>,
+}
+
+impl Model for Instructions {
+    ghost use Rattle.std.specs.Prelude.{List, ◌++◌};
+    ghost use Rattle.rv_isa.specs.declared.kind.Kind.{Kind};
+    ghost use Rattle.rv_asm.specs.Values.{listed_if};
+
+    ghost Value = { List Kind };
+
+    ghost view = { λ i. listed_if i.first ++ listed_if i.second };
+}
+
+impl Instructions {
+    ghost use Rattle.std.specs.Prelude.{◌≡◌, ◌++◌, ◌*◌, length, [], ◌∷◌, OnOk};
+    ghost use Rattle.rv_asm.specs.Listing.{bytes};
+
+    pub fn none() -> Self
+        ensures { result ≡ [] }
+    {
+        Instructions {
+            first: None,
+            second: None,
+        }
+    }
+
+    pub fn one(first: Instr) -> Self
+        ensures { result ≡ first ∷ [] }
+    {
+        Instructions {
+            first: Some(first),
+            second: None,
+        }
+    }
+
+    pub fn two(first: Instr, second: Instr) -> Self
+        ensures { result ≡ first ∷ second ∷ [] }
+    {
+        Instructions {
+            first: Some(first),
+            second: Some(second),
+        }
+    }
+
+    /// How many bytes the instructions have.
+    pub fn size(&self) -> u32
+        ensures { result ≡ 4 * length self.now }
+    {
+        4 * (u32::from(self.first.is_some()) + u32::from(self.second.is_some()))
+    }
+
+    /// Appends the words of the instructions, each with its low byte first.
+    pub fn write(&self, out: &mut Vec<u8>) -> Result<(), AllocError>
+        ensures { OnOk result (out.new.items ≡ out.old.items ++ bytes self.now) }
+    {
+        if let Some(first) = self.first {
+            out.extend_from_slice(&encode(first).to_le_bytes())?;
+        }
+        if let Some(second) = self.second {
+            out.extend_from_slice(&encode(second).to_le_bytes())?;
+        }
+        Ok(())
+    }
+}
+
+/// The register x0.
+pub fn zero() -> Reg
+    ensures { result ≡ 0 }
+{
+    let Some(zero) = Reg::new(0) else {
+        unreachable!()
+    };
+    zero
+}
+
+/// The instruction of a kind whose fields are in range.
+fn instr(kind: Kind) -> Instr
+    requires { IsInRange kind }
+    ensures { result ≡ kind }
+{
+    let Some(instr) = Instr::new(kind) else {
+        unreachable!()
+    };
+    instr
+}
+
+// That a register's number is below 32 is known once it is asked.
+
+pub fn lui(rd: Reg, imm: u32) -> Instr
+    requires { imm < 2 ^ 20 }
+    ensures { result ≡ Lui rd imm }
+{
+    let _ = rd.number();
+    instr(Kind::Lui { rd, imm })
+}
+
+pub fn auipc(rd: Reg, imm: u32) -> Instr
+    requires { imm < 2 ^ 20 }
+    ensures { result ≡ Auipc rd imm }
+{
+    let _ = rd.number();
+    instr(Kind::Auipc { rd, imm })
+}
+
+pub fn jal(rd: Reg, offset: i32) -> Instr
+    requires { IsDistance (2 ^ 20) offset }
+    ensures { result ≡ Jal rd offset }
+{
+    let _ = rd.number();
+    instr(Kind::Jal { rd, offset })
+}
+
+pub fn jalr(rd: Reg, base: Reg, offset: i32) -> Instr
+    requires { IsWithin (2 ^ 11) offset }
+    ensures { result ≡ Jalr rd base offset }
+{
+    let _ = rd.number();
+    let _ = base.number();
+    instr(Kind::Jalr { rd, base, offset })
+}
+
+pub fn branch(cond: Cond, rs1: Reg, rs2: Reg, offset: i32) -> Instr
+    requires { IsDistance (2 ^ 12) offset }
+    ensures { result ≡ Branch cond rs1 rs2 offset }
+{
+    let _ = rs1.number();
+    let _ = rs2.number();
+    instr(Kind::Branch {
+        cond,
+        rs1,
+        rs2,
+        offset,
+    })
+}
+
+pub fn load(op: LoadOp, rd: Reg, base: Reg, offset: i32) -> Instr
+    requires { IsWithin (2 ^ 11) offset }
+    ensures { result ≡ Load op rd base offset }
+{
+    let _ = rd.number();
+    let _ = base.number();
+    instr(Kind::Load {
+        op,
+        rd,
+        base,
+        offset,
+    })
+}
+
+pub fn store(width: Width, source: Reg, base: Reg, offset: i32) -> Instr
+    requires { IsWithin (2 ^ 11) offset }
+    ensures { result ≡ Store width source base offset }
+{
+    let _ = source.number();
+    let _ = base.number();
+    instr(Kind::Store {
+        width,
+        source,
+        base,
+        offset,
+    })
+}
+
+pub fn op_imm(op: ImmOp, rd: Reg, rs1: Reg, imm: i32) -> Instr
+    requires { IsWithin (2 ^ 11) imm }
+    ensures { result ≡ OpImm op rd rs1 imm }
+{
+    let _ = rd.number();
+    let _ = rs1.number();
+    instr(Kind::OpImm { op, rd, rs1, imm })
+}
+
+pub fn shift(op: ShiftOp, rd: Reg, rs1: Reg, amount: u8) -> Instr
+    requires { amount < 32 }
+    ensures { result ≡ Shift op rd rs1 amount }
+{
+    let _ = rd.number();
+    let _ = rs1.number();
+    instr(Kind::Shift {
+        op,
+        rd,
+        rs1,
+        amount,
+    })
+}
+
+pub fn csr_imm(op: CsrOp, rd: Reg, imm: u8, csr: Csr) -> Instr
+    requires { imm < 32 }
+    ensures { result ≡ CsrImm op rd imm csr }
+{
+    let _ = rd.number();
+    instr(Kind::CsrImm {
+        op,
+        rd,
+        imm,
+        csr: csr.number(),
+    })
+}

@@ -1,0 +1,107 @@
+//! What a statement asks for when it is placed, and how many bytes it has.
+ghost use Rattle.std.specs.Prelude.{◌≡◌, ◌≤◌, ◌<◌, ◌+◌, ◌^◌, true, None, IfSome};
+ghost use Rattle.rv_asm.specs.Layout.{constant, size_of, is_instruction, is_multiple};
+ghost use Rattle.rv_asm.specs.Listing.{multiple_of};
+ghost use Rattle.rv_asm.specs.Steps.{IsTaken};
+
+use crate::symbols::Symbols;
+use crate::values::{bits, gap, is_between, is_word, loading};
+use rv_source::Statement;
+
+/// Where the image lies.
+const BASE: u32 = 0x8000_0000;
+
+/// How many bytes an image has at most.
+const LIMIT: u32 = 16_777_216;
+
+/// Whether a value is a power of two, from 1 to 4096.
+fn is_multiple(value: i64) -> bool
+    ensures { result ≡ is_multiple value }
+{
+    is_between(1, 4096, value) && 4096 % value == 0
+}
+
+/// The value that has to be known where the statement stands, or 0 where it asks for none; None where the value isn't
+/// known or isn't one that the statement takes.
+pub fn constant(symbols: &Symbols, line: usize, here: u32, statement: &Statement) -> Option<i64>
+    ensures value { result ≡ constant symbols.now line here statement.now }
+    ensures taken { IfSome result (λ c. IsTaken (record { line = line; address = here; constant = c; statement = statement.now })) }
+{
+    match statement {
+        Statement::Li { value, .. } => {
+            let value = symbols.sum(value, line, here)?;
+            is_word(value).then_some(value)
+        }
+        Statement::Constant { value, .. } => {
+            let value = symbols.sum(value, line, here)?;
+            is_word(value).then_some(value)
+        }
+        Statement::Space { size, .. } => {
+            let size = symbols.sum(size, line, here)?;
+            is_between(0, i64::from(LIMIT), size).then_some(size)
+        }
+        Statement::Align { power } => {
+            let power = symbols.sum(power, line, here)?;
+            is_between(0, 12, power).then_some(power)
+        }
+        Statement::Balign { multiple } => {
+            let multiple = symbols.sum(multiple, line, here)?;
+            is_multiple(multiple).then_some(multiple)
+        }
+        _ => Some(0),
+    }
+}
+
+/// How many bytes a statement has at an address, with the value that it asked for; None where they are more than 32
+/// bits can count.
+#[tactic(auto, unfolding(crate::specs::Values::loading))]
+pub fn size_of(here: u32, constant: i64, statement: &Statement) -> Option<u32>
+    requires { IsTaken (record { line = 0; address = here; constant = constant; statement = statement.now }) }
+    ensures some { IfSome result (λ size. size ≡ size_of here constant statement.now) }
+    ensures none { result ≡ None → 2 ^ 32 ≤ size_of here constant statement.now }
+{
+    match statement {
+        Statement::Li { rd, .. } => Some(loading(*rd, bits(constant)).size()),
+        Statement::La { .. } => Some(8),
+        Statement::Call { .. } => Some(8),
+        Statement::LoadFrom { .. } => Some(8),
+        Statement::StoreTo { .. } => Some(8),
+        Statement::Data { width, values } => {
+            let count = u32::try_from(values.len()).ok()?;
+            count.checked_mul(width.bytes())
+        }
+        Statement::Bytes(bytes) => u32::try_from(bytes.len()).ok(),
+        Statement::Space { .. } => Some(bits(constant)),
+        Statement::Align { .. } => Some(gap(here, 1 << bits(constant))),
+        Statement::Balign { .. } => Some(gap(here, bits(constant))),
+        Statement::Constant { .. } => Some(0),
+        Statement::Marker => Some(0),
+        _ => Some(4),
+    }
+}
+
+/// The address of what follows a statement; None where it is past the last byte that an image may have.
+pub fn end_of(here: u32, constant: i64, statement: &Statement) -> Option<u32>
+    requires { IsTaken (record { line = 0; address = here; constant = constant; statement = statement.now }) }
+    ensures some { IfSome result (λ end. (end ≡ here + size_of here constant statement.now) × (end ≤ 0x81000000)) }
+    ensures none { result ≡ None → 0x81000000 < here + size_of here constant statement.now }
+{
+    let end = here.checked_add(size_of(here, constant, statement)?)?;
+    (end <= BASE + LIMIT).then_some(end)
+}
+
+/// Whether a statement is placed as instructions.
+pub fn is_instruction(statement: &Statement) -> bool
+    ensures { result ≡ is_instruction statement.now }
+{
+    !matches!(
+        statement,
+        Statement::Data { .. }
+            | Statement::Bytes(_)
+            | Statement::Space { .. }
+            | Statement::Align { .. }
+            | Statement::Balign { .. }
+            | Statement::Constant { .. }
+            | Statement::Marker
+    )
+}

@@ -1,0 +1,167 @@
+//! Values in the places of a statement.
+ghost use Rattle.std.specs.Prelude.{◌≡◌, ◌<◌, ◌≤◌, ◌^◌, IfSome};
+ghost use Rattle.rv_isa.specs.Number.{IsWithin, IsDistance, modulo};
+ghost use Rattle.rv_asm.specs.Values.{is_between, is_word, fits, immediate, upper_immediate, five_bits, distance, hi, lo, as_word, far, loading, gap};
+
+use crate::instructions::{Instructions, lui, op_imm, zero};
+use rv_isa::{ImmOp, Reg, Width};
+
+pub fn is_between(low: i64, high: i64, value: i64) -> bool
+    ensures { result ≡ is_between low high value }
+{
+    low <= value && value <= high
+}
+
+/// Whether a value is one of 32 bits, with or without a sign.
+pub fn is_word(value: i64) -> bool
+    ensures { result ≡ is_word value }
+{
+    is_between(-0x8000_0000, 0xffff_ffff, value)
+}
+
+/// Whether a value is one of as many bytes, with or without a sign.
+pub fn fits(width: Width, value: i64) -> bool
+    ensures { result ≡ fits width value }
+{
+    match width {
+        Width::One => is_between(-128, 255, value),
+        Width::Two => is_between(-32_768, 65_535, value),
+        Width::Four => is_word(value),
+    }
+}
+
+/// The low 32 bits of a value.
+pub fn bits(value: i64) -> u32
+    ensures { result ≡ modulo value (2 ^ 32) }
+{
+    value.rem_euclid(0x1_0000_0000) as u32
+}
+
+/// The immediate of an I-type or S-type instruction that a value stands for.
+pub fn immediate(value: i64) -> Option<i32>
+    ensures value { result ≡ immediate value }
+    ensures within { IfSome result (IsWithin (2 ^ 11)) }
+{
+    if is_between(-2048, 2047, value) {
+        Some(value as i32)
+    } else if is_between(0xffff_f800, 0xffff_ffff, value) {
+        Some((value - 0x1_0000_0000) as i32)
+    } else {
+        None
+    }
+}
+
+/// The immediate of a U-type instruction that a value stands for.
+pub fn upper_immediate(value: i64) -> Option<u32>
+    ensures value { result ≡ upper_immediate value }
+    ensures within { IfSome result (λ imm. imm < 2 ^ 20) }
+{
+    if is_between(-524_288, 1_048_575, value) {
+        let imm = if value < 0 { value + 0x10_0000 } else { value };
+        Some(imm as u32)
+    } else {
+        None
+    }
+}
+
+/// The amount of a shift, or the immediate of a control register instruction, that a value stands for.
+pub fn five_bits(value: i64) -> Option<u8>
+    ensures value { result ≡ five_bits value }
+    ensures within { IfSome result (λ n. n < 32) }
+{
+    if is_between(0, 31, value) {
+        Some(value as u8)
+    } else {
+        None
+    }
+}
+
+/// How far the target of `jal` is from it.
+pub fn jump_distance(here: u32, target: i64) -> Option<i32>
+    ensures value { result ≡ distance (2 ^ 20) here target }
+    ensures within { IfSome result (IsDistance (2 ^ 20)) }
+{
+    let offset = target.checked_sub(i64::from(here))?;
+    if is_between(-1_048_576, 1_048_574, offset) && offset % 2 == 0 {
+        Some(offset as i32)
+    } else {
+        None
+    }
+}
+
+/// How far the target of a branch is from it.
+pub fn branch_distance(here: u32, target: i64) -> Option<i32>
+    ensures value { result ≡ distance (2 ^ 12) here target }
+    ensures within { IfSome result (IsDistance (2 ^ 12)) }
+{
+    let offset = target.checked_sub(i64::from(here))?;
+    if is_between(-4096, 4094, offset) && offset % 2 == 0 {
+        Some(offset as i32)
+    } else {
+        None
+    }
+}
+
+/// The upper immediate that leaves the rest of a word to the low part.
+pub fn hi(word: u32) -> u32
+    ensures value { result ≡ hi word }
+    ensures below { result < 2 ^ 20 }
+{
+    ((u64::from(word) + 2048) / 4096 % 0x10_0000) as u32
+}
+
+/// The low part of a word, which is added to the upper part.
+pub fn lo(word: u32) -> i32
+    ensures value { result ≡ lo word }
+    ensures within { IsWithin (2 ^ 11) result }
+{
+    let low = (word % 4096) as i32;
+    if low < 2048 { low } else { low - 4096 }
+}
+
+/// The word that a value stands for.
+pub fn as_word(value: i64) -> Option<u32>
+    ensures { result ≡ as_word value }
+{
+    if is_word(value) {
+        Some(bits(value))
+    } else {
+        None
+    }
+}
+
+/// How far a target is from here, as a word.
+pub fn far(here: u32, target: i64) -> Option<u32>
+    ensures { result ≡ far here target }
+{
+    if is_word(target) {
+        Some(bits(target - i64::from(here)))
+    } else {
+        None
+    }
+}
+
+/// The one or two instructions that load a word.
+#[tactic(auto, unfolding(crate::specs::Values::loading))]
+pub fn loading(rd: Reg, word: u32) -> Instructions
+    ensures { result ≡ loading rd word }
+{
+    let value = word.cast_signed();
+    if value >= -2048 && value <= 2047 {
+        return Instructions::one(op_imm(ImmOp::Addi, rd, zero(), value));
+    }
+    let upper = lui(rd, hi(word));
+    if word % 4096 == 0 {
+        Instructions::one(upper)
+    } else {
+        Instructions::two(upper, op_imm(ImmOp::Addi, rd, rd, lo(word)))
+    }
+}
+
+/// How many bytes there are from an address to the next multiple.
+pub fn gap(here: u32, multiple: u32) -> u32
+    requires { 0 < multiple }
+    ensures { result ≡ gap here multiple }
+{
+    (multiple - here % multiple) % multiple
+}
