@@ -6,4 +6,6 @@ pub mod Placing
 pub mod Runs
 pub mod Labels
 pub mod Laying
+pub mod Emission
 pub mod Reading
+pub mod Whole

@@ -59,6 +59,10 @@ pub placed_is : (k : ℕ) (known : Known) (statement : Statement) (item : Item) 
 unfolding placed
 placed_is k known statement item h = placed_by k known statement item (statement_fault k known statement) refl h
 
+-- a statement without a fault
+pub free_placed : (k : ℕ) (known : Known) (statement : Statement) → statement_fault k known statement ≡ None → IsPlaced k known statement (item_of k known statement)
+free_placed k known statement h = placed_by k known statement (item_of k known statement) None h refl
+
 -- ---- a name is new
 
 not_some : {A : Type 0} (o : Option A) → is_some o ≡ false → o ≡ None

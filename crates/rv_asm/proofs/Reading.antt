@@ -17,6 +17,7 @@ use Rattle.rv_asm.specs.Assembly.{first_fault, phase_one_fault, all_said}
 use Rattle.rv_asm.specs.Steps.{State, nothing, unless, state_at, laid_out, lines_laid_out, extended}
 use Rattle.rv_asm.proofs.Labels.{IsUpTo}
 use Rattle.rv_asm.proofs.Laying.{extended_line, up_to_before}
+use Rattle.rv_asm.proofs.Emission.{items_below}
 use Rattle.rv_asm.proofs.Runs.{fails_at}
 
 -- the first n texts are lines, and the others are left
@@ -43,6 +44,19 @@ pub up_to_laid_out : (ls : List Said) (n : ℕ) (layout : Result State AsmFault)
 unfolding laid_out
 up_to_laid_out ls n (Err fault) h = tt
 up_to_laid_out ls n (Ok s) h = up_to_by ls n (first_fault _ n) s h
+
+-- ---- nor an item of one
+
+below_by : (ls : List Said) (n m : ℕ) (fault : Option AsmFault) (s : State) → n ≤ m → unless fault (Ok (state_at ls n)) ≡ Ok s → All (λ i. i.line < m) s.items
+below_by ls n m (Some fault) s le e = absurd cc
+below_by ls n m None s le e =
+    let same : state_at ls n ≡ s = cc in
+    rw (← same) (λ i d within. let below = items_below ls n i d within in omega (arith, below))
+
+pub below_laid_out : (ls : List Said) (n m : ℕ) (layout : Result State AsmFault) → n ≤ m → Gives (λ s. s) layout (laid_out ls n) → IfOk layout (λ s. All (λ i. i.line < m) s.items)
+unfolding laid_out
+below_laid_out ls n m (Err fault) le h = tt
+below_laid_out ls n m (Ok s) le h = below_by ls n m (first_fault _ n) s le h
 
 -- ---- the first fault of some lines is that of more lines
 

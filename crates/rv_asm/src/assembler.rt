@@ -1,5 +1,5 @@
 //! From source to image.
-ghost use Rattle.std.specs.Prelude.{◌≡◌, ◌≤◌, ◌<◌, Result, IfOk};
+ghost use Rattle.std.specs.Prelude.{◌≡◌, ◌≤◌, ◌<◌, Result, IfOk, length};
 ghost use Rattle.std.specs.List.{All};
 ghost use Rattle.rv_source.specs.Lines.{lines};
 ghost use Rattle.rv_asm.specs.declared.fault.AsmFault.{AsmFault};
@@ -35,7 +35,8 @@ fn extended<'a>(
 /// Reads the lines, and lays them out up to the first that has a fault in phase two: a later line that can't be read
 /// comes before that fault.
 fn lay_out<'a>(alloc: Global, source: &'a [u8]) -> Result<Layout<'a>, AsmFault>
-    ensures { Gives (λ l. l) result (lines_laid_out (lines source.now)) }
+    ensures layout { Gives (λ l. l) result (lines_laid_out (lines source.now)) }
+    ensures within { IfOk result (λ l. All (λ i. i.line < length source.now) l.items) }
 {
     let mut layout = Ok(Layout::new(alloc));
     let mut number: usize = 0;

@@ -4,7 +4,7 @@ use Rattle.rv_source.specs.Lines.{lines}
 use Rattle.rv_asm.specs.Faults.{IsFaultAt, kind_of}
 use Rattle.rv_asm.specs.Assembly.{all_said}
 use Rattle.rv_asm.specs.Steps.{State, laid_out}
-use Rattle.rv_asm.proofs.Reading.{begun, laid_out-zero, up_to_laid_out, read_more, laid_out_more, unread, read_all}
+use Rattle.rv_asm.proofs.Reading.{begun, laid_out-zero, up_to_laid_out, below_laid_out, read_more, laid_out_more, unread, read_all}
 use Rattle.rv_asm.proofs.assembler.lay_out.Goals as goal
 
 pub loop-text-init : goal.loop-text-init
@@ -21,8 +21,8 @@ loop-text-init c =
 pub extended-layout-requires-clause-up_to : goal.extended-layout-requires-clause-up_to
 extended-layout-requires-clause-up_to c = up_to_laid_out (all_said (lines c.args.source.now)) c.loop-text.number c.loop-text.layout c.loop-text.invariant.layout
 
-pub returns-in-Err : goal.returns-in-Err
-returns-in-Err c =
+pub returns-in-Err-clause-layout : goal.returns-in-Err-clause-layout
+returns-in-Err-clause-layout c =
     let at : IsFaultAt (c.loop-text.number + 1) (kind_of c.in-Err.fault) c.at.result = rw c.from.ensures at c.at.ensures in
     unread (lines c.args.source.now) c.loop-text.text-iterator c.loop-text.number c.loop-text.invariant.so_far c.in-Some.text.now c.next.new.self c.in-Some.ensures.steps
     c.in-Err.fault c.at.result c.in-Err.ensures at
@@ -44,6 +44,10 @@ loop-text-preserved c =
       counted = omega (arith, c.loop-text.invariant.counted, ap length cut);
     }
 
-pub returns : goal.returns
-returns c =
+pub returns-clause-layout : goal.returns-clause-layout
+returns-clause-layout c =
     rw (read_all (lines c.args.source.now) c.loop-text.text-iterator c.loop-text.number c.loop-text.invariant.so_far c.in-None.ensures.steps.0) c.loop-text.invariant.layout
+
+pub returns-clause-within : goal.returns-clause-within
+returns-clause-within c =
+    below_laid_out (all_said (lines c.args.source.now)) c.loop-text.number (length c.args.source.now) c.loop-text.layout (omega (arith, c.loop-text.invariant.counted)) c.loop-text.invariant.layout

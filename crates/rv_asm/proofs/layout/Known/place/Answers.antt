@@ -5,8 +5,8 @@ use Rattle.rv_asm.specs.Layout.{Known}
 use Rattle.rv_asm.proofs.Placing.{definition_new}
 use Rattle.rv_asm.proofs.layout.Known.place.Goals as goal
 
-pub define-requires : goal.define-requires
-define-requires c =
+pub define-requires-clause-absent : goal.define-requires-clause-absent
+define-requires-clause-absent c =
     let name = c.in-Some.name.now in
     ap (λ (i : Inside). value_of i.symbols.names name) c.self-inside.view_is
     ∙ (ap (λ (known : Known). value_of known.definitions.names name) c.self.view_is
