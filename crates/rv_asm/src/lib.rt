@@ -3,6 +3,7 @@
 //! The language is this project's own: see docs/ASSEMBLER.md.
 #![tactic(auto)]
 
+mod asked;
 mod data;
 mod emission;
 mod fault;
@@ -10,7 +11,6 @@ mod instructions;
 mod locals;
 mod names;
 mod placed;
-mod sizes;
 mod symbols;
 mod values;
 

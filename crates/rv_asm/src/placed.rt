@@ -5,9 +5,9 @@ ghost use Rattle.rv_asm.specs.Layout.{renames};
 ghost use Rattle.rv_asm.specs.Steps.{placed};
 
 use crate::FaultKind;
+use crate::asked::{constant, end_of, is_instruction};
 use crate::data::{self, pad};
 use crate::emission::Scope;
-use crate::sizes::{constant, end_of, is_instruction};
 use crate::symbols::Symbols;
 use crate::values::{bits, gap};
 use rv_source::Statement;
