@@ -4,3 +4,8 @@ pub mod Nops
 pub mod Writing
 pub mod Padded
 pub mod Sizes
+pub mod Placing
+pub mod Runs
+pub mod Labels
+pub mod Laying
+pub mod Reading

@@ -4,14 +4,19 @@
 #![tactic(auto)]
 
 mod asked;
+mod assembler;
 mod data;
 mod emission;
 mod fault;
 mod instructions;
+mod layout;
 mod locals;
 mod names;
 mod placed;
+mod program;
 mod symbols;
 mod values;
 
+pub use assembler::assemble;
 pub use fault::{AsmFault, FaultKind};
+pub use program::Program;
