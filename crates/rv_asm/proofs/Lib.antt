@@ -2,6 +2,8 @@ pub mod Lookups
 pub mod Sums
 pub mod Nops
 pub mod Writing
+pub mod Padded
+pub mod Sizes
 pub mod Placing
 pub mod Runs
 pub mod Labels

@@ -3,6 +3,7 @@
 //! The language is this project's own: see docs/ASSEMBLER.md.
 #![tactic(auto)]
 
+mod asked;
 mod assembler;
 mod data;
 mod emission;
@@ -13,7 +14,6 @@ mod locals;
 mod names;
 mod placed;
 mod program;
-mod sizes;
 mod symbols;
 mod values;
 

@@ -1,5 +1,11 @@
 pub mod Faults
+pub mod Literals
 pub mod Tokens
+pub mod Expressions
+pub mod Partial
+pub mod Operands
+pub mod Words
+pub mod Statements
 pub mod Said
 pub mod Reading
 pub mod Lines

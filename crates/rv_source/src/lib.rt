@@ -5,12 +5,18 @@
 
 mod expression;
 mod fault;
+mod forms;
 mod line;
 mod lines;
+mod literal;
 mod name;
+mod operand;
+mod places;
 mod reader;
 mod scan;
 mod statement;
+mod table;
+mod terms;
 mod token;
 
 pub use expression::{Atom, Direction, Expression, Term};
@@ -19,7 +25,9 @@ pub use line::{Label, Line};
 pub use lines::{Cut, cut_lines};
 pub use name::Name;
 pub use reader::read_line;
-pub use statement::{Csr, Immediate, Statement, Upper};
+pub use statement::{Bytes, Csr, Immediate, Statement, Upper, Values};
 
 #[cfg(test)]
 mod lines_tests;
+#[cfg(test)]
+mod scan_tests;

@@ -61,6 +61,67 @@ pub enum Upper<'a> {
     High(Expression<'a>),
 }
 
+/// Values, one after the other; seen as the list of them.
+#[derive(Drop)]
+pub struct Values<'a>(Vec<Expression<'a>>);
+
+impl<'a> Model for Values<'a> {
+    ghost use Rattle.std.specs.Prelude.{List};
+    ghost use Rattle.rv_source.specs.declared.expression.Term.{Term};
+
+    ghost Value = { List (List Term) };
+
+    ghost view = { λ v. v.0.items };
+}
+
+impl<'a> Values<'a> {
+    ghost use Rattle.std.specs.Prelude.{◌≡◌};
+
+    /// These values.
+    pub(crate) fn new(values: Vec<Expression<'a>>) -> Self
+        ensures { result ≡ values.entry.items }
+    {
+        Values(values)
+    }
+
+    /// The values, in the order in which they are written.
+    pub fn as_slice(&self) -> &[Expression<'a>]
+        ensures { result.now ≡ self.now }
+    {
+        self.0.as_slice()
+    }
+}
+
+/// Bytes, as strings spell them; seen as the list of them.
+#[derive(Drop)]
+pub struct Bytes(Vec<u8>);
+
+impl Model for Bytes {
+    ghost use Rattle.std.specs.Prelude.{List, ℕ};
+
+    ghost Value = { List ℕ };
+
+    ghost view = { λ b. b.0.items };
+}
+
+impl Bytes {
+    ghost use Rattle.std.specs.Prelude.{◌≡◌};
+
+    /// These bytes.
+    pub(crate) fn new(bytes: Vec<u8>) -> Self
+        ensures { result ≡ bytes.items }
+    {
+        Bytes(bytes)
+    }
+
+    /// The bytes, from the first to the last.
+    pub fn as_slice(&self) -> &[u8]
+        ensures { result.now ≡ self.now }
+    {
+        self.0.as_slice()
+    }
+}
+
 /// What a line tells the assembler to place or to define.
 #[derive(Drop)]
 pub enum Statement<'a> {
@@ -151,10 +212,10 @@ pub enum Statement<'a> {
     /// Values, each in as many bytes as the width has.
     Data {
         width: Width,
-        values: Vec<Expression<'a>>,
+        values: Values<'a>,
     },
     /// Bytes, as strings spell them.
-    Bytes(Vec<u8>),
+    Bytes(Bytes),
     /// As many bytes as the size says, each of them the fill or 0.
     Space {
         size: Expression<'a>,

@@ -1,4 +1,5 @@
 //! The tokens of a line.
+use crate::literal::first_byte;
 use crate::{Direction, Name};
 use std::alloc::AllocError;
 use std::marker::Model;
@@ -11,21 +12,48 @@ pub struct Text<'a> {
 }
 
 impl<'a> Model for Text<'a> {
-    ghost use Rattle.std.specs.Prelude.{List, ℕ};
+    ghost use Rattle.std.specs.Prelude.{List, [], ℕ, IsTrue, is_some};
+    ghost use Rattle.std.specs.Option.{unwrap_or};
+    ghost use Rattle.rv_source.specs.Literals.{bytes_of};
 
     ghost Value = { List ℕ };
 
-    ghost view = { λ text. text.spelling.now };
+    ghost view = { λ text. unwrap_or (bytes_of text.spelling.now) [] };
+
+    ghost invariant = { λ text. IsTrue (is_some (bytes_of text.spelling.now)) };
 }
 
 impl<'a> Text<'a> {
-    ghost use Rattle.std.specs.Prelude.{◌≡◌, ◌++◌, OnOk};
+    ghost use Rattle.std.specs.Prelude.{◌≡◌, ◌++◌, IsTrue, is_some, Some, OnOk};
+    ghost use Rattle.rv_source.specs.Literals.{bytes_of};
+
+    /// The string with this between its quotes.
+    pub(crate) fn new(spelling: &'a [u8]) -> Self
+        requires { IsTrue (is_some (bytes_of spelling.now)) }
+        ensures { bytes_of spelling.now ≡ Some result }
+    {
+        Text { spelling }
+    }
+
+    /// The same string.
+    pub(crate) fn again(&self) -> Text<'a>
+        ensures { result ≡ self.now }
+    {
+        Text {
+            spelling: self.spelling,
+        }
+    }
 
     /// Appends the bytes that the string stands for.
     pub fn append_to(&self, out: &mut Vec<u8>) -> Result<(), AllocError>
         ensures { OnOk result (out.new.items ≡ out.old.items ++ self.now) }
     {
-        out.extend_from_slice(self.spelling)
+        let mut rest = self.spelling;
+        while let Some((b, n)) = first_byte(rest) {
+            out.push(b)?;
+            rest = rest.split_at(n).1;
+        }
+        Ok(())
     }
 }
 
