@@ -2,3 +2,12 @@ pub mod Lookups
 pub mod Sums
 pub mod Nops
 pub mod Writing
+pub mod Padded
+pub mod Sizes
+pub mod Placing
+pub mod Runs
+pub mod Labels
+pub mod Laying
+pub mod Emission
+pub mod Reading
+pub mod Whole

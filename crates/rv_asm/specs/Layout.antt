@@ -89,6 +89,11 @@ is_instruction (s.Constant name value) = false
 is_instruction s.Marker = false
 is_instruction statement = true
 
+-- the name that `.equ` gives to its value
+abbrev pub name_in : Statement → Option (List ℕ)
+name_in (s.Constant name value) = Some name
+name_in statement = None
+
 -- ---- what is known before a line
 
 -- a line that says nothing, as every one past the end
@@ -114,11 +119,12 @@ abbrev pub with_labels : ℕ → Known → List Label → Known
 with_labels k known [] = known
 with_labels k known (l ∷ ls) = with_labels k (labelled k known l) ls
 
--- `.equ` gives a name to its value
+-- a name stands for the value that was asked for
 abbrev pub named : Known → ℤ → Statement → Known
-named known c (s.Constant name value) =
-    record known { definitions = record known.definitions { names = known.definitions.names ++ (name, c) ∷ [] } }
-named known c statement = known
+named known c statement = elim (name_in statement) as (λ _. Known) [
+  | None ↦ known
+  | Some name ↦ record known { definitions = record known.definitions { names = known.definitions.names ++ (name, c) ∷ [] } }
+]
 
 -- a statement lies where it stands, and what follows lies behind it
 abbrev pub stated : Known → ℤ → Statement → Known
@@ -162,8 +168,7 @@ relabels names (label.Local number ∷ ls) = relabels names ls
 
 -- so does `.equ`
 abbrev pub renames : List (List ℕ × ℤ) → Statement → Bool
-renames names (s.Constant name value) = is_some (value_of names name)
-renames names statement = false
+renames names statement = elim (name_in statement) as (λ _. Bool) [ None ↦ false | Some name ↦ is_some (value_of names name) ]
 
 -- what is wrong with a statement on line k behind its labels
 unfoldable pub statement_fault : ℕ → Known → Statement → Option FaultKind

@@ -1,13 +1,20 @@
 -- What the program keeps from line to line, and how it goes on: of these speak the contracts of its parts.
 -- That the whole is what Assembly.antt says is proved in proofs/.
-use Rattle.std.specs.Prelude.{◌≡◌, ℕ, ◌+◌, List, ◌++◌, ℤ, pos, true, Option, Some, None, Result, Ok, Err}
-use Rattle.std.specs.Option.{unwrap_or}
+use Rattle.std.specs.Prelude.{◌≡◌, ℕ, suc, ◌+◌, List, [], ◌∷◌, ◌++◌, length, ℤ, pos, Bool, true, Option, Some, None, is_some, if◌then◌else◌, Result, Ok, Err}
+use Rattle.std.specs.Option.{option_map, unwrap_or}
+use Rattle.rv_source.specs.Said.{Said}
+use Rattle.rv_source.specs.declared.line.Label.{Label}
+use Rattle.rv_source.specs.declared.line.Label.TheVariants as label
 use Rattle.rv_source.specs.declared.statement.Statement.{Statement}
-use Rattle.rv_source.specs.declared.statement.Statement.TheVariants as s
 use Rattle.rv_asm.specs.declared.fault.FaultKind.{FaultKind}
-use Rattle.rv_asm.specs.Symbols.{Definitions, sum_value}
-use Rattle.rv_asm.specs.Layout.{Known, asked, size_of, constant_of, statement_fault}
-use Rattle.rv_asm.specs.Listing.{statement_bytes}
+use Rattle.rv_asm.specs.declared.fault.FaultKind.TheVariants.{DuplicateSymbol}
+use Rattle.rv_asm.specs.declared.fault.AsmFault.{AsmFault}
+use Rattle.rv_asm.specs.Symbols.{Definitions, value_of, sum_value}
+use Rattle.rv_asm.specs.Layout.{Known, joined, line_at, start, labelled, stated, known_before, known_at, asked, size_of, name_in, constant_of, statement_fault, phase_two_fault}
+use Rattle.rv_asm.specs.Listing.{◌>>=◌, statement_bytes}
+use Rattle.rv_asm.specs.Assembly.{first_fault, phase_one_fault, all_said}
+
+-- ---- statements
 
 -- a statement that was placed: its line, counted from 0, its address and the value that it asked for
 pub record Item : Type 0 where
@@ -32,12 +39,8 @@ abbrev pub end_of : Item → ℕ
 end_of item = item.address + size_of item.address item.constant item.statement
 
 -- the name that `.equ` defines, and its value
-abbrev pub defined : ℤ → Statement → Option (List ℕ × ℤ)
-defined c (s.Constant name value) = Some (name, c)
-defined c statement = None
-
 abbrev pub definition_in : Item → Option (List ℕ × ℤ)
-definition_in item = defined item.constant item.statement
+definition_in item = option_map (λ name. (name, item.constant)) (name_in item.statement)
 
 -- the bytes of an item, with every name known
 abbrev pub item_bytes : Definitions → Item → Result (List ℕ) FaultKind
@@ -47,3 +50,84 @@ item_bytes ds item = statement_bytes (sum_value ds item.line item.address) item.
 abbrev pub appended : List ℕ → Result (List ℕ) FaultKind → Result (List ℕ) FaultKind
 appended out (Ok bs) = Ok (out ++ bs)
 appended out (Err kind) = Err kind
+
+-- ---- one line
+
+-- the state after a step for each item, up to the first that fails
+unfoldable pub run : {S X E : Type 0} → (S → X → Result S E) → S → List X → Result S E
+run step s [] = Ok s
+run step s (x ∷ xs) = step s x >>= λ t. run step t xs
+
+-- a label of line k, whose name is new
+unfoldable pub newly_labelled : ℕ → Known → Label → Result Known FaultKind
+newly_labelled k known (label.Name name) =
+    if is_some (value_of known.definitions.names name) then Err DuplicateSymbol else Ok (labelled k known (label.Name name))
+newly_labelled k known (label.Local number) = Ok (labelled k known (label.Local number))
+
+abbrev pub all_labelled : ℕ → Known → List Label → Result Known FaultKind
+all_labelled k known labels = run (newly_labelled k) known labels
+
+-- a statement of line k behind its labels: what is known behind it, and its item
+unfoldable pub newly_stated : ℕ → Known → Statement → Result (Known × Item) FaultKind
+newly_stated k known statement = placed k known statement >>= λ item. Ok (stated known item.constant statement, item)
+
+-- what is known after some lines, and their items
+pub record State : Type 0 where
+  pub known : Known
+  pub items : List Item
+
+abbrev pub nothing : State
+nothing = record { known = start; items = [] }
+
+abbrev pub after_statement : ℕ → Known → List Item → Option Statement → Result State FaultKind
+after_statement k known items None = Ok (record { known = known; items = items })
+after_statement k known items (Some statement) = newly_stated k known statement >>= λ p. Ok (record { known = p.0; items = items ++ p.1 ∷ [] })
+
+-- one more line, which is line k
+unfoldable pub after_line : ℕ → State → Said → Result State FaultKind
+after_line k s line = all_labelled k s.known line.labels >>= λ known. after_statement k known s.items line.statement
+
+-- ---- the first two phases
+
+-- a fault with the number of its line, which counts from 1
+abbrev pub at_line : {A : Type 0} → ℕ → Result A FaultKind → Result A AsmFault
+at_line k (Ok x) = Ok x
+at_line k (Err kind) = Err (record { line = suc k; kind = kind })
+
+abbrev pub unless : {A : Type 0} → Option AsmFault → Result A AsmFault → Result A AsmFault
+unless (Some fault) m = Err fault
+unless None m = m
+
+-- the item of line k, where it has a statement
+abbrev pub item_at : List Said → ℕ → List Item
+item_at lines k =
+    let known = known_at lines k in
+    elim (line_at lines k).statement as (λ _. List Item) [
+      | None ↦ []
+      | Some statement ↦ record { line = k; address = known.address; constant = unwrap_or (constant_of k known statement) (pos 0); statement = statement } ∷ []
+    ]
+
+-- the state after n lines
+abbrev pub state_at : List Said → ℕ → State
+state_at lines n = record { known = known_before lines n; items = joined (item_at lines) n }
+
+-- the same, where no such line has a fault in phase two
+unfoldable pub laid_out : List Said → ℕ → Result State AsmFault
+laid_out lines n = unless (first_fault (phase_two_fault lines) n) (Ok (state_at lines n))
+
+-- one more line, which is line k
+abbrev pub extended : ℕ → Said → Result State AsmFault → Result State AsmFault
+extended k line m = m >>= λ s. at_line k (after_line k s line)
+
+-- after all lines of a source, where no line has a fault in the first two phases
+unfoldable pub lines_laid_out : List (List ℕ) → Result State AsmFault
+lines_laid_out texts = unless (first_fault (phase_one_fault texts) (length texts)) (laid_out (all_said texts) (length texts))
+
+-- ---- the third phase
+
+-- the bytes of one more item
+unfoldable pub item_step : Definitions → List ℕ → Item → Result (List ℕ) AsmFault
+item_step ds out item = at_line item.line (appended out (item_bytes ds item))
+
+abbrev pub image_of : Definitions → List Item → Result (List ℕ) AsmFault
+image_of ds items = run (item_step ds) [] items

@@ -3,15 +3,20 @@
 //! The language is this project's own: see docs/ASSEMBLER.md.
 #![tactic(auto)]
 
+mod asked;
+mod assembler;
 mod data;
 mod emission;
 mod fault;
 mod instructions;
+mod layout;
 mod locals;
 mod names;
 mod placed;
-mod sizes;
+mod program;
 mod symbols;
 mod values;
 
+pub use assembler::assemble;
 pub use fault::{AsmFault, FaultKind};
+pub use program::Program;

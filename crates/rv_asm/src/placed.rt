@@ -5,9 +5,9 @@ ghost use Rattle.rv_asm.specs.Layout.{renames};
 ghost use Rattle.rv_asm.specs.Steps.{placed};
 
 use crate::FaultKind;
+use crate::asked::{constant, end_of, is_instruction};
 use crate::data::{self, pad};
 use crate::emission::Scope;
-use crate::sizes::{constant, end_of, is_instruction};
 use crate::symbols::Symbols;
 use crate::values::{bits, gap};
 use rv_source::Statement;
@@ -50,8 +50,9 @@ fn renames(symbols: &Symbols, statement: &Statement) -> bool
 }
 
 impl<'a> Placed<'a> {
-    ghost use Rattle.std.specs.Prelude.{◌≡◌, ◌≤◌};
+    ghost use Rattle.std.specs.Prelude.{◌≡◌, ◌≤◌, true, IfSome};
     ghost use Rattle.std.specs.Option.{option_map};
+    ghost use Rattle.rv_asm.specs.Values.{is_word};
     ghost use Rattle.rv_asm.specs.Faults.{KindGives, KindBecomes};
     ghost use Rattle.rv_asm.specs.Steps.{placed, end_of, definition_in, item_bytes, appended};
 
@@ -103,7 +104,8 @@ impl<'a> Placed<'a> {
 
     /// The name that `.equ` defines, and its value.
     pub fn definition(&self) -> Option<(&'a [u8], i64)>
-        ensures { option_map (λ d. (d.0.now, d.1)) result ≡ definition_in self.now }
+        ensures value { option_map (λ d. (d.0.now, d.1)) result ≡ definition_in self.now }
+        ensures word { IfSome result (λ d. is_word d.1 ≡ true) }
     {
         match &self.statement {
             Statement::Constant { name, .. } => Some((name.bytes(), self.constant)),

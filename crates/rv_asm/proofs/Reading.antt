@@ -1,0 +1,148 @@
+-- How far the lines of a source have been read.
+use Rattle.std.proofs.Common.{◌≡◌, ℕ, zero, suc, ◌+◌, ◌-◌, ◌<◌, ◌≤◌, List, [], ◌∷◌, length, drop, get_or, refl, sym, ap, ◌∙◌, arith, add-one, add-zero, add-suc, inl, inr, length-drop}
+use Rattle.std.specs.Prelude.{Option, None, Some, Result, Ok, Err, IfOk, ◌⊎◌}
+use Rattle.std.specs.List.{All}
+use Rattle.std.proofs.lemmas.List.{get_or-map}
+use Rattle.rv_source.specs.Said.{Said}
+use Rattle.rv_source.specs.Reading.{said}
+use Rattle.rv_source.specs.Faults.{Fails as LineFails}
+use Rattle.rv_source.specs.declared.fault.LineFault.{LineFault}
+use Rattle.rv_source.specs.declared.fault.LineFault.TheVariants as line
+use Rattle.rv_asm.specs.declared.fault.FaultKind.{FaultKind}
+use Rattle.rv_asm.specs.declared.fault.FaultKind.TheVariants.{OutOfMemory}
+use Rattle.rv_asm.specs.declared.fault.AsmFault.{AsmFault}
+use Rattle.rv_asm.specs.Faults.{Fails, Gives, IsFaultAt, kind_of}
+use Rattle.rv_asm.specs.Layout.{first, joined, line_at, blank, known_before}
+use Rattle.rv_asm.specs.Assembly.{first_fault, phase_one_fault, all_said}
+use Rattle.rv_asm.specs.Steps.{State, nothing, unless, state_at, laid_out, lines_laid_out, extended}
+use Rattle.rv_asm.proofs.Labels.{IsUpTo}
+use Rattle.rv_asm.proofs.Laying.{extended_line, up_to_before}
+use Rattle.rv_asm.proofs.Emission.{items_below}
+use Rattle.rv_asm.proofs.Runs.{fails_at}
+
+-- the first n texts are lines, and the others are left
+pub record SoFar (texts rest : List (List ℕ)) (n : ℕ) : Type 0 where
+  pub left : rest ≡ drop n texts
+  pub none : first_fault (phase_one_fault texts) n ≡ None
+  pub within : n ≤ length texts
+
+pub begun : (texts : List (List ℕ)) → SoFar texts texts 0
+unfolding first
+begun texts = record { left = refl; none = refl; within = omega arith }
+
+pub laid_out-zero : (ls : List Said) → laid_out ls 0 ≡ Ok nothing
+unfolding laid_out first joined known_before
+laid_out-zero ls = refl
+
+-- ---- what was laid out knows no local label of a later line
+
+up_to_by : (ls : List Said) (n : ℕ) (fault : Option AsmFault) (s : State) → unless fault (Ok (state_at ls n)) ≡ Ok s → IsUpTo n s.known
+up_to_by ls n (Some fault) s e = absurd cc
+up_to_by ls n None s e = let same : state_at ls n ≡ s = cc in rw (← same) (up_to_before ls n)
+
+pub up_to_laid_out : (ls : List Said) (n : ℕ) (layout : Result State AsmFault) → Gives (λ s. s) layout (laid_out ls n) → IfOk layout (λ s. IsUpTo n s.known)
+unfolding laid_out
+up_to_laid_out ls n (Err fault) h = tt
+up_to_laid_out ls n (Ok s) h = up_to_by ls n (first_fault _ n) s h
+
+-- ---- nor an item of one
+
+below_by : (ls : List Said) (n m : ℕ) (fault : Option AsmFault) (s : State) → n ≤ m → unless fault (Ok (state_at ls n)) ≡ Ok s → All (λ i. i.line < m) s.items
+below_by ls n m (Some fault) s le e = absurd cc
+below_by ls n m None s le e =
+    let same : state_at ls n ≡ s = cc in
+    rw (← same) (λ i d within. let below = items_below ls n i d within in omega (arith, below))
+
+pub below_laid_out : (ls : List Said) (n m : ℕ) (layout : Result State AsmFault) → n ≤ m → Gives (λ s. s) layout (laid_out ls n) → IfOk layout (λ s. All (λ i. i.line < m) s.items)
+unfolding laid_out
+below_laid_out ls n m (Err fault) le h = tt
+below_laid_out ls n m (Ok s) le h = below_by ls n m (first_fault _ n) s le h
+
+-- ---- the first fault of some lines is that of more lines
+
+kept : (fault : ℕ → Option FaultKind) (n d : ℕ) (f : AsmFault) → first_fault fault n ≡ Some f → first_fault fault (n + d) ≡ Some f
+unfolding first
+kept fault n zero f h = rw add-zero h
+kept fault n (suc d) f h = rw (add-suc n d, kept fault n d f h) refl
+
+first_more : (fault : ℕ → Option FaultKind) (n m : ℕ) (f : AsmFault) → n ≤ m → first_fault fault n ≡ Some f → first_fault fault m ≡ Some f
+first_more fault n m f le h = let e : n + (m - n) ≡ m = omega arith in rw e at (kept fault n (m - n) f h)
+
+-- ---- one more line
+
+record IsAt {X : Type 0} (xs : List X) (n : ℕ) (x : X) (ys : List X) (d : X) : Type 0 where
+  below : n < length xs
+  item : get_or xs n d ≡ x
+  after : drop (suc n) xs ≡ ys
+
+dropped : {X : Type 0} (xs : List X) (n : ℕ) (x : X) (ys : List X) (d : X) → drop n xs ≡ x ∷ ys → IsAt xs n x ys d
+dropped [] zero x ys d e = absurd cc
+dropped [] (suc n) x ys d e = absurd cc
+dropped (y ∷ xs) zero x ys d e = record { below = omega arith; item = cc; after = cc }
+dropped (y ∷ xs) (suc n) x ys d e = let r = dropped xs n x ys d e in record { below = omega (arith, r.below); item = r.item; after = r.after }
+
+-- want of memory, or the fault of the line
+unread_kind : (fault : LineFault) (r : Result Said LineFault) → LineFails fault r → (kind_of fault ≡ OutOfMemory) ⊎ (r ≡ Err fault)
+unread_kind line.OutOfMemory r h = inl refl
+unread_kind line.BadByte r h = inr h
+unread_kind line.LineTooLong r h = inr h
+unread_kind line.Syntax r h = inr h
+unread_kind line.UnknownWord r h = inr h
+unread_kind line.BadOperands r h = inr h
+
+module _ (texts rest : List (List ℕ)) (n : ℕ) (so : SoFar texts rest n) where
+  module _ (text : List ℕ) (after : List (List ℕ)) (cut : rest ≡ text ∷ after) where
+    next : IsAt texts n text after []
+    next = dropped texts n text after [] (sym so.left ∙ cut)
+
+    pub is_before : n < length texts
+    is_before = next.below
+
+    -- a line that is read
+    module _ (line : Said) (is : said text ≡ Ok line) where
+      here : said (get_or texts n []) ≡ Ok line
+      here = ap said next.item ∙ is
+
+      none_here : phase_one_fault texts n ≡ None
+      none_here = ap (λ r. elim r as (λ _. Option FaultKind) [ Ok l ↦ None | Err fault ↦ Some (kind_of fault) ]) here
+
+      pub read_more : SoFar texts after (n + 1)
+      unfolding first
+      read_more = rw add-one (record { left = sym next.after; none = rw (so.none, none_here) refl; within = omega (arith, next.below) })
+
+      read_line_at : line_at (all_said texts) n ≡ line
+      read_line_at =
+          get_or-map (λ t. elim (said t) as (λ _. Said) [ Ok l ↦ l | Err fault ↦ blank ]) texts n [] blank next.below
+          ∙ ap (λ r. elim r as (λ _. Said) [ Ok l ↦ l | Err fault ↦ blank ]) here
+
+      pub laid_out_more : extended n line (laid_out (all_said texts) n) ≡ laid_out (all_said texts) (n + 1)
+      laid_out_more = rw (add-one, ← read_line_at) (extended_line (all_said texts) n)
+
+    -- a line that can't be
+    module _ (fault : LineFault) where
+      unread_fault : said text ≡ Err fault → first_fault (phase_one_fault texts) (suc n) ≡ Some (record { line = suc n; kind = kind_of fault })
+      unfolding first
+      unread_fault is =
+          let e : said (get_or texts n []) ≡ Err fault = ap said next.item ∙ is in
+          let some : phase_one_fault texts n ≡ Some (kind_of fault) = ap (λ r. elim r as (λ _. Option FaultKind) [ Ok l ↦ None | Err f ↦ Some (kind_of f) ]) e in
+          rw (so.none, some) refl
+
+      unread_all : said text ≡ Err fault → lines_laid_out texts ≡ Err (record { line = n + 1; kind = kind_of fault })
+      unfolding lines_laid_out
+      unread_all is =
+          let more = first_more (phase_one_fault texts) (suc n) (length texts) (record { line = suc n; kind = kind_of fault }) (omega (arith, next.below)) (unread_fault is) in
+          rw (more, add-one) refl
+
+      unread_by : (at : AsmFault) → ((kind_of fault ≡ OutOfMemory) ⊎ (said text ≡ Err fault)) → IsFaultAt (n + 1) (kind_of fault) at → Fails at (lines_laid_out texts)
+      unread_by at (inl o) e = let f = rw o at e in rw f refl
+      unread_by at (inr p) e = fails_at (n + 1) (kind_of fault) at (lines_laid_out texts) e (unread_all p)
+
+      pub unread : (at : AsmFault) → LineFails fault (said text) → IsFaultAt (n + 1) (kind_of fault) at → Fails at (lines_laid_out texts)
+      unread at h e = unread_by at (unread_kind fault (said text) h) e
+
+  pub read_all : rest ≡ [] → lines_laid_out texts ≡ laid_out (all_said texts) n
+  unfolding lines_laid_out
+  read_all h =
+      let none : length rest ≡ 0 = rw h refl in
+      let same : length texts ≡ n = omega (arith, length-drop n texts, ap length so.left, none, so.within) in
+      rw (same, so.none) refl

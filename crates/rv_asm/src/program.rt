@@ -1,0 +1,58 @@
+//! What a source was assembled to.
+ghost use Rattle.std.specs.Prelude.{◌≡◌};
+
+use crate::names::Names;
+use indexmap::IndexMap;
+use std::marker::Model;
+
+/// An image and the names that its source defined.
+#[derive(Drop)]
+pub struct Program {
+    bytes: Vec<u8>,
+    names: Names,
+}
+
+impl Model for Program {
+    ghost use Rattle.std.specs.Prelude.{◌≤◌, length};
+    ghost use Rattle.rv_asm.specs.Assembly.{Assembly};
+
+    ghost Value = { Assembly };
+
+    ghost view = { λ p. record { bytes = p.bytes.items; symbols = p.names } };
+
+    ghost invariant = { λ p. length p.bytes.items ≤ 16777216 };
+}
+
+impl Program {
+    ghost use Rattle.std.specs.Prelude.{◌≡◌, ◌≤◌, length};
+    ghost use Rattle.rv_asm.specs.Symbols.{value_of, definitions_of};
+
+    pub(crate) fn new(bytes: Vec<u8>, names: Names) -> Self
+        requires { length bytes.items ≤ 16777216 }
+        ensures { result ≡ record { bytes = bytes.items; symbols = names } }
+    {
+        Program { bytes, names }
+    }
+
+    /// The image, which lies from 0x80000000 on.
+    pub fn bytes(&self) -> &[u8]
+        ensures value { result.now ≡ self.now.bytes }
+        ensures size { length result.now ≤ 16777216 }
+    {
+        self.bytes.as_slice()
+    }
+
+    /// The names that the source defines, labels and constants, with their values, in order of definition.
+    pub fn symbols(&self) -> &IndexMap<Vec<u8>, i64>
+        ensures { definitions_of result.now.entries ≡ self.now.symbols }
+    {
+        self.names.map()
+    }
+
+    /// The value of a name, if the source defines it.
+    pub fn symbol(&self, name: &[u8]) -> Option<i64>
+        ensures { result ≡ value_of self.now.symbols name.now }
+    {
+        self.names.value(name)
+    }
+}
