@@ -4,5 +4,6 @@ pub mod Longest
 pub mod Quoted
 pub mod Front
 pub mod Cutting
+pub mod Parted
 pub mod Spellings
 pub mod Splitting

@@ -1,6 +1,7 @@
 pub mod Faults
 pub mod Literals
 pub mod Tokens
+pub mod Parts
 pub mod Said
 pub mod Reading
 pub mod Lines
