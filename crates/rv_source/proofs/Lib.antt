@@ -4,6 +4,7 @@ pub mod Longest
 pub mod Quoted
 pub mod Front
 pub mod Cutting
+pub mod Parted
 pub mod Spellings
 pub mod Splitting
 pub mod Sums

@@ -6,6 +6,7 @@ pub mod Partial
 pub mod Operands
 pub mod Words
 pub mod Statements
+pub mod Parts
 pub mod Said
 pub mod Reading
 pub mod Lines

@@ -25,6 +25,7 @@ pub use line::{Label, Line};
 pub use lines::{Cut, cut_lines};
 pub use name::Name;
 pub use reader::read_line;
+pub use scan::one_cut;
 pub use statement::{Bytes, Csr, Immediate, Statement, Upper, Values};
 
 #[cfg(test)]

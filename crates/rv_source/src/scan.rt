@@ -2,6 +2,7 @@
 ghost use Rattle.std.specs.Prelude.{◌≡◌, ◌==◌, IfOk, IsTrue, ◌<◌, ◌≤◌, length, true, false, take, slice_index};
 ghost use Rattle.std.specs.List.{list_all};
 ghost use Rattle.rv_source.specs.Faults.{Gives};
+ghost use Rattle.rv_source.specs.Parts.{OneCut};
 ghost use Rattle.rv_source.specs.Tokens.{is_name_start, is_name_byte, local, word, sign, half, front, begins_comment, begins_with_name_byte, fault_at, is_blank, cut, tokens};
 
 use crate::literal::{character, first_byte, number, short_decimal};
@@ -278,3 +279,8 @@ pub fn tokens<'a>(alloc: Global, line: &'a [u8]) -> Result<Vec<Token<'a>>, LineF
     }
     cut(alloc, line)
 }
+
+/// A line is cut in one way into tokens, each the longest at its place, or has one fault: what `tokens` answers.
+pub fn one_cut()
+    ensures { OneCut }
+{}
