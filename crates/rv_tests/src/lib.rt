@@ -9,3 +9,5 @@ mod hart;
 mod memory;
 #[cfg(test)]
 mod program;
+#[cfg(test)]
+mod sources;

@@ -1,0 +1,354 @@
+//! Small programs, and how their boards stand after some steps.
+use rv_asm::assemble;
+use rv_board::{Board, Event, TrapRecord};
+use rv_cache::NoCache;
+use rv_isa::Reg;
+use rv_plic::Source;
+use rv_pmp::Mode;
+use rv_ram::FlatMemory;
+use std::alloc::Global;
+use std::process::Abort;
+use std::test::Fail;
+
+const T0: u8 = 5;
+
+const T2: u8 = 7;
+
+const S0: u8 = 8;
+
+const S1: u8 = 9;
+
+const A0: u8 = 10;
+
+const A1: u8 = 11;
+
+const MSTATUS: u16 = 0x300;
+
+const MCYCLE: u16 = 0xb00;
+
+const MINSTRET: u16 = 0xb02;
+
+type Flat = Board<FlatMemory, NoCache>;
+
+/// How a board stands after so many further steps: what its pc, some registers, control registers and bytes of memory
+/// hold, and the last of its traps, if it had any.
+struct Stand {
+    steps: usize,
+    pc: u32,
+    mode: Mode,
+    regs: &'static [(u8, u32)],
+    csrs: &'static [(u16, u32)],
+    bytes: &'static [(u32, u8)],
+    trap: Option<(u32, u32, u32)>,
+}
+
+/// In machine mode with nothing else to look at.
+const PLAIN: Stand = Stand {
+    steps: 0,
+    pc: 0,
+    mode: Mode::Machine,
+    regs: &[],
+    csrs: &[],
+    bytes: &[],
+    trap: None,
+};
+
+fn boot(alloc: Global, source: &[u8]) -> Result<Flat, Fail> {
+    let program = assemble(alloc, source)?;
+    Ok(Board::boot(alloc, &program, 1, 1024)?)
+}
+
+fn last_trap(board: &Flat) -> Option<(u32, u32, u32)> {
+    let index = board.trap_count().checked_sub(1)?;
+    let TrapRecord { cause, epc, tval } = board.trap(index)?;
+    Some((cause, epc, tval))
+}
+
+fn reg(board: &Flat, number: u8) -> Option<u32> {
+    Some(board.reg(Reg::new(number)?))
+}
+
+/// The board stands so.
+fn check(rt: &impl Abort, board: &Flat, stand: &Stand) {
+    assert_eq!(rt; board.pc(), stand.pc);
+    assert_eq!(rt; board.mode(), stand.mode);
+    assert_eq!(rt; last_trap(board), stand.trap);
+    for (number, value) in stand.regs {
+        assert_eq!(rt; reg(board, *number), Some(*value));
+    }
+    for (addr, value) in stand.csrs {
+        assert_eq!(rt; board.csr(*addr), Some(*value));
+    }
+    for (addr, value) in stand.bytes {
+        assert_eq!(rt; board.ram(*addr), Some(*value));
+    }
+}
+
+/// The board of the source stands so, one after the other.
+fn follow(
+    rt: &impl Abort,
+    alloc: Global,
+    source: &[u8],
+    stands: &[Stand],
+) -> Result<(), Fail> {
+    let mut board = boot(alloc, source)?;
+    for stand in stands {
+        for _ in 0..stand.steps {
+            board.apply(Event::Step)?;
+        }
+        check(rt, &board, stand);
+    }
+    Ok(())
+}
+
+#[test]
+fn what_was_stored_is_done_next(rt: HostRuntime) -> Result<(), Fail> {
+    follow(
+        &rt,
+        rt.alloc(),
+        b"la t0,patch\nli t1,0x00100513\nli t2,2\npatch: li a0,7\nsw t1,0(t0)\naddi t2,t2,-1\nbnez t2,patch",
+        &[
+            Stand {
+                steps: 6,
+                pc: 0x8000_0018,
+                regs: &[(A0, 7)],
+                ..PLAIN
+            },
+            Stand {
+                steps: 4,
+                pc: 0x8000_0018,
+                regs: &[(A0, 1)],
+                ..PLAIN
+            },
+            Stand {
+                steps: 3,
+                pc: 0x8000_0024,
+                regs: &[(T2, 0)],
+                ..PLAIN
+            },
+        ],
+    )?;
+    // A byte of the word is as good: `addi a0,x0,7` becomes `addi a0,x0,71`.
+    follow(
+        &rt,
+        rt.alloc(),
+        b"la t0,patch\nli t1,4\nli t2,2\npatch: li a0,7\nsb t1,3(t0)\naddi t2,t2,-1\nbnez t2,patch",
+        &[
+            Stand {
+                steps: 5,
+                pc: 0x8000_0014,
+                regs: &[(A0, 7)],
+                ..PLAIN
+            },
+            Stand {
+                steps: 4,
+                pc: 0x8000_0014,
+                regs: &[(A0, 71)],
+                ..PLAIN
+            },
+        ],
+    )
+}
+
+#[test]
+fn jumps_link_only_where_they_go(rt: HostRuntime) -> Result<(), Fail> {
+    follow(
+        &rt,
+        rt.alloc(),
+        b"lui t0,0x80000\njalr ra,2(t0)",
+        &[Stand {
+            steps: 2,
+            regs: &[(1, 0)],
+            trap: Some((0, 0x8000_0004, 0x8000_0002)),
+            ..PLAIN
+        }],
+    )?;
+    follow(
+        &rt,
+        rt.alloc(),
+        b"lui t0,0x80000\njalr t0,12(t0)",
+        &[Stand {
+            steps: 2,
+            pc: 0x8000_000c,
+            regs: &[(T0, 0x8000_0008)],
+            ..PLAIN
+        }],
+    )?;
+    // A jump past the memory is done, and the fetch there traps.
+    follow(
+        &rt,
+        rt.alloc(),
+        b"lui t0,0x80001\njr t0",
+        &[
+            Stand {
+                steps: 2,
+                pc: 0x8000_1000,
+                ..PLAIN
+            },
+            Stand {
+                steps: 1,
+                trap: Some((1, 0x8000_1000, 0x8000_1000)),
+                ..PLAIN
+            },
+        ],
+    )
+}
+
+#[test]
+fn counters_and_the_time(rt: HostRuntime) -> Result<(), Fail> {
+    follow(
+        &rt,
+        rt.alloc(),
+        b"csrrs x5,mvendorid,x0\ncsrrw x0,mvendorid,x5",
+        &[Stand {
+            steps: 2,
+            regs: &[(T0, 0)],
+            csrs: &[(MINSTRET, 1)],
+            trap: Some((2, 0x8000_0004, 0xf112_9073)),
+            ..PLAIN
+        }],
+    )?;
+    follow(
+        &rt,
+        rt.alloc(),
+        b"ecall",
+        &[Stand {
+            steps: 1,
+            csrs: &[(MINSTRET, 0), (MCYCLE, 1), (MSTATUS, 0x1800)],
+            trap: Some((11, 0x8000_0000, 0)),
+            ..PLAIN
+        }],
+    )?;
+    follow(
+        &rt,
+        rt.alloc(),
+        b"csrwi minstret,7\ncsrr a0,minstret\ncsrr a1,minstret",
+        &[Stand {
+            steps: 3,
+            pc: 0x8000_000c,
+            regs: &[(A0, 7), (A1, 8)],
+            ..PLAIN
+        }],
+    )?;
+    // The time is read after it grew.
+    follow(
+        &rt,
+        rt.alloc(),
+        b"lui t0,0x200C\nlw a0,-8(t0)",
+        &[Stand {
+            steps: 2,
+            pc: 0x8000_0008,
+            regs: &[(A0, 2)],
+            ..PLAIN
+        }],
+    )
+}
+
+#[test]
+fn the_timer_interrupts_a_loop(rt: HostRuntime) -> Result<(), Fail> {
+    follow(
+        &rt,
+        rt.alloc(),
+        b"la t0,handler\ncsrw mtvec,t0\nlui t1,0x2004\nli t2,14\nsw t2,0(t1)\nsw zero,4(t1)\nli t0,128\ncsrw mie,t0
+csrwi mstatus,8\nloop: addi s0,s0,1\nj loop\nhandler: addi s1,s1,1\nj .",
+        &[
+            Stand {
+                steps: 14,
+                pc: 0x8000_0030,
+                trap: Some((0x8000_0007, 0x8000_002c, 0)),
+                ..PLAIN
+            },
+            Stand {
+                steps: 2,
+                pc: 0x8000_0034,
+                regs: &[(S0, 2), (S1, 1)],
+                csrs: &[(MSTATUS, 0x1880)],
+                trap: Some((0x8000_0007, 0x8000_002c, 0)),
+                ..PLAIN
+            },
+        ],
+    )
+}
+
+#[test]
+fn user_code_stores_where_it_may(rt: HostRuntime) -> Result<(), Fail> {
+    follow(
+        &rt,
+        rt.alloc(),
+        b"li t0,0x20000041\ncsrw pmpaddr0,t0\nli t0,-1\ncsrw pmpaddr1,t0\nli t0,0x1D1B\ncsrw pmpcfg0,t0\nla t0,user
+csrw mepc,t0\nli t1,0x8000010F\nmret\nuser: sb t0,0(t1)\nsb t0,1(t1)",
+        &[
+            Stand {
+                steps: 15,
+                pc: 0x8000_003c,
+                mode: Mode::User,
+                bytes: &[(0x8000_010f, 0x38)],
+                ..PLAIN
+            },
+            Stand {
+                steps: 1,
+                bytes: &[(0x8000_010f, 0x38), (0x8000_0110, 0)],
+                trap: Some((7, 0x8000_003c, 0x8000_0110)),
+                ..PLAIN
+            },
+        ],
+    )
+}
+
+#[test]
+fn loads_extend_and_are_refused(rt: HostRuntime) -> Result<(), Fail> {
+    follow(
+        &rt,
+        rt.alloc(),
+        b"la t0,word\nlb a0,(t0)\nlbu a1,(t0)\nmul s0,a0,a0\nlh a0,1(t0)\nword: .byte 0xfe",
+        &[
+            Stand {
+                steps: 5,
+                pc: 0x8000_0014,
+                regs: &[(A0, 0xffff_fffe), (A1, 0xfe), (S0, 4)],
+                ..PLAIN
+            },
+            Stand {
+                steps: 1,
+                trap: Some((4, 0x8000_0014, 0x8000_0019)),
+                ..PLAIN
+            },
+        ],
+    )
+}
+
+/// The board of `j .` after these events, with the pending interrupt sources.
+fn pending_after(alloc: Global, events: &[Event]) -> Result<u32, Fail> {
+    let mut board = boot(alloc, b"j .")?;
+    board.run(events).map_err(|_| "memory is refused")?;
+    Ok(board.plic().peek(0x1000))
+}
+
+#[test]
+fn a_request_stays_when_its_line_falls(rt: HostRuntime) -> Result<(), Fail> {
+    let source = Source::new(4).ok_or("no source")?;
+    let rise = Event::Line { source, high: true };
+    let fall = Event::Line {
+        source,
+        high: false,
+    };
+    let too_short = [rise, fall, Event::Step];
+    assert_eq!(rt; pending_after(rt.alloc(), &too_short)?, 0);
+    let long_enough = [rise, Event::Step, fall, Event::Step];
+    assert_eq!(rt; pending_after(rt.alloc(), &long_enough)?, 0x10);
+    Ok(())
+}
+
+#[test]
+fn a_byte_comes_when_it_comes(rt: HostRuntime) -> Result<(), Fail> {
+    const ECHO: &[u8] = b"lui t0,0x10000\nlw a0,4(t0)\nsw a0,0(t0)";
+    let byte = Event::Rx(0x5a);
+    let mut board = boot(rt.alloc(), ECHO)?;
+    assert_eq!(rt; board.run(&[byte, Event::Step, Event::Step, Event::Step]), Ok(()));
+    assert_eq!(rt; board.console(), b"Z".as_slice());
+    let mut late = boot(rt.alloc(), ECHO)?;
+    assert_eq!(rt; late.run(&[Event::Step, Event::Step, Event::Step, byte]), Ok(()));
+    assert_eq!(rt; late.console(), b"\0".as_slice());
+    assert_eq!(rt; late.serial().waiting(), 1);
+    Ok(())
+}
