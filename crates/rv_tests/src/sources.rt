@@ -32,6 +32,7 @@ type Flat = Board<FlatMemory, NoCache>;
 
 /// How a board stands after so many further steps: what its pc, some registers, control registers and bytes of memory
 /// hold, and the last of its traps, if it had any.
+#[derive(Clone, Copy)]
 struct Stand {
     steps: usize,
     pc: u32,
