@@ -37,7 +37,8 @@ number_in base digits =
 -- whether a text is `0`, the letter in either case, and more
 abbrev pub has_prefix : ℕ → ℕ → List ℕ → Bool
 has_prefix lower upper text =
-    nat_lt 1 (length text) && ((slice_index text 0 == 48) && ((slice_index text 1 == lower) || (slice_index text 1 == upper)))
+    nat_lt 1 (length text)
+    && ((slice_index text 0 == 48) && ((slice_index text 1 == lower) || (slice_index text 1 == upper)))
 
 -- whether a text is `0` and more
 abbrev pub has_leading_zero : List ℕ → Bool
@@ -114,7 +115,9 @@ unfoldable pub bytes_after : List ℕ → ℕ → Option (List ℕ)
 bytes_after [] n = Some []
 bytes_after (b ∷ bs) (suc n) = bytes_after bs n
 bytes_after (b ∷ bs) zero =
-    option_and_then (λ found. option_map (λ cs. found.0 ∷ cs) (bytes_after bs (pred found.1))) (first_byte (b ∷ bs))
+    option_and_then
+    (λ found. option_map (λ cs. found.0 ∷ cs) (bytes_after bs (pred found.1)))
+    (first_byte (b ∷ bs))
 
 -- the bytes that a string's spelling stands for, each spelled by the longest text at its place
 abbrev pub bytes_of : List ℕ → Option (List ℕ)
