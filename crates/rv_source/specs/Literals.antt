@@ -81,11 +81,15 @@ escape (b ∷ c ∷ []) = byte_in 8 (b ∷ c ∷ [])
 escape (b ∷ c ∷ d ∷ []) = if b == 120 then byte_in 16 (c ∷ d ∷ []) else byte_in 8 (b ∷ c ∷ d ∷ [])
 escape _ = None
 
+-- a `\` and what makes an escape of it, as a whole
+abbrev pub escaped : List ℕ → Option ℕ
+escaped [] = None
+escaped (b ∷ bs) = if b == 92 then escape bs else None
+
 -- the byte that a text spells, as a whole: it is one of the plain bytes, or an escape
 unfoldable pub spelled : (ℕ → Bool) → List ℕ → Option ℕ
-spelled plain [] = None
 spelled plain (b ∷ []) = if plain b then Some b else None
-spelled plain (b ∷ c ∷ bs) = if b == 92 then escape (c ∷ bs) else None
+spelled plain text = escaped text
 
 -- 0x20 to 0x7E but `'` and `\`
 abbrev pub is_plain_in_character : ℕ → Bool
