@@ -37,7 +37,8 @@ number_in base digits =
 -- whether a text is `0`, the letter in either case, and more
 abbrev pub has_prefix : ℕ → ℕ → List ℕ → Bool
 has_prefix lower upper text =
-    nat_lt 1 (length text) && ((slice_index text 0 == 48) && ((slice_index text 1 == lower) || (slice_index text 1 == upper)))
+    nat_lt 1 (length text)
+    && ((slice_index text 0 == 48) && ((slice_index text 1 == lower) || (slice_index text 1 == upper)))
 
 -- whether a text is `0` and more
 abbrev pub has_leading_zero : List ℕ → Bool
@@ -80,11 +81,15 @@ escape (b ∷ c ∷ []) = byte_in 8 (b ∷ c ∷ [])
 escape (b ∷ c ∷ d ∷ []) = if b == 120 then byte_in 16 (c ∷ d ∷ []) else byte_in 8 (b ∷ c ∷ d ∷ [])
 escape _ = None
 
+-- a `\` and what makes an escape of it, as a whole
+abbrev pub escaped : List ℕ → Option ℕ
+escaped [] = None
+escaped (b ∷ bs) = if b == 92 then escape bs else None
+
 -- the byte that a text spells, as a whole: it is one of the plain bytes, or an escape
 unfoldable pub spelled : (ℕ → Bool) → List ℕ → Option ℕ
-spelled plain [] = None
 spelled plain (b ∷ []) = if plain b then Some b else None
-spelled plain (b ∷ c ∷ bs) = if b == 92 then escape (c ∷ bs) else None
+spelled plain text = escaped text
 
 -- 0x20 to 0x7E but `'` and `\`
 abbrev pub is_plain_in_character : ℕ → Bool
@@ -114,7 +119,9 @@ unfoldable pub bytes_after : List ℕ → ℕ → Option (List ℕ)
 bytes_after [] n = Some []
 bytes_after (b ∷ bs) (suc n) = bytes_after bs n
 bytes_after (b ∷ bs) zero =
-    option_and_then (λ found. option_map (λ cs. found.0 ∷ cs) (bytes_after bs (pred found.1))) (first_byte (b ∷ bs))
+    option_and_then
+    (λ found. option_map (λ cs. found.0 ∷ cs) (bytes_after bs (pred found.1)))
+    (first_byte (b ∷ bs))
 
 -- the bytes that a string's spelling stands for, each spelled by the longest text at its place
 abbrev pub bytes_of : List ℕ → Option (List ℕ)

@@ -13,7 +13,8 @@ Spells text rest t = (token_of text ≡ Some t) × (may_precede t rest ≡ true)
 
 -- no text that goes on into the rest of the line spells a token
 abbrev pub IsLongest : List ℕ → List ℕ → Type 0
-IsLongest text rest = (more others : List ℕ) (u : Token) → rest ≡ more ++ others → 0 < length more → Spells (text ++ more) others u → ⊥
+IsLongest text rest =
+    (more others : List ℕ) (t : Token) → rest ≡ more ++ others → 0 < length more → Spells (text ++ more) others t → ⊥
 
 -- a line is blanks, the text of a token, and a rest
 pub record BeginsWith (line : List ℕ) (t : Token) (rest : List ℕ) : Type 0 where

@@ -24,15 +24,18 @@ is_name_byte b = is_name_start b || is_ascii_digit b
 -- one to four decimal digits, and `b` or `f`
 unfoldable pub local : List ℕ → Option Token
 local text =
-    if slice_index text (length text - 1) == 98 then option_map (λ n. Local n Backward) (short_decimal (take (length text - 1) text))
-    else (if slice_index text (length text - 1) == 102 then option_map (λ n. Local n Forward) (short_decimal (take (length text - 1) text))
+    if slice_index text (length text - 1) == 98
+    then option_map (λ n. Local n Backward) (short_decimal (take (length text - 1) text))
+    else (if slice_index text (length text - 1) == 102
+    then option_map (λ n. Local n Forward) (short_decimal (take (length text - 1) text))
     else None)
 
 -- A word is name bytes. With a digit in front it is a local reference or a number, and else a name.
 unfoldable pub word : List ℕ → Option Token
 word text =
     if is_name_start (slice_index text 0) then Some (Name text)
-    else option_or (local text) (option_or (option_map (λ n. Digits n) (short_decimal text)) (option_map (λ n. Number n) (number text)))
+    else option_or (local text)
+    (option_or (option_map (λ n. Digits n) (short_decimal text)) (option_map (λ n. Number n) (number text)))
 
 -- a sign of one byte
 abbrev pub sign : ℕ → Option Token
@@ -89,7 +92,9 @@ is_blank b = (b == 32) || (b == 9)
 
 -- `#` or `//`
 abbrev pub begins_comment : List ℕ → Bool
-begins_comment line = (slice_index line 0 == 35) || (nat_lt 1 (length line) && ((slice_index line 0 == 47) && (slice_index line 1 == 47)))
+begins_comment line =
+    (slice_index line 0 == 35)
+    || (nat_lt 1 (length line) && ((slice_index line 0 == 47) && (slice_index line 1 == 47)))
 
 -- what is wrong where no token begins
 abbrev pub fault_at : ℕ → LineFault
@@ -106,7 +111,10 @@ cut (b ∷ bs) (suc n) = cut bs n
 cut (b ∷ bs) zero =
     if is_blank b then cut bs zero
     else (if begins_comment (b ∷ bs) then Ok []
-    else (elim (front (b ∷ bs)) as (λ _. Result (List Token) LineFault) [ None ↦ Err (fault_at b) | Some found ↦ with_tokens (found.0 ∷ []) (cut bs (pred found.1)) ]))
+    else (elim (front (b ∷ bs)) as (λ _. Result (List Token) LineFault) [
+      | None ↦ Err (fault_at b)
+      | Some found ↦ with_tokens (found.0 ∷ []) (cut bs (pred found.1))
+    ]))
 
 -- the tokens of a line, of at most 1,024 bytes
 unfoldable pub tokens : List ℕ → Result (List Token) LineFault

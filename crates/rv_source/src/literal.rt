@@ -1,7 +1,7 @@
 //! Reads numbers, characters and strings.
 ghost use Rattle.std.specs.Prelude.{◌≡◌, ◌||◌, ◌<◌, ◌≤◌, IsTrue, IfSome, length};
 ghost use Rattle.std.specs.Char.{is_ascii_digit};
-ghost use Rattle.rv_source.specs.Literals.{is_hex_letter, digit_value, is_digit, number_in, has_prefix, has_leading_zero, number, short_decimal, letter_escape, byte_in, escape, spelled, is_plain_in_character, is_plain_in_string, character, first_byte};
+ghost use Rattle.rv_source.specs.Literals.{is_hex_letter, digit_value, is_digit, number_in, has_prefix, has_leading_zero, number, short_decimal, letter_escape, byte_in, escape, escaped, spelled, is_plain_in_character, is_plain_in_string, character, first_byte};
 
 fn is_hex_letter(b: u8) -> bool
     ensures { result ≡ is_hex_letter b }
@@ -154,13 +154,22 @@ fn is_plain_in_string(b: u8) -> bool
     (b == b'\t' || (b >= 0x20 && b <= 0x7E) || b >= 0x80) && b != b'"' && b != b'\\'
 }
 
+/// The byte that a `\` and what follows it stand for.
+fn escaped(text: &[u8]) -> Option<u8>
+    ensures { result ≡ escaped text.now }
+{
+    match text {
+        [] => None,
+        [first, rest @ ..] => { if *first == b'\\' { escape(rest) } else { None } }
+    }
+}
+
 /// The byte that a text spells in a character.
 #[tactic(auto, unfolding(crate::specs::Literals::spelled))]
 fn spelled_in_character(text: &[u8]) -> Option<u8>
     ensures { result ≡ spelled is_plain_in_character text.now }
 {
     match text {
-        [] => None,
         [b] => {
             if is_plain_in_character(*b) {
                 Some(*b)
@@ -168,7 +177,7 @@ fn spelled_in_character(text: &[u8]) -> Option<u8>
                 None
             }
         }
-        [first, rest @ ..] => { if *first == b'\\' { escape(rest) } else { None } }
+        _ => escaped(text),
     }
 }
 
@@ -178,7 +187,6 @@ fn spelled_in_string(text: &[u8]) -> Option<u8>
     ensures { result ≡ spelled is_plain_in_string text.now }
 {
     match text {
-        [] => None,
         [b] => {
             if is_plain_in_string(*b) {
                 Some(*b)
@@ -186,7 +194,7 @@ fn spelled_in_string(text: &[u8]) -> Option<u8>
                 None
             }
         }
-        [first, rest @ ..] => { if *first == b'\\' { escape(rest) } else { None } }
+        _ => escaped(text),
     }
 }
 
