@@ -1,2 +1,4 @@
 pub mod Sums
 pub mod Pieces
+pub mod Listed
+pub mod Lines

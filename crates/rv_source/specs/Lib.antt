@@ -5,5 +5,6 @@ pub mod Partial
 pub mod Operands
 pub mod Words
 pub mod Statements
+pub mod Lists
 pub mod Said
 pub mod Reading

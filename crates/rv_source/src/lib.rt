@@ -3,13 +3,16 @@
 //! The language is this project's own: see docs/ASSEMBLER.md.
 #![tactic(auto)]
 
+mod dispatch;
 mod expression;
 mod fault;
 mod forms;
 mod line;
+mod lists;
 mod name;
 mod operand;
 mod places;
+mod pseudo;
 mod reader;
 mod scan;
 mod statement;
@@ -23,3 +26,6 @@ pub use line::{Label, Line};
 pub use name::Name;
 pub use reader::read_line;
 pub use statement::{Bytes, Csr, Immediate, Statement, Upper, Values};
+
+#[cfg(test)]
+mod reader_tests;
