@@ -9,3 +9,5 @@ pub mod Spellings
 pub mod Splitting
 pub mod Sums
 pub mod Pieces
+pub mod Listed
+pub mod Lines

@@ -7,6 +7,7 @@ pub mod Operands
 pub mod Words
 pub mod Statements
 pub mod Parts
+pub mod Lists
 pub mod Said
 pub mod Reading
 pub mod Lines

@@ -1,4 +1,4 @@
--- An expression as far as it has been read, for the contracts of the code that reads it.
+-- What has been read so far, for the contracts of the code that reads it.
 -- Own language; see docs/ASSEMBLER.md.
 use Rattle.std.specs.Prelude.{◌≡◌, List, ◌∷◌, Result, Ok, Err}
 use Rattle.rv_source.specs.declared.token.Token.{Token}
@@ -21,3 +21,8 @@ completed p ts = with_terms p.terms (terms p.wanted ts)
 abbrev pub Takes : {A : Type 0} → Result A LineFault → Partial → Token → Partial → Type 0
 Takes (Ok _) old t new = (ts : List Token) → completed old (t ∷ ts) ≡ completed new ts
 Takes (Err fault) old t new = (ts : List Token) → Fails fault (completed old (t ∷ ts))
+
+-- what a call left behind it is what is meant, unless memory ran out
+abbrev pub Becomes : {A B : Type 0} → B → Result A LineFault → Result B LineFault → Type 0
+Becomes new (Ok _) meaning = meaning ≡ Ok new
+Becomes new (Err fault) meaning = Fails fault meaning

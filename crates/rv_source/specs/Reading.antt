@@ -1,8 +1,69 @@
 -- What a line of a source says, or what is wrong with it.
-use Rattle.std.specs.Prelude.{ℕ, List, Result, Err}
+-- Own language; see docs/ASSEMBLER.md.
+use Rattle.std.specs.Prelude.{ℕ, Bool, true, false, List, [], ◌∷◌, ◌++◌, Option, Some, None, Result, Ok, Err, if◌then◌else◌}
+use Rattle.std.specs.Option.{ok_or}
 use Rattle.rv_source.specs.declared.fault.LineFault.{LineFault}
-use Rattle.rv_source.specs.declared.fault.LineFault.TheVariants.{Syntax}
+use Rattle.rv_source.specs.declared.fault.LineFault.TheVariants.{Syntax, UnknownWord, BadOperands}
+use Rattle.rv_source.specs.declared.line.Label.{Label}
+use Rattle.rv_source.specs.declared.line.Label.TheVariants as label
+use Rattle.rv_source.specs.declared.operand.Operand.{Operand}
+use Rattle.rv_source.specs.declared.statement.Statement.{Statement}
+use Rattle.rv_source.specs.declared.statement.Statement.TheVariants as s
+use Rattle.rv_source.specs.declared.table.Form.{Form}
+use Rattle.rv_source.specs.declared.table.Form.TheVariants as f
+use Rattle.rv_source.specs.declared.token.Token.{Token}
+use Rattle.rv_source.specs.declared.token.Token.TheVariants.{Name, Digits, Colon}
+use Rattle.rv_source.specs.Faults.{◌>>=◌}
+use Rattle.rv_source.specs.Expressions.{is_symbol}
+use Rattle.rv_source.specs.Operands.{operands_of}
+use Rattle.rv_source.specs.Words.{form_of}
+use Rattle.rv_source.specs.Lists.{meaning}
+use Rattle.rv_source.specs.Tokens.{tokens}
 use Rattle.rv_source.specs.Said.{Said}
 
+abbrev pub is_marker : Option Form → Bool
+is_marker (Some f.Marker) = true
+is_marker _ = false
+
+-- what operands mean behind a word of this form
+abbrev pub said_by : Option Form → List Operand → Result Statement LineFault
+said_by None operands = Err UnknownWord
+said_by (Some form) operands = ok_or (meaning form operands) BadOperands
+
+-- a word and its operands; behind a marker any tokens may stand
+unfoldable pub statement_of : List ℕ → List Token → Result Statement LineFault
+statement_of word ts = if is_marker (form_of word) then Ok s.Marker else operands_of ts >>= said_by (form_of word)
+
+-- at most one statement
+abbrev pub rest_of : List Token → Result (Option Statement) LineFault
+rest_of [] = Ok None
+rest_of (Name word ∷ ts) = statement_of word ts >>= λ s. Ok (Some s)
+rest_of _ = Err Syntax
+
+-- what may stand before a colon: a name other than `.`, or a short number
+abbrev pub label_of : Token → Option Label
+label_of (Name name) = if is_symbol name then Some (label.Name name) else None
+label_of (Digits n) = Some (label.Local n)
+label_of _ = None
+
+-- labels in front of a line
+abbrev pub with_labels : List Label → Result Said LineFault → Result Said LineFault
+with_labels labels (Ok line) = Ok (record { labels = labels ++ line.labels; statement = line.statement })
+with_labels labels (Err fault) = Err fault
+
+-- the first token, where a colon stands behind it
+abbrev pub before_colon : List Token → Option Token
+before_colon (t ∷ Colon ∷ ts) = Some t
+before_colon _ = None
+
+-- labels, and then at most one statement
+unfoldable pub line_of : List Token → Result Said LineFault
+line_of (t ∷ Colon ∷ ts) = elim (label_of t) as (λ _. Result Said LineFault) [
+  | Some label ↦ with_labels (label ∷ []) (line_of ts)
+  | None ↦ Err Syntax
+]
+line_of ts = rest_of ts >>= λ s. Ok (record { labels = []; statement = s })
+
+-- The tokens of the whole line come first.
 unfoldable pub said : List ℕ → Result Said LineFault
-said line = Err Syntax
+said line = tokens line >>= line_of

@@ -1,6 +1,6 @@
 -- What a word and its operands stand for: the statements, form by form.
 -- Own language; see docs/ASSEMBLER.md.
-use Rattle.std.specs.Prelude.{ℕ, ◌+◌, ◌*◌, Bool, true, false, not, ◌&&◌, List, [], ◌∷◌, ◌++◌, Option, Some, None, option_and_then, if◌then◌else◌, ◌==◌, nat_lt, pos, negsuc}
+use Rattle.std.specs.Prelude.{ℕ, ◌+◌, ◌*◌, Bool, true, false, not, ◌&&◌, List, [], ◌∷◌, Option, Some, None, option_and_then, if◌then◌else◌, ◌==◌, nat_lt, pos, negsuc}
 use Rattle.std.specs.Option.{option_map, option_or}
 use Rattle.rv_isa.specs.Names.{lookup, register_names, csr_names}
 use Rattle.rv_isa.specs.declared.kind.Kind.{Kind}
@@ -208,28 +208,3 @@ stands f.Balign = one value (λ multiple. s.Balign multiple)
 stands f.Constant = two symbol value (λ name v. s.Constant name v)
 stands f.Marker = λ _. Some s.Marker
 stands _ = λ _. None
-
--- ---- lists of any length
-
--- one or more values
-unfoldable pub values : List Operand → Option (List (List Term))
-values [] = None
-values (x ∷ []) = option_map (λ e. e ∷ []) (value x)
-values (x ∷ xs) = option_and_then (λ e. option_map (λ es. e ∷ es) (values xs)) (value x)
-
--- the bytes of a string, with a byte 0 behind them or not
-unfoldable pub string : Bool → Operand → Option (List ℕ)
-string terminated (o.Text bytes) = Some (if terminated then bytes ++ 0 ∷ [] else bytes)
-string terminated _ = None
-
--- one or more strings
-unfoldable pub strings : Bool → List Operand → Option (List ℕ)
-strings terminated [] = None
-strings terminated (x ∷ []) = string terminated x
-strings terminated (x ∷ xs) = option_and_then (λ bs. option_map (λ more. bs ++ more) (strings terminated xs)) (string terminated x)
-
--- what a form and any operands stand for, or none where it doesn't take them
-unfoldable pub meaning : Form → List Operand → Option Statement
-meaning (f.Data width) operands = option_map (λ es. s.Data width es) (values operands)
-meaning (f.Text terminated) operands = option_map (λ bytes. s.Bytes bytes) (strings terminated operands)
-meaning form operands = stands form (counted operands)

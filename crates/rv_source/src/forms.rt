@@ -4,18 +4,19 @@ ghost use Rattle.rv_isa.specs.Word.{IsInRange};
 ghost use Rattle.rv_source.specs.declared.statement.Statement.TheVariants as s;
 ghost use Rattle.rv_isa.specs.declared.kind.Kind.TheVariants as k;
 ghost use Rattle.rv_source.specs.declared.table.Form.TheVariants as f;
-ghost use Rattle.rv_source.specs.Statements.{register, value, alone, none, both, all, jal, jalr, load, store, fence, stands};
+ghost use Rattle.rv_source.specs.declared.operand.Operands.TheVariants as count;
+ghost use Rattle.rv_source.specs.Statements.{register, value, alone, none, both, all, jal, jalr, load, store, fence, stands, csr, immediate, memory};
 
 use crate::operand::{Operand, Operands};
 use crate::places::{
     csr, fence_set, immediate, memory, register, symbol, upper, value, value_or_operand,
 };
 use crate::table::Form;
-use crate::{Expression, Immediate, Statement};
+use crate::{Csr, Expression, Immediate, Statement};
 use rv_isa::{AluOp, Cond, CsrOp, ImmOp, Instr, Kind, LoadOp, Reg, ShiftOp, Width};
 
 /// The register with a number below 32.
-fn x(number: u8) -> Reg
+pub fn x(number: u8) -> Reg
     requires { number < 32 }
     ensures { result ≡ number }
 {
@@ -26,7 +27,7 @@ fn x(number: u8) -> Reg
 }
 
 /// The statement of an instruction whose fields are in range.
-fn instruction<'a>(kind: Kind) -> Statement<'a>
+pub fn instruction<'a>(kind: Kind) -> Statement<'a>
     requires { IsInRange kind }
     ensures { result ≡ s.Instruction kind }
 {
@@ -37,7 +38,7 @@ fn instruction<'a>(kind: Kind) -> Statement<'a>
 }
 
 /// A jump to what a register says.
-fn jump_to<'a>(rd: Reg, base: Reg) -> Statement<'a>
+pub fn jump_to<'a>(rd: Reg, base: Reg) -> Statement<'a>
     requires link { rd < 32 }
     requires base { base < 32 }
     ensures { result ≡ s.Instruction (k.Jalr rd base (pos 0)) }
@@ -62,7 +63,7 @@ fn ordered<'a>(first: u16, second: u16) -> Statement<'a>
     })
 }
 
-fn one_register(operands: Operands) -> Option<Reg>
+pub fn one_register(operands: Operands) -> Option<Reg>
     ensures value { result ≡ alone register operands.entry }
     ensures below { IfSome result (λ r. r < 32) }
 {
@@ -72,7 +73,7 @@ fn one_register(operands: Operands) -> Option<Reg>
     register(&reg)
 }
 
-fn two_registers(operands: Operands) -> Option<(Reg, Reg)>
+pub fn two_registers(operands: Operands) -> Option<(Reg, Reg)>
     ensures value { result ≡ both register register operands.entry }
     ensures below { IfSome result (λ p. (p.0 < 32) × (p.1 < 32)) }
 {
@@ -92,7 +93,7 @@ fn three_registers(operands: Operands) -> Option<(Reg, Reg, Reg)>
     Some((register(&first)?, register(&second)?, register(&third)?))
 }
 
-fn one_value<'a>(operands: Operands<'a>) -> Option<Expression<'a>>
+pub fn one_value<'a>(operands: Operands<'a>) -> Option<Expression<'a>>
     ensures { result ≡ alone value operands.entry }
 {
     let Operands::One(operand) = operands else {
@@ -101,7 +102,7 @@ fn one_value<'a>(operands: Operands<'a>) -> Option<Expression<'a>>
     value(operand)
 }
 
-fn register_and_value<'a>(operands: Operands<'a>) -> Option<(Reg, Expression<'a>)>
+pub fn register_and_value<'a>(operands: Operands<'a>) -> Option<(Reg, Expression<'a>)>
     ensures { result ≡ both register value operands.entry }
 {
     let Operands::Two(reg, operand) = operands else {
@@ -119,8 +120,45 @@ fn registers_and_value<'a>(operands: Operands<'a>) -> Option<(Reg, Reg, Expressi
     Some((register(&first)?, register(&second)?, value(operand)?))
 }
 
+fn register_and_place<'a>(operands: Operands<'a>) -> Option<(Reg, (Immediate<'a>, Reg))>
+    ensures { result ≡ both register memory operands.entry }
+{
+    let Operands::Two(reg, place) = operands else {
+        return None;
+    };
+    Some((register(&reg)?, memory(place)?))
+}
+
+fn registers_and_immediate<'a>(operands: Operands<'a>) -> Option<(Reg, Reg, Immediate<'a>)>
+    ensures { result ≡ all register register immediate operands.entry }
+{
+    let Operands::Three(first, second, imm) = operands else {
+        return None;
+    };
+    Some((register(&first)?, register(&second)?, immediate(imm)?))
+}
+
+fn csr_between_registers(operands: Operands) -> Option<(Reg, Csr, Reg)>
+    ensures value { result ≡ all register csr register operands.entry }
+    ensures below { IfSome result (λ p. (p.0 < 32) × (p.2 < 32)) }
+{
+    let Operands::Three(first, number, last) = operands else {
+        return None;
+    };
+    Some((register(&first)?, csr(&number)?, register(&last)?))
+}
+
+fn register_csr_and_value<'a>(operands: Operands<'a>) -> Option<(Reg, Csr, Expression<'a>)>
+    ensures { result ≡ all register csr value operands.entry }
+{
+    let Operands::Three(reg, number, operand) = operands else {
+        return None;
+    };
+    Some((register(&reg)?, csr(&number)?, value(operand)?))
+}
+
 /// A statement that takes no operands.
-fn alone<'a>(statement: Statement<'a>, operands: Operands<'a>) -> Option<Statement<'a>>
+pub fn alone<'a>(statement: Statement<'a>, operands: Operands<'a>) -> Option<Statement<'a>>
     ensures { result ≡ none statement.entry operands.entry }
 {
     match operands {
@@ -130,7 +168,7 @@ fn alone<'a>(statement: Statement<'a>, operands: Operands<'a>) -> Option<Stateme
 }
 
 #[tactic(auto, unfolding(crate::specs::Statements::stands))]
-fn lui<'a>(operands: Operands<'a>) -> Option<Statement<'a>>
+pub fn lui<'a>(operands: Operands<'a>) -> Option<Statement<'a>>
     ensures { result ≡ stands f.Lui operands.entry }
 {
     let Operands::Two(rd, imm) = operands else {
@@ -143,7 +181,7 @@ fn lui<'a>(operands: Operands<'a>) -> Option<Statement<'a>>
 }
 
 #[tactic(auto, unfolding(crate::specs::Statements::stands))]
-fn auipc<'a>(operands: Operands<'a>) -> Option<Statement<'a>>
+pub fn auipc<'a>(operands: Operands<'a>) -> Option<Statement<'a>>
     ensures { result ≡ stands f.Auipc operands.entry }
 {
     let (rd, imm) = register_and_value(operands)?;
@@ -151,7 +189,7 @@ fn auipc<'a>(operands: Operands<'a>) -> Option<Statement<'a>>
 }
 
 /// `rd,target`, or `target` alone with x1 as the link
-fn jal<'a>(operands: Operands<'a>) -> Option<Statement<'a>>
+pub fn jal<'a>(operands: Operands<'a>) -> Option<Statement<'a>>
     ensures { result ≡ jal operands.entry }
 {
     match operands {
@@ -167,8 +205,20 @@ fn jal<'a>(operands: Operands<'a>) -> Option<Statement<'a>>
     }
 }
 
+/// `rd,rs1` or `rd,m`
+fn jump_from<'a>(rd: Operand<'a>, place: Operand<'a>) -> Option<Statement<'a>>
+    ensures { result ≡ jalr (count.Two rd.entry place.entry) }
+{
+    let rd = register(&rd)?;
+    if let Some(base) = register(&place) {
+        return Some(jump_to(rd, base));
+    }
+    let (offset, base) = memory(place)?;
+    Some(Statement::Jalr { rd, base, offset })
+}
+
 /// `rd,rs1`, `rd,m`, `rd,rs1,i`, or `rs1` with x1 as the link
-fn jalr<'a>(operands: Operands<'a>) -> Option<Statement<'a>>
+pub fn jalr<'a>(operands: Operands<'a>) -> Option<Statement<'a>>
     ensures { result ≡ jalr operands.entry }
 {
     match operands {
@@ -176,25 +226,16 @@ fn jalr<'a>(operands: Operands<'a>) -> Option<Statement<'a>>
             let base = register(&base)?;
             Some(jump_to(x(1), base))
         }
-        Operands::Two(rd, place) => {
-            let rd = register(&rd)?;
-            if let Some(base) = register(&place) {
-                return Some(jump_to(rd, base));
-            }
-            let (offset, base) = memory(place)?;
+        Operands::Two(rd, place) => jump_from(rd, place),
+        operands => {
+            let (rd, base, offset) = registers_and_immediate(operands)?;
             Some(Statement::Jalr { rd, base, offset })
         }
-        Operands::Three(rd, base, offset) => Some(Statement::Jalr {
-            rd: register(&rd)?,
-            base: register(&base)?,
-            offset: immediate(offset)?,
-        }),
-        _ => None,
     }
 }
 
 #[tactic(auto, unfolding(crate::specs::Statements::stands))]
-fn branch<'a>(cond: Cond, operands: Operands<'a>) -> Option<Statement<'a>>
+pub fn branch<'a>(cond: Cond, operands: Operands<'a>) -> Option<Statement<'a>>
     ensures { result ≡ stands (f.Branch cond) operands.entry }
 {
     let (rs1, rs2, target) = registers_and_value(operands)?;
@@ -207,7 +248,7 @@ fn branch<'a>(cond: Cond, operands: Operands<'a>) -> Option<Statement<'a>>
 }
 
 #[tactic(auto, unfolding(crate::specs::Statements::stands))]
-fn branch_swapped<'a>(cond: Cond, operands: Operands<'a>) -> Option<Statement<'a>>
+pub fn branch_swapped<'a>(cond: Cond, operands: Operands<'a>) -> Option<Statement<'a>>
     ensures { result ≡ stands (f.BranchSwapped cond) operands.entry }
 {
     let (rs2, rs1, target) = registers_and_value(operands)?;
@@ -220,7 +261,7 @@ fn branch_swapped<'a>(cond: Cond, operands: Operands<'a>) -> Option<Statement<'a
 }
 
 #[tactic(auto, unfolding(crate::specs::Statements::stands))]
-fn branch_zero<'a>(cond: Cond, operands: Operands<'a>) -> Option<Statement<'a>>
+pub fn branch_zero<'a>(cond: Cond, operands: Operands<'a>) -> Option<Statement<'a>>
     ensures { result ≡ stands (f.BranchZero cond) operands.entry }
 {
     let (rs1, target) = register_and_value(operands)?;
@@ -233,7 +274,7 @@ fn branch_zero<'a>(cond: Cond, operands: Operands<'a>) -> Option<Statement<'a>>
 }
 
 #[tactic(auto, unfolding(crate::specs::Statements::stands))]
-fn zero_branch<'a>(cond: Cond, operands: Operands<'a>) -> Option<Statement<'a>>
+pub fn zero_branch<'a>(cond: Cond, operands: Operands<'a>) -> Option<Statement<'a>>
     ensures { result ≡ stands (f.ZeroBranch cond) operands.entry }
 {
     let (rs2, target) = register_and_value(operands)?;
@@ -246,7 +287,7 @@ fn zero_branch<'a>(cond: Cond, operands: Operands<'a>) -> Option<Statement<'a>>
 }
 
 /// `rd,m` or `rd,E`
-fn load<'a>(op: LoadOp, operands: Operands<'a>) -> Option<Statement<'a>>
+pub fn load<'a>(op: LoadOp, operands: Operands<'a>) -> Option<Statement<'a>>
     ensures { result ≡ load op operands.entry }
 {
     let Operands::Two(rd, place) = operands else {
@@ -268,13 +309,23 @@ fn load<'a>(op: LoadOp, operands: Operands<'a>) -> Option<Statement<'a>>
 }
 
 /// `rs2,m` or `rs,E,rt`
-fn store<'a>(width: Width, operands: Operands<'a>) -> Option<Statement<'a>>
+pub fn store<'a>(width: Width, operands: Operands<'a>) -> Option<Statement<'a>>
     ensures { result ≡ store width operands.entry }
 {
     match operands {
-        Operands::Two(source, place) => {
+        Operands::Three(source, target, scratch) => {
             let source = register(&source)?;
-            let (offset, base) = memory(place)?;
+            let target = value(target)?;
+            let scratch = register(&scratch)?;
+            Some(Statement::StoreTo {
+                width,
+                source,
+                scratch,
+                target,
+            })
+        }
+        operands => {
+            let (source, (offset, base)) = register_and_place(operands)?;
             Some(Statement::Store {
                 width,
                 source,
@@ -282,33 +333,19 @@ fn store<'a>(width: Width, operands: Operands<'a>) -> Option<Statement<'a>>
                 offset,
             })
         }
-        Operands::Three(source, target, scratch) => Some(Statement::StoreTo {
-            width,
-            source: register(&source)?,
-            target: value(target)?,
-            scratch: register(&scratch)?,
-        }),
-        _ => None,
     }
 }
 
 #[tactic(auto, unfolding(crate::specs::Statements::stands))]
-fn op_imm<'a>(op: ImmOp, operands: Operands<'a>) -> Option<Statement<'a>>
+pub fn op_imm<'a>(op: ImmOp, operands: Operands<'a>) -> Option<Statement<'a>>
     ensures { result ≡ stands (f.OpImm op) operands.entry }
 {
-    let Operands::Three(rd, rs1, imm) = operands else {
-        return None;
-    };
-    Some(Statement::OpImm {
-        op,
-        rd: register(&rd)?,
-        rs1: register(&rs1)?,
-        imm: immediate(imm)?,
-    })
+    let (rd, rs1, imm) = registers_and_immediate(operands)?;
+    Some(Statement::OpImm { op, rd, rs1, imm })
 }
 
 #[tactic(auto, unfolding(crate::specs::Statements::stands))]
-fn shift<'a>(op: ShiftOp, operands: Operands<'a>) -> Option<Statement<'a>>
+pub fn shift<'a>(op: ShiftOp, operands: Operands<'a>) -> Option<Statement<'a>>
     ensures { result ≡ stands (f.Shift op) operands.entry }
 {
     let (rd, rs1, amount) = registers_and_value(operands)?;
@@ -321,7 +358,7 @@ fn shift<'a>(op: ShiftOp, operands: Operands<'a>) -> Option<Statement<'a>>
 }
 
 #[tactic(auto, unfolding(crate::specs::Statements::stands))]
-fn op<'a>(op: AluOp, operands: Operands<'a>) -> Option<Statement<'a>>
+pub fn op<'a>(op: AluOp, operands: Operands<'a>) -> Option<Statement<'a>>
     ensures { result ≡ stands (f.Op op) operands.entry }
 {
     let (rd, rs1, rs2) = three_registers(operands)?;
@@ -329,34 +366,27 @@ fn op<'a>(op: AluOp, operands: Operands<'a>) -> Option<Statement<'a>>
 }
 
 #[tactic(auto, unfolding(crate::specs::Statements::stands))]
-fn change_csr<'a>(op: CsrOp, operands: Operands<'a>) -> Option<Statement<'a>>
+pub fn change_csr<'a>(op: CsrOp, operands: Operands<'a>) -> Option<Statement<'a>>
     ensures { result ≡ stands (f.Csr op) operands.entry }
 {
-    let Operands::Three(rd, number, rs1) = operands else {
-        return None;
-    };
-    let rd = register(&rd)?;
-    let csr = csr(&number)?.number();
-    let rs1 = register(&rs1)?;
-    Some(instruction(Kind::Csr { op, rd, rs1, csr }))
+    let (rd, csr, rs1) = csr_between_registers(operands)?;
+    Some(instruction(Kind::Csr {
+        op,
+        rd,
+        rs1,
+        csr: csr.number(),
+    }))
 }
 
 #[tactic(auto, unfolding(crate::specs::Statements::stands))]
-fn change_csr_imm<'a>(op: CsrOp, operands: Operands<'a>) -> Option<Statement<'a>>
+pub fn change_csr_imm<'a>(op: CsrOp, operands: Operands<'a>) -> Option<Statement<'a>>
     ensures { result ≡ stands (f.CsrImm op) operands.entry }
 {
-    let Operands::Three(rd, number, imm) = operands else {
-        return None;
-    };
-    Some(Statement::CsrImm {
-        op,
-        rd: register(&rd)?,
-        csr: csr(&number)?,
-        imm: value(imm)?,
-    })
+    let (rd, csr, imm) = register_csr_and_value(operands)?;
+    Some(Statement::CsrImm { op, rd, imm, csr })
 }
 
-fn fence<'a>(operands: Operands<'a>) -> Option<Statement<'a>>
+pub fn fence<'a>(operands: Operands<'a>) -> Option<Statement<'a>>
     ensures { result ≡ fence operands.entry }
 {
     match operands {

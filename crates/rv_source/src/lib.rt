@@ -3,15 +3,18 @@
 //! The language is this project's own: see docs/ASSEMBLER.md.
 #![tactic(auto)]
 
+mod dispatch;
 mod expression;
 mod fault;
 mod forms;
 mod line;
 mod lines;
 mod literal;
+mod lists;
 mod name;
 mod operand;
 mod places;
+mod pseudo;
 mod reader;
 mod scan;
 mod statement;
@@ -32,3 +35,4 @@ pub use statement::{Bytes, Csr, Immediate, Statement, Upper, Values};
 mod lines_tests;
 #[cfg(test)]
 mod scan_tests;
+mod reader_tests;

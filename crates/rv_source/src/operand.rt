@@ -83,7 +83,7 @@ fn comma(tokens: &[Token]) -> Option<usize>
 }
 
 /// What stands behind a token.
-fn behind<'t, 'a>(tokens: &'t [Token<'a>], index: usize) -> &'t [Token<'a>]
+pub fn behind<'t, 'a>(tokens: &'t [Token<'a>], index: usize) -> &'t [Token<'a>]
     requires { index < length tokens.now }
     ensures value { result.now ≡ drop (index + 1) tokens.now }
     ensures len { length result.now + index + 1 ≡ length tokens.now }

@@ -1,0 +1,44 @@
+-- Lines, label by label.
+use Rattle.std.proofs.Common.{◌≡◌, ℕ, List, [], ◌∷◌, ◌++◌, drop, ap, sym, ◌∙◌, refl, append_assoc}
+use Rattle.std.specs.Prelude.{Option, Some, None, Result, Ok, Err}
+use Rattle.rv_source.specs.declared.fault.LineFault.{LineFault}
+use Rattle.rv_source.specs.declared.fault.LineFault.TheVariants.{BadByte, LineTooLong, Syntax, UnknownWord, BadOperands, OutOfMemory}
+use Rattle.rv_source.specs.declared.line.Label.{Label}
+use Rattle.rv_source.specs.declared.token.Token.{Token}
+use Rattle.rv_source.specs.declared.token.Token.TheVariants.{Colon}
+use Rattle.rv_source.specs.Faults.{Fails, ◌>>=◌}
+use Rattle.rv_source.specs.Reading.{label_of, before_colon, rest_of, line_of, with_labels}
+use Rattle.rv_source.specs.Said.{Said}
+
+some_same : {A : Type 0} (x y : A) → Some x ≡ Some y → x ≡ y
+some_same x y e = cc
+
+-- a label in front
+pub line_label : (ts : List Token) (t : Token) (l : Label) → Some t ≡ before_colon ts → label_of t ≡ Some l → line_of ts ≡ with_labels (l ∷ []) (line_of (drop 2 ts))
+unfolding line_of
+line_label (u ∷ Colon ∷ us) t l e h = let k : label_of u ≡ Some l = ap label_of (sym (some_same t u e)) ∙ h in rw k refl
+line_label _ t l e h = cc
+
+-- what is no label, before a colon
+pub line_no_label : (ts : List Token) (t : Token) → Some t ≡ before_colon ts → label_of t ≡ None → line_of ts ≡ Err Syntax
+unfolding line_of
+line_no_label (u ∷ Colon ∷ us) t e h = let k : label_of u ≡ None = ap label_of (sym (some_same t u e)) ∙ h in rw k refl
+line_no_label _ t e h = cc
+
+-- no label in front
+pub line_rest : (ts : List Token) → None ≡ before_colon ts → line_of ts ≡ (rest_of ts >>= λ s. Ok (record { labels = []; statement = s }))
+unfolding line_of
+line_rest (u ∷ Colon ∷ us) e = cc
+line_rest _ e = refl
+
+pub with_labels_append : (ls ms : List Label) (r : Result Said LineFault) → with_labels ls (with_labels ms r) ≡ with_labels (ls ++ ms) r
+with_labels_append ls ms (Ok line) = ap (λ labels. Ok (record { labels = labels; statement = line.statement })) (sym (append_assoc ls ms line.labels))
+with_labels_append ls ms (Err fault) = refl
+
+pub with_labels_fails : (fault : LineFault) (ls : List Label) (r : Result Said LineFault) → Fails fault r → Fails fault (with_labels ls r)
+with_labels_fails BadByte ls r h = rw h refl
+with_labels_fails LineTooLong ls r h = rw h refl
+with_labels_fails Syntax ls r h = rw h refl
+with_labels_fails UnknownWord ls r h = rw h refl
+with_labels_fails BadOperands ls r h = rw h refl
+with_labels_fails OutOfMemory ls r h = tt
