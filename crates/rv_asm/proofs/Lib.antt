@@ -8,6 +8,6 @@ pub mod Placing
 pub mod Runs
 pub mod Labels
 pub mod Laying
-pub mod Emission
+pub mod Listed
 pub mod Reading
 pub mod Whole

@@ -17,7 +17,7 @@ use Rattle.rv_asm.specs.Assembly.{first_fault, phase_one_fault, all_said}
 use Rattle.rv_asm.specs.Steps.{State, nothing, unless, state_at, laid_out, lines_laid_out, extended}
 use Rattle.rv_asm.proofs.Labels.{IsUpTo}
 use Rattle.rv_asm.proofs.Laying.{extended_line, up_to_before}
-use Rattle.rv_asm.proofs.Emission.{items_below}
+use Rattle.rv_asm.proofs.Listed.{items_below}
 use Rattle.rv_asm.proofs.Runs.{fails_at}
 
 -- the first n texts are lines, and the others are left

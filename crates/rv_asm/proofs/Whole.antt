@@ -12,7 +12,7 @@ use Rattle.rv_asm.specs.Layout.{joined, blank, definitions, known_before, phase_
 use Rattle.rv_asm.specs.Listing.{◌>>=◌}
 use Rattle.rv_asm.specs.Assembly.{Assembly, first_fault, phase_one_fault, phase_three_fault, all_said, bytes, assembled}
 use Rattle.rv_asm.specs.Steps.{State, unless, state_at, item_at, laid_out, lines_laid_out, image_of}
-use Rattle.rv_asm.proofs.Emission.{emission, listed_at, size_listed, within_limit}
+use Rattle.rv_asm.proofs.Listed.{emission, listed_at, size_listed, within_limit}
 
 abbrev pub program_of : Definitions → List ℕ → Result Assembly AsmFault
 program_of ds image = Ok (record { bytes = image; symbols = ds.names })

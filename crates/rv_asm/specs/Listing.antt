@@ -126,8 +126,8 @@ multiple_of statement c = 1
 
 -- the bytes of a statement at an address, with its values put in
 unfoldable pub statement_bytes : Valuation → ℕ → ℤ → Statement → Result (List ℕ) FaultKind
-statement_bytes value here c (s.Data width es) = sums_bytes value width es.items
-statement_bytes value here c (s.Bytes bs) = Ok bs.items
+statement_bytes value here c (s.Data width es) = sums_bytes value width es
+statement_bytes value here c (s.Bytes bs) = Ok bs
 statement_bytes value here c (s.Space size fill) = fill_of value fill >>= λ b. Ok (replicate (modulo c (2 ^ 32)) b)
 statement_bytes value here c (s.Align power) = Ok (padding here (gap here (multiple_of (s.Align power) c)))
 statement_bytes value here c (s.Balign multiple) = Ok (padding here (gap here (multiple_of (s.Balign multiple) c)))

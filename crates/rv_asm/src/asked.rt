@@ -67,10 +67,10 @@ pub fn size_of(here: u32, constant: i64, statement: &Statement) -> Option<u32>
         Statement::LoadFrom { .. } => Some(8),
         Statement::StoreTo { .. } => Some(8),
         Statement::Data { width, values } => {
-            let count = u32::try_from(values.len()).ok()?;
+            let count = u32::try_from(values.as_slice().len()).ok()?;
             count.checked_mul(width.bytes())
         }
-        Statement::Bytes(bytes) => u32::try_from(bytes.len()).ok(),
+        Statement::Bytes(bytes) => u32::try_from(bytes.as_slice().len()).ok(),
         Statement::Space { .. } => Some(bits(constant)),
         Statement::Align { .. } => Some(gap(here, 1 << bits(constant))),
         Statement::Balign { .. } => Some(gap(here, bits(constant))),

@@ -124,8 +124,8 @@ impl<'a> Placed<'a> {
             here: self.address,
         };
         match &self.statement {
-            Statement::Data { width, values } => scope.write_values(*width, values, out),
-            Statement::Bytes(bytes) => Ok(out.extend_from_slice(bytes)?),
+            Statement::Data { width, values } => scope.write_values(*width, values.as_slice(), out),
+            Statement::Bytes(bytes) => Ok(out.extend_from_slice(bytes.as_slice())?),
             Statement::Space { fill, .. } => {
                 let byte = scope.fill(fill)?;
                 Ok(data::fill(bits(self.constant), byte, out)?)
