@@ -5,7 +5,7 @@ use Rattle.std.specs.Option.{option_map, option_or}
 use Rattle.std.specs.List.{AllByRecursion}
 use Rattle.std.specs.Str.{bytes_eq}
 use Rattle.rv_source.specs.declared.expression.Atom.{Atom}
-use Rattle.rv_source.specs.declared.expression.Atom.TheVariants.{Number, Character, Symbol, Local, Here}
+use Rattle.rv_source.specs.declared.expression.Atom.TheVariants.{Number, Symbol, Local, Here}
 use Rattle.rv_source.specs.declared.expression.Term.{Term}
 use Rattle.rv_source.specs.declared.expression.Direction.{Direction}
 use Rattle.rv_source.specs.declared.expression.Direction.TheVariants.{Backward, Forward}
@@ -41,7 +41,6 @@ nearest labels number line Forward = nearest_after labels number line
 -- what an atom stands for, on a line and in a statement at this address
 abbrev pub atom_value : Definitions → ℕ → ℕ → Atom → Option ℤ
 atom_value ds line here (Number n) = Some (pos n)
-atom_value ds line here (Character b) = Some (pos b)
 atom_value ds line here (Symbol name) = value_of ds.names name
 atom_value ds line here (Local number direction) = option_map (λ a. pos a) (nearest ds.locals number line direction)
 atom_value ds line here Here = Some (pos here)

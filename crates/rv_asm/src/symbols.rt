@@ -41,7 +41,6 @@ impl Symbols {
     {
         match atom {
             Atom::Number(n) => Some(i64::from(*n)),
-            Atom::Character(b) => Some(i64::from(*b)),
             Atom::Symbol(name) => self.names.value(name.bytes()),
             Atom::Local { number, direction } => {
                 let address = self.locals.nearest(*number, *direction, line)?;

@@ -14,9 +14,8 @@ pub enum Direction {
 /// What stands for one value.
 #[derive(Drop)]
 pub enum Atom<'a> {
+    /// A number, or the byte of a character.
     Number(u32),
-    /// A character, which stands for its byte.
-    Character(u8),
     /// A name other than `.`: the address of a label, or a constant.
     Symbol(Name<'a>),
     /// A local label: its number, 0 to 9999, and where it stands.

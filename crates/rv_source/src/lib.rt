@@ -34,5 +34,6 @@ pub use statement::{Bytes, Csr, Immediate, Statement, Upper, Values};
 #[cfg(test)]
 mod lines_tests;
 #[cfg(test)]
-mod scan_tests;
 mod reader_tests;
+#[cfg(test)]
+mod scan_tests;
