@@ -10,4 +10,4 @@ pub mod Splitting
 pub mod Sums
 pub mod Pieces
 pub mod Listed
-pub mod Lines
+pub mod Labelling
