@@ -19,4 +19,4 @@ returns-in_err-append_string c =
 pub returns : goal.returns
 returns c =
     let e = strings_end c.args.terminated c.args.operands.now c.loop-operand.operand-index c.loop-operand.out.items (omega arith) in
-    rw (of_some_is (strings c.args.terminated) c.args.operands.now (grind (arith, c.is_empty.ensures)), ← c.loop-operand.invariant, e, c.new-2.ensures)
+    rw (of_some_is (strings c.args.terminated) c.args.operands.now (grind (arith, c.is_empty.ensures)), ← c.loop-operand.invariant, e, c.new.ensures)
