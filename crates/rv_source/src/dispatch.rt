@@ -9,12 +9,16 @@ ghost use Rattle.rv_source.specs.declared.statement.Statement.TheVariants as s;
 ghost use Rattle.rv_source.specs.Lists.{meaning};
 ghost use Rattle.rv_source.specs.Statements.{stands};
 
-use crate::forms::{alone, auipc, branch, branch_swapped, branch_zero, change_csr, change_csr_imm, fence};
-use crate::forms::{instruction, jal, jalr, jump_to, load, lui, op, op_imm, shift, store, x, zero_branch};
+use crate::forms::{
+    alone, auipc, branch, branch_swapped, branch_zero, change_csr, change_csr_imm, fence,
+    instruction, jal, jalr, jump_to, load, lui, op, op_imm, shift, store, x, zero_branch,
+};
 use crate::lists::{read_strings, read_values};
 use crate::operand::{Operand, Operands};
-use crate::pseudo::{align, balign, call, constant, jump, jump_register, la, li, op_on_zero, op_with_imm};
-use crate::pseudo::{op_with_zero, read_csr, space, write_csr, write_csr_imm};
+use crate::pseudo::{
+    align, balign, call, constant, jump, jump_register, la, li, op_on_zero, op_with_imm,
+    op_with_zero, read_csr, space, write_csr, write_csr_imm,
+};
 use crate::table::Form;
 use crate::{LineFault, Statement};
 use rv_isa::{AluOp, ImmOp, Kind};
@@ -99,7 +103,11 @@ fn nop<'a>() -> Statement<'a>
 
 /// What a form and a list of operands stand for.
 #[tactic(auto, unfolding(crate::specs::Lists::meaning))]
-pub fn read_form<'a>(alloc: Global, form: Form, operands: Vec<Operand<'a>>) -> Result<Statement<'a>, LineFault>
+pub fn read_form<'a>(
+    alloc: Global,
+    form: Form,
+    operands: Vec<Operand<'a>>,
+) -> Result<Statement<'a>, LineFault>
     ensures { Gives (λ s. s) result (ok_or (meaning form operands.entry.items) BadOperands) }
 {
     match form {

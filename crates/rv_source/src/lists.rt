@@ -45,7 +45,11 @@ fn append_string(out: &mut Vec<u8>, terminated: bool, operand: &Operand) -> Resu
 
 /// The bytes of one or more strings, each with a byte 0 behind it where it is terminated.
 #[tactic(auto, unfolding(crate::specs::Lists::strings))]
-pub fn read_strings(alloc: Global, terminated: bool, operands: &[Operand]) -> Result<Bytes, LineFault>
+pub fn read_strings(
+    alloc: Global,
+    terminated: bool,
+    operands: &[Operand],
+) -> Result<Bytes, LineFault>
     ensures { Gives (λ b. b) result (ok_or (of_some (strings terminated) operands.now) BadOperands) }
 {
     if operands.is_empty() {

@@ -6,10 +6,12 @@ ghost use Rattle.rv_source.specs.declared.statement.Statement.TheVariants as s;
 ghost use Rattle.rv_source.specs.declared.table.Form.TheVariants as f;
 ghost use Rattle.rv_source.specs.Statements.{register, value, one, two, space, stands};
 
-use crate::forms::{instruction, jump_to, one_register, one_value, register_and_value, two_registers, x};
+use crate::Statement;
+use crate::forms::{
+    instruction, jump_to, one_register, one_value, register_and_value, two_registers, x,
+};
 use crate::operand::Operands;
 use crate::places::{csr, register, symbol, value};
-use crate::Statement;
 use rv_isa::{AluOp, CsrOp, ImmOp, Kind, Reg};
 
 /// An operation on a register and this immediate.

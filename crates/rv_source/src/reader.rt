@@ -15,7 +15,11 @@ use std::alloc::Global;
 
 /// What a word and the tokens behind it say.
 #[tactic(auto, unfolding(crate::specs::Reading::statement_of))]
-fn read_statement<'a>(alloc: Global, word: &Name, tokens: &[Token<'a>]) -> Result<Statement<'a>, LineFault>
+fn read_statement<'a>(
+    alloc: Global,
+    word: &Name,
+    tokens: &[Token<'a>],
+) -> Result<Statement<'a>, LineFault>
     requires { length tokens.now ≤ 1024 }
     ensures { Gives (λ s. s) result (statement_of word.now tokens.now) }
 {

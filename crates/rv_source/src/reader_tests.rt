@@ -39,20 +39,72 @@ fn reg(number: u8) -> Result<Reg, &'static str> {
 fn each_word(rt: HostRuntime) -> Result<(), Fail> {
     let alloc = rt.alloc();
     let lines: [&[u8]; 47] = [
-        b"lui a0,%hi(x)", b"auipc a0,1", b"jal ra,x", b"jal x", b"jalr a0,4(a1)", b"jalr a0,a1,%lo(x)", b"jalr a0,a1",
-        b"bltu a0,a1,x", b"bgeu a0,a1,x", b"lbu a0,%lo(x)(a1)", b"lhu a0,(a1)", b"lb a0,x", b"lh a0,x",
-        b"sb a0,1(a1)", b"sh a0,%lo(x)(a1)", b"sw a0,x,t0", b"slti a0,a1,1", b"sltiu a0,a1,%lo(x)", b"xori a0,a1,1",
-        b"ori a0,a1,1", b"andi a0,a1,1", b"slli a0,a1,1", b"srli a0,a1,1", b"srai a0,a1,1", b"csrrwi a0,mie,1",
-        b"csrrsi a0,0x304,1", b"csrrci a0,mie,'a'", b"csrwi mie,1", b"csrsi mie,1", b"csrci mie,1", b"li a0,x", b"la a0,x",
-        b"lla a0,x", b".word 1,2", b".long x", b".4byte 1", b".half 1", b".short 1", b".2byte 1", b".byte 1",
-        b".ascii \"a\"", b".asciz \"a\",\"b\"", b".space 1", b".skip 1,2", b".zero 1", b".p2align 2", b".balign 4",
+        b"lui a0,%hi(x)",
+        b"auipc a0,1",
+        b"jal ra,x",
+        b"jal x",
+        b"jalr a0,4(a1)",
+        b"jalr a0,a1,%lo(x)",
+        b"jalr a0,a1",
+        b"bltu a0,a1,x",
+        b"bgeu a0,a1,x",
+        b"lbu a0,%lo(x)(a1)",
+        b"lhu a0,(a1)",
+        b"lb a0,x",
+        b"lh a0,x",
+        b"sb a0,1(a1)",
+        b"sh a0,%lo(x)(a1)",
+        b"sw a0,x,t0",
+        b"slti a0,a1,1",
+        b"sltiu a0,a1,%lo(x)",
+        b"xori a0,a1,1",
+        b"ori a0,a1,1",
+        b"andi a0,a1,1",
+        b"slli a0,a1,1",
+        b"srli a0,a1,1",
+        b"srai a0,a1,1",
+        b"csrrwi a0,mie,1",
+        b"csrrsi a0,0x304,1",
+        b"csrrci a0,mie,'a'",
+        b"csrwi mie,1",
+        b"csrsi mie,1",
+        b"csrci mie,1",
+        b"li a0,x",
+        b"la a0,x",
+        b"lla a0,x",
+        b".word 1,2",
+        b".long x",
+        b".4byte 1",
+        b".half 1",
+        b".short 1",
+        b".2byte 1",
+        b".byte 1",
+        b".ascii \"a\"",
+        b".asciz \"a\",\"b\"",
+        b".space 1",
+        b".skip 1,2",
+        b".zero 1",
+        b".p2align 2",
+        b".balign 4",
     ];
     for text in &lines {
         let _ = statement(alloc, text)?;
     }
     let markers: [&[u8]; 14] = [
-        b".text", b".data", b".rodata", b".bss", b".section .x,\"a\",@y", b".globl x", b".global x", b".local ( : )", b".option x",
-        b".type x,@function", b".size x,.-x", b".file \"x\"", b".ident \"x\"", b".attribute 4,16",
+        b".text",
+        b".data",
+        b".rodata",
+        b".bss",
+        b".section .x,\"a\",@y",
+        b".globl x",
+        b".global x",
+        b".local ( : )",
+        b".option x",
+        b".type x,@function",
+        b".size x,.-x",
+        b".file \"x\"",
+        b".ident \"x\"",
+        b".attribute 4,16",
     ];
     for text in &markers {
         assert!(&rt; matches!(statement(alloc, text)?, Statement::Marker));
@@ -66,7 +118,11 @@ fn registers_alone(rt: HostRuntime) -> Result<(), Fail> {
     let (x0, x1, x2, x3) = (reg(0)?, reg(1)?, reg(2)?, reg(3)?);
     let op = |op, rd, rs1, rs2| Kind::Op { op, rd, rs1, rs2 };
     let imm = |op, rd, rs1, imm| Kind::OpImm { op, rd, rs1, imm };
-    let jump = |rd, base| Kind::Jalr { rd, base, offset: 0 };
+    let jump = |rd, base| Kind::Jalr {
+        rd,
+        base,
+        offset: 0,
+    };
     check(&rt, alloc, b"add x1,x2,x3", op(AluOp::Add, x1, x2, x3))?;
     check(&rt, alloc, b"remu ra,sp,gp", op(AluOp::Remu, x1, x2, x3))?;
     check(&rt, alloc, b"nop", imm(ImmOp::Addi, x0, x0, 0))?;
@@ -86,8 +142,17 @@ fn registers_alone(rt: HostRuntime) -> Result<(), Fail> {
 fn system_words(rt: HostRuntime) -> Result<(), Fail> {
     let alloc = rt.alloc();
     let (x0, x1, x2) = (reg(0)?, reg(1)?, reg(2)?);
-    let csr = |op, rd, rs1| Kind::Csr { op, rd, rs1, csr: 0x304 };
-    let fence = |imm| Kind::Fence { rd: x0, rs1: x0, imm };
+    let csr = |op, rd, rs1| Kind::Csr {
+        op,
+        rd,
+        rs1,
+        csr: 0x304,
+    };
+    let fence = |imm| Kind::Fence {
+        rd: x0,
+        rs1: x0,
+        imm,
+    };
     check(&rt, alloc, b"csrrw x1,mie,x2", csr(CsrOp::Write, x1, x2))?;
     check(&rt, alloc, b"csrrs x1,0x304,x2", csr(CsrOp::Set, x1, x2))?;
     check(&rt, alloc, b"csrrc x1,mie,x2", csr(CsrOp::Clear, x1, x2))?;
@@ -98,7 +163,16 @@ fn system_words(rt: HostRuntime) -> Result<(), Fail> {
     check(&rt, alloc, b"fence", fence(0xFF))?;
     check(&rt, alloc, b"fence rw,w", fence(0x31))?;
     check(&rt, alloc, b"fence iorw,or", fence(0xF6))?;
-    check(&rt, alloc, b"fence.i", Kind::FenceI { rd: x0, rs1: x0, imm: 0 })?;
+    check(
+        &rt,
+        alloc,
+        b"fence.i",
+        Kind::FenceI {
+            rd: x0,
+            rs1: x0,
+            imm: 0,
+        },
+    )?;
     check(&rt, alloc, b"ecall", Kind::Ecall)?;
     check(&rt, alloc, b"ebreak", Kind::Ebreak)?;
     check(&rt, alloc, b"mret", Kind::Mret)?;
@@ -156,12 +230,24 @@ fn jumps(rt: HostRuntime) -> Result<(), Fail> {
 #[test]
 fn memory(rt: HostRuntime) -> Result<(), Fail> {
     let alloc = rt.alloc();
-    let Statement::Load { op, rd, base, offset } = statement(alloc, b"lw x1,(x2)")? else {
+    let Statement::Load {
+        op,
+        rd,
+        base,
+        offset,
+    } = statement(alloc, b"lw x1,(x2)")?
+    else {
         return Err("no load".into());
     };
     assert_eq!(&rt; (op, rd.number(), base.number()), (LoadOp::Lw, 1, 2));
     assert!(&rt; matches!(offset, Immediate::Zero));
-    let Statement::Store { width, source, base, offset } = statement(alloc, b"sh x1,%lo(x)(x2)")? else {
+    let Statement::Store {
+        width,
+        source,
+        base,
+        offset,
+    } = statement(alloc, b"sh x1,%lo(x)(x2)")?
+    else {
         return Err("no store".into());
     };
     assert_eq!(&rt; (width, source.number(), base.number()), (Width::Two, 1, 2));
@@ -170,10 +256,19 @@ fn memory(rt: HostRuntime) -> Result<(), Fail> {
         return Err("no load by name".into());
     };
     assert_eq!(&rt; (op, rd.number()), (LoadOp::Lw, 1));
-    let Statement::StoreTo { width, source, scratch, .. } = statement(alloc, b"sb x1,x,x2")? else {
+    let Statement::StoreTo {
+        width,
+        source,
+        scratch,
+        ..
+    } = statement(alloc, b"sb x1,x,x2")?
+    else {
         return Err("no store by name".into());
     };
-    assert_eq!(&rt; (width, source.number(), scratch.number()), (Width::One, 1, 2));
+    assert_eq!(&rt;
+        (width, source.number(), scratch.number()),
+        (Width::One, 1, 2)
+    );
     Ok(())
 }
 
@@ -211,7 +306,11 @@ fn values(rt: HostRuntime) -> Result<(), Fail> {
         return Err("no bytes".into());
     };
     assert_eq!(&rt; bytes.as_slice(), b"a\n\0\0".as_slice());
-    let Statement::Lui { rd, imm: Upper::High(_) } = statement(alloc, b"lui a0,%hi (x)")? else {
+    let Statement::Lui {
+        rd,
+        imm: Upper::High(_),
+    } = statement(alloc, b"lui a0,%hi (x)")?
+    else {
         return Err("no high part".into());
     };
     assert_eq!(&rt; rd.number(), 10);
@@ -227,7 +326,13 @@ fn values(rt: HostRuntime) -> Result<(), Fail> {
 fn labels(rt: HostRuntime) -> Result<(), Fail> {
     let alloc = rt.alloc();
     let read = line(alloc, b"main : 0: .text: 9999: nop")?;
-    let [Label::Name(first), Label::Local(0), Label::Name(third), Label::Local(9999)] = read.labels() else {
+    let [
+        Label::Name(first),
+        Label::Local(0),
+        Label::Name(third),
+        Label::Local(9999),
+    ] = read.labels()
+    else {
         return Err("four labels are wanted".into());
     };
     assert_eq!(&rt; first.bytes(), b"main".as_slice());
@@ -242,18 +347,69 @@ fn labels(rt: HostRuntime) -> Result<(), Fail> {
 fn faults(rt: HostRuntime) -> Result<(), Fail> {
     let alloc = rt.alloc();
     let syntax: [&[u8]; 22] = [
-        b"00: nop", b"0x1: nop", b"12345: nop", b"1b: nop", b".: nop", b"nop ,", b"addi a0,a0,", b"addi a0,,1", b"foo !",
-        b"foo ,", b"li a0,---1", b"li a0,1+", b"li a0,1---1", b"li a0,1 2", b"lui a0,%hi(x)(a0)", b"addi a0,a0,%lo(x)+4",
-        b"addi a0,a0,4+%lo(x)", b"lw a0,4(4)", b".ascii \"a\" \"b\"", b"5 nop", b"li a0,", b"nop 1 2",
+        b"00: nop",
+        b"0x1: nop",
+        b"12345: nop",
+        b"1b: nop",
+        b".: nop",
+        b"nop ,",
+        b"addi a0,a0,",
+        b"addi a0,,1",
+        b"foo !",
+        b"foo ,",
+        b"li a0,---1",
+        b"li a0,1+",
+        b"li a0,1---1",
+        b"li a0,1 2",
+        b"lui a0,%hi(x)(a0)",
+        b"addi a0,a0,%lo(x)+4",
+        b"addi a0,a0,4+%lo(x)",
+        b"lw a0,4(4)",
+        b".ascii \"a\" \"b\"",
+        b"5 nop",
+        b"li a0,",
+        b"nop 1 2",
     ];
     refuse(&rt, alloc, &syntax, LineFault::Syntax)?;
-    refuse(&rt, alloc, &[b"foo", b".", b". 5", b"NOP", b"foo \"a\",%lo(x)"], LineFault::UnknownWord)?;
+    refuse(
+        &rt,
+        alloc,
+        &[b"foo", b".", b". 5", b"NOP", b"foo \"a\",%lo(x)"],
+        LineFault::UnknownWord,
+    )?;
     let operands: [&[u8]; 26] = [
-        b"lw a0,4(.)", b"lw a0,4(x)", b"add a0,a1", b"add a0,a1,+a2", b"add a0,a1,a2+0", b"add a0,a1,5", b"csrr a0,+0x300",
-        b"csrr a0,'a'", b"csrr a0,0x300+0", b"csrr a0,4096", b"csrr a0,foo", b".equ .,5", b".equ 5,5", b".word", b".ascii",
-        b".ascii 5", b"fence rw", b"fence wr,w", b"fence rr,w", b"nop 1", b"nop 1,2,3,4", b"jal a0,x,1", b"ret a0",
-        b"addi a0,a1,%hi(x)", b".space 1,2,3", b"nop nop",
+        b"lw a0,4(.)",
+        b"lw a0,4(x)",
+        b"add a0,a1",
+        b"add a0,a1,+a2",
+        b"add a0,a1,a2+0",
+        b"add a0,a1,5",
+        b"csrr a0,+0x300",
+        b"csrr a0,'a'",
+        b"csrr a0,0x300+0",
+        b"csrr a0,4096",
+        b"csrr a0,foo",
+        b".equ .,5",
+        b".equ 5,5",
+        b".word",
+        b".ascii",
+        b".ascii 5",
+        b"fence rw",
+        b"fence wr,w",
+        b"fence rr,w",
+        b"nop 1",
+        b"nop 1,2,3,4",
+        b"jal a0,x,1",
+        b"ret a0",
+        b"addi a0,a1,%hi(x)",
+        b".space 1,2,3",
+        b"nop nop",
     ];
     refuse(&rt, alloc, &operands, LineFault::BadOperands)?;
-    refuse(&rt, alloc, &[b"addi a0,,1 \x80", b"foo \x01"], LineFault::BadByte)
+    refuse(
+        &rt,
+        alloc,
+        &[b"addi a0,,1 \x80", b"foo \x01"],
+        LineFault::BadByte,
+    )
 }

@@ -1,7 +1,5 @@
-use Rattle.std.proofs.Common.{◌≡◌, ◌∙◌, sym, ap, arith}
-use Rattle.std.specs.Option.{ok_or}
+use Rattle.std.proofs.Common.{◌∙◌, sym, arith}
 use Rattle.std.proofs.lemmas.Result.{err_from_is_err_and}
-use Rattle.rv_source.specs.declared.fault.LineFault.TheVariants.{BadOperands}
 use Rattle.rv_source.specs.Lists.{strings}
 use Rattle.rv_source.proofs.Listed.{of_some_is, strings_more, strings_fail, strings_end}
 use Rattle.rv_source.proofs.lists.read_strings.Goals as goal

@@ -1,7 +1,7 @@
-use Rattle.std.proofs.Common.{◌≡◌, ◌∙◌, sym, ap, arith, append-nil, [], ◌∷◌}
+use Rattle.std.proofs.Common.{◌∙◌, sym, arith, append-nil, [], ◌∷◌}
 use Rattle.std.specs.Prelude.{Ok}
 use Rattle.std.proofs.lemmas.Result.{err_from_is_err_and}
-use Rattle.rv_source.specs.Reading.{with_labels, rest_of}
+use Rattle.rv_source.specs.Reading.{rest_of}
 use Rattle.rv_source.proofs.Lines.{line_label, line_no_label, line_rest, with_labels_append, with_labels_fails}
 use Rattle.rv_source.proofs.Pieces.{bind_fails}
 use Rattle.rv_source.proofs.reader.read_tokens.Goals as goal
