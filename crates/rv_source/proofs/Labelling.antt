@@ -1,13 +1,13 @@
 -- Lines, label by label.
-use Rattle.std.proofs.Common.{◌≡◌, ℕ, List, [], ◌∷◌, ◌++◌, drop, ap, sym, ◌∙◌, refl, append_assoc}
-use Rattle.std.specs.Prelude.{Option, Some, None, Result, Ok, Err}
+use Rattle.std.proofs.Common.{◌≡◌, List, [], ◌∷◌, ◌++◌, drop, ap, sym, ◌∙◌, refl, append_assoc}
+use Rattle.std.specs.Prelude.{Some, None, Result, Ok, Err}
 use Rattle.rv_source.specs.declared.fault.LineFault.{LineFault}
 use Rattle.rv_source.specs.declared.fault.LineFault.TheVariants.{BadByte, LineTooLong, Syntax, UnknownWord, BadOperands, OutOfMemory}
 use Rattle.rv_source.specs.declared.line.Label.{Label}
 use Rattle.rv_source.specs.declared.token.Token.{Token}
 use Rattle.rv_source.specs.declared.token.Token.TheVariants.{Colon}
 use Rattle.rv_source.specs.Faults.{Fails, ◌>>=◌}
-use Rattle.rv_source.specs.Reading.{label_of, before_colon, rest_of, line_of, with_labels}
+use Rattle.rv_source.specs.Reading.{label_of, before_colon, rest_of, line_of, labelled, with_labels}
 use Rattle.rv_source.specs.Said.{Said}
 
 some_same : {A : Type 0} (x y : A) → Some x ≡ Some y → x ≡ y
@@ -16,13 +16,13 @@ some_same x y e = cc
 -- a label in front
 pub line_label : (ts : List Token) (t : Token) (l : Label) → Some t ≡ before_colon ts → label_of t ≡ Some l → line_of ts ≡ with_labels (l ∷ []) (line_of (drop 2 ts))
 unfolding line_of
-line_label (u ∷ Colon ∷ us) t l e h = let k : label_of u ≡ Some l = ap label_of (sym (some_same t u e)) ∙ h in rw k refl
+line_label (u ∷ Colon ∷ us) t l e h = ap (λ r. labelled r (line_of us)) (ap label_of (sym (some_same t u e)) ∙ h)
 line_label _ t l e h = cc
 
 -- what is no label, before a colon
 pub line_no_label : (ts : List Token) (t : Token) → Some t ≡ before_colon ts → label_of t ≡ None → line_of ts ≡ Err Syntax
 unfolding line_of
-line_no_label (u ∷ Colon ∷ us) t e h = let k : label_of u ≡ None = ap label_of (sym (some_same t u e)) ∙ h in rw k refl
+line_no_label (u ∷ Colon ∷ us) t e h = ap (λ r. labelled r (line_of us)) (ap label_of (sym (some_same t u e)) ∙ h)
 line_no_label _ t e h = cc
 
 -- no label in front

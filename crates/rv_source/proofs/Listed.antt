@@ -1,5 +1,5 @@
 -- Values and strings, operand by operand.
-use Rattle.std.proofs.Common.{◌≡◌, ℕ, zero, suc, ◌+◌, ◌<◌, ◌≤◌, Bool, List, [], ◌∷◌, ◌++◌, drop, get_or, length, ap, sym, ◌∙◌, refl, arith, append_assoc, append-nil, add-one}
+use Rattle.std.proofs.Common.{◌≡◌, ℕ, zero, suc, ◌+◌, ◌<◌, ◌≤◌, Bool, List, [], ◌∷◌, ◌++◌, drop, get_or, length, ap, sym, refl, arith, append_assoc, append-nil, add-one}
 use Rattle.std.specs.Prelude.{Option, Some, None, option_and_then, Ok}
 use Rattle.std.specs.Option.{option_map, ok_or}
 use Rattle.std.proofs.Math.Seq.{drop-cons}

@@ -4,7 +4,6 @@ use Rattle.std.proofs.Math.Numerals.{one-add}
 use Rattle.std.specs.Prelude.{Result, Ok, Err, Some, None, nat_lt}
 use Rattle.std.specs.List.{position_or_len, position}
 use Rattle.std.proofs.lemmas.Bool.Decides.{nat_tests}
-use Rattle.std.proofs.lemmas.List.{take_all}
 use Rattle.rv_source.specs.declared.token.Token.{Token}
 use Rattle.rv_source.specs.declared.fault.LineFault.{LineFault}
 use Rattle.rv_source.specs.declared.fault.LineFault.TheVariants.{BadByte, LineTooLong, Syntax, UnknownWord, BadOperands, OutOfMemory}

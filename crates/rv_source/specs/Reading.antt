@@ -51,6 +51,11 @@ abbrev pub with_labels : List Label → Result Said LineFault → Result Said Li
 with_labels labels (Ok line) = Ok (record { labels = labels ++ line.labels; statement = line.statement })
 with_labels labels (Err fault) = Err fault
 
+-- what stands before a colon, in front of the rest
+abbrev pub labelled : Option Label → Result Said LineFault → Result Said LineFault
+labelled (Some label) rest = with_labels (label ∷ []) rest
+labelled None rest = Err Syntax
+
 -- the first token, where a colon stands behind it
 abbrev pub before_colon : List Token → Option Token
 before_colon (t ∷ Colon ∷ ts) = Some t
@@ -58,10 +63,7 @@ before_colon _ = None
 
 -- labels, and then at most one statement
 unfoldable pub line_of : List Token → Result Said LineFault
-line_of (t ∷ Colon ∷ ts) = elim (label_of t) as (λ _. Result Said LineFault) [
-  | Some label ↦ with_labels (label ∷ []) (line_of ts)
-  | None ↦ Err Syntax
-]
+line_of (t ∷ Colon ∷ ts) = labelled (label_of t) (line_of ts)
 line_of ts = rest_of ts >>= λ s. Ok (record { labels = []; statement = s })
 
 -- The tokens of the whole line come first.

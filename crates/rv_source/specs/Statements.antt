@@ -3,7 +3,6 @@
 use Rattle.std.specs.Prelude.{ℕ, ◌+◌, ◌*◌, Bool, true, false, not, ◌&&◌, List, [], ◌∷◌, Option, Some, None, option_and_then, if◌then◌else◌, ◌==◌, nat_lt, pos, negsuc}
 use Rattle.std.specs.Option.{option_map, option_or}
 use Rattle.rv_isa.specs.Names.{lookup, register_names, csr_names}
-use Rattle.rv_isa.specs.declared.kind.Kind.{Kind}
 use Rattle.rv_isa.specs.declared.kind.Kind.TheVariants as k
 use Rattle.rv_isa.specs.declared.op.ImmOp.TheVariants.{Addi, Sltiu, Xori}
 use Rattle.rv_isa.specs.declared.op.AluOp.TheVariants.{Slt, Sltu, Sub}

@@ -1,7 +1,5 @@
-use Rattle.std.proofs.Common.{◌≡◌, ◌∙◌, sym, ap, arith}
-use Rattle.std.specs.Option.{ok_or}
+use Rattle.std.proofs.Common.{◌∙◌, sym, arith}
 use Rattle.std.proofs.lemmas.Result.{err_from_is_err_and}
-use Rattle.rv_source.specs.declared.fault.LineFault.TheVariants.{BadOperands}
 use Rattle.rv_source.specs.Lists.{strings}
 use Rattle.rv_source.proofs.Listed.{of_some_is, strings_more, strings_fail, strings_end}
 use Rattle.rv_source.proofs.lists.read_strings.Goals as goal
@@ -19,4 +17,4 @@ returns-in_err-append_string c =
 pub returns : goal.returns
 returns c =
     let e = strings_end c.args.terminated c.args.operands.now c.loop-operand.operand-index c.loop-operand.out.items (omega arith) in
-    rw (of_some_is (strings c.args.terminated) c.args.operands.now (grind (arith, c.is_empty.ensures)), ← c.loop-operand.invariant, e, c.new-2.ensures)
+    rw (of_some_is (strings c.args.terminated) c.args.operands.now (grind (arith, c.is_empty.ensures)), ← c.loop-operand.invariant, e, c.new.ensures)

@@ -1,4 +1,4 @@
-use Rattle.std.proofs.Common.{sym, ◌∙◌, ap, arith, rules}
+use Rattle.std.proofs.Common.{sym, ◌∙◌, arith, rules}
 use Rattle.std.proofs.lemmas.Iterator.Adapters.{YieldsList-from_vec}
 use Rattle.std.proofs.lemmas.Iterator.Consumers.{YieldsList-turn}
 use Rattle.rv_source.specs.Lists.{values}
@@ -8,7 +8,7 @@ use Rattle.rv_source.proofs.lists.read_values.Goals as goal
 pub returns-in_default : goal.returns-in_default
 returns-in_default c =
     let turn = YieldsList-turn (YieldsList-from_vec {s = c.into_iter-operand-iterator.result} c.args.operands.items (search rules) (search rules))
-    c.loop-operand.yielded _ c.loop-operand.yielded_by _ _ c.in-Some.operand c.in-Some.is c.next.ensures.steps in
+    c.loop-operand.yielded c.loop-operand.operand-iterator c.loop-operand.yielded_by c.next.result c.next.new.self c.in-Some.operand c.in-Some.is c.next.ensures.steps in
     let none = values_none c.args.operands.items _ c.in-Some.operand turn.0 turn.1 (sym c.value.ensures ∙ c.in_default.is) in
     rw (of_some_is values c.args.operands.items (grind (arith, c.is_empty.ensures)), none)
 

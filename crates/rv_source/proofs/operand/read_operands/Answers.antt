@@ -1,6 +1,5 @@
-use Rattle.std.proofs.Common.{sym, ◌∙◌, ap, arith, [], ◌∷◌}
+use Rattle.std.proofs.Common.{arith, [], ◌∷◌}
 use Rattle.std.proofs.lemmas.Result.{err_from_is_err_and}
-use Rattle.rv_source.specs.Operands.{with_operands}
 use Rattle.rv_source.proofs.Pieces.{read_more, read_last, more_fails, last_fails, operands_some, with_operands_append}
 use Rattle.rv_source.proofs.operand.read_operands.Goals as goal
 
