@@ -41,7 +41,10 @@ module _ (ls : List Said) (n : ℕ) (all : length ls ≡ n) where
   emitted = rw (← all) (emission ls (length ls))
 
   finished_by : answer (first_fault (phase_three_fault ls) n) (record { bytes = bytes ls; symbols = (definitions ls).names }) ≡ finished (state_at ls n)
-  finished_by = rw (emitted, all) (answered (first_fault (phase_three_fault ls) n) (known_before ls n).definitions (image ls n))
+  finished_by =
+      let fault = first_fault (phase_three_fault ls) n in
+      ap (λ m. answer fault (record { bytes = image ls m; symbols = (known_before ls m).definitions.names })) all
+      ∙ (answered fault (known_before ls n).definitions (image ls n) ∙ ap (λ r. r >>= program_of (known_before ls n).definitions) (sym emitted))
 
   whole_by : (one two : Option AsmFault) → first_fault (phase_two_fault ls) n ≡ two
       → answer (option_or one (option_or two (first_fault (phase_three_fault ls) n))) (record { bytes = bytes ls; symbols = (definitions ls).names })
