@@ -1,14 +1,13 @@
 -- What the phases make together is what is meant.
-use Rattle.std.proofs.Common.{◌≡◌, ℕ, ◌≤◌, List, length, ℤ, refl, sym, ap, ◌∙◌, arith}
+use Rattle.std.proofs.Common.{◌≡◌, ℕ, ◌≤◌, List, length, refl, sym, ap, ◌∙◌, arith}
 use Rattle.std.specs.Prelude.{Option, None, Some, Result, Ok, Err}
 use Rattle.std.specs.Option.{option_or}
 use Rattle.std.proofs.lemmas.List.{length-map}
 use Rattle.rv_source.specs.Said.{Said}
-use Rattle.rv_source.specs.Reading.{said}
 use Rattle.rv_source.specs.Lines.{lines}
 use Rattle.rv_asm.specs.declared.fault.AsmFault.{AsmFault}
 use Rattle.rv_asm.specs.Symbols.{Definitions}
-use Rattle.rv_asm.specs.Layout.{joined, blank, definitions, known_before, phase_two_fault}
+use Rattle.rv_asm.specs.Layout.{joined, definitions, known_before, phase_two_fault}
 use Rattle.rv_asm.specs.Listing.{◌>>=◌}
 use Rattle.rv_asm.specs.Assembly.{Assembly, first_fault, phase_one_fault, phase_three_fault, all_said, bytes, assembled}
 use Rattle.rv_asm.specs.Steps.{State, unless, state_at, item_at, laid_out, lines_laid_out, image_of}
