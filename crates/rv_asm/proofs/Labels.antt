@@ -1,11 +1,10 @@
 -- Labels of a line, one by one.
-use Rattle.std.proofs.Common.{◌≡◌, ℕ, ◌≤◌, Bool, true, false, cond, List, [], ◌∷◌, ◌++◌, refl, arith}
-use Rattle.std.specs.Prelude.{is_some, Result, Ok, Err}
+use Rattle.std.proofs.Common.{◌≡◌, ℕ, ◌≤◌, Bool, true, false, cond, List, arith}
+use Rattle.std.specs.Prelude.{is_some, Ok, Err}
 use Rattle.std.specs.List.{All}
 use Rattle.std.proofs.lemmas.List.Elements.{All-push}
 use Rattle.rv_source.specs.declared.line.Label.{Label}
 use Rattle.rv_source.specs.declared.line.Label.TheVariants as label
-use Rattle.rv_asm.specs.declared.fault.FaultKind.{FaultKind}
 use Rattle.rv_asm.specs.declared.fault.FaultKind.TheVariants.{DuplicateSymbol}
 use Rattle.rv_asm.specs.declared.locals.LocalLabel.{LocalLabel}
 use Rattle.rv_asm.specs.Symbols.{value_of}

@@ -1,10 +1,9 @@
 -- The lines that have been laid out, one by one.
-use Rattle.std.proofs.Common.{◌≡◌, ℕ, zero, suc, ◌+◌, ◌≤◌, ◌<◌, Bool, true, false, cond, List, [], ◌∷◌, ◌++◌, ℤ, pos, refl, sym, ap, ◌∙◌, arith, append-nil, length}
-use Rattle.std.specs.Prelude.{Option, None, Some, is_some, Result, Ok, Err, option_and_then, nat_lt}
+use Rattle.std.proofs.Common.{◌≡◌, ℕ, zero, suc, ◌+◌, ◌≤◌, Bool, true, false, cond, List, [], ◌∷◌, ◌++◌, ℤ, pos, refl, arith, append-nil}
+use Rattle.std.specs.Prelude.{Option, None, Some, is_some, Result, Ok, Err, option_and_then}
 use Rattle.std.specs.Option.{option_map, option_or, unwrap_or}
-use Rattle.std.specs.List.{All}
 use Rattle.std.specs.Str.{bytes_eq}
-use Rattle.std.proofs.lemmas.List.Elements.{All-nil, All-append, All-push}
+use Rattle.std.proofs.lemmas.List.Elements.{All-nil}
 use Rattle.rv_source.specs.Said.{Said}
 use Rattle.rv_source.specs.declared.line.Label.{Label}
 use Rattle.rv_source.specs.declared.line.Label.TheVariants as label
@@ -14,7 +13,7 @@ use Rattle.rv_asm.specs.declared.fault.FaultKind.TheVariants.{DuplicateSymbol}
 use Rattle.rv_asm.specs.declared.fault.AsmFault.{AsmFault}
 use Rattle.rv_asm.specs.declared.locals.LocalLabel.{LocalLabel}
 use Rattle.rv_asm.specs.Symbols.{value_of}
-use Rattle.rv_asm.specs.Layout.{Known, first, joined, line_at, start, base, limit, size_of, constant_of, name_in, labelled, with_labels, stated, with_statement, known_before, known_at, relabels, statement_fault, phase_two_fault}
+use Rattle.rv_asm.specs.Layout.{Known, first, joined, line_at, size_of, constant_of, name_in, labelled, with_labels, stated, with_statement, known_before, relabels, statement_fault, phase_two_fault}
 use Rattle.rv_asm.specs.Listing.{◌>>=◌}
 use Rattle.rv_asm.specs.Assembly.{first_fault}
 use Rattle.rv_asm.specs.Steps.{State, Item, run, newly_labelled, all_labelled, placed, newly_stated, after_statement, after_line, at_line, unless, item_at, laid_out, extended}

@@ -1,7 +1,7 @@
 -- The bytes of the statements, one by one, and how many they are.
-use Rattle.std.proofs.Common.{◌≡◌, ℕ, zero, suc, ◌+◌, ◌≤◌, ◌<◌, Bool, true, false, cond, List, [], ◌∷◌, ◌++◌, length, ℤ, pos, refl, sym, ap, ◌∙◌, arith, append-nil, length-append}
+use Rattle.std.proofs.Common.{◌≡◌, ℕ, zero, suc, ◌+◌, ◌≤◌, ◌<◌, Bool, true, false, cond, List, [], ◌∷◌, ◌++◌, length, ℤ, pos, refl, sym, ap, arith, append-nil, length-append}
 use Rattle.std.specs.Prelude.{Option, None, Some, Result, Ok, Err, option_and_then}
-use Rattle.std.specs.Option.{option_map, option_or, unwrap_or}
+use Rattle.std.specs.Option.{option_map, option_or}
 use Rattle.std.specs.List.{All}
 use Rattle.std.proofs.lemmas.List.Elements.{All-nil, All-append, All-push}
 use Rattle.rv_source.specs.Said.{Said}
@@ -13,10 +13,10 @@ use Rattle.rv_asm.specs.declared.fault.FaultKind.{FaultKind}
 use Rattle.rv_asm.specs.declared.fault.FaultKind.TheVariants.{DuplicateSymbol}
 use Rattle.rv_asm.specs.declared.fault.AsmFault.{AsmFault}
 use Rattle.rv_asm.specs.Symbols.{Definitions, sum_value}
-use Rattle.rv_asm.specs.Layout.{Known, first, joined, line_at, base, limit, asked, taken, constant_of, size_of, name_in, labelled, with_labels, with_statement, known_before, known_at, definitions, relabels, statement_fault, phase_two_fault}
-use Rattle.rv_asm.specs.Listing.{◌>>=◌, statement_bytes}
+use Rattle.rv_asm.specs.Layout.{Known, first, joined, line_at, base, limit, asked, taken, size_of, labelled, with_labels, with_statement, known_before, known_at, definitions, relabels, statement_fault, phase_two_fault}
+use Rattle.rv_asm.specs.Listing.{◌>>=◌}
 use Rattle.rv_asm.specs.Assembly.{first_fault, line_bytes, phase_three_fault}
-use Rattle.rv_asm.specs.Steps.{Item, IsTaken, placed, item_bytes, appended, at_line, run, item_step, item_at, unless}
+use Rattle.rv_asm.specs.Steps.{Item, IsTaken, item_bytes, appended, at_line, run, item_step, item_at, unless}
 use Rattle.rv_asm.proofs.Placing.{item_of, free_placed}
 use Rattle.rv_asm.proofs.Runs.{run_append}
 use Rattle.rv_asm.proofs.Sizes.{item_size}

@@ -1,16 +1,14 @@
 -- A statement that was placed.
-use Rattle.std.proofs.Common.{◌≡◌, ℕ, ◌+◌, ◌≤◌, ◌%◌, Bool, true, false, not, cond, List, [], ◌∷◌, ◌++◌, ℤ, pos, refl, sym, ap, ◌∙◌, arith}
-use Rattle.std.specs.Prelude.{Option, None, Some, is_some, Result, Ok, Err, nat_lt, ◌==◌, ◌&&◌, option_and_then}
+use Rattle.std.proofs.Common.{◌≡◌, ℕ, ◌+◌, ◌≤◌, Bool, true, false, cond, List, [], ◌∷◌, ◌++◌, ℤ, pos, refl, ◌∙◌, arith}
+use Rattle.std.specs.Prelude.{Option, None, Some, is_some, Result, Ok, Err, nat_lt}
 use Rattle.std.specs.Option.{option_map, unwrap_or}
 use Rattle.std.proofs.lemmas.Bool.Decides.{nat_tests}
 use Rattle.rv_source.specs.declared.statement.Statement.{Statement}
-use Rattle.rv_source.specs.declared.expression.Term.{Term}
 use Rattle.rv_asm.specs.declared.fault.FaultKind.{FaultKind}
 use Rattle.rv_asm.specs.declared.fault.FaultKind.TheVariants.{DuplicateSymbol, NotConstant, Misplaced, TooLarge}
-use Rattle.rv_asm.specs.Symbols.{Definitions, value_of, sum_value}
-use Rattle.rv_asm.specs.Layout.{Known, base, limit, asked, taken, constant, constant_of, size_of, is_instruction, name_in, renames, named, stated, statement_fault}
-use Rattle.rv_asm.specs.Listing.{◌>>=◌}
-use Rattle.rv_asm.specs.Steps.{Item, IsTaken, placed, end_of, definition_in, newly_stated}
+use Rattle.rv_asm.specs.Symbols.{value_of}
+use Rattle.rv_asm.specs.Layout.{Known, base, limit, constant_of, size_of, name_in, renames, stated, statement_fault}
+use Rattle.rv_asm.specs.Steps.{Item, placed, end_of, definition_in, newly_stated}
 
 -- the item of a statement on line k behind its labels
 abbrev pub item_of : ℕ → Known → Statement → Item

@@ -1,14 +1,13 @@
 -- What the phases make together is what is meant.
-use Rattle.std.proofs.Common.{◌≡◌, ℕ, ◌≤◌, List, length, ℤ, refl, sym, ap, ◌∙◌, arith}
+use Rattle.std.proofs.Common.{◌≡◌, ℕ, ◌≤◌, List, length, refl, sym, ap, ◌∙◌, arith}
 use Rattle.std.specs.Prelude.{Option, None, Some, Result, Ok, Err}
 use Rattle.std.specs.Option.{option_or}
 use Rattle.std.proofs.lemmas.List.{length-map}
 use Rattle.rv_source.specs.Said.{Said}
-use Rattle.rv_source.specs.Reading.{said}
 use Rattle.rv_source.specs.Lines.{lines}
 use Rattle.rv_asm.specs.declared.fault.AsmFault.{AsmFault}
 use Rattle.rv_asm.specs.Symbols.{Definitions}
-use Rattle.rv_asm.specs.Layout.{joined, blank, definitions, known_before, phase_two_fault}
+use Rattle.rv_asm.specs.Layout.{joined, definitions, known_before, phase_two_fault}
 use Rattle.rv_asm.specs.Listing.{◌>>=◌}
 use Rattle.rv_asm.specs.Assembly.{Assembly, first_fault, phase_one_fault, phase_three_fault, all_said, bytes, assembled}
 use Rattle.rv_asm.specs.Steps.{State, unless, state_at, item_at, laid_out, lines_laid_out, image_of}
@@ -41,7 +40,10 @@ module _ (ls : List Said) (n : ℕ) (all : length ls ≡ n) where
   emitted = rw (← all) (emission ls (length ls))
 
   finished_by : answer (first_fault (phase_three_fault ls) n) (record { bytes = bytes ls; symbols = (definitions ls).names }) ≡ finished (state_at ls n)
-  finished_by = rw (emitted, all) (answered (first_fault (phase_three_fault ls) n) (known_before ls n).definitions (image ls n))
+  finished_by =
+      let fault = first_fault (phase_three_fault ls) n in
+      ap (λ m. answer fault (record { bytes = image ls m; symbols = (known_before ls m).definitions.names })) all
+      ∙ (answered fault (known_before ls n).definitions (image ls n) ∙ ap (λ r. r >>= program_of (known_before ls n).definitions) (sym emitted))
 
   whole_by : (one two : Option AsmFault) → first_fault (phase_two_fault ls) n ≡ two
       → answer (option_or one (option_or two (first_fault (phase_three_fault ls) n))) (record { bytes = bytes ls; symbols = (definitions ls).names })

@@ -1,6 +1,6 @@
 -- What the program keeps from line to line, and how it goes on: of these speak the contracts of its parts.
 -- That the whole is what Assembly.antt says is proved in proofs/.
-use Rattle.std.specs.Prelude.{◌≡◌, ℕ, suc, ◌+◌, List, [], ◌∷◌, ◌++◌, length, ℤ, pos, Bool, true, Option, Some, None, is_some, if◌then◌else◌, Result, Ok, Err}
+use Rattle.std.specs.Prelude.{◌≡◌, ℕ, suc, ◌+◌, List, [], ◌∷◌, ◌++◌, length, ℤ, pos, true, Option, Some, None, is_some, if◌then◌else◌, Result, Ok, Err}
 use Rattle.std.specs.Option.{option_map, unwrap_or}
 use Rattle.rv_source.specs.Said.{Said}
 use Rattle.rv_source.specs.declared.line.Label.{Label}

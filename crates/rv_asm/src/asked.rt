@@ -9,7 +9,7 @@ use crate::values::{bits, gap, is_between, is_word, loading};
 use rv_source::Statement;
 
 /// Where the image lies.
-const BASE: u32 = 0x8000_0000;
+pub const BASE: u32 = 0x8000_0000;
 
 /// How many bytes an image has at most.
 const LIMIT: u32 = 16_777_216;

@@ -3,6 +3,7 @@ ghost use Rattle.std.specs.Prelude.{◌≡◌, ◌≤◌};
 ghost use Rattle.std.specs.List.{All};
 
 use crate::FaultKind;
+use crate::asked::BASE;
 use crate::locals::LocalLabel;
 use crate::names::Names;
 use crate::placed::Placed;
@@ -10,9 +11,6 @@ use crate::symbols::Symbols;
 use rv_source::{Label, Line, Statement};
 use std::alloc::Global;
 use std::marker::Model;
-
-/// Where the image lies.
-const BASE: u32 = 0x8000_0000;
 
 /// What is known in front of a statement: its address, and what was defined so far.
 #[derive(Drop)]

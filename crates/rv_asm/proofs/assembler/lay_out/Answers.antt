@@ -1,5 +1,5 @@
-use Rattle.std.proofs.Common.{◌≡◌, ◌∙◌, ◌+◌, ◌∷◌, [], List, ℕ, length, ap, sym, arith}
-use Rattle.std.specs.Prelude.{Ok, Err}
+use Rattle.std.proofs.Common.{◌≡◌, ◌∙◌, ◌+◌, ◌∷◌, length, ap, sym, arith}
+use Rattle.std.specs.Prelude.{Ok}
 use Rattle.rv_source.specs.Lines.{lines}
 use Rattle.rv_asm.specs.Faults.{IsFaultAt, kind_of}
 use Rattle.rv_asm.specs.Assembly.{all_said}

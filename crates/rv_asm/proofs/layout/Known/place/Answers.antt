@@ -1,4 +1,4 @@
-use Rattle.std.proofs.Common.{◌≡◌, sym, ap, ◌∙◌}
+use Rattle.std.proofs.Common.{sym, ap, ◌∙◌}
 use Rattle.rv_asm.specs.declared.layout.Known.TheInside.{Inside}
 use Rattle.rv_asm.specs.Symbols.{Definitions, value_of}
 use Rattle.rv_asm.specs.Layout.{Known}
