@@ -11,3 +11,4 @@ pub mod Laying
 pub mod Listed
 pub mod Reading
 pub mod Whole
+pub mod Nearest

@@ -1,6 +1,6 @@
 //! Local labels, which may be defined again and again.
-ghost use Rattle.std.specs.Prelude.{◌≡◌};
-ghost use Rattle.rv_asm.specs.Symbols.{nearest_before, nearest_after};
+ghost use Rattle.std.specs.Prelude.{◌≡◌, ◌<◌, ℕ, [], get_or, length, OnOk};
+ghost use Rattle.rv_asm.specs.Symbols.{Rises, IsCut};
 
 use rv_source::Direction;
 use std::alloc::{AllocError, Global};
@@ -16,44 +16,116 @@ pub struct LocalLabel {
     pub address: u32,
 }
 
-/// The address of the last definition on an earlier line or on this one.
-fn nearest_before(labels: &[LocalLabel], number: u16, line: usize) -> Option<u32>
-    ensures { result ≡ nearest_before labels.now number line }
+/// How many definitions stand on this line or before it.
+fn count_up_to(labels: &[LocalLabel], line: usize) -> usize
+    requires { Rises labels.now }
+    ensures { IsCut labels.now line result }
 {
-    let mut nearest = None;
-    for label in labels {
-        if label.number == number && label.line <= line {
-            nearest = Some(label.address);
+    let mut low = 0;
+    let mut high = labels.len();
+    while low < high {
+        let middle = low + (high - low) / 2;
+        if labels[middle].line <= line {
+            low = middle + 1;
+        } else {
+            high = middle;
         }
     }
-    nearest
+    low
 }
 
-/// The address of the first definition on a later line.
-fn nearest_after(labels: &[LocalLabel], number: u16, line: usize) -> Option<u32>
-    ensures { result ≡ nearest_after labels.now number line }
-{
-    for label in labels {
-        if label.number == number && label.line > line {
-            return Some(label.address);
+/// The definitions of one number, in order.
+#[derive(Drop)]
+struct Repeated {
+    labels: Vec<LocalLabel>,
+}
+
+impl Model for Repeated {
+    ghost use Rattle.std.specs.Prelude.{List};
+    ghost use Rattle.rv_asm.specs.declared.locals.LocalLabel.{LocalLabel};
+
+    ghost Value = { List LocalLabel };
+
+    ghost view = { λ r. r.labels.items };
+}
+
+impl Repeated {
+    ghost use Rattle.std.specs.Prelude.{◌≡◌, [], ◌∷◌, ◌++◌, OnOk, OnErr};
+    ghost use Rattle.rv_asm.specs.Symbols.{nearest, Rises, AreOf};
+
+    fn new(alloc: Global) -> Self
+        ensures { result ≡ [] }
+    {
+        Repeated {
+            labels: Vec::new(alloc),
         }
     }
-    None
+
+    fn push(&mut self, label: LocalLabel) -> Result<(), AllocError>
+        ensures ok { OnOk result (self.new ≡ self.old ++ label ∷ []) }
+        ensures err { OnErr result (self.new ≡ self.old) }
+    {
+        if self.labels.push(label).is_err() {
+            return Err(AllocError);
+        }
+        Ok(())
+    }
+
+    /// The address that a reference on a line stands for.
+    fn nearest(&self, number: u16, direction: Direction, line: usize) -> Option<u32>
+        requires rises { Rises self.now }
+        requires one { AreOf number self.now }
+        ensures { result ≡ nearest self.now number line direction }
+    {
+        let count = count_up_to(&self.labels, line);
+        match direction {
+            Direction::Backward => {
+                if count == 0 {
+                    return None;
+                }
+                Some(self.labels[count - 1].address)
+            }
+            Direction::Forward => {
+                if count == self.labels.len() {
+                    return None;
+                }
+                Some(self.labels[count].address)
+            }
+        }
+    }
+}
+
+/// Makes a place for the definitions of a number, where there is none.
+fn make_room(alloc: Global, lists: &mut Vec<Repeated>, number: usize) -> Result<(), AllocError>
+    ensures same { (n : ℕ) → get_or lists.new.items n [] ≡ get_or lists.old.items n [] }
+    ensures room { OnOk result (number < length lists.new.items) }
+{
+    while lists.len() <= number {
+        if lists.push(Repeated::new(alloc)).is_err() {
+            return Err(AllocError);
+        }
+    }
+    Ok(())
 }
 
 /// The definitions of local labels, in order.
 #[derive(Drop)]
 pub struct Locals {
     labels: Vec<LocalLabel>,
+    /// At each number its own definitions.
+    by_number: Vec<Repeated>,
 }
 
 impl Model for Locals {
     ghost use Rattle.std.specs.Prelude.{List};
     ghost use Rattle.rv_asm.specs.declared.locals.LocalLabel.{LocalLabel};
+    ghost use Rattle.rv_asm.specs.Symbols.{AreListed};
 
     ghost Value = { List LocalLabel };
 
     ghost view = { λ l. l.labels.items };
+
+    ghost invariant = { λ l. AreListed l.by_number.items l.labels.items };
 }
 
 impl Locals {
@@ -66,6 +138,7 @@ impl Locals {
     {
         Locals {
             labels: Vec::new(alloc),
+            by_number: Vec::new(alloc),
         }
     }
 
@@ -75,8 +148,13 @@ impl Locals {
         ensures ok { OnOk result (self.new ≡ self.old ++ label ∷ []) }
         ensures err { OnErr result (self.new ≡ self.old) }
     {
-        let _ = alloc;
+        let number = usize::from(label.number);
+        make_room(alloc, &mut self.by_number, number)?;
         if self.labels.push(label).is_err() {
+            return Err(AllocError);
+        }
+        if self.by_number[number].push(label).is_err() {
+            self.labels.truncate(self.labels.len() - 1);
             return Err(AllocError);
         }
         Ok(())
@@ -86,9 +164,10 @@ impl Locals {
     pub fn nearest(&self, number: u16, direction: Direction, line: usize) -> Option<u32>
         ensures { result ≡ nearest self.now number line direction }
     {
-        match direction {
-            Direction::Backward => nearest_before(&self.labels, number, line),
-            Direction::Forward => nearest_after(&self.labels, number, line),
+        let place = usize::from(number);
+        if place >= self.by_number.len() {
+            return None;
         }
+        self.by_number[place].nearest(number, direction, line)
     }
 }
