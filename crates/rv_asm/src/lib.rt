@@ -15,6 +15,8 @@ mod names;
 mod placed;
 mod program;
 mod symbols;
+#[cfg(test)]
+mod tests;
 mod values;
 
 pub use assembler::assemble;
