@@ -117,6 +117,26 @@ fn each_fault_alone(rt: HostRuntime) -> Result<(), Fail> {
 }
 
 #[test]
+fn faults_by_value_and_by_byte(rt: HostRuntime) -> Result<(), Fail> {
+    let alloc = rt.alloc();
+    refuse(&rt, alloc, b"\xff", 1, FaultKind::BadByte)?;
+    refuse(&rt, alloc, &[b'#'; 1025], 1, FaultKind::LineTooLong)?;
+    let mut longest = Vec::from_slice(alloc, &[b'#'; 1024])?;
+    longest.extend_from_slice(b"\r\n")?;
+    check(&rt, alloc, longest.as_slice(), b"")?;
+    refuse(&rt, alloc, b".ascii \"abc", 1, FaultKind::Syntax)?;
+    refuse(&rt, alloc, b".word 0x100000000", 1, FaultKind::Syntax)?;
+    refuse(&rt, alloc, b"li a0,1f\n1:", 1, FaultKind::NotConstant)?;
+    refuse(&rt, alloc, b"li a0,-4294967295", 1, FaultKind::NotConstant)?;
+    refuse(&rt, alloc, b".space 16777217", 1, FaultKind::NotConstant)?;
+    refuse(&rt, alloc, b".balign 3", 1, FaultKind::NotConstant)?;
+    refuse(&rt, alloc, b".equ x,x", 1, FaultKind::NotConstant)?;
+    refuse(&rt, alloc, b"j 8", 1, FaultKind::OutOfRange)?;
+    refuse(&rt, alloc, b"lw a0,a1", 1, FaultKind::Undefined)?;
+    refuse(&rt, alloc, b".space 0,256", 1, FaultKind::OutOfRange)
+}
+
+#[test]
 fn the_first_of_two_faults(rt: HostRuntime) -> Result<(), Fail> {
     let alloc = rt.alloc();
     // In one line.
@@ -150,6 +170,179 @@ fn symbols(rt: HostRuntime) -> Result<(), Fail> {
     assert_eq!(rt; program.symbol(b"b"), Some(0x8000_0008));
     assert_eq!(rt; program.symbol(b"N"), Some(-1));
     assert_eq!(rt; program.symbol(b"c"), None);
+    Ok(())
+}
+
+/// Every word of the language at least once, each line with the words that it makes; GNU's assembler makes the same.
+const EACH_WORD: &[u8] = b"\
+lui a0,0x10000                  # 10000537
+lui a0,%hi(0x80000800)          # 80001537
+auipc a0,1                      # 00001517
+start: jal a0,start             # 0000056f
+jal start                       # ffdff0ef
+jalr a0,4(a1)                   # 00458567
+jalr a0,(a1)                    # 00058567
+jalr a0,a1,-4                   # ffc58567
+jalr a0,a1                      # 00058567
+jalr a0                         # 000500e7
+beq a0,a1,. + 8                 # 00b50463
+bne a0,a1,.                     # 00b51063
+blt a0,a1,. - 4                 # feb54ee3
+bge a0,a1,start                 # fcb55ce3
+bltu a0,a1,. + 4094             # 7eb56fe3
+bgeu a0,a1,. - 4096             # 80b57063
+lb a0,-1(a1)                    # fff58503
+lh a0,2(a1)                     # 00259503
+lw a0,(a1)                      # 0005a503
+lbu a0,%lo(0x80000800)(a1)      # 8005c503
+lhu a0,0x7ff(a1)                # 7ff5d503
+sb a0,-1(a1)                    # fea58fa3
+sh a0,2(a1)                     # 00a59123
+sw a0,%lo(0x80000800)(a1)       # 80a5a023
+addi a0,a1,-2048                # 80058513
+slti a0,a1,1                    # 0015a513
+sltiu a0,a1,-1                  # fff5b513
+xori a0,a1,'a'                  # 0615c513
+ori a0,a1,0b101                 # 0055e513
+andi a0,a1,017                  # 00f5f513
+addi a0,a0,%lo(0x80000800)      # 80050513
+slli a0,a1,31                   # 01f59513
+srli a0,a1,1                    # 0015d513
+srai a0,a1,0                    # 4005d513
+add a0,a1,a2                    # 00c58533
+sub a0,a1,a2                    # 40c58533
+sll a0,a1,a2                    # 00c59533
+slt a0,a1,a2                    # 00c5a533
+sltu a0,a1,a2                   # 00c5b533
+xor a0,a1,a2                    # 00c5c533
+srl a0,a1,a2                    # 00c5d533
+sra a0,a1,a2                    # 40c5d533
+or a0,a1,a2                     # 00c5e533
+and a0,a1,a2                    # 00c5f533
+mul a0,a1,a2                    # 02c58533
+mulh a0,a1,a2                   # 02c59533
+mulhsu a0,a1,a2                 # 02c5a533
+mulhu a0,a1,a2                  # 02c5b533
+div a0,a1,a2                    # 02c5c533
+divu a0,a1,a2                   # 02c5d533
+rem a0,a1,a2                    # 02c5e533
+remu a0,a1,a2                   # 02c5f533
+csrrw a0,mstatus,a1             # 30059573
+csrrs a0,0x304,a1               # 3045a573
+csrrc a0,mie,a1                 # 3045b573
+csrrwi a0,mscratch,31           # 340fd573
+csrrsi a0,mie,1                 # 3040e573
+csrrci a0,pmpcfg0,0             # 3a007573
+fence                           # 0ff0000f
+fence r,iow                     # 02d0000f
+fence.i                         # 0000100f
+ecall                           # 00000073
+ebreak                          # 00100073
+mret                            # 30200073
+wfi                             # 10500073
+nop                             # 00000013
+mv a0,a1                        # 00058513
+not a0,a1                       # fff5c513
+neg a0,a1                       # 40b00533
+seqz a0,a1                      # 0015b513
+snez a0,a1                      # 00b03533
+sltz a0,a1                      # 0005a533
+sgtz a0,a1                      # 00b02533
+beqz a0,.                       # 00050063
+bnez a0,.                       # 00051063
+blez a0,.                       # 00a05063
+bgez a0,.                       # 00055063
+bltz a0,.                       # 00054063
+bgtz a0,.                       # 00a04063
+bgt a0,a1,.                     # 00a5c063
+ble a0,a1,.                     # 00a5d063
+bgtu a0,a1,.                    # 00a5e063
+bleu a0,a1,.                    # 00a5f063
+j end                           # 1040006f
+jr a0                           # 00050067
+ret                             # 00008067
+csrr a0,mepc                    # 34102573
+csrw mepc,a0                    # 34151073
+csrs mie,a0                     # 30452073
+csrc mie,a0                     # 30453073
+csrwi mie,1                     # 3040d073
+csrsi mie,2                     # 30416073
+csrci mie,3                     # 3041f073
+li a0,-2048                     # 80000513
+li a0,2048                      # 00001537 80050513
+li a0,0x12345000                # 12345537
+li a0,0xffffffff                # fff00513
+la a0,end                       # 00000517 0c850513
+lla a0,start                    # 00000517 e7c50513
+call end                        # 00000097 0b8080e7
+tail start                      # 00000317 e6c30067
+lb a0,end                       # 00000517 0a850503
+lh a0,end                       # 00000517 0a051503
+lw a0,start                     # 00000517 e5452503
+lbu a0,end + 4                  # 00000517 09454503
+lhu a0,end - 4                  # 00000517 08455503
+sb a0,end,t0                    # 00000297 08a28023
+sh a0,end,t0                    # 00000297 06a29c23
+sw a0,start,t0                  # 00000297 e2a2a623
+.word 1,-1                      # 00000001 ffffffff
+.long 0x80000000                # 80000000
+.4byte end - start              # 00000244
+.half 1,0xffff                  # ffff0001
+.short -1,2                     # 0002ffff
+.2byte -32768,3                 # 00038000
+.byte 1,-1,'a',255              # ff61ff01
+.ascii \"ab\",\"\\n#\"               # 230a6261
+.asciz \"abc\"                    # 00636261
+.string \"\",\"\\x41\\101\"           # 00414100
+.space 4                        # 00000000
+.skip 4,0xff                    # ffffffff
+.zero 8                         # 00000000 00000000
+.align 4                        # 00000013 00000013 00000013
+.p2align 5                      # 00000013 00000013 00000013 00000013
+.balign 64
+.byte 1
+.balign 8                       # 00000001 00000013
+.text
+.data
+.globl start
+1: j 1f                         # 0040006f
+1: j 1b                         # 0000006f
+end: nop                        # 00000013
+";
+
+/// The words that stand in hexadecimal digits behind the last `#` of each line.
+fn words_of(alloc: Global, source: &[u8]) -> Result<Vec<u8>, Fail> {
+    let mut bytes = Vec::new(alloc);
+    for line in str::from_utf8(source)?.lines() {
+        if let Some((_, words)) = line.rsplit_once("# ") {
+            for word in words.split_whitespace() {
+                bytes.extend_from_slice(&u32::from_str_radix(word, 16)?.to_le_bytes())?;
+            }
+        }
+    }
+    Ok(bytes)
+}
+
+#[test]
+fn each_word(rt: HostRuntime) -> Result<(), Fail> {
+    let image = words_of(rt.alloc(), EACH_WORD)?;
+    assert_eq!(rt; image.len(), 596);
+    check(&rt, rt.alloc(), EACH_WORD, image.as_slice())
+}
+
+// To be tried with each allocation refused in turn.
+#[test]
+fn assembles_or_wants_memory(rt: HostRuntime) -> Result<(), Fail> {
+    match assemble(rt.alloc(), EACH_WORD) {
+        Ok(program) => assert_eq!(rt; program.bytes().len(), 596),
+        Err(fault) => {
+            let want = AsmFault {
+                line: 0,
+                kind: FaultKind::OutOfMemory,
+            };
+            assert_eq!(rt; fault, want);
+        }
+    }
     Ok(())
 }
 
