@@ -306,14 +306,16 @@ fn values(rt: HostRuntime) -> Result<(), Fail> {
         return Err("no bytes".into());
     };
     assert_eq!(&rt; bytes.as_slice(), b"a\n\0\0".as_slice());
-    let Statement::Lui {
-        rd,
-        imm: Upper::High(_),
-    } = statement(alloc, b"lui a0,%hi (x)")?
-    else {
-        return Err("no high part".into());
-    };
-    assert_eq!(&rt; rd.number(), 10);
+    let high = line(alloc, b"lui a0,%hi (x)")?;
+    assert!(&rt;
+        matches!(
+            high.statement(),
+            Some(Statement::Lui {
+                imm: Upper::High(_),
+                ..
+            })
+        )
+    );
     let Statement::Constant { name, value } = statement(alloc, b".equ a0,5")? else {
         return Err("no constant".into());
     };
@@ -322,21 +324,29 @@ fn values(rt: HostRuntime) -> Result<(), Fail> {
     Ok(())
 }
 
+fn is_name(label: &Label, text: &[u8]) -> bool {
+    match label {
+        Label::Name(name) => name.bytes() == text,
+        Label::Local(_) => false,
+    }
+}
+
+fn is_local(label: &Label, number: u16) -> bool {
+    match label {
+        Label::Name(_) => false,
+        Label::Local(n) => *n == number,
+    }
+}
+
 #[test]
 fn labels(rt: HostRuntime) -> Result<(), Fail> {
     let alloc = rt.alloc();
     let read = line(alloc, b"main : 0: .text: 9999: nop")?;
-    let [
-        Label::Name(first),
-        Label::Local(0),
-        Label::Name(third),
-        Label::Local(9999),
-    ] = read.labels()
-    else {
+    let [first, second, third, fourth] = read.labels() else {
         return Err("four labels are wanted".into());
     };
-    assert_eq!(&rt; first.bytes(), b"main".as_slice());
-    assert_eq!(&rt; third.bytes(), b".text".as_slice());
+    assert!(&rt; is_name(first, b"main") && is_local(second, 0));
+    assert!(&rt; is_name(third, b".text") && is_local(fourth, 9999));
     assert!(&rt; matches!(read.statement(), Some(Statement::Instruction(_))));
     let empty = line(alloc, b" \t# nothing")?;
     assert!(&rt; empty.labels().is_empty() && empty.statement().is_none());

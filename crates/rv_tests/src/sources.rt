@@ -86,12 +86,7 @@ fn check(rt: &impl Abort, board: &Flat, stand: &Stand) {
 }
 
 /// The board of the source stands so, one after the other.
-fn follow(
-    rt: &impl Abort,
-    alloc: Global,
-    source: &[u8],
-    stands: &[Stand],
-) -> Result<(), Fail> {
+fn follow(rt: &impl Abort, alloc: Global, source: &[u8], stands: &[Stand]) -> Result<(), Fail> {
     let mut board = boot(alloc, source)?;
     for stand in stands {
         for _ in 0..stand.steps {
@@ -340,16 +335,28 @@ fn a_request_stays_when_its_line_falls(rt: HostRuntime) -> Result<(), Fail> {
     Ok(())
 }
 
+/// Sends the byte back that it has received, or 0.
+const ECHO: &[u8] = b"lui t0,0x10000\nlw a0,4(t0)\nsw a0,0(t0)";
+
 #[test]
 fn a_byte_comes_when_it_comes(rt: HostRuntime) -> Result<(), Fail> {
-    const ECHO: &[u8] = b"lui t0,0x10000\nlw a0,4(t0)\nsw a0,0(t0)";
-    let byte = Event::Rx(0x5a);
     let mut board = boot(rt.alloc(), ECHO)?;
-    assert_eq!(rt; board.run(&[byte, Event::Step, Event::Step, Event::Step]), Ok(()));
+    board.apply(Event::Rx(0x5a))?;
+    assert_eq!(rt; board.run(&[Event::Step; 3]), Ok(()));
     assert_eq!(rt; board.console(), b"Z".as_slice());
     let mut late = boot(rt.alloc(), ECHO)?;
-    assert_eq!(rt; late.run(&[Event::Step, Event::Step, Event::Step, byte]), Ok(()));
+    assert_eq!(rt; late.run(&[Event::Step; 3]), Ok(()));
+    late.apply(Event::Rx(0x5a))?;
     assert_eq!(rt; late.console(), b"\0".as_slice());
     assert_eq!(rt; late.serial().waiting(), 1);
+    Ok(())
+}
+
+#[test]
+fn a_run_keeps_the_order_of_its_events(rt: HostRuntime) -> Result<(), Fail> {
+    let early = [Event::Rx(0x5a), Event::Step, Event::Step, Event::Step];
+    let mut board = boot(rt.alloc(), ECHO)?;
+    assert_eq!(rt; board.run(&early), Ok(()));
+    assert_eq!(rt; board.console(), b"Z".as_slice());
     Ok(())
 }
