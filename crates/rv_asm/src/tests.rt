@@ -308,6 +308,7 @@ sw a0,start,t0                  # 00000297 e2a2a623
 1: j 1f                         # 0040006f
 1: j 1b                         # 0000006f
 end: nop                        # 00000013
+.word 1--1,2+-3,-'a',+4         # 00000002 ffffffff ffffff9f 00000004
 ";
 
 /// The words that stand in hexadecimal digits behind the last `#` of each line.
@@ -326,7 +327,7 @@ fn words_of(alloc: Global, source: &[u8]) -> Result<Vec<u8>, Fail> {
 #[test]
 fn each_word(rt: HostRuntime) -> Result<(), Fail> {
     let image = words_of(rt.alloc(), EACH_WORD)?;
-    assert_eq!(rt; image.len(), 596);
+    assert_eq!(rt; image.len(), 612);
     check(&rt, rt.alloc(), EACH_WORD, image.as_slice())
 }
 
@@ -334,7 +335,7 @@ fn each_word(rt: HostRuntime) -> Result<(), Fail> {
 #[test]
 fn assembles_or_wants_memory(rt: HostRuntime) -> Result<(), Fail> {
     match assemble(rt.alloc(), EACH_WORD) {
-        Ok(program) => assert_eq!(rt; program.bytes().len(), 596),
+        Ok(program) => assert_eq!(rt; program.bytes().len(), 612),
         Err(fault) => {
             let want = AsmFault {
                 line: 0,

@@ -1,5 +1,5 @@
 //! Lines and what they say, as docs/ASSEMBLER.md has them.
-use crate::{Atom, Expression, Immediate, Label, Line, LineFault, Statement, Upper, read_line};
+use crate::{Immediate, Label, Line, LineFault, Statement, read_line};
 use rv_isa::{AluOp, Cond, CsrOp, ImmOp, Kind, LoadOp, Reg, Width};
 use std::alloc::Global;
 use std::process::Abort;
@@ -269,58 +269,6 @@ fn memory(rt: HostRuntime) -> Result<(), Fail> {
         (width, source.number(), scratch.number()),
         (Width::One, 1, 2)
     );
-    Ok(())
-}
-
-/// Signs and numbers of an expression of numbers.
-fn summed(expression: &Expression, wanted: &[(bool, u32)]) -> bool {
-    let terms = expression.terms();
-    if terms.len() != wanted.len() {
-        return false;
-    }
-    for (term, expected) in terms.iter().zip(wanted) {
-        let Atom::Number(n) = term.atom else {
-            return false;
-        };
-        if (term.negative, n) != *expected {
-            return false;
-        }
-    }
-    true
-}
-
-#[test]
-fn values(rt: HostRuntime) -> Result<(), Fail> {
-    let alloc = rt.alloc();
-    let Statement::Data { width, values } = statement(alloc, b".half -1, +2, 3+-4--5 -'a'")? else {
-        return Err("no data".into());
-    };
-    assert_eq!(&rt; width, Width::Two);
-    let [a, b, c] = values.as_slice() else {
-        return Err("three values are wanted".into());
-    };
-    assert!(&rt; summed(a, &[(true, 1)]));
-    assert!(&rt; summed(b, &[(false, 2)]));
-    assert!(&rt; summed(c, &[(false, 3), (true, 4), (false, 5), (true, 97)]));
-    let Statement::Bytes(bytes) = statement(alloc, b".asciz \"a\\n\", \"\"")? else {
-        return Err("no bytes".into());
-    };
-    assert_eq!(&rt; bytes.as_slice(), b"a\n\0\0".as_slice());
-    let high = line(alloc, b"lui a0,%hi (x)")?;
-    assert!(&rt;
-        matches!(
-            high.statement(),
-            Some(Statement::Lui {
-                imm: Upper::High(_),
-                ..
-            })
-        )
-    );
-    let Statement::Constant { name, value } = statement(alloc, b".equ a0,5")? else {
-        return Err("no constant".into());
-    };
-    assert_eq!(&rt; name.bytes(), b"a0".as_slice());
-    assert!(&rt; summed(&value, &[(false, 5)]));
     Ok(())
 }
 
