@@ -89,6 +89,45 @@ fn data(rt: HostRuntime) -> Result<(), Fail> {
 }
 
 #[test]
+fn sources_with_their_words(rt: HostRuntime) -> Result<(), Fail> {
+    let alloc = rt.alloc();
+    let data = program(alloc, b".byte 1,2\n.align 2\nx: .half -1\n.asciz \"A\\n\"")?;
+    assert_eq!(rt; data.bytes(), b"\x01\x02\0\0\xff\xffA\n\0".as_slice());
+    assert_eq!(rt; data.symbol(b"x"), Some(0x8000_0004));
+    let constant = program(alloc, b".equ N,2\nli a0,N--1")?;
+    assert_eq!(rt; constant.bytes(), b"\x13\x05\x30\x00".as_slice());
+    assert_eq!(rt; constant.symbol(b"N"), Some(2));
+    check(
+        &rt,
+        alloc,
+        b".byte 1\n.balign 8\nnop",
+        b"\x01\x00\x00\x00\x13\x00\x00\x00\x13\x00\x00\x00",
+    )?;
+    check(
+        &rt,
+        alloc,
+        b"call x\nx:",
+        b"\x97\x00\x00\x00\xe7\x80\x80\x00",
+    )?;
+    check(
+        &rt,
+        alloc,
+        b"1: j 1f\n1: j 1b",
+        b"\x6f\x00\x40\x00\x6f\x00\x00\x00",
+    )
+}
+
+#[test]
+fn a_name_twice_comes_before_one_that_is_missing(rt: HostRuntime) -> Result<(), Fail> {
+    let alloc = rt.alloc();
+    let source = b"j nowhere\nx:\nx:";
+    refuse(&rt, alloc, source, 3, FaultKind::DuplicateSymbol)?;
+    refuse(&rt, alloc, &source[..12], 1, FaultKind::Undefined)?;
+    refuse(&rt, alloc, b"addi a0,a0", 1, FaultKind::BadOperands)?;
+    refuse(&rt, alloc, b"addi a0,,1", 1, FaultKind::Syntax)
+}
+
+#[test]
 fn each_fault_alone(rt: HostRuntime) -> Result<(), Fail> {
     let alloc = rt.alloc();
     refuse(&rt, alloc, b"nop\n\x7f", 2, FaultKind::BadByte)?;
