@@ -1,16 +1,15 @@
--- Expressions, as tokens spell them: atoms joined by signs.
+-- Expressions, as tokens spell them: atoms joined by signs. For readers to audit.
 -- Own language; see docs/ASSEMBLER.md.
-use Rattle.std.specs.Prelude.{ℕ, Bool, true, false, not, List, [], ◌∷◌, ◌++◌, Option, Some, None, Result, Ok, Err, if◌then◌else◌, codes}
+use Rattle.std.specs.Prelude.{ℕ, Bool, true, false, not, List, [], ◌∷◌, ◌++◌, Option, Some, None, if◌then◌else◌, codes}
+use Rattle.std.specs.Option.{option_map}
 use Rattle.std.specs.Str.{bytes_eq}
-use Rattle.rv_source.specs.declared.token.Token.{Token}
-use Rattle.rv_source.specs.declared.token.Token.TheVariants.{Name, Digits, Number, Character, Local, Plus, Minus}
-use Rattle.rv_source.specs.declared.fault.LineFault.{LineFault}
-use Rattle.rv_source.specs.declared.fault.LineFault.TheVariants.{Syntax}
+use Rattle.rv_tokens.specs.declared.token.Token.{Token}
+use Rattle.rv_tokens.specs.declared.token.Token.TheVariants.{Name, Digits, Number, Character, Local, Plus, Minus}
 use Rattle.rv_source.specs.declared.expression.Term.{Term}
 use Rattle.rv_source.specs.declared.expression.Atom.{Atom}
 use Rattle.rv_source.specs.declared.expression.Atom.TheVariants as atom
-use Rattle.rv_source.specs.declared.terms.Wanted.{Wanted}
-use Rattle.rv_source.specs.declared.terms.Wanted.TheVariants.{Sign, Value}
+use Rattle.rv_source.specs.declared.expression.Wanted.{Wanted}
+use Rattle.rv_source.specs.declared.expression.Wanted.TheVariants.{Sign, Value}
 
 -- a name other than `.`
 abbrev pub is_symbol : List ℕ → Bool
@@ -36,27 +35,26 @@ abbrev pub times : Bool → Bool → Bool
 times sign other = if sign then not other else other
 
 -- terms, and those of the rest
-abbrev pub with_terms : List Term → Result (List Term) LineFault → Result (List Term) LineFault
-with_terms terms (Ok more) = Ok (terms ++ more)
-with_terms terms (Err fault) = Err fault
+abbrev pub with_terms : List Term → Option (List Term) → Option (List Term)
+with_terms terms more = option_map (λ us. terms ++ us) more
 
 -- The terms that the tokens spell. Where a value is wanted, a sign may stand before it as long as signs are left to it.
 -- Behind a value the expression ends, or it goes on with a sign; one more may follow that one.
-unfoldable pub terms : Wanted → List Token → Result (List Term) LineFault
-terms Sign [] = Ok []
-terms Sign (t ∷ ts) = elim (sign_of t) as (λ _. Result (List Term) LineFault) [
+unfoldable pub terms : Wanted → List Token → Option (List Term)
+terms Sign [] = Some []
+terms Sign (t ∷ ts) = elim (sign_of t) as (λ _. Option (List Term)) [
   | Some sign ↦ terms (Value sign true) ts
-  | None ↦ Err Syntax
+  | None ↦ None
 ]
-terms (Value sign more) [] = Err Syntax
-terms (Value sign more) (t ∷ ts) = elim (sign_of t) as (λ _. Result (List Term) LineFault) [
-  | Some other ↦ (if more then terms (Value (times sign other) false) ts else Err Syntax)
-  | None ↦ (elim (atom_of t) as (λ _. Result (List Term) LineFault) [
+terms (Value sign more) [] = None
+terms (Value sign more) (t ∷ ts) = elim (sign_of t) as (λ _. Option (List Term)) [
+  | Some other ↦ (if more then terms (Value (times sign other) false) ts else None)
+  | None ↦ (elim (atom_of t) as (λ _. Option (List Term)) [
     | Some atom ↦ with_terms (record { negative = sign; atom = atom } ∷ []) (terms Sign ts)
-    | None ↦ Err Syntax
+    | None ↦ None
   ])
 ]
 
--- an expression, spelled by all of the tokens: at most one sign before its first value
-abbrev pub sum_of : List Token → Result (List Term) LineFault
-sum_of = terms (Value false true)
+-- E, an expression that all of the tokens spell: at most one sign before its first value
+unfoldable pub value : List Token → Option (List Term)
+value = terms (Value false true)

@@ -1,16 +1,14 @@
--- Operands, as tokens spell them.
+-- Operands, as tokens spell them. For readers to audit.
 -- Own language; see docs/ASSEMBLER.md.
-use Rattle.std.specs.Prelude.{ℕ, Bool, true, false, List, [], ◌∷◌, take, drop, Option, Some, None, Result, Ok, Err, if◌then◌else◌, ◌==◌, ◌++◌}
+use Rattle.std.specs.Prelude.{ℕ, ◌+◌, Bool, true, false, ◌||◌, List, [], ◌∷◌, take, drop, Option, Some, None, option_and_then, is_some, if◌then◌else◌}
 use Rattle.std.specs.List.{position}
 use Rattle.std.specs.Option.{option_map}
-use Rattle.rv_source.specs.declared.token.Token.{Token}
-use Rattle.rv_source.specs.declared.token.Token.TheVariants as t
-use Rattle.rv_source.specs.declared.fault.LineFault.{LineFault}
-use Rattle.rv_source.specs.declared.fault.LineFault.TheVariants.{Syntax}
-use Rattle.rv_source.specs.declared.operand.Operand.{Operand}
-use Rattle.rv_source.specs.declared.operand.Operand.TheVariants.{Name, Number, Sum, High, Low, Base, Indexed, LowIndexed, Text}
-use Rattle.rv_source.specs.Faults.{◌>>=◌}
-use Rattle.rv_source.specs.Expressions.{sum_of}
+use Rattle.rv_tokens.specs.declared.token.Token.{Token}
+use Rattle.rv_tokens.specs.declared.token.Token.TheVariants as t
+use Rattle.rv_source.specs.declared.expression.Term.{Term}
+use Rattle.rv_source.specs.declared.statement.Immediate.{Immediate}
+use Rattle.rv_source.specs.declared.statement.Immediate.TheVariants as i
+use Rattle.rv_source.specs.Expressions.{value}
 
 abbrev pub is_comma : Token → Bool
 is_comma t.Comma = true
@@ -24,64 +22,63 @@ abbrev pub is_close : Token → Bool
 is_close t.Close = true
 is_close _ = false
 
+abbrev pub is_nothing : {A : Type 0} → List A → Bool
+is_nothing [] = true
+is_nothing (_ ∷ _) = false
+
+-- ---- the shapes of operands, with what they have in them
+
+-- a string
+abbrev pub string_of : List Token → Option (List ℕ)
+string_of (t.Text bytes ∷ []) = Some bytes
+string_of _ = None
+
+-- a name
+abbrev pub name_of : List Token → Option (List ℕ)
+name_of (t.Name name ∷ []) = Some name
+name_of _ = None
+
+-- a number
+abbrev pub number_of : List Token → Option ℕ
+number_of (t.Digits n ∷ []) = Some n
+number_of (t.Number n ∷ []) = Some n
+number_of _ = None
+
 -- (name)
 abbrev pub base_of : List Token → Option (List ℕ)
 base_of (t.Open ∷ t.Name name ∷ t.Close ∷ []) = Some name
 base_of _ = None
 
--- E, (name) or E(name): what stands before the first bracket is E
-abbrev pub plain_of : List Token → Result Operand LineFault
-plain_of ts = elim (position is_open ts) as (λ _. Result Operand LineFault) [
-  | None ↦ sum_of ts >>= λ e. Ok (Sum e)
-  | Some n ↦ (elim (base_of (drop n ts)) as (λ _. Result Operand LineFault) [
-    | None ↦ Err Syntax
-    | Some name ↦ (if n == 0 then Ok (Base name) else sum_of (take n ts) >>= λ e. Ok (Indexed e name))
-  ])
-]
+-- E or nothing
+abbrev pub offset_of : List Token → Option Immediate
+offset_of [] = Some i.Zero
+offset_of (t ∷ ts) = option_map (λ e. i.Sum e) (value (t ∷ ts))
 
--- what stands behind `(` and before the first `)`, and what stands from there on
+-- E(name) or (name): what stands before the first bracket is E
+unfoldable pub indexed_of : List Token → Option (Immediate × List ℕ)
+indexed_of ts = option_and_then (λ n. option_and_then (λ name. option_map (λ offset. (offset, name)) (offset_of (take n ts))) (base_of (drop n ts))) (position is_open ts)
+
+-- what stands in the brackets that come first, and what stands behind them
 abbrev pub bracketed : List Token → Option (List Token × List Token)
-bracketed (t.Open ∷ ts) = option_map (λ n. (take n ts, drop n ts)) (position is_close ts)
+bracketed (t.Open ∷ ts) = option_map (λ n. (take n ts, drop (n + 1) ts)) (position is_close ts)
 bracketed _ = None
 
--- behind `%hi`: (E)
-abbrev pub high_of : List Token → Result Operand LineFault
-high_of ts = elim (bracketed ts) as (λ _. Result Operand LineFault) [
-  | None ↦ Err Syntax
-  | Some p ↦ (elim p.1 as (λ _. Result Operand LineFault) [
-    | _ ∷ [] ↦ sum_of p.0 >>= λ e. Ok (High e)
-    | _ ↦ Err Syntax
-  ])
-]
+-- behind `%hi` or `%lo`: (E)
+unfoldable pub part_of : List Token → Option (List Term)
+part_of ts = option_and_then (λ p. if is_nothing p.1 then value p.0 else None) (bracketed ts)
 
--- behind `%lo`: (E) or (E)(name)
-abbrev pub low_of : List Token → Result Operand LineFault
-low_of ts = elim (bracketed ts) as (λ _. Result Operand LineFault) [
-  | None ↦ Err Syntax
-  | Some p ↦ (elim p.1 as (λ _. Result Operand LineFault) [
-    | [] ↦ Err Syntax
-    | _ ∷ [] ↦ sum_of p.0 >>= λ e. Ok (Low e)
-    | _ ∷ u ∷ us ↦ (elim (base_of (u ∷ us)) as (λ _. Result Operand LineFault) [
-      | None ↦ Err Syntax
-      | Some name ↦ sum_of p.0 >>= λ e. Ok (LowIndexed e name)
-    ])
-  ])
-]
+-- behind `%lo`: (E)(name)
+unfoldable pub part_indexed_of : List Token → Option (Immediate × List ℕ)
+part_indexed_of ts = option_and_then (λ p. option_and_then (λ name. option_map (λ e. (i.Low e, name)) (value p.0)) (base_of p.1)) (bracketed ts)
 
--- a token alone: a name and a number are told from other expressions
-abbrev pub alone : Token → Result Operand LineFault
-alone (t.Text text) = Ok (Text text)
-alone (t.Name name) = sum_of (t.Name name ∷ []) >>= λ e. Ok (Name name e)
-alone (t.Digits n) = sum_of (t.Digits n ∷ []) >>= λ e. Ok (Number n e)
-alone (t.Number n) = sum_of (t.Number n ∷ []) >>= λ e. Ok (Number n e)
-alone t = sum_of (t ∷ []) >>= λ e. Ok (Sum e)
+-- whether tokens are an operand: a string, %hi(E), %lo(E), %lo(E)(name), E, E(name) or (name)
+unfoldable pub is_operand : List Token → Bool
+is_operand (t.Text bytes ∷ []) = true
+is_operand (t.High ∷ ts) = is_some (part_of ts)
+is_operand (t.Low ∷ ts) = is_some (part_of ts) || is_some (part_indexed_of ts)
+is_operand ts = is_some (value ts) || is_some (indexed_of ts)
 
--- the operand that all of the tokens spell
-unfoldable pub operand_of : List Token → Result Operand LineFault
-operand_of (t ∷ []) = alone t
-operand_of (t.High ∷ ts) = high_of ts
-operand_of (t.Low ∷ ts) = low_of ts
-operand_of ts = plain_of ts
+-- ---- the operands behind a word
 
 -- a token in front of the first piece
 abbrev pub before : Token → List (List Token) → List (List Token)
@@ -93,17 +90,7 @@ unfoldable pub pieces : List Token → List (List Token)
 pieces [] = [] ∷ []
 pieces (t ∷ ts) = if is_comma t then [] ∷ pieces ts else before t (pieces ts)
 
--- an operand in front of others
-abbrev pub with_operands : List Operand → Result (List Operand) LineFault → Result (List Operand) LineFault
-with_operands os (Ok more) = Ok (os ++ more)
-with_operands os (Err fault) = Err fault
-
--- the operands that the pieces spell, each its own
-unfoldable pub each : List (List Token) → Result (List Operand) LineFault
-each [] = Ok []
-each (piece ∷ pieces) = operand_of piece >>= λ o. with_operands (o ∷ []) (each pieces)
-
--- the operands behind a word
-abbrev pub operands_of : List Token → Result (List Operand) LineFault
-operands_of [] = Ok []
-operands_of (t ∷ ts) = each (pieces (t ∷ ts))
+-- the operands behind a word, each as its tokens
+unfoldable pub operands_of : List Token → List (List Token)
+operands_of [] = []
+operands_of (t ∷ ts) = pieces (t ∷ ts)

@@ -1,6 +1,6 @@
--- What a word and its operands stand for: the statements, form by form.
+-- What a word and its operands stand for: the statements, form by form. For readers to audit.
 -- Own language; see docs/ASSEMBLER.md.
-use Rattle.std.specs.Prelude.{ℕ, ◌+◌, ◌*◌, Bool, true, false, not, ◌&&◌, List, [], ◌∷◌, Option, Some, None, option_and_then, if◌then◌else◌, ◌==◌, nat_lt, pos, negsuc}
+use Rattle.std.specs.Prelude.{ℕ, ◌+◌, ◌*◌, Bool, true, false, not, ◌&&◌, List, [], ◌∷◌, ◌++◌, Option, Some, None, option_and_then, if◌then◌else◌, ◌==◌, nat_lt, pos, negsuc}
 use Rattle.std.specs.Option.{option_map, option_or}
 use Rattle.rv_isa.specs.Names.{lookup, register_names, csr_names}
 use Rattle.rv_isa.specs.declared.kind.Kind.TheVariants as k
@@ -9,75 +9,73 @@ use Rattle.rv_isa.specs.declared.op.AluOp.TheVariants.{Slt, Sltu, Sub}
 use Rattle.rv_isa.specs.declared.op.CsrOp.TheVariants.{Set}
 use Rattle.rv_isa.specs.declared.op.LoadOp.{LoadOp}
 use Rattle.rv_isa.specs.declared.op.Width.{Width}
+use Rattle.rv_tokens.specs.declared.token.Token.{Token}
+use Rattle.rv_tokens.specs.declared.token.Token.TheVariants as t
 use Rattle.rv_source.specs.declared.expression.Term.{Term}
-use Rattle.rv_source.specs.declared.operand.Operand.{Operand}
-use Rattle.rv_source.specs.declared.operand.Operand.TheVariants as o
-use Rattle.rv_source.specs.declared.operand.Operands.{Operands}
-use Rattle.rv_source.specs.declared.operand.Operands.TheVariants as count
 use Rattle.rv_source.specs.declared.statement.Immediate.{Immediate}
 use Rattle.rv_source.specs.declared.statement.Immediate.TheVariants as i
 use Rattle.rv_source.specs.declared.statement.Upper.{Upper}
 use Rattle.rv_source.specs.declared.statement.Upper.TheVariants as u
 use Rattle.rv_source.specs.declared.statement.Statement.{Statement}
 use Rattle.rv_source.specs.declared.statement.Statement.TheVariants as s
-use Rattle.rv_source.specs.declared.table.Form.{Form}
-use Rattle.rv_source.specs.declared.table.Form.TheVariants as f
-use Rattle.rv_source.specs.Expressions.{is_symbol}
+use Rattle.rv_source.specs.declared.form.Instruction.{Instruction}
+use Rattle.rv_source.specs.declared.form.Instruction.TheVariants as f
+use Rattle.rv_source.specs.declared.form.Pseudo.{Pseudo}
+use Rattle.rv_source.specs.declared.form.Pseudo.TheVariants as p
+use Rattle.rv_source.specs.declared.form.Directive.{Directive}
+use Rattle.rv_source.specs.declared.form.Directive.TheVariants as d
+use Rattle.rv_source.specs.declared.form.Form.{Form}
+use Rattle.rv_source.specs.declared.form.Form.TheVariants as form
+use Rattle.rv_source.specs.Expressions.{is_symbol, value}
+use Rattle.rv_source.specs.Operands.{is_nothing, string_of, name_of, number_of, indexed_of, part_of, part_indexed_of}
 
 -- ---- what a place takes
 
+-- the register with a name
+abbrev pub register_named : List ℕ → Option ℕ
+register_named name = lookup name register_names
+
 -- the name of a register
-unfoldable pub register : Operand → Option ℕ
-register (o.Name name value) = lookup name register_names
-register _ = None
+unfoldable pub register : List Token → Option ℕ
+register ts = option_and_then register_named (name_of ts)
 
 -- control registers have numbers of twelve bits
 abbrev pub csr_number : ℕ → Option ℕ
 csr_number n = if nat_lt n 4096 then Some n else None
 
 -- the name of a control register, or a number
-unfoldable pub csr : Operand → Option ℕ
-csr (o.Name name value) = option_and_then csr_number (lookup name csr_names)
-csr (o.Number n value) = csr_number n
-csr _ = None
+unfoldable pub csr : List Token → Option ℕ
+csr ts =
+    option_or (option_and_then (λ name. option_and_then csr_number (lookup name csr_names)) (name_of ts))
+    (option_and_then csr_number (number_of ts))
 
--- E
-unfoldable pub value : Operand → Option (List Term)
-value (o.Name name e) = Some e
-value (o.Number n e) = Some e
-value (o.Sum e) = Some e
-value _ = None
+-- %lo(E) or E
+unfoldable pub immediate : List Token → Option Immediate
+immediate (t.Low ∷ ts) = option_map (λ e. i.Low e) (part_of ts)
+immediate ts = option_map (λ e. i.Sum e) (value ts)
 
--- E or %lo(E)
-unfoldable pub immediate : Operand → Option Immediate
-immediate (o.Low e) = Some (i.Low e)
-immediate operand = option_map (λ e. i.Sum e) (value operand)
+-- %hi(E) or E
+unfoldable pub upper : List Token → Option Upper
+upper (t.High ∷ ts) = option_map (λ e. u.High e) (part_of ts)
+upper ts = option_map (λ e. u.Sum e) (value ts)
 
--- E or %hi(E)
-unfoldable pub upper : Operand → Option Upper
-upper (o.High e) = Some (u.High e)
-upper operand = option_map (λ e. u.Sum e) (value operand)
+-- an offset and the name of a base
+abbrev pub based : Option (Immediate × List ℕ) → Option (Immediate × ℕ)
+based place = option_and_then (λ m. option_map (λ base. (m.0, base)) (register_named m.1)) place
 
--- (register), E(register) or %lo(E)(register): the offset and the base
-unfoldable pub memory : Operand → Option (Immediate × ℕ)
-memory (o.Base base) = option_map (λ r. (i.Zero, r)) (lookup base register_names)
-memory (o.Indexed e base) = option_map (λ r. (i.Sum e, r)) (lookup base register_names)
-memory (o.LowIndexed e base) = option_map (λ r. (i.Low e, r)) (lookup base register_names)
-memory _ = None
+-- %lo(E)(register), E(register) or (register): the offset and the base
+unfoldable pub memory : List Token → Option (Immediate × ℕ)
+memory (t.Low ∷ ts) = based (part_indexed_of ts)
+memory ts = based (indexed_of ts)
 
 -- a name other than `.`
-unfoldable pub symbol : Operand → Option (List ℕ)
-symbol (o.Name name value) = if is_symbol name then Some name else None
-symbol _ = None
+unfoldable pub symbol : List Token → Option (List ℕ)
+symbol ts = option_and_then (λ name. if is_symbol name then Some name else None) (name_of ts)
 
 -- 1 where the letter stands first and else 0, and what follows
 abbrev pub letter : ℕ → List ℕ → ℕ × List ℕ
 letter l [] = (0, [])
 letter l (b ∷ bs) = if b == l then (1, bs) else (0, b ∷ bs)
-
-abbrev pub is_nothing : List ℕ → Bool
-is_nothing [] = true
-is_nothing (_ ∷ _) = false
 
 -- letters of i, o, r and w in this order, at least one
 unfoldable pub fence_letters : List ℕ → Option ℕ
@@ -89,121 +87,147 @@ fence_letters name =
     if is_nothing w.1 && not (is_nothing name) then Some (8 * i.0 + 4 * o.0 + 2 * r.0 + w.0) else None
 
 -- what a fence orders
-unfoldable pub fence_set : Operand → Option ℕ
-fence_set (o.Name name value) = fence_letters name
-fence_set _ = None
+unfoldable pub fence_set : List Token → Option ℕ
+fence_set ts = option_and_then fence_letters (name_of ts)
 
 -- ---- so many operands, each at its place
 
--- operands by their number
-abbrev pub counted : List Operand → Operands
-counted [] = count.None
-counted (x ∷ []) = count.One x
-counted (x ∷ y ∷ []) = count.Two x y
-counted (x ∷ y ∷ z ∷ []) = count.Three x y z
-counted _ = count.More
-
-abbrev pub none : Statement → Operands → Option Statement
-none s count.None = Some s
+-- no operand
+abbrev pub none : Statement → List (List Token) → Option Statement
+none s [] = Some s
 none s _ = None
 
-abbrev pub alone : {A : Type 0} → (Operand → Option A) → Operands → Option A
-alone a (count.One x) = a x
+-- one operand
+abbrev pub alone : {A : Type 0} → (List Token → Option A) → List (List Token) → Option A
+alone a (x ∷ []) = a x
 alone a _ = None
 
-abbrev pub one : {A : Type 0} → (Operand → Option A) → (A → Statement) → Operands → Option Statement
+abbrev pub one : {A : Type 0} → (List Token → Option A) → (A → Statement) → List (List Token) → Option Statement
 one a s operands = option_map s (alone a operands)
 
-abbrev pub both : {A B : Type 0} → (Operand → Option A) → (Operand → Option B) → Operands → Option (A × B)
-both a b (count.Two x y) = option_and_then (λ p. option_map (λ q. (p, q)) (b y)) (a x)
+-- two operands
+abbrev pub both : {A B : Type 0} → (List Token → Option A) → (List Token → Option B) → List (List Token) → Option (A × B)
+both a b (x ∷ y ∷ []) = option_and_then (λ p. option_map (λ q. (p, q)) (b y)) (a x)
 both a b _ = None
 
-abbrev pub two : {A B : Type 0} → (Operand → Option A) → (Operand → Option B) → (A → B → Statement) → Operands → Option Statement
+abbrev pub two : {A B : Type 0} → (List Token → Option A) → (List Token → Option B) → (A → B → Statement) → List (List Token) → Option Statement
 two a b s operands = option_map (λ p. s p.0 p.1) (both a b operands)
 
-abbrev pub all : {A B C : Type 0} → (Operand → Option A) → (Operand → Option B) → (Operand → Option C) → Operands → Option (A × B × C)
-all a b c (count.Three x y z) = option_and_then (λ p. option_and_then (λ q. option_map (λ r. (p, q, r)) (c z)) (b y)) (a x)
+-- three operands
+abbrev pub all : {A B C : Type 0} → (List Token → Option A) → (List Token → Option B) → (List Token → Option C) → List (List Token) → Option (A × B × C)
+all a b c (x ∷ y ∷ z ∷ []) = option_and_then (λ p. option_and_then (λ q. option_map (λ r. (p, q, r)) (c z)) (b y)) (a x)
 all a b c _ = None
 
-abbrev pub three : {A B C : Type 0} → (Operand → Option A) → (Operand → Option B) → (Operand → Option C) → (A → B → C → Statement) → Operands → Option Statement
+abbrev pub three : {A B C : Type 0} → (List Token → Option A) → (List Token → Option B) → (List Token → Option C) → (A → B → C → Statement) → List (List Token) → Option Statement
 three a b c s operands = option_map (λ p. s p.0 p.1 p.2) (all a b c operands)
 
 -- one of two shapes
-abbrev pub either : (Operands → Option Statement) → (Operands → Option Statement) → Operands → Option Statement
+abbrev pub either : (List (List Token) → Option Statement) → (List (List Token) → Option Statement) → List (List Token) → Option Statement
 either a b operands = option_or (a operands) (b operands)
+
+-- the values of operands, where each is an expression
+unfoldable pub values : List (List Token) → Option (List (List Term))
+values [] = Some []
+values (x ∷ xs) = option_and_then (λ e. option_map (λ es. e ∷ es) (values xs)) (value x)
+
+-- the bytes of a string, with a byte 0 behind them or not
+abbrev pub string : Bool → List Token → Option (List ℕ)
+string terminated ts = option_map (λ bytes. if terminated then bytes ++ 0 ∷ [] else bytes) (string_of ts)
+
+-- the bytes of operands, where each is a string
+unfoldable pub strings : Bool → List (List Token) → Option (List ℕ)
+strings terminated [] = Some []
+strings terminated (x ∷ xs) = option_and_then (λ bs. option_map (λ more. bs ++ more) (strings terminated xs)) (string terminated x)
+
+-- of one or more operands
+abbrev pub of_some : {A : Type 0} → (List (List Token) → Option A) → List (List Token) → Option A
+of_some f [] = None
+of_some f (x ∷ xs) = f (x ∷ xs)
 
 -- ---- the forms
 
--- instructions
-abbrev pub jal : Operands → Option Statement
+abbrev pub jal : List (List Token) → Option Statement
 jal = either (two register value (λ rd target. s.Jal rd target)) (one value (λ target. s.Jal 1 target))
 
-abbrev pub jalr : Operands → Option Statement
+abbrev pub jalr : List (List Token) → Option Statement
 jalr =
     either (two register register (λ rd base. s.Instruction (k.Jalr rd base (pos 0))))
     (either (two register memory (λ rd m. s.Jalr rd m.1 m.0))
     (either (three register register immediate (λ rd base offset. s.Jalr rd base offset))
     (one register (λ base. s.Instruction (k.Jalr 1 base (pos 0))))))
 
-abbrev pub load : LoadOp → Operands → Option Statement
+abbrev pub load : LoadOp → List (List Token) → Option Statement
 load op = either (two register value (λ rd target. s.LoadFrom op rd target)) (two register memory (λ rd m. s.Load op rd m.1 m.0))
 
-abbrev pub store : Width → Operands → Option Statement
+abbrev pub store : Width → List (List Token) → Option Statement
 store width =
     either (two register memory (λ source m. s.Store width source m.1 m.0))
     (three register value register (λ source target scratch. s.StoreTo width source scratch target))
 
 -- iorw,iorw where no sets are written
-abbrev pub fence : Operands → Option Statement
+abbrev pub fence : List (List Token) → Option Statement
 fence = either (none (s.Instruction (k.Fence 0 0 255))) (two fence_set fence_set (λ p q. s.Instruction (k.Fence 0 0 (16 * p + q))))
 
-abbrev pub space : Operands → Option Statement
+abbrev pub space : List (List Token) → Option Statement
 space = either (one value (λ size. s.Space size None)) (two value value (λ size fill. s.Space size (Some fill)))
 
--- what a form and its operands stand for
-unfoldable pub stands : Form → Operands → Option Statement
-stands f.Lui = two register upper (λ rd imm. s.Lui rd imm)
-stands f.Auipc = two register value (λ rd imm. s.Auipc rd imm)
-stands f.Jal = jal
-stands f.Jalr = jalr
-stands (f.Branch cond) = three register register value (λ rs1 rs2 target. s.Branch cond rs1 rs2 target)
-stands (f.Load op) = load op
-stands (f.Store width) = store width
-stands (f.OpImm op) = three register register immediate (λ rd rs1 imm. s.OpImm op rd rs1 imm)
-stands (f.Shift op) = three register register value (λ rd rs1 amount. s.Shift op rd rs1 amount)
-stands (f.Op op) = three register register register (λ rd rs1 rs2. s.Instruction (k.Op op rd rs1 rs2))
-stands (f.Csr op) = three register csr register (λ rd csr rs1. s.Instruction (k.Csr op rd rs1 csr))
-stands (f.CsrImm op) = three register csr value (λ rd csr imm. s.CsrImm op rd imm csr)
-stands f.Fence = fence
-stands f.FenceI = none (s.Instruction (k.FenceI 0 0 0))
-stands f.Ecall = none (s.Instruction k.Ecall)
-stands f.Ebreak = none (s.Instruction k.Ebreak)
-stands f.Mret = none (s.Instruction k.Mret)
-stands f.Wfi = none (s.Instruction k.Wfi)
-stands f.Nop = none (s.Instruction (k.OpImm Addi 0 0 (pos 0)))
-stands f.Mv = two register register (λ rd rs. s.Instruction (k.OpImm Addi rd rs (pos 0)))
-stands f.Not = two register register (λ rd rs. s.Instruction (k.OpImm Xori rd rs (negsuc 0)))
-stands f.Neg = two register register (λ rd rs. s.Instruction (k.Op Sub rd 0 rs))
-stands f.Seqz = two register register (λ rd rs. s.Instruction (k.OpImm Sltiu rd rs (pos 1)))
-stands f.Snez = two register register (λ rd rs. s.Instruction (k.Op Sltu rd 0 rs))
-stands f.Sltz = two register register (λ rd rs. s.Instruction (k.Op Slt rd rs 0))
-stands f.Sgtz = two register register (λ rd rs. s.Instruction (k.Op Slt rd 0 rs))
-stands (f.BranchZero cond) = two register value (λ rs target. s.Branch cond rs 0 target)
-stands (f.ZeroBranch cond) = two register value (λ rs target. s.Branch cond 0 rs target)
-stands (f.BranchSwapped cond) = three register register value (λ rs rt target. s.Branch cond rt rs target)
-stands f.Jump = one value (λ target. s.Jal 0 target)
-stands f.JumpRegister = one register (λ rs. s.Instruction (k.Jalr 0 rs (pos 0)))
-stands f.Return = none (s.Instruction (k.Jalr 0 1 (pos 0)))
-stands f.CsrRead = two register csr (λ rd csr. s.Instruction (k.Csr Set rd 0 csr))
-stands (f.CsrChange op) = two csr register (λ csr rs. s.Instruction (k.Csr op 0 rs csr))
-stands (f.CsrChangeImm op) = two csr value (λ csr imm. s.CsrImm op 0 imm csr)
-stands f.Li = two register value (λ rd v. s.Li rd v)
-stands f.La = two register value (λ rd target. s.La rd target)
-stands f.Call = one value (λ target. s.Call 1 1 target)
-stands f.Tail = one value (λ target. s.Call 0 6 target)
-stands f.Space = space
-stands f.Align = one value (λ power. s.Align power)
-stands f.Balign = one value (λ multiple. s.Balign multiple)
-stands f.Constant = two symbol value (λ name v. s.Constant name v)
-stands f.Marker = λ _. Some s.Marker
-stands _ = λ _. None
+-- what an instruction's word and its operands stand for
+unfoldable pub instruction : Instruction → List (List Token) → Option Statement
+instruction f.Lui = two register upper (λ rd imm. s.Lui rd imm)
+instruction f.Auipc = two register value (λ rd imm. s.Auipc rd imm)
+instruction f.Jal = jal
+instruction f.Jalr = jalr
+instruction (f.Branch cond) = three register register value (λ rs1 rs2 target. s.Branch cond rs1 rs2 target)
+instruction (f.Load op) = load op
+instruction (f.Store width) = store width
+instruction (f.OpImm op) = three register register immediate (λ rd rs1 imm. s.OpImm op rd rs1 imm)
+instruction (f.Shift op) = three register register value (λ rd rs1 amount. s.Shift op rd rs1 amount)
+instruction (f.Op op) = three register register register (λ rd rs1 rs2. s.Instruction (k.Op op rd rs1 rs2))
+instruction (f.Csr op) = three register csr register (λ rd csr rs1. s.Instruction (k.Csr op rd rs1 csr))
+instruction (f.CsrImm op) = three register csr value (λ rd csr imm. s.CsrImm op rd imm csr)
+instruction f.Fence = fence
+instruction f.FenceI = none (s.Instruction (k.FenceI 0 0 0))
+instruction f.Ecall = none (s.Instruction k.Ecall)
+instruction f.Ebreak = none (s.Instruction k.Ebreak)
+instruction f.Mret = none (s.Instruction k.Mret)
+instruction f.Wfi = none (s.Instruction k.Wfi)
+
+-- what a word that stands for other instructions and its operands stand for
+unfoldable pub pseudo : Pseudo → List (List Token) → Option Statement
+pseudo p.Nop = none (s.Instruction (k.OpImm Addi 0 0 (pos 0)))
+pseudo p.Mv = two register register (λ rd rs. s.Instruction (k.OpImm Addi rd rs (pos 0)))
+pseudo p.Not = two register register (λ rd rs. s.Instruction (k.OpImm Xori rd rs (negsuc 0)))
+pseudo p.Neg = two register register (λ rd rs. s.Instruction (k.Op Sub rd 0 rs))
+pseudo p.Seqz = two register register (λ rd rs. s.Instruction (k.OpImm Sltiu rd rs (pos 1)))
+pseudo p.Snez = two register register (λ rd rs. s.Instruction (k.Op Sltu rd 0 rs))
+pseudo p.Sltz = two register register (λ rd rs. s.Instruction (k.Op Slt rd rs 0))
+pseudo p.Sgtz = two register register (λ rd rs. s.Instruction (k.Op Slt rd 0 rs))
+pseudo (p.BranchZero cond) = two register value (λ rs target. s.Branch cond rs 0 target)
+pseudo (p.ZeroBranch cond) = two register value (λ rs target. s.Branch cond 0 rs target)
+pseudo (p.BranchSwapped cond) = three register register value (λ rs rt target. s.Branch cond rt rs target)
+pseudo p.Jump = one value (λ target. s.Jal 0 target)
+pseudo p.JumpRegister = one register (λ rs. s.Instruction (k.Jalr 0 rs (pos 0)))
+pseudo p.Return = none (s.Instruction (k.Jalr 0 1 (pos 0)))
+pseudo p.CsrRead = two register csr (λ rd csr. s.Instruction (k.Csr Set rd 0 csr))
+pseudo (p.CsrChange op) = two csr register (λ csr rs. s.Instruction (k.Csr op 0 rs csr))
+pseudo (p.CsrChangeImm op) = two csr value (λ csr imm. s.CsrImm op 0 imm csr)
+pseudo p.Li = two register value (λ rd v. s.Li rd v)
+pseudo p.La = two register value (λ rd target. s.La rd target)
+pseudo p.Call = one value (λ target. s.Call 1 1 target)
+pseudo p.Tail = one value (λ target. s.Call 0 6 target)
+
+-- what a directive and its operands stand for
+unfoldable pub directive : Directive → List (List Token) → Option Statement
+directive (d.Data width) = λ operands. option_map (λ es. s.Data width es) (of_some values operands)
+directive (d.Text terminated) = λ operands. option_map (λ bytes. s.Bytes bytes) (of_some (strings terminated) operands)
+directive d.Space = space
+directive d.Align = one value (λ power. s.Align power)
+directive d.Balign = one value (λ multiple. s.Balign multiple)
+directive d.Constant = two symbol value (λ name v. s.Constant name v)
+directive d.Marker = λ _. Some s.Marker
+
+-- what a form and its operands stand for, or none where it doesn't take them
+abbrev pub meaning : Form → List (List Token) → Option Statement
+meaning (form.Instruction form) operands = instruction form operands
+meaning (form.Pseudo form) operands = pseudo form operands
+meaning (form.Directive form) operands = directive form operands

@@ -1,220 +1,173 @@
-//! The words of statements, and the form of each.
+//! The words of statements, and the form of each; in the order of docs/ASSEMBLER.md.
 ghost use Rattle.std.specs.Prelude.{◌≡◌};
-ghost use Rattle.rv_source.specs.Words.{is_word, form_of, form_in};
+ghost use Rattle.rv_source.specs.Rows.{rows};
+ghost use Rattle.rv_source.specs.Words.{row_of, form_of, instruction_words, pseudo_words, directive_words};
 
+use crate::form::{Directive, Form, Instruction, Pseudo};
 use rv_isa::{AluOp, Cond, CsrOp, ImmOp, LoadOp, ShiftOp, Width};
 
-/// What a word takes, and what it stands for.
-#[derive(Clone, Copy, PartialEq, Eq, Debug)]
-pub enum Form {
-    Lui,
-    Auipc,
-    Jal,
-    Jalr,
-    Branch(Cond),
-    Load(LoadOp),
-    Store(Width),
-    OpImm(ImmOp),
-    Shift(ShiftOp),
-    Op(AluOp),
-    Csr(CsrOp),
-    CsrImm(CsrOp),
-    Fence,
-    FenceI,
-    Ecall,
-    Ebreak,
-    Mret,
-    Wfi,
-    Nop,
-    Mv,
-    Not,
-    Neg,
-    Seqz,
-    Snez,
-    Sltz,
-    Sgtz,
-    /// A branch on a register and x0.
-    BranchZero(Cond),
-    /// A branch on x0 and a register.
-    ZeroBranch(Cond),
-    /// A branch on two registers, the second of them first.
-    BranchSwapped(Cond),
-    Jump,
-    JumpRegister,
-    Return,
-    CsrRead,
-    /// A change of a control register whose old value isn't wanted.
-    CsrChange(CsrOp),
-    CsrChangeImm(CsrOp),
-    Li,
-    La,
-    Call,
-    Tail,
-    Data(Width),
-    /// Strings, each with a byte 0 behind it or not.
-    Text { terminated: bool },
-    Space,
-    Align,
-    Balign,
-    Constant,
-    /// A directive that has no effect, whatever follows it.
-    Marker,
-}
-
-/// Each word, with blanks behind it, and its form; in the order of docs/ASSEMBLER.md.
-pub const STATEMENTS: [([u8; 10], Form); 122] = [
-    (*b"lui       ", Form::Lui),
-    (*b"auipc     ", Form::Auipc),
-    (*b"jal       ", Form::Jal),
-    (*b"jalr      ", Form::Jalr),
-    (*b"beq       ", Form::Branch(Cond::Eq)),
-    (*b"bne       ", Form::Branch(Cond::Ne)),
-    (*b"blt       ", Form::Branch(Cond::Lt)),
-    (*b"bge       ", Form::Branch(Cond::Ge)),
-    (*b"bltu      ", Form::Branch(Cond::Ltu)),
-    (*b"bgeu      ", Form::Branch(Cond::Geu)),
-    (*b"lb        ", Form::Load(LoadOp::Lb)),
-    (*b"lh        ", Form::Load(LoadOp::Lh)),
-    (*b"lw        ", Form::Load(LoadOp::Lw)),
-    (*b"lbu       ", Form::Load(LoadOp::Lbu)),
-    (*b"lhu       ", Form::Load(LoadOp::Lhu)),
-    (*b"sb        ", Form::Store(Width::One)),
-    (*b"sh        ", Form::Store(Width::Two)),
-    (*b"sw        ", Form::Store(Width::Four)),
-    (*b"addi      ", Form::OpImm(ImmOp::Addi)),
-    (*b"slti      ", Form::OpImm(ImmOp::Slti)),
-    (*b"sltiu     ", Form::OpImm(ImmOp::Sltiu)),
-    (*b"xori      ", Form::OpImm(ImmOp::Xori)),
-    (*b"ori       ", Form::OpImm(ImmOp::Ori)),
-    (*b"andi      ", Form::OpImm(ImmOp::Andi)),
-    (*b"slli      ", Form::Shift(ShiftOp::Slli)),
-    (*b"srli      ", Form::Shift(ShiftOp::Srli)),
-    (*b"srai      ", Form::Shift(ShiftOp::Srai)),
-    (*b"add       ", Form::Op(AluOp::Add)),
-    (*b"sub       ", Form::Op(AluOp::Sub)),
-    (*b"sll       ", Form::Op(AluOp::Sll)),
-    (*b"slt       ", Form::Op(AluOp::Slt)),
-    (*b"sltu      ", Form::Op(AluOp::Sltu)),
-    (*b"xor       ", Form::Op(AluOp::Xor)),
-    (*b"srl       ", Form::Op(AluOp::Srl)),
-    (*b"sra       ", Form::Op(AluOp::Sra)),
-    (*b"or        ", Form::Op(AluOp::Or)),
-    (*b"and       ", Form::Op(AluOp::And)),
-    (*b"mul       ", Form::Op(AluOp::Mul)),
-    (*b"mulh      ", Form::Op(AluOp::Mulh)),
-    (*b"mulhsu    ", Form::Op(AluOp::Mulhsu)),
-    (*b"mulhu     ", Form::Op(AluOp::Mulhu)),
-    (*b"div       ", Form::Op(AluOp::Div)),
-    (*b"divu      ", Form::Op(AluOp::Divu)),
-    (*b"rem       ", Form::Op(AluOp::Rem)),
-    (*b"remu      ", Form::Op(AluOp::Remu)),
-    (*b"csrrw     ", Form::Csr(CsrOp::Write)),
-    (*b"csrrs     ", Form::Csr(CsrOp::Set)),
-    (*b"csrrc     ", Form::Csr(CsrOp::Clear)),
-    (*b"csrrwi    ", Form::CsrImm(CsrOp::Write)),
-    (*b"csrrsi    ", Form::CsrImm(CsrOp::Set)),
-    (*b"csrrci    ", Form::CsrImm(CsrOp::Clear)),
-    (*b"fence     ", Form::Fence),
-    (*b"fence.i   ", Form::FenceI),
-    (*b"ecall     ", Form::Ecall),
-    (*b"ebreak    ", Form::Ebreak),
-    (*b"mret      ", Form::Mret),
-    (*b"wfi       ", Form::Wfi),
-    // Words that stand for others.
-    (*b"nop       ", Form::Nop),
-    (*b"mv        ", Form::Mv),
-    (*b"not       ", Form::Not),
-    (*b"neg       ", Form::Neg),
-    (*b"seqz      ", Form::Seqz),
-    (*b"snez      ", Form::Snez),
-    (*b"sltz      ", Form::Sltz),
-    (*b"sgtz      ", Form::Sgtz),
-    (*b"beqz      ", Form::BranchZero(Cond::Eq)),
-    (*b"bnez      ", Form::BranchZero(Cond::Ne)),
-    (*b"blez      ", Form::ZeroBranch(Cond::Ge)),
-    (*b"bgez      ", Form::BranchZero(Cond::Ge)),
-    (*b"bltz      ", Form::BranchZero(Cond::Lt)),
-    (*b"bgtz      ", Form::ZeroBranch(Cond::Lt)),
-    (*b"bgt       ", Form::BranchSwapped(Cond::Lt)),
-    (*b"ble       ", Form::BranchSwapped(Cond::Ge)),
-    (*b"bgtu      ", Form::BranchSwapped(Cond::Ltu)),
-    (*b"bleu      ", Form::BranchSwapped(Cond::Geu)),
-    (*b"j         ", Form::Jump),
-    (*b"jr        ", Form::JumpRegister),
-    (*b"ret       ", Form::Return),
-    (*b"csrr      ", Form::CsrRead),
-    (*b"csrw      ", Form::CsrChange(CsrOp::Write)),
-    (*b"csrs      ", Form::CsrChange(CsrOp::Set)),
-    (*b"csrc      ", Form::CsrChange(CsrOp::Clear)),
-    (*b"csrwi     ", Form::CsrChangeImm(CsrOp::Write)),
-    (*b"csrsi     ", Form::CsrChangeImm(CsrOp::Set)),
-    (*b"csrci     ", Form::CsrChangeImm(CsrOp::Clear)),
-    (*b"li        ", Form::Li),
-    (*b"la        ", Form::La),
-    (*b"lla       ", Form::La),
-    (*b"call      ", Form::Call),
-    (*b"tail      ", Form::Tail),
-    // Directives.
-    (*b".word     ", Form::Data(Width::Four)),
-    (*b".long     ", Form::Data(Width::Four)),
-    (*b".4byte    ", Form::Data(Width::Four)),
-    (*b".half     ", Form::Data(Width::Two)),
-    (*b".short    ", Form::Data(Width::Two)),
-    (*b".2byte    ", Form::Data(Width::Two)),
-    (*b".byte     ", Form::Data(Width::One)),
-    (*b".ascii    ", Form::Text { terminated: false }),
-    (*b".asciz    ", Form::Text { terminated: true }),
-    (*b".string   ", Form::Text { terminated: true }),
-    (*b".space    ", Form::Space),
-    (*b".skip     ", Form::Space),
-    (*b".zero     ", Form::Space),
-    (*b".align    ", Form::Align),
-    (*b".p2align  ", Form::Align),
-    (*b".balign   ", Form::Balign),
-    (*b".equ      ", Form::Constant),
-    (*b".set      ", Form::Constant),
-    (*b".text     ", Form::Marker),
-    (*b".data     ", Form::Marker),
-    (*b".rodata   ", Form::Marker),
-    (*b".bss      ", Form::Marker),
-    (*b".section  ", Form::Marker),
-    (*b".globl    ", Form::Marker),
-    (*b".global   ", Form::Marker),
-    (*b".local    ", Form::Marker),
-    (*b".option   ", Form::Marker),
-    (*b".type     ", Form::Marker),
-    (*b".size     ", Form::Marker),
-    (*b".file     ", Form::Marker),
-    (*b".ident    ", Form::Marker),
-    (*b".attribute", Form::Marker),
+/// Instructions.
+static INSTRUCTIONS: [(&str, Instruction); 57] = [
+    ("lui", Instruction::Lui),
+    ("auipc", Instruction::Auipc),
+    ("jal", Instruction::Jal),
+    ("jalr", Instruction::Jalr),
+    ("beq", Instruction::Branch(Cond::Eq)),
+    ("bne", Instruction::Branch(Cond::Ne)),
+    ("blt", Instruction::Branch(Cond::Lt)),
+    ("bge", Instruction::Branch(Cond::Ge)),
+    ("bltu", Instruction::Branch(Cond::Ltu)),
+    ("bgeu", Instruction::Branch(Cond::Geu)),
+    ("lb", Instruction::Load(LoadOp::Lb)),
+    ("lh", Instruction::Load(LoadOp::Lh)),
+    ("lw", Instruction::Load(LoadOp::Lw)),
+    ("lbu", Instruction::Load(LoadOp::Lbu)),
+    ("lhu", Instruction::Load(LoadOp::Lhu)),
+    ("sb", Instruction::Store(Width::One)),
+    ("sh", Instruction::Store(Width::Two)),
+    ("sw", Instruction::Store(Width::Four)),
+    ("addi", Instruction::OpImm(ImmOp::Addi)),
+    ("slti", Instruction::OpImm(ImmOp::Slti)),
+    ("sltiu", Instruction::OpImm(ImmOp::Sltiu)),
+    ("xori", Instruction::OpImm(ImmOp::Xori)),
+    ("ori", Instruction::OpImm(ImmOp::Ori)),
+    ("andi", Instruction::OpImm(ImmOp::Andi)),
+    ("slli", Instruction::Shift(ShiftOp::Slli)),
+    ("srli", Instruction::Shift(ShiftOp::Srli)),
+    ("srai", Instruction::Shift(ShiftOp::Srai)),
+    ("add", Instruction::Op(AluOp::Add)),
+    ("sub", Instruction::Op(AluOp::Sub)),
+    ("sll", Instruction::Op(AluOp::Sll)),
+    ("slt", Instruction::Op(AluOp::Slt)),
+    ("sltu", Instruction::Op(AluOp::Sltu)),
+    ("xor", Instruction::Op(AluOp::Xor)),
+    ("srl", Instruction::Op(AluOp::Srl)),
+    ("sra", Instruction::Op(AluOp::Sra)),
+    ("or", Instruction::Op(AluOp::Or)),
+    ("and", Instruction::Op(AluOp::And)),
+    ("mul", Instruction::Op(AluOp::Mul)),
+    ("mulh", Instruction::Op(AluOp::Mulh)),
+    ("mulhsu", Instruction::Op(AluOp::Mulhsu)),
+    ("mulhu", Instruction::Op(AluOp::Mulhu)),
+    ("div", Instruction::Op(AluOp::Div)),
+    ("divu", Instruction::Op(AluOp::Divu)),
+    ("rem", Instruction::Op(AluOp::Rem)),
+    ("remu", Instruction::Op(AluOp::Remu)),
+    ("csrrw", Instruction::Csr(CsrOp::Write)),
+    ("csrrs", Instruction::Csr(CsrOp::Set)),
+    ("csrrc", Instruction::Csr(CsrOp::Clear)),
+    ("csrrwi", Instruction::CsrImm(CsrOp::Write)),
+    ("csrrsi", Instruction::CsrImm(CsrOp::Set)),
+    ("csrrci", Instruction::CsrImm(CsrOp::Clear)),
+    ("fence", Instruction::Fence),
+    ("fence.i", Instruction::FenceI),
+    ("ecall", Instruction::Ecall),
+    ("ebreak", Instruction::Ebreak),
+    ("mret", Instruction::Mret),
+    ("wfi", Instruction::Wfi),
 ];
 
-/// Whether a text is the word of a row.
-fn is_word(word: &[u8; 10], text: &[u8]) -> bool
-    ensures { result ≡ is_word word.now text.now }
-{
-    for i in 0..10 {
-        if text.len() == i {
-            return word[i] == b' ';
-        }
-        if word[i] != text[i] {
-            return false;
-        }
-    }
-    text.len() == 10
-}
+/// Words that stand for other instructions.
+static PSEUDOS: [(&str, Pseudo); 33] = [
+    ("nop", Pseudo::Nop),
+    ("mv", Pseudo::Mv),
+    ("not", Pseudo::Not),
+    ("neg", Pseudo::Neg),
+    ("seqz", Pseudo::Seqz),
+    ("snez", Pseudo::Snez),
+    ("sltz", Pseudo::Sltz),
+    ("sgtz", Pseudo::Sgtz),
+    ("beqz", Pseudo::BranchZero(Cond::Eq)),
+    ("bnez", Pseudo::BranchZero(Cond::Ne)),
+    ("blez", Pseudo::ZeroBranch(Cond::Ge)),
+    ("bgez", Pseudo::BranchZero(Cond::Ge)),
+    ("bltz", Pseudo::BranchZero(Cond::Lt)),
+    ("bgtz", Pseudo::ZeroBranch(Cond::Lt)),
+    ("bgt", Pseudo::BranchSwapped(Cond::Lt)),
+    ("ble", Pseudo::BranchSwapped(Cond::Ge)),
+    ("bgtu", Pseudo::BranchSwapped(Cond::Ltu)),
+    ("bleu", Pseudo::BranchSwapped(Cond::Geu)),
+    ("j", Pseudo::Jump),
+    ("jr", Pseudo::JumpRegister),
+    ("ret", Pseudo::Return),
+    ("csrr", Pseudo::CsrRead),
+    ("csrw", Pseudo::CsrChange(CsrOp::Write)),
+    ("csrs", Pseudo::CsrChange(CsrOp::Set)),
+    ("csrc", Pseudo::CsrChange(CsrOp::Clear)),
+    ("csrwi", Pseudo::CsrChangeImm(CsrOp::Write)),
+    ("csrsi", Pseudo::CsrChangeImm(CsrOp::Set)),
+    ("csrci", Pseudo::CsrChangeImm(CsrOp::Clear)),
+    ("li", Pseudo::Li),
+    ("la", Pseudo::La),
+    ("lla", Pseudo::La),
+    ("call", Pseudo::Call),
+    ("tail", Pseudo::Tail),
+];
 
-/// The form of a word in some rows.
-#[tactic(auto, unfolding(crate::specs::Words::form_in))]
-fn form_in(rows: &[([u8; 10], Form)], word: &[u8]) -> Option<Form>
-    ensures { result ≡ form_in rows.now word.now }
+/// Directives.
+static DIRECTIVES: [(&str, Directive); 32] = [
+    (".word", Directive::Data(Width::Four)),
+    (".long", Directive::Data(Width::Four)),
+    (".4byte", Directive::Data(Width::Four)),
+    (".half", Directive::Data(Width::Two)),
+    (".short", Directive::Data(Width::Two)),
+    (".2byte", Directive::Data(Width::Two)),
+    (".byte", Directive::Data(Width::One)),
+    (".ascii", Directive::Text { terminated: false }),
+    (".asciz", Directive::Text { terminated: true }),
+    (".string", Directive::Text { terminated: true }),
+    (".space", Directive::Space),
+    (".skip", Directive::Space),
+    (".zero", Directive::Space),
+    (".align", Directive::Align),
+    (".p2align", Directive::Align),
+    (".balign", Directive::Balign),
+    (".equ", Directive::Constant),
+    (".set", Directive::Constant),
+    (".text", Directive::Marker),
+    (".data", Directive::Marker),
+    (".rodata", Directive::Marker),
+    (".bss", Directive::Marker),
+    (".section", Directive::Marker),
+    (".globl", Directive::Marker),
+    (".global", Directive::Marker),
+    (".local", Directive::Marker),
+    (".option", Directive::Marker),
+    (".type", Directive::Marker),
+    (".size", Directive::Marker),
+    (".file", Directive::Marker),
+    (".ident", Directive::Marker),
+    (".attribute", Directive::Marker),
+];
+
+/// What stands in the row of a word. No word stands twice.
+fn row_of<F: Copy>(table: &[(&str, F)], word: &[u8]) -> Option<F>
+    ensures { result ≡ row_of word.now (rows table.now) }
 {
-    for row in rows {
-        if is_word(&row.0, word) {
+    for row in table {
+        if row.0.as_bytes() == word {
             return Some(row.1);
         }
     }
     None
+}
+
+fn instruction_of(word: &[u8]) -> Option<Instruction>
+    ensures { result ≡ row_of word.now instruction_words }
+{
+    row_of(&INSTRUCTIONS, word)
+}
+
+fn pseudo_of(word: &[u8]) -> Option<Pseudo>
+    ensures { result ≡ row_of word.now pseudo_words }
+{
+    row_of(&PSEUDOS, word)
+}
+
+fn directive_of(word: &[u8]) -> Option<Directive>
+    ensures { result ≡ row_of word.now directive_words }
+{
+    row_of(&DIRECTIVES, word)
 }
 
 /// The form of a word, or `None` where no statement begins with it.
@@ -222,5 +175,14 @@ fn form_in(rows: &[([u8; 10], Form)], word: &[u8]) -> Option<Form>
 pub fn form_of(word: &[u8]) -> Option<Form>
     ensures { result ≡ form_of word.now }
 {
-    form_in(&STATEMENTS, word)
+    if let Some(form) = instruction_of(word) {
+        return Some(Form::Instruction(form));
+    }
+    if let Some(form) = pseudo_of(word) {
+        return Some(Form::Pseudo(form));
+    }
+    match directive_of(word) {
+        Some(form) => Some(Form::Directive(form)),
+        None => None,
+    }
 }

@@ -1,0 +1,114 @@
+//! What a word takes, and what it stands for.
+use rv_isa::{AluOp, Cond, CsrOp, ImmOp, LoadOp, ShiftOp, Width};
+
+/// What a word of a statement takes, and what it stands for: see docs/ASSEMBLER.md for each.
+#[derive(Clone, Copy, PartialEq, Eq, Debug)]
+pub enum Form {
+    /// An instruction.
+    Instruction(Instruction),
+    /// A word that stands for other instructions.
+    Pseudo(Pseudo),
+    /// A directive.
+    Directive(Directive),
+}
+
+/// The forms of instructions: RISC-V Unprivileged ISA 20191213, chapters 2, 3, 7 and 9, and Privileged Architecture
+/// 20211203, section 3.3.
+#[derive(Clone, Copy, PartialEq, Eq, Debug)]
+pub enum Instruction {
+    /// `rd,imm`
+    Lui,
+    /// `rd,imm`
+    Auipc,
+    /// `rd,target`, or `target` with x1 as the link
+    Jal,
+    /// `rd,rs1`, `rd,offset(rs1)`, `rd,rs1,offset`, or `rs1` with x1 as the link
+    Jalr,
+    /// `rs1,rs2,target`
+    Branch(Cond),
+    /// `rd,offset(rs1)`, or `rd,target`
+    Load(LoadOp),
+    /// `rs2,offset(rs1)`, or `rs2,target,scratch`
+    Store(Width),
+    /// `rd,rs1,imm`
+    OpImm(ImmOp),
+    /// `rd,rs1,amount`
+    Shift(ShiftOp),
+    /// `rd,rs1,rs2`
+    Op(AluOp),
+    /// `rd,csr,rs1`
+    Csr(CsrOp),
+    /// `rd,csr,imm`
+    CsrImm(CsrOp),
+    /// two sets of `i`, `o`, `r`, `w`, or nothing
+    Fence,
+    FenceI,
+    Ecall,
+    Ebreak,
+    Mret,
+    Wfi,
+}
+
+/// The forms of words that stand for other instructions.
+#[derive(Clone, Copy, PartialEq, Eq, Debug)]
+pub enum Pseudo {
+    Nop,
+    /// `rd,rs`
+    Mv,
+    /// `rd,rs`
+    Not,
+    /// `rd,rs`
+    Neg,
+    /// `rd,rs`
+    Seqz,
+    /// `rd,rs`
+    Snez,
+    /// `rd,rs`
+    Sltz,
+    /// `rd,rs`
+    Sgtz,
+    /// `rs,target`: a branch on a register and x0
+    BranchZero(Cond),
+    /// `rs,target`: a branch on x0 and a register
+    ZeroBranch(Cond),
+    /// `rs,rt,target`: a branch on two registers, the second of them first
+    BranchSwapped(Cond),
+    /// `target`
+    Jump,
+    /// `rs`
+    JumpRegister,
+    Return,
+    /// `rd,csr`
+    CsrRead,
+    /// `csr,rs`: a change of a control register whose old value isn't wanted
+    CsrChange(CsrOp),
+    /// `csr,imm`
+    CsrChangeImm(CsrOp),
+    /// `rd,value`
+    Li,
+    /// `rd,target`
+    La,
+    /// `target`
+    Call,
+    /// `target`
+    Tail,
+}
+
+/// The forms of directives.
+#[derive(Clone, Copy, PartialEq, Eq, Debug)]
+pub enum Directive {
+    /// Values, each in as many bytes as the width has.
+    Data(Width),
+    /// Strings, each with a byte 0 behind it or not.
+    Text { terminated: bool },
+    /// `size`, or `size,fill`
+    Space,
+    /// `power`
+    Align,
+    /// `multiple`
+    Balign,
+    /// `name,value`
+    Constant,
+    /// A directive that has no effect, whatever follows it.
+    Marker,
+}

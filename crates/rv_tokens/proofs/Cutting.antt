@@ -1,0 +1,53 @@
+-- How far a line has been cut.
+use Rattle.std.proofs.Common.{◌≡◌, ℕ, zero, suc, ◌<◌, true, false, List, [], ◌∷◌, ◌++◌, length, drop, get_or, refl, sym, ap, arith, append_assoc}
+use Rattle.std.specs.Prelude.{None, Some, Result, Ok, Err}
+use Rattle.rv_tokens.specs.declared.token.Token.{Token}
+use Rattle.rv_tokens.specs.declared.fault.LineFault.{LineFault}
+use Rattle.rv_tokens.specs.declared.fault.LineFault.TheVariants.{BadByte, LineTooLong, Syntax, UnknownWord, BadOperands, OutOfMemory}
+use Rattle.rv_tokens.specs.Faults.{Fails}
+use Rattle.rv_tokens.specs.Tokens.{cut, with_tokens, is_blank, begins_comment, front, fault_at}
+
+pub cut_drop : (line : List ℕ) (n : ℕ) → cut line n ≡ cut (drop n line) 0
+unfolding cut
+cut_drop [] zero = refl
+cut_drop [] (suc n) = refl
+cut_drop (b ∷ bs) zero = refl
+cut_drop (b ∷ bs) (suc n) = cut_drop bs n
+
+pub cut_blank : (line : List ℕ) → 0 < length line → is_blank (get_or line 0 0) ≡ true → cut line 0 ≡ cut (drop 1 line) 0
+unfolding cut
+cut_blank [] h e = absurd (omega arith)
+cut_blank (b ∷ bs) h e = rw e refl
+
+pub cut_comment : (line : List ℕ) → 0 < length line → is_blank (get_or line 0 0) ≡ false → begins_comment line ≡ true → cut line 0 ≡ Ok []
+unfolding cut
+cut_comment [] h e f = absurd (omega arith)
+cut_comment (b ∷ bs) h e f = rw (e, f) refl
+
+pub cut_token : (line : List ℕ) (t : Token) (n : ℕ) → 0 < length line → is_blank (get_or line 0 0) ≡ false → begins_comment line ≡ false → front line ≡ Some (t, n) → 0 < n → cut line 0 ≡ with_tokens (t ∷ []) (cut (drop n line) 0)
+unfolding cut
+cut_token [] t n h e f g i = absurd (omega arith)
+cut_token (b ∷ bs) t zero h e f g i = absurd (omega arith)
+cut_token (b ∷ bs) t (suc n) h e f g i = rw (e, f, g) (ap (with_tokens (t ∷ [])) (cut_drop bs n))
+
+pub cut_none : (line : List ℕ) → 0 < length line → is_blank (get_or line 0 0) ≡ false → begins_comment line ≡ false → front line ≡ None → cut line 0 ≡ Err (fault_at (get_or line 0 0))
+unfolding cut
+cut_none [] h e f g = absurd (omega arith)
+cut_none (b ∷ bs) h e f g = rw (e, f, g) refl
+
+pub with_tokens-append : (ts us : List Token) (r : Result (List Token) LineFault) → with_tokens ts (with_tokens us r) ≡ with_tokens (ts ++ us) r
+with_tokens-append ts us (Ok vs) = ap (λ x. Ok x) (sym (append_assoc ts us vs))
+with_tokens-append ts us (Err fault) = refl
+
+pub cut_end : (line : List ℕ) → length line ≡ 0 → cut line 0 ≡ Ok []
+unfolding cut
+cut_end [] h = refl
+cut_end (b ∷ bs) h = absurd (omega arith)
+
+pub fails : (fault : LineFault) (meaning : Result (List Token) LineFault) → meaning ≡ Err fault → Fails fault meaning
+fails BadByte meaning h = h
+fails LineTooLong meaning h = h
+fails Syntax meaning h = h
+fails UnknownWord meaning h = h
+fails BadOperands meaning h = h
+fails OutOfMemory meaning h = record {}

@@ -1,0 +1,5 @@
+use Rattle.rv_tokens.proofs.Parted.{cut_means}
+use Rattle.rv_tokens.proofs.scan.one_cut.Goals as goal
+
+pub returns : goal.returns
+returns c = cut_means

@@ -1,0 +1,17 @@
+//! Lines of a source, and their tokens.
+//!
+//! The language is this project's own: see docs/ASSEMBLER.md.
+#![tactic(auto)]
+
+mod fault;
+mod lines;
+mod literal;
+mod name;
+mod scan;
+mod token;
+
+pub use fault::LineFault;
+pub use lines::{Cut, cut_lines};
+pub use name::Name;
+pub use scan::{cut_line, one_cut};
+pub use token::{Direction, Text, Token};
