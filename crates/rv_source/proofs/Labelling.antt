@@ -1,12 +1,12 @@
 -- Lines, label by label.
 use Rattle.std.proofs.Common.{◌≡◌, List, [], ◌∷◌, ◌++◌, drop, ap, sym, ◌∙◌, refl, append_assoc}
 use Rattle.std.specs.Prelude.{Some, None, Result, Ok, Err}
-use Rattle.rv_source.specs.declared.fault.LineFault.{LineFault}
-use Rattle.rv_source.specs.declared.fault.LineFault.TheVariants.{BadByte, LineTooLong, Syntax, UnknownWord, BadOperands, OutOfMemory}
+use Rattle.rv_tokens.specs.declared.fault.LineFault.{LineFault}
+use Rattle.rv_tokens.specs.declared.fault.LineFault.TheVariants.{BadByte, LineTooLong, Syntax, UnknownWord, BadOperands, OutOfMemory}
 use Rattle.rv_source.specs.declared.line.Label.{Label}
-use Rattle.rv_source.specs.declared.token.Token.{Token}
-use Rattle.rv_source.specs.declared.token.Token.TheVariants.{Colon}
-use Rattle.rv_source.specs.Faults.{Fails, ◌>>=◌}
+use Rattle.rv_tokens.specs.declared.token.Token.{Token}
+use Rattle.rv_tokens.specs.declared.token.Token.TheVariants.{Colon}
+use Rattle.rv_tokens.specs.Faults.{Fails, ◌>>=◌}
 use Rattle.rv_source.specs.Reading.{label_of, before_colon, rest_of, line_of, labelled, with_labels}
 use Rattle.rv_source.specs.Said.{Said}
 
@@ -42,3 +42,11 @@ with_labels_fails Syntax ls r h = rw h refl
 with_labels_fails UnknownWord ls r h = rw h refl
 with_labels_fails BadOperands ls r h = rw h refl
 with_labels_fails OutOfMemory ls r h = tt
+
+pub bind_fails : {A B : Type 0} (fault : LineFault) (r : Result A LineFault) (f : A → Result B LineFault) → Fails fault r → Fails fault (r >>= f)
+bind_fails BadByte r f h = rw h refl
+bind_fails LineTooLong r f h = rw h refl
+bind_fails Syntax r f h = rw h refl
+bind_fails UnknownWord r f h = rw h refl
+bind_fails BadOperands r f h = rw h refl
+bind_fails OutOfMemory r f h = tt

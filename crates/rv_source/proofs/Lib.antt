@@ -1,12 +1,3 @@
-pub mod Bools
-pub mod Digits
-pub mod Longest
-pub mod Quoted
-pub mod Front
-pub mod Cutting
-pub mod Parted
-pub mod Spellings
-pub mod Splitting
 pub mod Sums
 pub mod Pieces
 pub mod Listed

@@ -1,20 +1,34 @@
 -- Expressions, token by token.
-use Rattle.std.proofs.Common.{◌≡◌, ℕ, suc, ◌+◌, ◌<◌, List, ◌∷◌, ◌++◌, drop, get_or, length, ap, sym, refl, append_assoc, add-one}
-use Rattle.std.specs.Prelude.{Result, Ok, Err}
+use Rattle.std.proofs.Common.{◌≡◌, ℕ, suc, ◌+◌, ◌<◌, Bool, true, false, List, [], ◌∷◌, ◌++◌, ◌≤◌, drop, get_or, length, ap, sym, ◌∙◌, refl, append_assoc, append-nil, add-one}
+use Rattle.std.specs.Prelude.{Option, Some, None, is_some}
+use Rattle.std.specs.Option.{option_map}
 use Rattle.std.proofs.Math.Seq.{drop-cons}
 use Rattle.rv_source.specs.declared.expression.Term.{Term}
-use Rattle.rv_source.specs.declared.token.Token.{Token}
-use Rattle.rv_source.specs.declared.fault.LineFault.{LineFault}
-use Rattle.rv_source.specs.Faults.{Fails}
-use Rattle.rv_source.specs.Expressions.{with_terms}
-use Rattle.rv_source.specs.Partial.{Partial, completed}
+use Rattle.rv_source.specs.declared.expression.Wanted.{Wanted}
+use Rattle.rv_source.specs.declared.expression.Wanted.TheVariants.{Sign, Value}
+use Rattle.std.proofs.lemmas.List.{drop_all}
+use Rattle.rv_tokens.specs.declared.token.Token.{Token}
+use Rattle.rv_source.specs.Expressions.{terms, with_terms}
+use Rattle.rv_source.specs.Partial.{terms_behind}
 
-pub with_terms_append : (ts us : List Term) (r : Result (List Term) LineFault) → with_terms ts (with_terms us r) ≡ with_terms (ts ++ us) r
-with_terms_append ts us (Ok vs) = ap (λ x. Ok x) (sym (append_assoc ts us vs))
-with_terms_append ts us (Err e) = refl
+pub with_terms_append : (ts us : List Term) (r : Option (List Term)) → with_terms ts (with_terms us r) ≡ with_terms (ts ++ us) r
+with_terms_append ts us (Some vs) = ap (λ x. Some x) (sym (append_assoc ts us vs))
+with_terms_append ts us None = refl
 
--- a token that fails, fails where it stands
-pub fails_here : (fault : LineFault) (p : Partial) (ts : List Token) (i : ℕ) (t : Token) → t ≡ get_or ts i t → i < length ts → Fails fault (completed p (t ∷ drop (i + 1) ts)) → Fails fault (completed p (drop i ts))
-fails_here fault p ts i t item within h =
-    let e : drop i ts ≡ get_or ts i t ∷ drop (suc i) ts = drop-cons ts i t within in
-    rw (e, ← item, ← add-one) h
+pub with_terms_nothing : (r : Option (List Term)) → with_terms [] r ≡ r
+with_terms_nothing (Some vs) = refl
+with_terms_nothing None = refl
+
+-- what is spelled where no token is left
+abbrev pub ended : Wanted → Option (List Term)
+ended Sign = Some []
+ended (Value negative more) = None
+
+pub terms_end : (w : Wanted) (ts : List Token) (i : ℕ) → length ts ≤ i → terms w (drop i ts) ≡ ended w
+unfolding terms
+terms_end Sign ts i h = let e : drop i ts ≡ [] = drop_all i ts h in rw e refl
+terms_end (Value negative more) ts i h = let e : drop i ts ≡ [] = drop_all i ts h in rw e refl
+
+-- the terms so far, where the expression ends
+pub finished : (us : List Term) (w : Wanted) (ts : List Token) (i : ℕ) → length ts ≤ i → w ≡ Sign → with_terms us (terms w (drop i ts)) ≡ Some us
+finished us w ts i h e = rw (terms_end w ts i h, e, append-nil) refl

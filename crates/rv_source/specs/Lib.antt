@@ -1,13 +1,8 @@
-pub mod Faults
-pub mod Literals
-pub mod Tokens
 pub mod Expressions
-pub mod Partial
 pub mod Operands
 pub mod Words
 pub mod Statements
-pub mod Parts
-pub mod Lists
 pub mod Said
 pub mod Reading
-pub mod Lines
+pub mod Partial
+pub mod Rows

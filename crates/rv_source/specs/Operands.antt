@@ -6,8 +6,6 @@ use Rattle.std.specs.Option.{option_map}
 use Rattle.rv_tokens.specs.declared.token.Token.{Token}
 use Rattle.rv_tokens.specs.declared.token.Token.TheVariants as t
 use Rattle.rv_source.specs.declared.expression.Term.{Term}
-use Rattle.rv_source.specs.declared.statement.Immediate.{Immediate}
-use Rattle.rv_source.specs.declared.statement.Immediate.TheVariants as i
 use Rattle.rv_source.specs.Expressions.{value}
 
 abbrev pub is_comma : Token → Bool
@@ -25,6 +23,11 @@ is_close _ = false
 abbrev pub is_nothing : {A : Type 0} → List A → Bool
 is_nothing [] = true
 is_nothing (_ ∷ _) = false
+
+-- whether there is one that is so
+abbrev pub holds : {A : Type 0} → (A → Bool) → Option A → Bool
+holds is None = false
+holds is (Some x) = is x
 
 -- ---- the shapes of operands, with what they have in them
 
@@ -49,34 +52,37 @@ abbrev pub base_of : List Token → Option (List ℕ)
 base_of (t.Open ∷ t.Name name ∷ t.Close ∷ []) = Some name
 base_of _ = None
 
--- E or nothing
-abbrev pub offset_of : List Token → Option Immediate
-offset_of [] = Some i.Zero
-offset_of (t ∷ ts) = option_map (λ e. i.Sum e) (value (t ∷ ts))
-
--- E(name) or (name): what stands before the first bracket is E
-unfoldable pub indexed_of : List Token → Option (Immediate × List ℕ)
-indexed_of ts = option_and_then (λ n. option_and_then (λ name. option_map (λ offset. (offset, name)) (offset_of (take n ts))) (base_of (drop n ts))) (position is_open ts)
+-- E(name) or (name): what stands before the first bracket, and the name
+unfoldable pub indexed_of : List Token → Option (List Token × List ℕ)
+indexed_of ts = option_and_then (λ n. option_map (λ name. (take n ts, name)) (base_of (drop n ts))) (position is_open ts)
 
 -- what stands in the brackets that come first, and what stands behind them
 abbrev pub bracketed : List Token → Option (List Token × List Token)
 bracketed (t.Open ∷ ts) = option_map (λ n. (take n ts, drop (n + 1) ts)) (position is_close ts)
 bracketed _ = None
 
--- behind `%hi` or `%lo`: (E)
-unfoldable pub part_of : List Token → Option (List Term)
-part_of ts = option_and_then (λ p. if is_nothing p.1 then value p.0 else None) (bracketed ts)
+-- behind `%hi` or `%lo`, (E): what stands in the brackets
+unfoldable pub part_of : List Token → Option (List Token)
+part_of ts = option_and_then (λ p. if is_nothing p.1 then Some p.0 else None) (bracketed ts)
 
--- behind `%lo`: (E)(name)
-unfoldable pub part_indexed_of : List Token → Option (Immediate × List ℕ)
-part_indexed_of ts = option_and_then (λ p. option_and_then (λ name. option_map (λ e. (i.Low e, name)) (value p.0)) (base_of p.1)) (bracketed ts)
+-- behind `%lo`, (E)(name): what stands in the first brackets, and the name
+unfoldable pub part_indexed_of : List Token → Option (List Token × List ℕ)
+part_indexed_of ts = option_and_then (λ p. option_map (λ name. (p.0, name)) (base_of p.1)) (bracketed ts)
+
+-- whether tokens are E
+abbrev pub is_value : List Token → Bool
+is_value ts = is_some (value ts)
+
+-- whether what stands before (name) is E or nothing
+abbrev pub is_offset : List Token → Bool
+is_offset ts = is_nothing ts || is_value ts
 
 -- whether tokens are an operand: a string, %hi(E), %lo(E), %lo(E)(name), E, E(name) or (name)
 unfoldable pub is_operand : List Token → Bool
-is_operand (t.Text bytes ∷ []) = true
-is_operand (t.High ∷ ts) = is_some (part_of ts)
-is_operand (t.Low ∷ ts) = is_some (part_of ts) || is_some (part_indexed_of ts)
-is_operand ts = is_some (value ts) || is_some (indexed_of ts)
+is_operand (t.Text bytes ∷ ts) = is_nothing ts
+is_operand (t.High ∷ ts) = holds is_value (part_of ts)
+is_operand (t.Low ∷ ts) = holds is_value (part_of ts) || holds (λ p. is_value p.0) (part_indexed_of ts)
+is_operand ts = is_value ts || holds (λ p. is_offset p.0) (indexed_of ts)
 
 -- ---- the operands behind a word
 
@@ -94,3 +100,18 @@ pieces (t ∷ ts) = if is_comma t then [] ∷ pieces ts else before t (pieces ts
 unfoldable pub operands_of : List Token → List (List Token)
 operands_of [] = []
 operands_of (t ∷ ts) = pieces (t ∷ ts)
+
+-- the only one of operands
+abbrev pub only : List (List Token) → Option (List Token)
+only (x ∷ []) = Some x
+only _ = None
+
+-- both of two operands
+abbrev pub pair : List (List Token) → Option (List Token × List Token)
+pair (x ∷ y ∷ []) = Some (x, y)
+pair _ = None
+
+-- all of three operands
+abbrev pub triple : List (List Token) → Option (List Token × List Token × List Token)
+triple (x ∷ y ∷ z ∷ []) = Some (x, y, z)
+triple _ = None

@@ -1,28 +1,45 @@
--- What has been read so far, for the contracts of the code that reads it.
+-- Words of private contracts: answers for operands that a word may not take, and what has been read so far.
 -- Own language; see docs/ASSEMBLER.md.
-use Rattle.std.specs.Prelude.{◌≡◌, List, ◌∷◌, Result, Ok, Err}
-use Rattle.rv_source.specs.declared.token.Token.{Token}
-use Rattle.rv_source.specs.declared.fault.LineFault.{LineFault}
+use Rattle.std.specs.Prelude.{◌≡◌, ℕ, List, [], ◌∷◌, ◌++◌, Option, Some, None, Result, Ok, Err}
+use Rattle.std.specs.Borrow.{Bor}
+use Rattle.std.specs.Option.{option_map}
+use Rattle.rv_tokens.specs.declared.token.Token.{Token}
 use Rattle.rv_source.specs.declared.expression.Term.{Term}
-use Rattle.rv_source.specs.declared.terms.Wanted.{Wanted}
-use Rattle.rv_source.specs.Faults.{Fails}
+use Rattle.rv_source.specs.declared.expression.Wanted.{Wanted}
+use Rattle.rv_source.specs.declared.refusal.Refusal.{Refusal}
+use Rattle.rv_source.specs.declared.refusal.Refusal.TheVariants.{BadOperands, OutOfMemory}
 use Rattle.rv_source.specs.Expressions.{terms, with_terms}
+use Rattle.rv_source.specs.Operands.{pieces}
 
--- what may stand next, and the terms so far
-pub record Partial : Type 0 where
-  pub wanted : Wanted
-  pub terms : List Term
+-- a refusal is that of operands that aren't taken, unless memory ran out
+abbrev pub Refuses : {B : Type 0} → Refusal → Option B → Type 0
+Refuses BadOperands meaning = meaning ≡ None
+Refuses OutOfMemory meaning = Unit {0}
 
--- all terms, where these tokens follow
-abbrev pub completed : Partial → List Token → Result (List Term) LineFault
-completed p ts = with_terms p.terms (terms p.wanted ts)
+-- an answer, seen by view, is what is meant; BadOperands where nothing is, unless memory ran out
+abbrev pub Finds : {A B : Type 0} → (A → B) → Result A Refusal → Option B → Type 0
+Finds view (Ok x) meaning = meaning ≡ Some (view x)
+Finds view (Err refusal) meaning = Refuses refusal meaning
 
--- a token more changes nothing of what all tokens spell
-abbrev pub Takes : {A : Type 0} → Result A LineFault → Partial → Token → Partial → Type 0
-Takes (Ok _) old t new = (ts : List Token) → completed old (t ∷ ts) ≡ completed new ts
-Takes (Err fault) old t new = (ts : List Token) → Fails fault (completed old (t ∷ ts))
+-- what a call left behind it is what is meant, in the same way
+abbrev pub Becomes : {A B : Type 0} → B → Result A Refusal → Option B → Type 0
+Becomes new (Ok _) meaning = meaning ≡ Some new
+Becomes new (Err refusal) meaning = Refuses refusal meaning
 
--- what a call left behind it is what is meant, unless memory ran out
-abbrev pub Becomes : {A B : Type 0} → B → Result A LineFault → Result B LineFault → Type 0
-Becomes new (Ok _) meaning = meaning ≡ Ok new
-Becomes new (Err fault) meaning = Fails fault meaning
+-- the terms from a token on, where it completes a term or none, and where these tokens stand behind it
+abbrev pub terms_behind : Option (Option Term × Wanted) → List Token → Option (List Term)
+terms_behind None ts = None
+terms_behind (Some p) ts = elim p.0 as (λ _. Option (List Term)) [
+  | None ↦ terms p.1 ts
+  | Some term ↦ with_terms (term ∷ []) (terms p.1 ts)
+]
+
+-- the operands that are left
+abbrev pub left : Option (Bor (List Token)) → List (List Token)
+left None = []
+left (Some ts) = pieces ts.now
+
+-- the next of operands, and those behind it
+abbrev pub Follows : List (List Token) → Option (Bor (List Token)) → List (List Token) → Type 0
+Follows old None new = old ≡ []
+Follows old (Some piece) new = old ≡ piece.now ∷ new

@@ -1,38 +1,41 @@
--- What a line of a source says, or what is wrong with it.
+-- What a line of a source says, or what is wrong with it. For readers to audit.
 -- Own language; see docs/ASSEMBLER.md.
 use Rattle.std.specs.Prelude.{ℕ, Bool, true, false, List, [], ◌∷◌, ◌++◌, Option, Some, None, Result, Ok, Err, if◌then◌else◌}
 use Rattle.std.specs.Option.{ok_or}
-use Rattle.rv_source.specs.declared.fault.LineFault.{LineFault}
-use Rattle.rv_source.specs.declared.fault.LineFault.TheVariants.{Syntax, UnknownWord, BadOperands}
+use Rattle.std.specs.List.{list_all}
+use Rattle.rv_tokens.specs.declared.fault.LineFault.{LineFault}
+use Rattle.rv_tokens.specs.declared.fault.LineFault.TheVariants.{Syntax, UnknownWord, BadOperands}
+use Rattle.rv_tokens.specs.declared.token.Token.{Token}
+use Rattle.rv_tokens.specs.declared.token.Token.TheVariants.{Name, Digits, Colon}
+use Rattle.rv_tokens.specs.Faults.{◌>>=◌}
+use Rattle.rv_tokens.specs.Tokens.{tokens}
 use Rattle.rv_source.specs.declared.line.Label.{Label}
 use Rattle.rv_source.specs.declared.line.Label.TheVariants as label
-use Rattle.rv_source.specs.declared.operand.Operand.{Operand}
 use Rattle.rv_source.specs.declared.statement.Statement.{Statement}
 use Rattle.rv_source.specs.declared.statement.Statement.TheVariants as s
-use Rattle.rv_source.specs.declared.table.Form.{Form}
-use Rattle.rv_source.specs.declared.table.Form.TheVariants as f
-use Rattle.rv_source.specs.declared.token.Token.{Token}
-use Rattle.rv_source.specs.declared.token.Token.TheVariants.{Name, Digits, Colon}
-use Rattle.rv_source.specs.Faults.{◌>>=◌}
+use Rattle.rv_source.specs.declared.form.Form.{Form}
+use Rattle.rv_source.specs.declared.form.Form.TheVariants as form
+use Rattle.rv_source.specs.declared.form.Directive.TheVariants.{Marker}
 use Rattle.rv_source.specs.Expressions.{is_symbol}
-use Rattle.rv_source.specs.Operands.{operands_of}
+use Rattle.rv_source.specs.Operands.{operands_of, is_operand}
 use Rattle.rv_source.specs.Words.{form_of}
-use Rattle.rv_source.specs.Lists.{meaning}
-use Rattle.rv_source.specs.Tokens.{tokens}
+use Rattle.rv_source.specs.Statements.{meaning}
 use Rattle.rv_source.specs.Said.{Said}
 
 abbrev pub is_marker : Option Form → Bool
-is_marker (Some f.Marker) = true
+is_marker (Some (form.Directive Marker)) = true
 is_marker _ = false
 
 -- what operands mean behind a word of this form
-abbrev pub said_by : Option Form → List Operand → Result Statement LineFault
+abbrev pub said_by : Option Form → List (List Token) → Result Statement LineFault
 said_by None operands = Err UnknownWord
 said_by (Some form) operands = ok_or (meaning form operands) BadOperands
 
 -- a word and its operands; behind a marker any tokens may stand
 unfoldable pub statement_of : List ℕ → List Token → Result Statement LineFault
-statement_of word ts = if is_marker (form_of word) then Ok s.Marker else operands_of ts >>= said_by (form_of word)
+statement_of word ts =
+    if is_marker (form_of word) then Ok s.Marker
+    else (if list_all is_operand (operands_of ts) then said_by (form_of word) (operands_of ts) else Err Syntax)
 
 -- at most one statement
 abbrev pub rest_of : List Token → Result (Option Statement) LineFault

@@ -1,4 +1,4 @@
--- What a line says.
+-- What a line says. For readers to audit.
 -- Own language; see docs/ASSEMBLER.md.
 use Rattle.std.specs.Prelude.{List, Option}
 use Rattle.rv_source.specs.declared.line.Label.{Label}

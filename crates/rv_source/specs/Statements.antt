@@ -27,7 +27,7 @@ use Rattle.rv_source.specs.declared.form.Directive.TheVariants as d
 use Rattle.rv_source.specs.declared.form.Form.{Form}
 use Rattle.rv_source.specs.declared.form.Form.TheVariants as form
 use Rattle.rv_source.specs.Expressions.{is_symbol, value}
-use Rattle.rv_source.specs.Operands.{is_nothing, string_of, name_of, number_of, indexed_of, part_of, part_indexed_of}
+use Rattle.rv_source.specs.Operands.{is_nothing, string_of, name_of, number_of, indexed_of, part_of, part_indexed_of, only, pair, triple}
 
 -- ---- what a place takes
 
@@ -51,22 +51,31 @@ csr ts =
 
 -- %lo(E) or E
 unfoldable pub immediate : List Token → Option Immediate
-immediate (t.Low ∷ ts) = option_map (λ e. i.Low e) (part_of ts)
+immediate (t.Low ∷ ts) = option_map (λ e. i.Low e) (option_and_then value (part_of ts))
 immediate ts = option_map (λ e. i.Sum e) (value ts)
 
 -- %hi(E) or E
 unfoldable pub upper : List Token → Option Upper
-upper (t.High ∷ ts) = option_map (λ e. u.High e) (part_of ts)
+upper (t.High ∷ ts) = option_map (λ e. u.High e) (option_and_then value (part_of ts))
 upper ts = option_map (λ e. u.Sum e) (value ts)
 
--- an offset and the name of a base
-abbrev pub based : Option (Immediate × List ℕ) → Option (Immediate × ℕ)
-based place = option_and_then (λ m. option_map (λ base. (m.0, base)) (register_named m.1)) place
+-- E or nothing before the base
+abbrev pub offset : List Token → Option Immediate
+offset [] = Some i.Zero
+offset (t ∷ ts) = option_map (λ e. i.Sum e) (value (t ∷ ts))
+
+-- E in `%lo(E)` before the base
+abbrev pub low_offset : List Token → Option Immediate
+low_offset ts = option_map (λ e. i.Low e) (value ts)
+
+-- an offset, as its tokens, and the name of a base
+abbrev pub based : (List Token → Option Immediate) → Option (List Token × List ℕ) → Option (Immediate × ℕ)
+based offset place = option_and_then (λ p. option_and_then (λ base. option_map (λ o. (o, base)) (offset p.0)) (register_named p.1)) place
 
 -- %lo(E)(register), E(register) or (register): the offset and the base
 unfoldable pub memory : List Token → Option (Immediate × ℕ)
-memory (t.Low ∷ ts) = based (part_indexed_of ts)
-memory ts = based (indexed_of ts)
+memory (t.Low ∷ ts) = based low_offset (part_indexed_of ts)
+memory ts = based offset (indexed_of ts)
 
 -- a name other than `.`
 unfoldable pub symbol : List Token → Option (List ℕ)
@@ -94,29 +103,25 @@ fence_set ts = option_and_then fence_letters (name_of ts)
 
 -- no operand
 abbrev pub none : Statement → List (List Token) → Option Statement
-none s [] = Some s
-none s _ = None
+none s operands = if is_nothing operands then Some s else None
 
 -- one operand
 abbrev pub alone : {A : Type 0} → (List Token → Option A) → List (List Token) → Option A
-alone a (x ∷ []) = a x
-alone a _ = None
+alone a operands = option_and_then a (only operands)
 
 abbrev pub one : {A : Type 0} → (List Token → Option A) → (A → Statement) → List (List Token) → Option Statement
 one a s operands = option_map s (alone a operands)
 
 -- two operands
 abbrev pub both : {A B : Type 0} → (List Token → Option A) → (List Token → Option B) → List (List Token) → Option (A × B)
-both a b (x ∷ y ∷ []) = option_and_then (λ p. option_map (λ q. (p, q)) (b y)) (a x)
-both a b _ = None
+both a b operands = option_and_then (λ x. option_and_then (λ p. option_map (λ q. (p, q)) (b x.1)) (a x.0)) (pair operands)
 
 abbrev pub two : {A B : Type 0} → (List Token → Option A) → (List Token → Option B) → (A → B → Statement) → List (List Token) → Option Statement
 two a b s operands = option_map (λ p. s p.0 p.1) (both a b operands)
 
 -- three operands
 abbrev pub all : {A B C : Type 0} → (List Token → Option A) → (List Token → Option B) → (List Token → Option C) → List (List Token) → Option (A × B × C)
-all a b c (x ∷ y ∷ z ∷ []) = option_and_then (λ p. option_and_then (λ q. option_map (λ r. (p, q, r)) (c z)) (b y)) (a x)
-all a b c _ = None
+all a b c operands = option_and_then (λ x. option_and_then (λ p. option_and_then (λ q. option_map (λ r. (p, q, r)) (c x.2)) (b x.1)) (a x.0)) (triple operands)
 
 abbrev pub three : {A B C : Type 0} → (List Token → Option A) → (List Token → Option B) → (List Token → Option C) → (A → B → C → Statement) → List (List Token) → Option Statement
 three a b c s operands = option_map (λ p. s p.0 p.1 p.2) (all a b c operands)

@@ -1,15 +1,6 @@
 //! Expressions: what is summed where a value is wanted.
-use crate::Name;
+use rv_tokens::{Direction, Name};
 use std::marker::Model;
-
-/// Which definition of a local label is meant: the nearest before, or the nearest after.
-#[derive(Clone, Copy, PartialEq, Eq, Debug)]
-pub enum Direction {
-    /// As in `1b`: the nearest on an earlier line or on the same line.
-    Backward,
-    /// As in `1f`: the nearest on a later line.
-    Forward,
-}
 
 /// What stands for one value.
 #[derive(Drop)]
@@ -67,4 +58,18 @@ impl<'a> Expression<'a> {
     {
         self.terms.as_slice()
     }
+}
+
+/// What may stand next in an expression.
+#[derive(Clone, Copy, PartialEq, Eq, Debug)]
+pub enum Wanted {
+    /// A sign; the expression may also end.
+    Sign,
+    /// A value, or one sign more before it.
+    Value {
+        /// Whether the value is subtracted, by the signs before it.
+        negative: bool,
+        /// Whether one sign more may stand before it.
+        more: bool,
+    },
 }

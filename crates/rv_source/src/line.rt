@@ -1,5 +1,6 @@
 //! What a line says.
-use crate::{Name, Statement};
+use crate::Statement;
+use rv_tokens::Name;
 use std::marker::Model;
 
 /// What is defined as the address of what follows.

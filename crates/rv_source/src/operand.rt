@@ -1,78 +1,12 @@
-//! Reads operands.
-ghost use Rattle.std.specs.Prelude.{◌≡◌, ◌<◌, ◌≤◌, ◌+◌, length, drop, IfSome, IfOk};
-ghost use Rattle.std.specs.List.{position};
+//! Operands: the tokens of each, and the shapes that they may have.
+ghost use Rattle.std.specs.Prelude.{◌≡◌, ◌<◌, ◌≤◌, ◌+◌, length, drop, IfSome};
+ghost use Rattle.std.specs.List.{position, list_all};
 ghost use Rattle.std.specs.Option.{option_map};
-ghost use Rattle.rv_source.specs.Faults.{Gives};
-ghost use Rattle.rv_source.specs.Operands.{is_comma, is_open, is_close, base_of, plain_of, bracketed, high_of, low_of, alone, operand_of, operands_of};
+ghost use Rattle.rv_source.specs.Operands.{is_nothing, is_comma, is_open, is_close, name_of, number_of, base_of, bracketed, indexed_of, part_of, part_indexed_of, holds, is_value, is_offset, is_operand, operands_of, only, pair, triple};
 
-use crate::terms::read_expression;
-use crate::token::{Text, Token};
-use crate::{Expression, LineFault, Name};
-use std::alloc::Global;
-use std::slice::from_ref;
-
-/// An operand of a statement.
-#[derive(Drop)]
-pub enum Operand<'a> {
-    /// A name alone: of a register, a control register, a set of a fence, or of the value.
-    Name {
-        name: Name<'a>,
-        value: Expression<'a>,
-    },
-    /// A number alone: of a control register, or the value.
-    Number {
-        number: u32,
-        value: Expression<'a>,
-    },
-    /// Any other expression.
-    Sum(Expression<'a>),
-    /// `%hi(E)`
-    High(Expression<'a>),
-    /// `%lo(E)`
-    Low(Expression<'a>),
-    /// `(name)`
-    Base(Name<'a>),
-    /// `E(name)`
-    Indexed(Expression<'a>, Name<'a>),
-    /// `%lo(E)(name)`
-    LowIndexed(Expression<'a>, Name<'a>),
-    Text(Text<'a>),
-}
-
-/// Operands by their number.
-#[derive(Drop)]
-pub enum Operands<'a> {
-    None,
-    One(Operand<'a>),
-    Two(Operand<'a>, Operand<'a>),
-    Three(Operand<'a>, Operand<'a>, Operand<'a>),
-    /// Four or more, which only lists of values and strings have.
-    More,
-}
-
-impl<'a> Operands<'a> {
-    ghost use Rattle.std.specs.Prelude.{◌≡◌};
-    ghost use Rattle.rv_source.specs.Statements.{counted};
-
-    /// The operands of a list.
-    pub fn of(mut list: Vec<Operand<'a>>) -> Operands<'a>
-        ensures { result ≡ counted list.entry.items }
-    {
-        if list.len() > 3 {
-            return Operands::More;
-        }
-        let Some(last) = list.pop() else {
-            return Operands::None;
-        };
-        let Some(middle) = list.pop() else {
-            return Operands::One(last);
-        };
-        match list.pop() {
-            Some(first) => Operands::Three(first, middle, last),
-            None => Operands::Two(middle, last),
-        }
-    }
-}
+use crate::terms::is_value;
+use rv_tokens::{Name, Token};
+use std::marker::Model;
 
 /// The place of the first comma.
 fn comma(tokens: &[Token]) -> Option<usize>
@@ -80,6 +14,22 @@ fn comma(tokens: &[Token]) -> Option<usize>
     ensures below { IfSome result (λ n. n < length tokens.now) }
 {
     tokens.iter().position(|t| matches!(t, Token::Comma))
+}
+
+/// The place of the first `(`.
+fn open(tokens: &[Token]) -> Option<usize>
+    ensures value { result ≡ position is_open tokens.now }
+    ensures below { IfSome result (λ n. n < length tokens.now) }
+{
+    tokens.iter().position(|t| matches!(t, Token::Open))
+}
+
+/// The place of the first `)`.
+fn close(tokens: &[Token]) -> Option<usize>
+    ensures value { result ≡ position is_close tokens.now }
+    ensures below { IfSome result (λ n. n < length tokens.now) }
+{
+    tokens.iter().position(|t| matches!(t, Token::Close))
 }
 
 /// What stands behind a token.
@@ -91,18 +41,87 @@ pub fn behind<'t, 'a>(tokens: &'t [Token<'a>], index: usize) -> &'t [Token<'a>]
     tokens.split_at(index + 1).1
 }
 
-/// The place of the first `(`.
-fn open(tokens: &[Token]) -> Option<usize>
-    ensures { result ≡ position is_open tokens.now }
-{
-    tokens.iter().position(|t| matches!(t, Token::Open))
+/// The operands that are left behind a word, from left to right, each as its tokens.
+#[derive(Drop)]
+pub struct Operands<'t, 'a> {
+    rest: Option<&'t [Token<'a>]>,
 }
 
-/// The place of the first `)`.
-fn close(tokens: &[Token]) -> Option<usize>
-    ensures { result ≡ position is_close tokens.now }
+impl<'t, 'a> Model for Operands<'t, 'a> {
+    ghost use Rattle.std.specs.Prelude.{List, length, ◌≤◌, IfSome};
+    ghost use Rattle.rv_tokens.specs.declared.token.Token.{Token};
+    ghost use Rattle.rv_source.specs.Partial.{left};
+
+    ghost Value = { List (List Token) };
+
+    ghost view = { λ o. left o.rest };
+
+    ghost invariant = { λ o. IfSome o.rest (λ ts. length ts.now ≤ 1024) };
+}
+
+impl<'t, 'a> Operands<'t, 'a> {
+    ghost use Rattle.std.specs.Prelude.{◌≡◌, ◌≤◌, length, IfSome};
+    ghost use Rattle.rv_source.specs.Operands.{operands_of};
+    ghost use Rattle.rv_source.specs.Partial.{Follows};
+
+    /// The operands that the tokens behind a word are.
+    #[tactic(auto, unfolding(crate::specs::Operands::operands_of))]
+    pub fn of(tokens: &'t [Token<'a>]) -> Self
+        requires { length tokens.now ≤ 1024 }
+        ensures { result ≡ operands_of tokens.now }
+    {
+        if tokens.is_empty() {
+            Operands { rest: None }
+        } else {
+            Operands { rest: Some(tokens) }
+        }
+    }
+
+    /// Takes the next operand.
+    #[tactic(auto, using(crate::proofs::Pieces::cut_pieces, crate::proofs::Pieces::one_piece))]
+    pub fn next(&mut self) -> Option<&'t [Token<'a>]>
+        ensures value { Follows self.old result self.new }
+        ensures short { IfSome result (λ ts. length ts.now ≤ 1024) }
+    {
+        let tokens = self.rest?;
+        match comma(tokens) {
+            Some(n) => {
+                self.rest = Some(behind(tokens, n));
+                Some(&tokens[..n])
+            }
+            None => {
+                self.rest = None;
+                Some(tokens)
+            }
+        }
+    }
+}
+
+/// The name that the tokens are.
+pub fn name<'a>(tokens: &[Token<'a>]) -> Option<Name<'a>>
+    ensures { result ≡ name_of tokens.now }
 {
-    tokens.iter().position(|t| matches!(t, Token::Close))
+    let [token] = tokens else {
+        return None;
+    };
+    match token {
+        Token::Name(name) => Some(name.again()),
+        _ => None,
+    }
+}
+
+/// The number that the tokens are.
+pub fn number(tokens: &[Token]) -> Option<u32>
+    ensures { result ≡ number_of tokens.now }
+{
+    let [token] = tokens else {
+        return None;
+    };
+    match token {
+        Token::Digits(n) => Some(u32::from(*n)),
+        Token::Number(n) => Some(*n),
+        _ => None,
+    }
 }
 
 /// The name in brackets that the tokens are.
@@ -118,140 +137,171 @@ fn base<'a>(tokens: &[Token<'a>]) -> Option<Name<'a>>
     }
 }
 
-/// `E`, `(name)` or `E(name)`
-fn plain<'a>(alloc: Global, tokens: &[Token<'a>]) -> Result<Operand<'a>, LineFault>
-    requires { length tokens.now ≤ 1024 }
-    ensures { Gives (λ o. o) result (plain_of tokens.now) }
+/// `E(name)` or `(name)`: what stands before the first bracket, and the name.
+#[tactic(auto, unfolding(crate::specs::Operands::indexed_of))]
+pub fn indexed<'t, 'a>(tokens: &'t [Token<'a>]) -> Option<(&'t [Token<'a>], Name<'a>)>
+    ensures value { option_map (λ p. (p.0.now, p.1)) result ≡ indexed_of tokens.now }
+    ensures short { IfSome result (λ p. length p.0.now ≤ length tokens.now) }
 {
-    let Some(n) = open(tokens) else {
-        let sum = read_expression(alloc, tokens)?;
-        return Ok(Operand::Sum(sum));
-    };
-    let (front, rest) = tokens.split_at(n);
-    let Some(name) = base(rest) else {
-        return Err(LineFault::Syntax);
-    };
-    if n == 0 {
-        return Ok(Operand::Base(name));
-    }
-    let sum = read_expression(alloc, front)?;
-    Ok(Operand::Indexed(sum, name))
+    let (front, rest) = tokens.split_at(open(tokens)?);
+    let name = base(rest)?;
+    Some((front, name))
 }
 
-/// The tokens in brackets, and those from the bracket on that closes them.
+/// The tokens in the brackets that come first, and those behind them.
 fn bracketed<'t, 'a>(tokens: &'t [Token<'a>]) -> Option<(&'t [Token<'a>], &'t [Token<'a>])>
     ensures value { option_map (λ p. (p.0.now, p.1.now)) result ≡ bracketed tokens.now }
     ensures short { IfSome result (λ p. length p.0.now ≤ length tokens.now) }
 {
-    let [open, inner @ ..] = tokens else {
+    let [first, inner @ ..] = tokens else {
         return None;
     };
-    match open {
+    match first {
         Token::Open => {
             let n = close(inner)?;
-            Some(inner.split_at(n))
+            Some((&inner[..n], behind(inner, n)))
         }
         _ => None,
     }
 }
 
-/// `%hi(E)`, from its second token on
-fn high<'a>(alloc: Global, tokens: &[Token<'a>]) -> Result<Operand<'a>, LineFault>
-    requires { length tokens.now ≤ 1024 }
-    ensures { Gives (λ o. o) result (high_of tokens.now) }
+/// `(E)` behind `%hi` or `%lo`: the tokens in the brackets.
+#[tactic(auto, unfolding(crate::specs::Operands::part_of))]
+pub fn part<'t, 'a>(tokens: &'t [Token<'a>]) -> Option<&'t [Token<'a>]>
+    ensures value { option_map (λ ts. ts.now) result ≡ part_of tokens.now }
+    ensures short { IfSome result (λ ts. length ts.now ≤ length tokens.now) }
 {
-    let Some((inner, rest)) = bracketed(tokens) else {
-        return Err(LineFault::Syntax);
-    };
-    let [_, more @ ..] = rest else {
-        return Err(LineFault::Syntax);
-    };
-    if !more.is_empty() {
-        return Err(LineFault::Syntax);
-    }
-    let sum = read_expression(alloc, inner)?;
-    Ok(Operand::High(sum))
+    let (inner, rest) = bracketed(tokens)?;
+    if rest.is_empty() { Some(inner) } else { None }
 }
 
-/// `%lo(E)` or `%lo(E)(name)`, from the second token on
-fn low<'a>(alloc: Global, tokens: &[Token<'a>]) -> Result<Operand<'a>, LineFault>
-    requires { length tokens.now ≤ 1024 }
-    ensures { Gives (λ o. o) result (low_of tokens.now) }
+/// `(E)(name)` behind `%lo`: the tokens in the first brackets, and the name.
+#[tactic(auto, unfolding(crate::specs::Operands::part_indexed_of))]
+pub fn part_indexed<'t, 'a>(tokens: &'t [Token<'a>]) -> Option<(&'t [Token<'a>], Name<'a>)>
+    ensures value { option_map (λ p. (p.0.now, p.1)) result ≡ part_indexed_of tokens.now }
+    ensures short { IfSome result (λ p. length p.0.now ≤ length tokens.now) }
 {
-    let Some((inner, rest)) = bracketed(tokens) else {
-        return Err(LineFault::Syntax);
-    };
-    let [_, more @ ..] = rest else {
-        return Err(LineFault::Syntax);
-    };
-    if more.is_empty() {
-        let sum = read_expression(alloc, inner)?;
-        return Ok(Operand::Low(sum));
-    }
-    let Some(name) = base(more) else {
-        return Err(LineFault::Syntax);
-    };
-    let sum = read_expression(alloc, inner)?;
-    Ok(Operand::LowIndexed(sum, name))
+    let (inner, rest) = bracketed(tokens)?;
+    let name = base(rest)?;
+    Some((inner, name))
 }
 
-/// The operand that a token alone spells.
-fn alone<'a>(alloc: Global, token: &Token<'a>) -> Result<Operand<'a>, LineFault>
-    ensures { Gives (λ o. o) result (alone token.now) }
+/// Whether the tokens are `(E)`.
+fn is_part(tokens: &[Token]) -> bool
+    ensures { result ≡ holds is_value (part_of tokens.now) }
 {
-    if let Token::Text(text) = token {
-        return Ok(Operand::Text(text.again()));
-    }
-    let value = read_expression(alloc, from_ref(token))?;
-    match token {
-        Token::Name(name) => Ok(Operand::Name {
-            name: name.again(),
-            value,
-        }),
-        Token::Digits(n) => Ok(Operand::Number {
-            number: u32::from(*n),
-            value,
-        }),
-        Token::Number(n) => Ok(Operand::Number { number: *n, value }),
-        _ => Ok(Operand::Sum(value)),
+    match part(tokens) {
+        Some(sum) => is_value(sum),
+        None => false,
     }
 }
 
-/// The operand that all of the tokens spell.
-#[tactic(auto, unfolding(crate::specs::Operands::operand_of, crate::specs::Expressions::terms))]
-fn read_operand<'a>(alloc: Global, tokens: &[Token<'a>]) -> Result<Operand<'a>, LineFault>
-    requires { length tokens.now ≤ 1024 }
-    ensures { Gives (λ o. o) result (operand_of tokens.now) }
+/// Whether the tokens are `(E)(name)`.
+fn is_part_indexed(tokens: &[Token]) -> bool
+    ensures { result ≡ holds (λ p. is_value p.0) (part_indexed_of tokens.now) }
 {
-    if let [token] = tokens {
-        return alone(alloc, token);
+    match part_indexed(tokens) {
+        Some((sum, _)) => is_value(sum),
+        None => false,
     }
+}
+
+/// Whether the tokens are `E(name)` or `(name)`.
+fn is_indexed(tokens: &[Token]) -> bool
+    ensures { result ≡ holds (λ p. is_offset p.0) (indexed_of tokens.now) }
+{
+    match indexed(tokens) {
+        Some((offset, _)) => offset.is_empty() || is_value(offset),
+        None => false,
+    }
+}
+
+/// Whether the tokens are an operand.
+#[tactic(auto, unfolding(crate::specs::Operands::is_operand, crate::specs::Operands::indexed_of, crate::specs::Expressions::value, crate::specs::Expressions::terms))]
+fn is_operand(tokens: &[Token]) -> bool
+    ensures { result ≡ is_operand tokens.now }
+{
     let [first, rest @ ..] = tokens else {
-        return Err(LineFault::Syntax);
+        return false;
     };
     match first {
-        Token::High => high(alloc, rest),
-        Token::Low => low(alloc, rest),
-        _ => plain(alloc, tokens),
+        Token::Text(_) => rest.is_empty(),
+        Token::High => is_part(rest),
+        Token::Low => is_part(rest) || is_part_indexed(rest),
+        _ => is_value(tokens) || is_indexed(tokens),
     }
 }
 
-/// The operands that the tokens behind a word spell.
-pub fn read_operands<'a>(alloc: Global, tokens: &[Token<'a>]) -> Result<Vec<Operand<'a>>, LineFault>
+/// Whether all tokens behind a word are operands.
+pub fn are_operands(tokens: &[Token]) -> bool
     requires { length tokens.now ≤ 1024 }
-    ensures { Gives (λ v. v.items) result (operands_of tokens.now) }
+    ensures { result ≡ list_all is_operand (operands_of tokens.now) }
 {
-    let mut out = Vec::new(alloc);
-    if tokens.is_empty() {
-        return Ok(out);
+    let mut operands = Operands::of(tokens);
+    while let Some(operand) = operands.next() {
+        if !is_operand(operand) {
+            return false;
+        }
     }
-    let mut rest = tokens;
-    while let Some(n) = comma(rest) {
-        let operand = read_operand(alloc, &rest[..n])?;
-        out.push(operand)?;
-        rest = behind(rest, n);
+    true
+}
+
+/// Whether there is no operand.
+pub fn are_none(tokens: &[Token]) -> bool
+    requires { length tokens.now ≤ 1024 }
+    ensures { result ≡ is_nothing (operands_of tokens.now) }
+{
+    let mut operands = Operands::of(tokens);
+    match operands.next() {
+        None => true,
+        Some(_) => false,
     }
-    let last = read_operand(alloc, rest)?;
-    out.push(last)?;
-    Ok(out)
+}
+
+/// The only operand.
+pub fn only<'t, 'a>(tokens: &'t [Token<'a>]) -> Option<&'t [Token<'a>]>
+    requires { length tokens.now ≤ 1024 }
+    ensures value { option_map (λ ts. ts.now) result ≡ only (operands_of tokens.now) }
+    ensures short { IfSome result (λ ts. length ts.now ≤ 1024) }
+{
+    let mut operands = Operands::of(tokens);
+    let first = operands.next()?;
+    match operands.next() {
+        None => Some(first),
+        Some(_) => None,
+    }
+}
+
+/// Both of two operands.
+pub fn pair<'t, 'a>(tokens: &'t [Token<'a>]) -> Option<(&'t [Token<'a>], &'t [Token<'a>])>
+    requires { length tokens.now ≤ 1024 }
+    ensures value { option_map (λ p. (p.0.now, p.1.now)) result ≡ pair (operands_of tokens.now) }
+    ensures short { IfSome result (λ p. (length p.0.now ≤ 1024) × (length p.1.now ≤ 1024)) }
+{
+    let mut operands = Operands::of(tokens);
+    let first = operands.next()?;
+    let second = operands.next()?;
+    match operands.next() {
+        None => Some((first, second)),
+        Some(_) => None,
+    }
+}
+
+/// The tokens of three operands.
+pub type Triple<'t, 'a> = (&'t [Token<'a>], &'t [Token<'a>], &'t [Token<'a>]);
+
+/// All of three operands.
+pub fn triple<'t, 'a>(tokens: &'t [Token<'a>]) -> Option<Triple<'t, 'a>>
+    requires { length tokens.now ≤ 1024 }
+    ensures value { option_map (λ p. (p.0.now, p.1.now, p.2.now)) result ≡ triple (operands_of tokens.now) }
+    ensures short { IfSome result (λ p. (length p.0.now ≤ 1024) × (length p.1.now ≤ 1024) × (length p.2.now ≤ 1024)) }
+{
+    let mut operands = Operands::of(tokens);
+    let first = operands.next()?;
+    let second = operands.next()?;
+    let third = operands.next()?;
+    match operands.next() {
+        None => Some((first, second, third)),
+        Some(_) => None,
+    }
 }

@@ -1,16 +1,21 @@
 //! What a place of a statement takes.
-ghost use Rattle.std.specs.Prelude.{◌≡◌, ◌<◌, ◌≤◌, IfSome, MatchResult};
-ghost use Rattle.rv_isa.specs.Names.{lookup, register_names};
-ghost use Rattle.rv_source.specs.Statements.{register, csr, csr_number, value, immediate, upper, memory, symbol, letter, fence_letters, fence_set};
+ghost use Rattle.std.specs.Prelude.{◌≡◌, ◌<◌, ◌≤◌, length, IfSome, IfOk};
+ghost use Rattle.std.specs.Prelude.{option_and_then};
+ghost use Rattle.rv_isa.specs.Names.{lookup, csr_names};
+ghost use Rattle.rv_source.specs.Partial.{Finds};
+ghost use Rattle.rv_source.specs.Statements.{register_named, register, csr, csr_number, immediate, upper, offset, memory, symbol, letter, fence_letters, fence_set};
 
-use crate::operand::Operand;
-use crate::terms::is_symbol;
-use crate::{Csr, Expression, Immediate, Name, Upper};
+use crate::operand::{indexed, name, number, part, part_indexed};
+use crate::refusal::Refusal;
+use crate::terms::{is_symbol, read_value};
+use crate::{Csr, Immediate, Upper};
 use rv_isa::{Reg, csr_named, reg_named};
+use rv_tokens::{Name, Token};
+use std::alloc::Global;
 
 /// The register with a name.
 fn named(name: &Name) -> Option<Reg>
-    ensures value { result ≡ lookup name.now register_names }
+    ensures value { result ≡ register_named name.now }
     ensures below { IfSome result (λ r. r < 32) }
 {
     let reg = reg_named(name.bytes())?;
@@ -18,15 +23,24 @@ fn named(name: &Name) -> Option<Reg>
     Some(reg)
 }
 
-/// A register.
+/// The register that the tokens name.
 #[tactic(auto, unfolding(crate::specs::Statements::register))]
-pub fn register(operand: &Operand) -> Option<Reg>
-    ensures value { result ≡ register operand.now }
+pub fn register_in(tokens: &[Token]) -> Option<Reg>
+    ensures value { result ≡ register tokens.now }
     ensures below { IfSome result (λ r. r < 32) }
 {
-    match operand {
-        Operand::Name { name, .. } => named(name),
-        _ => None,
+    let name = name(tokens)?;
+    named(&name)
+}
+
+/// A register.
+pub fn register(tokens: &[Token]) -> Result<Reg, Refusal>
+    ensures value { Finds (λ r. r) result (register tokens.now) }
+    ensures below { IfOk result (λ r. r < 32) }
+{
+    match register_in(tokens) {
+        Some(reg) => Ok(reg),
+        None => Err(Refusal::BadOperands),
     }
 }
 
@@ -41,108 +55,113 @@ fn numbered(number: u32) -> Option<Csr>
     }
 }
 
+/// The control register with a name.
+fn csr_with_name(name: &Name) -> Option<Csr>
+    ensures { result ≡ option_and_then csr_number (lookup name.now csr_names) }
+{
+    let number = csr_named(name.bytes())?;
+    numbered(u32::from(number))
+}
+
 /// A control register, by its name or its number.
 #[tactic(auto, unfolding(crate::specs::Statements::csr))]
-pub fn csr(operand: &Operand) -> Option<Csr>
-    ensures { result ≡ csr operand.now }
+pub fn csr(tokens: &[Token]) -> Result<Csr, Refusal>
+    ensures { Finds (λ c. c) result (csr tokens.now) }
 {
-    match operand {
-        Operand::Name { name, .. } => {
-            let number = csr_named(name.bytes())?;
-            numbered(u32::from(number))
+    if let Some(name) = name(tokens) {
+        if let Some(csr) = csr_with_name(&name) {
+            return Ok(csr);
         }
-        Operand::Number { number, .. } => numbered(*number),
-        _ => None,
     }
-}
-
-/// A value, or the operand again where it is none.
-#[tactic(auto, unfolding(crate::specs::Statements::value))]
-pub fn value_or_operand<'a>(operand: Operand<'a>) -> Result<Expression<'a>, Operand<'a>>
-    ensures { MatchResult result (λ e. value operand.entry ≡ Some e) (λ o. (value operand.entry ≡ None) × (o ≡ operand.entry)) }
-{
-    match operand {
-        Operand::Name { value, .. } => Ok(value),
-        Operand::Number { value, .. } => Ok(value),
-        Operand::Sum(value) => Ok(value),
-        operand => Err(operand),
+    if let Some(number) = number(tokens) {
+        if let Some(csr) = numbered(number) {
+            return Ok(csr);
+        }
     }
-}
-
-/// A value.
-pub fn value<'a>(operand: Operand<'a>) -> Option<Expression<'a>>
-    ensures { result ≡ value operand.entry }
-{
-    match value_or_operand(operand) {
-        Ok(value) => Some(value),
-        Err(_) => None,
-    }
+    Err(Refusal::BadOperands)
 }
 
 /// A value or the low part of one.
-#[tactic(auto, unfolding(crate::specs::Statements::immediate))]
-pub fn immediate<'a>(operand: Operand<'a>) -> Option<Immediate<'a>>
-    ensures { result ≡ immediate operand.entry }
+#[tactic(auto, unfolding(crate::specs::Statements::immediate, crate::specs::Expressions::value, crate::specs::Expressions::terms))]
+pub fn immediate<'a>(alloc: Global, tokens: &[Token<'a>]) -> Result<Immediate<'a>, Refusal>
+    requires { length tokens.now ≤ 1024 }
+    ensures { Finds (λ imm. imm) result (immediate tokens.now) }
 {
-    match operand {
-        Operand::Low(sum) => Some(Immediate::Low(sum)),
-        operand => {
-            let sum = value(operand)?;
-            Some(Immediate::Sum(sum))
-        }
+    if let [Token::Low, rest @ ..] = tokens {
+        let Some(inner) = part(rest) else {
+            return Err(Refusal::BadOperands);
+        };
+        let sum = read_value(alloc, inner)?;
+        return Ok(Immediate::Low(sum));
     }
+    let sum = read_value(alloc, tokens)?;
+    Ok(Immediate::Sum(sum))
 }
 
 /// A value or the high part of one.
-#[tactic(auto, unfolding(crate::specs::Statements::upper))]
-pub fn upper<'a>(operand: Operand<'a>) -> Option<Upper<'a>>
-    ensures { result ≡ upper operand.entry }
+#[tactic(auto, unfolding(crate::specs::Statements::upper, crate::specs::Expressions::value, crate::specs::Expressions::terms))]
+pub fn upper<'a>(alloc: Global, tokens: &[Token<'a>]) -> Result<Upper<'a>, Refusal>
+    requires { length tokens.now ≤ 1024 }
+    ensures { Finds (λ imm. imm) result (upper tokens.now) }
 {
-    match operand {
-        Operand::High(sum) => Some(Upper::High(sum)),
-        operand => {
-            let sum = value(operand)?;
-            Some(Upper::Sum(sum))
-        }
+    if let [Token::High, rest @ ..] = tokens {
+        let Some(inner) = part(rest) else {
+            return Err(Refusal::BadOperands);
+        };
+        let sum = read_value(alloc, inner)?;
+        return Ok(Upper::High(sum));
     }
+    let sum = read_value(alloc, tokens)?;
+    Ok(Upper::Sum(sum))
+}
+
+/// What may stand before a base.
+fn offset<'a>(alloc: Global, tokens: &[Token<'a>]) -> Result<Immediate<'a>, Refusal>
+    requires { length tokens.now ≤ 1024 }
+    ensures { Finds (λ imm. imm) result (offset tokens.now) }
+{
+    if tokens.is_empty() {
+        return Ok(Immediate::Zero);
+    }
+    let sum = read_value(alloc, tokens)?;
+    Ok(Immediate::Sum(sum))
 }
 
 /// A register in brackets, with what stands before them: the offset and the base.
-#[tactic(auto, unfolding(crate::specs::Statements::memory))]
-pub fn memory<'a>(operand: Operand<'a>) -> Option<(Immediate<'a>, Reg)>
-    ensures { result ≡ memory operand.entry }
+#[tactic(auto, unfolding(crate::specs::Statements::memory, crate::specs::Operands::indexed_of))]
+pub fn memory<'a>(alloc: Global, tokens: &[Token<'a>]) -> Result<(Immediate<'a>, Reg), Refusal>
+    requires { length tokens.now ≤ 1024 }
+    ensures value { Finds (λ m. m) result (memory tokens.now) }
+    ensures below { IfOk result (λ m. m.1 < 32) }
 {
-    match operand {
-        Operand::Base(base) => {
-            let base = named(&base)?;
-            Some((Immediate::Zero, base))
-        }
-        Operand::Indexed(offset, base) => {
-            let base = named(&base)?;
-            Some((Immediate::Sum(offset), base))
-        }
-        Operand::LowIndexed(offset, base) => {
-            let base = named(&base)?;
-            Some((Immediate::Low(offset), base))
-        }
-        _ => None,
+    if let [Token::Low, rest @ ..] = tokens {
+        let Some((inner, name)) = part_indexed(rest) else {
+            return Err(Refusal::BadOperands);
+        };
+        let Some(base) = named(&name) else {
+            return Err(Refusal::BadOperands);
+        };
+        let sum = read_value(alloc, inner)?;
+        return Ok((Immediate::Low(sum), base));
     }
+    let Some((front, name)) = indexed(tokens) else {
+        return Err(Refusal::BadOperands);
+    };
+    let Some(base) = named(&name) else {
+        return Err(Refusal::BadOperands);
+    };
+    let offset = offset(alloc, front)?;
+    Ok((offset, base))
 }
 
 /// A name other than `.`.
 #[tactic(auto, unfolding(crate::specs::Statements::symbol))]
-pub fn symbol<'a>(operand: &Operand<'a>) -> Option<Name<'a>>
-    ensures { result ≡ symbol operand.now }
+pub fn symbol<'a>(tokens: &[Token<'a>]) -> Result<Name<'a>, Refusal>
+    ensures { Finds (λ n. n) result (symbol tokens.now) }
 {
-    match operand {
-        Operand::Name { name, .. } => {
-            if is_symbol(name) {
-                Some(name.again())
-            } else {
-                None
-            }
-        }
-        _ => None,
+    match name(tokens) {
+        Some(name) if is_symbol(&name) => Ok(name),
+        _ => Err(Refusal::BadOperands),
     }
 }
 
@@ -183,12 +202,14 @@ fn fence_letters(name: &[u8]) -> Option<u16>
 
 /// What a fence orders, below 16.
 #[tactic(auto, unfolding(crate::specs::Statements::fence_set))]
-pub fn fence_set(operand: &Operand) -> Option<u16>
-    ensures value { result ≡ fence_set operand.now }
-    ensures below { IfSome result (λ n. n < 16) }
+pub fn fence_set(tokens: &[Token]) -> Result<u16, Refusal>
+    ensures value { Finds (λ set. set) result (fence_set tokens.now) }
+    ensures below { IfOk result (λ n. n < 16) }
 {
-    match operand {
-        Operand::Name { name, .. } => fence_letters(name.bytes()),
-        _ => None,
+    if let Some(name) = name(tokens) {
+        if let Some(set) = fence_letters(name.bytes()) {
+            return Ok(set);
+        }
     }
+    Err(Refusal::BadOperands)
 }

@@ -1,34 +1,46 @@
-//! Forms that stand for others, and directives with a fixed number of operands.
-ghost use Rattle.std.specs.Prelude.{◌≡◌, ◌^◌, pos};
+//! Words that stand for other instructions.
+ghost use Rattle.std.specs.Prelude.{◌≡◌, ◌≤◌, ◌^◌, length, pos};
 ghost use Rattle.rv_isa.specs.Number.{IsWithin};
 ghost use Rattle.rv_isa.specs.declared.kind.Kind.TheVariants as k;
+ghost use Rattle.rv_isa.specs.declared.op.ImmOp.TheVariants.{Addi};
+ghost use Rattle.rv_source.specs.declared.form.Pseudo.TheVariants as p;
 ghost use Rattle.rv_source.specs.declared.statement.Statement.TheVariants as s;
-ghost use Rattle.rv_source.specs.declared.table.Form.TheVariants as f;
-ghost use Rattle.rv_source.specs.Statements.{register, value, one, two, space, stands};
+ghost use Rattle.rv_source.specs.Operands.{operands_of};
+ghost use Rattle.rv_source.specs.Partial.{Finds};
+ghost use Rattle.rv_source.specs.Expressions.{value};
+ghost use Rattle.rv_source.specs.Statements.{register, one, two, pseudo};
 
 use crate::Statement;
-use crate::forms::{
-    instruction, jump_to, one_register, one_value, register_and_value, two_registers, x,
+use crate::form::Pseudo;
+use crate::instructions::{
+    alone, instruction, jump_to, one_register, one_value, register_and_value, registers_and_value,
+    two_registers, x,
 };
-use crate::operand::Operands;
-use crate::places::{csr, register, symbol, value};
-use rv_isa::{AluOp, CsrOp, ImmOp, Kind, Reg};
+use crate::operand::pair;
+use crate::places::{csr, register};
+use crate::refusal::Refusal;
+use crate::terms::read_value;
+use rv_isa::{AluOp, Cond, CsrOp, ImmOp, Kind, Reg};
+use rv_tokens::Token;
+use std::alloc::Global;
 
 /// An operation on a register and this immediate.
-pub fn op_with_imm<'a>(op: ImmOp, imm: i32, operands: Operands<'a>) -> Option<Statement<'a>>
-    requires { IsWithin (2 ^ 11) imm }
-    ensures { result ≡ two register register (λ rd rs. s.Instruction (k.OpImm op rd rs imm)) operands.entry }
+fn op_with_imm<'a>(op: ImmOp, imm: i32, tokens: &[Token<'a>]) -> Result<Statement<'a>, Refusal>
+    requires within { IsWithin (2 ^ 11) imm }
+    requires short { length tokens.now ≤ 1024 }
+    ensures { Finds (λ s. s) result (two register register (λ rd rs. s.Instruction (k.OpImm op rd rs imm)) (operands_of tokens.now)) }
 {
-    let (rd, rs1) = two_registers(operands)?;
-    Some(instruction(Kind::OpImm { op, rd, rs1, imm }))
+    let (rd, rs1) = two_registers(tokens)?;
+    Ok(instruction(Kind::OpImm { op, rd, rs1, imm }))
 }
 
 /// An operation on a register and x0.
-pub fn op_with_zero<'a>(op: AluOp, operands: Operands<'a>) -> Option<Statement<'a>>
-    ensures { result ≡ two register register (λ rd rs. s.Instruction (k.Op op rd rs 0)) operands.entry }
+fn op_with_zero<'a>(op: AluOp, tokens: &[Token<'a>]) -> Result<Statement<'a>, Refusal>
+    requires { length tokens.now ≤ 1024 }
+    ensures { Finds (λ s. s) result (two register register (λ rd rs. s.Instruction (k.Op op rd rs 0)) (operands_of tokens.now)) }
 {
-    let (rd, rs1) = two_registers(operands)?;
-    Some(instruction(Kind::Op {
+    let (rd, rs1) = two_registers(tokens)?;
+    Ok(instruction(Kind::Op {
         op,
         rd,
         rs1,
@@ -37,11 +49,12 @@ pub fn op_with_zero<'a>(op: AluOp, operands: Operands<'a>) -> Option<Statement<'
 }
 
 /// An operation on x0 and a register.
-pub fn op_on_zero<'a>(op: AluOp, operands: Operands<'a>) -> Option<Statement<'a>>
-    ensures { result ≡ two register register (λ rd rs. s.Instruction (k.Op op rd 0 rs)) operands.entry }
+fn op_on_zero<'a>(op: AluOp, tokens: &[Token<'a>]) -> Result<Statement<'a>, Refusal>
+    requires { length tokens.now ≤ 1024 }
+    ensures { Finds (λ s. s) result (two register register (λ rd rs. s.Instruction (k.Op op rd 0 rs)) (operands_of tokens.now)) }
 {
-    let (rd, rs2) = two_registers(operands)?;
-    Some(instruction(Kind::Op {
+    let (rd, rs2) = two_registers(tokens)?;
+    Ok(instruction(Kind::Op {
         op,
         rd,
         rs1: x(0),
@@ -49,30 +62,87 @@ pub fn op_on_zero<'a>(op: AluOp, operands: Operands<'a>) -> Option<Statement<'a>
     }))
 }
 
-pub fn jump<'a>(operands: Operands<'a>) -> Option<Statement<'a>>
-    ensures { result ≡ one value (λ target. s.Jal 0 target) operands.entry }
+#[tactic(auto, unfolding(crate::specs::Statements::pseudo))]
+fn branch_zero<'a>(
+    alloc: Global,
+    cond: Cond,
+    tokens: &[Token<'a>],
+) -> Result<Statement<'a>, Refusal>
+    requires { length tokens.now ≤ 1024 }
+    ensures { Finds (λ s. s) result (pseudo (p.BranchZero cond) (operands_of tokens.now)) }
 {
-    let target = one_value(operands)?;
-    Some(Statement::Jal { rd: x(0), target })
+    let (rs1, target) = register_and_value(alloc, tokens)?;
+    Ok(Statement::Branch {
+        cond,
+        rs1,
+        rs2: x(0),
+        target,
+    })
 }
 
-pub fn jump_register<'a>(operands: Operands<'a>) -> Option<Statement<'a>>
-    ensures { result ≡ one register (λ rs. s.Instruction (k.Jalr 0 rs (pos 0))) operands.entry }
+#[tactic(auto, unfolding(crate::specs::Statements::pseudo))]
+fn zero_branch<'a>(
+    alloc: Global,
+    cond: Cond,
+    tokens: &[Token<'a>],
+) -> Result<Statement<'a>, Refusal>
+    requires { length tokens.now ≤ 1024 }
+    ensures { Finds (λ s. s) result (pseudo (p.ZeroBranch cond) (operands_of tokens.now)) }
 {
-    let base = one_register(operands)?;
-    Some(jump_to(x(0), base))
+    let (rs2, target) = register_and_value(alloc, tokens)?;
+    Ok(Statement::Branch {
+        cond,
+        rs1: x(0),
+        rs2,
+        target,
+    })
 }
 
-#[tactic(auto, unfolding(crate::specs::Statements::stands))]
-pub fn read_csr<'a>(operands: Operands<'a>) -> Option<Statement<'a>>
-    ensures { result ≡ stands f.CsrRead operands.entry }
+#[tactic(auto, unfolding(crate::specs::Statements::pseudo))]
+fn branch_swapped<'a>(
+    alloc: Global,
+    cond: Cond,
+    tokens: &[Token<'a>],
+) -> Result<Statement<'a>, Refusal>
+    requires { length tokens.now ≤ 1024 }
+    ensures { Finds (λ s. s) result (pseudo (p.BranchSwapped cond) (operands_of tokens.now)) }
 {
-    let Operands::Two(rd, number) = operands else {
-        return None;
+    let (rs2, rs1, target) = registers_and_value(alloc, tokens)?;
+    Ok(Statement::Branch {
+        cond,
+        rs1,
+        rs2,
+        target,
+    })
+}
+
+fn jump<'a>(alloc: Global, tokens: &[Token<'a>]) -> Result<Statement<'a>, Refusal>
+    requires { length tokens.now ≤ 1024 }
+    ensures { Finds (λ s. s) result (one value (λ target. s.Jal 0 target) (operands_of tokens.now)) }
+{
+    let target = one_value(alloc, tokens)?;
+    Ok(Statement::Jal { rd: x(0), target })
+}
+
+fn jump_register<'a>(tokens: &[Token<'a>]) -> Result<Statement<'a>, Refusal>
+    requires { length tokens.now ≤ 1024 }
+    ensures { Finds (λ s. s) result (one register (λ rs. s.Instruction (k.Jalr 0 rs (pos 0))) (operands_of tokens.now)) }
+{
+    let base = one_register(tokens)?;
+    Ok(jump_to(x(0), base))
+}
+
+#[tactic(auto, unfolding(crate::specs::Statements::pseudo))]
+fn read_csr<'a>(tokens: &[Token<'a>]) -> Result<Statement<'a>, Refusal>
+    requires { length tokens.now ≤ 1024 }
+    ensures { Finds (λ s. s) result (pseudo p.CsrRead (operands_of tokens.now)) }
+{
+    let Some((rd, number)) = pair(tokens) else {
+        return Err(Refusal::BadOperands);
     };
-    let rd = register(&rd)?;
-    let csr = csr(&number)?.number();
-    Some(instruction(Kind::Csr {
+    let rd = register(rd)?;
+    let csr = csr(number)?.number();
+    Ok(instruction(Kind::Csr {
         op: CsrOp::Set,
         rd,
         rs1: x(0),
@@ -80,16 +150,17 @@ pub fn read_csr<'a>(operands: Operands<'a>) -> Option<Statement<'a>>
     }))
 }
 
-#[tactic(auto, unfolding(crate::specs::Statements::stands))]
-pub fn write_csr<'a>(op: CsrOp, operands: Operands<'a>) -> Option<Statement<'a>>
-    ensures { result ≡ stands (f.CsrChange op) operands.entry }
+#[tactic(auto, unfolding(crate::specs::Statements::pseudo))]
+fn write_csr<'a>(op: CsrOp, tokens: &[Token<'a>]) -> Result<Statement<'a>, Refusal>
+    requires { length tokens.now ≤ 1024 }
+    ensures { Finds (λ s. s) result (pseudo (p.CsrChange op) (operands_of tokens.now)) }
 {
-    let Operands::Two(number, source) = operands else {
-        return None;
+    let Some((number, source)) = pair(tokens) else {
+        return Err(Refusal::BadOperands);
     };
-    let csr = csr(&number)?.number();
-    let rs1 = register(&source)?;
-    Some(instruction(Kind::Csr {
+    let csr = csr(number)?.number();
+    let rs1 = register(source)?;
+    Ok(instruction(Kind::Csr {
         op,
         rd: x(0),
         rs1,
@@ -97,16 +168,21 @@ pub fn write_csr<'a>(op: CsrOp, operands: Operands<'a>) -> Option<Statement<'a>>
     }))
 }
 
-#[tactic(auto, unfolding(crate::specs::Statements::stands))]
-pub fn write_csr_imm<'a>(op: CsrOp, operands: Operands<'a>) -> Option<Statement<'a>>
-    ensures { result ≡ stands (f.CsrChangeImm op) operands.entry }
+#[tactic(auto, unfolding(crate::specs::Statements::pseudo))]
+fn write_csr_imm<'a>(
+    alloc: Global,
+    op: CsrOp,
+    tokens: &[Token<'a>],
+) -> Result<Statement<'a>, Refusal>
+    requires { length tokens.now ≤ 1024 }
+    ensures { Finds (λ s. s) result (pseudo (p.CsrChangeImm op) (operands_of tokens.now)) }
 {
-    let Operands::Two(number, imm) = operands else {
-        return None;
+    let Some((number, imm)) = pair(tokens) else {
+        return Err(Refusal::BadOperands);
     };
-    let csr = csr(&number)?;
-    let imm = value(imm)?;
-    Some(Statement::CsrImm {
+    let csr = csr(number)?;
+    let imm = read_value(alloc, imm)?;
+    Ok(Statement::CsrImm {
         op,
         rd: x(0),
         imm,
@@ -114,75 +190,83 @@ pub fn write_csr_imm<'a>(op: CsrOp, operands: Operands<'a>) -> Option<Statement<
     })
 }
 
-pub fn li<'a>(operands: Operands<'a>) -> Option<Statement<'a>>
-    ensures { result ≡ two register value (λ rd v. s.Li rd v) operands.entry }
+fn li<'a>(alloc: Global, tokens: &[Token<'a>]) -> Result<Statement<'a>, Refusal>
+    requires { length tokens.now ≤ 1024 }
+    ensures { Finds (λ s. s) result (two register value (λ rd v. s.Li rd v) (operands_of tokens.now)) }
 {
-    let (rd, value) = register_and_value(operands)?;
-    Some(Statement::Li { rd, value })
+    let (rd, value) = register_and_value(alloc, tokens)?;
+    Ok(Statement::Li { rd, value })
 }
 
-pub fn la<'a>(operands: Operands<'a>) -> Option<Statement<'a>>
-    ensures { result ≡ two register value (λ rd target. s.La rd target) operands.entry }
+fn la<'a>(alloc: Global, tokens: &[Token<'a>]) -> Result<Statement<'a>, Refusal>
+    requires { length tokens.now ≤ 1024 }
+    ensures { Finds (λ s. s) result (two register value (λ rd target. s.La rd target) (operands_of tokens.now)) }
 {
-    let (rd, target) = register_and_value(operands)?;
-    Some(Statement::La { rd, target })
+    let (rd, target) = register_and_value(alloc, tokens)?;
+    Ok(Statement::La { rd, target })
 }
 
 /// A call through `scratch`, with the way back in `link`.
-pub fn call<'a>(link: Reg, scratch: Reg, operands: Operands<'a>) -> Option<Statement<'a>>
-    ensures { result ≡ one value (λ target. s.Call link scratch target) operands.entry }
+fn call<'a>(
+    alloc: Global,
+    link: Reg,
+    scratch: Reg,
+    tokens: &[Token<'a>],
+) -> Result<Statement<'a>, Refusal>
+    requires { length tokens.now ≤ 1024 }
+    ensures { Finds (λ s. s) result (one value (λ target. s.Call link scratch target) (operands_of tokens.now)) }
 {
-    let target = one_value(operands)?;
-    Some(Statement::Call {
+    let target = one_value(alloc, tokens)?;
+    Ok(Statement::Call {
         link,
         scratch,
         target,
     })
 }
 
-/// `E` or `E,fill`
-pub fn space<'a>(operands: Operands<'a>) -> Option<Statement<'a>>
-    ensures { result ≡ space operands.entry }
+/// `addi x0,x0,0`
+fn nop<'a>() -> Statement<'a>
+    ensures { result ≡ s.Instruction (k.OpImm Addi 0 0 (pos 0)) }
 {
-    match operands {
-        Operands::One(size) => {
-            let size = value(size)?;
-            Some(Statement::Space { size, fill: None })
-        }
-        Operands::Two(size, fill) => {
-            let size = value(size)?;
-            let fill = value(fill)?;
-            Some(Statement::Space {
-                size,
-                fill: Some(fill),
-            })
-        }
-        _ => None,
+    instruction(Kind::OpImm {
+        op: ImmOp::Addi,
+        rd: x(0),
+        rs1: x(0),
+        imm: 0,
+    })
+}
+
+/// What a word that stands for other instructions and its operands stand for.
+#[tactic(auto, unfolding(crate::specs::Statements::pseudo))]
+pub fn read_pseudo<'a>(
+    alloc: Global,
+    form: Pseudo,
+    tokens: &[Token<'a>],
+) -> Result<Statement<'a>, Refusal>
+    requires { length tokens.now ≤ 1024 }
+    ensures { Finds (λ s. s) result (pseudo form (operands_of tokens.now)) }
+{
+    match form {
+        Pseudo::Nop => alone(nop(), tokens),
+        Pseudo::Mv => op_with_imm(ImmOp::Addi, 0, tokens),
+        Pseudo::Not => op_with_imm(ImmOp::Xori, -1, tokens),
+        Pseudo::Neg => op_on_zero(AluOp::Sub, tokens),
+        Pseudo::Seqz => op_with_imm(ImmOp::Sltiu, 1, tokens),
+        Pseudo::Snez => op_on_zero(AluOp::Sltu, tokens),
+        Pseudo::Sltz => op_with_zero(AluOp::Slt, tokens),
+        Pseudo::Sgtz => op_on_zero(AluOp::Slt, tokens),
+        Pseudo::BranchZero(cond) => branch_zero(alloc, cond, tokens),
+        Pseudo::ZeroBranch(cond) => zero_branch(alloc, cond, tokens),
+        Pseudo::BranchSwapped(cond) => branch_swapped(alloc, cond, tokens),
+        Pseudo::Jump => jump(alloc, tokens),
+        Pseudo::JumpRegister => jump_register(tokens),
+        Pseudo::Return => alone(jump_to(x(0), x(1)), tokens),
+        Pseudo::CsrRead => read_csr(tokens),
+        Pseudo::CsrChange(op) => write_csr(op, tokens),
+        Pseudo::CsrChangeImm(op) => write_csr_imm(alloc, op, tokens),
+        Pseudo::Li => li(alloc, tokens),
+        Pseudo::La => la(alloc, tokens),
+        Pseudo::Call => call(alloc, x(1), x(1), tokens),
+        Pseudo::Tail => call(alloc, x(0), x(6), tokens),
     }
-}
-
-pub fn align<'a>(operands: Operands<'a>) -> Option<Statement<'a>>
-    ensures { result ≡ one value (λ power. s.Align power) operands.entry }
-{
-    let power = one_value(operands)?;
-    Some(Statement::Align { power })
-}
-
-pub fn balign<'a>(operands: Operands<'a>) -> Option<Statement<'a>>
-    ensures { result ≡ one value (λ multiple. s.Balign multiple) operands.entry }
-{
-    let multiple = one_value(operands)?;
-    Some(Statement::Balign { multiple })
-}
-
-#[tactic(auto, unfolding(crate::specs::Statements::stands))]
-pub fn constant<'a>(operands: Operands<'a>) -> Option<Statement<'a>>
-    ensures { result ≡ stands f.Constant operands.entry }
-{
-    let Operands::Two(name, operand) = operands else {
-        return None;
-    };
-    let name = symbol(&name)?;
-    let value = value(operand)?;
-    Some(Statement::Constant { name, value })
 }

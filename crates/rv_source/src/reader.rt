@@ -1,17 +1,37 @@
 //! Reads a line.
 ghost use Rattle.std.specs.Prelude.{◌≡◌, ◌<◌, ◌≤◌, length, IfSome};
 ghost use Rattle.std.specs.Option.{option_map};
-ghost use Rattle.rv_source.specs.Faults.{Gives};
+ghost use Rattle.rv_tokens.specs.Faults.{Gives};
+ghost use Rattle.rv_tokens.specs.Parts.{IsCutInto};
+ghost use Rattle.rv_tokens.specs.Tokens.{tokens};
+ghost use Rattle.rv_source.specs.Operands.{operands_of};
+ghost use Rattle.rv_source.specs.Partial.{Finds};
 ghost use Rattle.rv_source.specs.Reading.{label_of, statement_of, rest_of, before_colon, line_of, said};
+ghost use Rattle.rv_source.specs.Statements.{meaning};
 
-use crate::dispatch::read_form;
-use crate::operand::{behind, read_operands};
-use crate::scan::tokens;
-use crate::table::{Form, form_of};
+use crate::directives::read_directive;
+use crate::form::{Directive, Form};
+use crate::instructions::read_instruction;
+use crate::operand::{are_operands, behind};
+use crate::pseudo::read_pseudo;
+use crate::refusal::Refusal;
+use crate::table::form_of;
 use crate::terms::is_symbol;
-use crate::token::Token;
-use crate::{Label, Line, LineFault, Name, Statement};
+use crate::{Label, Line, LineFault, Statement};
+use rv_tokens::{Name, Token, cut_line};
 use std::alloc::Global;
+
+/// What a form and its operands stand for.
+fn read_form<'a>(alloc: Global, form: Form, tokens: &[Token<'a>]) -> Result<Statement<'a>, Refusal>
+    requires { length tokens.now ≤ 1024 }
+    ensures { Finds (λ s. s) result (meaning form (operands_of tokens.now)) }
+{
+    match form {
+        Form::Instruction(form) => read_instruction(alloc, form, tokens),
+        Form::Pseudo(form) => read_pseudo(alloc, form, tokens),
+        Form::Directive(form) => read_directive(alloc, form, tokens),
+    }
+}
 
 /// What a word and the tokens behind it say.
 #[tactic(auto, unfolding(crate::specs::Reading::statement_of))]
@@ -24,13 +44,19 @@ fn read_statement<'a>(
     ensures { Gives (λ s. s) result (statement_of word.now tokens.now) }
 {
     let form = form_of(word.bytes());
-    if let Some(Form::Marker) = form {
+    if let Some(Form::Directive(Directive::Marker)) = form {
         return Ok(Statement::Marker);
     }
-    let operands = read_operands(alloc, tokens)?;
-    match form {
-        Some(form) => read_form(alloc, form, operands),
-        None => Err(LineFault::UnknownWord),
+    if !are_operands(tokens) {
+        return Err(LineFault::Syntax);
+    }
+    let Some(form) = form else {
+        return Err(LineFault::UnknownWord);
+    };
+    match read_form(alloc, form, tokens) {
+        Ok(statement) => Ok(statement),
+        Err(Refusal::BadOperands) => Err(LineFault::BadOperands),
+        Err(Refusal::OutOfMemory) => Err(LineFault::OutOfMemory),
     }
 }
 
@@ -101,10 +127,16 @@ fn read_tokens<'a>(alloc: Global, tokens: &[Token<'a>]) -> Result<Line<'a>, Line
 }
 
 /// What a line says, or what is wrong with it. It has no LF, nor the CR before one.
+///
+/// # Errors
+///
+/// `LineTooLong`, `BadByte` and `Syntax` of its tokens come first, then `Syntax`, `UnknownWord` and `BadOperands` in
+/// this order; `OutOfMemory` may come in place of any answer.
 #[tactic(auto, unfolding(crate::specs::Reading::said))]
 pub fn read_line<'a>(alloc: Global, text: &'a [u8]) -> Result<Line<'a>, LineFault>
-    ensures { Gives (λ l. l) result (said text.now) }
+    ensures cut { IsCutInto text.now (tokens text.now) }
+    ensures says { Gives (λ l. l) result (said text.now) }
 {
-    let tokens = tokens(alloc, text)?;
+    let tokens = cut_line(alloc, text)?;
     read_tokens(alloc, &tokens)
 }

@@ -1,6 +1,7 @@
 //! Statements: what a mnemonic or a directive and its operands stand for, with expressions not yet evaluated.
-use crate::{Expression, Name};
+use crate::Expression;
 use rv_isa::{Cond, CsrOp, ImmOp, Instr, LoadOp, Reg, ShiftOp, Width};
+use rv_tokens::Name;
 use std::marker::Model;
 
 /// The number of a control register: 0 to 4095, whether it exists or not.

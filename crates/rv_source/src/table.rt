@@ -152,18 +152,21 @@ fn row_of<F: Copy>(table: &[(&str, F)], word: &[u8]) -> Option<F>
     None
 }
 
+#[tactic(auto, unfolding(crate::specs::Words::instruction_words))]
 fn instruction_of(word: &[u8]) -> Option<Instruction>
     ensures { result ≡ row_of word.now instruction_words }
 {
     row_of(&INSTRUCTIONS, word)
 }
 
+#[tactic(auto, unfolding(crate::specs::Words::pseudo_words))]
 fn pseudo_of(word: &[u8]) -> Option<Pseudo>
     ensures { result ≡ row_of word.now pseudo_words }
 {
     row_of(&PSEUDOS, word)
 }
 
+#[tactic(auto, unfolding(crate::specs::Words::directive_words))]
 fn directive_of(word: &[u8]) -> Option<Directive>
     ensures { result ≡ row_of word.now directive_words }
 {

@@ -1,12 +1,13 @@
 //! Reads expressions.
-ghost use Rattle.std.specs.Prelude.{◌≡◌, ◌≤◌, length};
-ghost use Rattle.rv_source.specs.Faults.{Gives};
-ghost use Rattle.rv_source.specs.Expressions.{atom_of, is_symbol, sign_of, sum_of, times};
+ghost use Rattle.std.specs.Prelude.{◌≡◌, ◌≤◌, ◌∷◌, List, is_some, length};
+ghost use Rattle.rv_tokens.specs.declared.token.Token.{Token};
+ghost use Rattle.rv_source.specs.Partial.{Finds, terms_behind};
+ghost use Rattle.rv_source.specs.Expressions.{atom_of, is_symbol, sign_of, terms, times, value};
 
-use crate::token::Token;
-use crate::{Atom, Expression, LineFault, Name, Term};
+use crate::refusal::Refusal;
+use crate::{Atom, Expression, Term, Wanted};
+use rv_tokens::{Name, Token};
 use std::alloc::Global;
-use std::marker::Model;
 
 /// Whether a name is one other than `.`.
 pub fn is_symbol(name: &Name) -> bool
@@ -56,92 +57,79 @@ fn times(sign: bool, other: bool) -> bool
     sign != other
 }
 
-/// What may stand next in an expression.
-#[derive(Clone, Copy, PartialEq, Eq, Debug)]
-pub enum Wanted {
-    /// A sign; the expression may also end.
-    Sign,
-    /// A value, or one sign more before it.
-    Value {
-        /// Whether the value is subtracted, by the signs before it.
-        negative: bool,
-        /// Whether one sign more may stand before it.
-        more: bool,
-    },
-}
+/// What may stand at the front of an expression: at most one sign, and a value.
+const START: Wanted = Wanted::Value {
+    negative: false,
+    more: true,
+};
 
-/// An expression as far as it has been read.
-#[derive(Drop)]
-struct Reader<'a> {
-    wanted: Wanted,
-    terms: Vec<Term<'a>>,
-}
-
-impl<'a> Model for Reader<'a> {
-    ghost use Rattle.rv_source.specs.Partial.{Partial};
-
-    ghost Value = { Partial };
-
-    ghost view = { λ r. record { wanted = r.wanted; terms = r.terms.items } };
-}
-
-impl<'a> Reader<'a> {
-    ghost use Rattle.std.specs.Prelude.{◌≤◌, ◌+◌, length, OnOk};
-    ghost use Rattle.rv_source.specs.Partial.{Takes};
-
-    /// Takes one token more.
-    #[tactic(auto, unfolding(crate::specs::Expressions::terms), using(crate::proofs::Sums::with_terms_append))]
-    fn take(&mut self, token: &Token<'a>) -> Result<(), LineFault>
-        ensures all { Takes result self.old token.now self.new }
-        ensures short { OnOk result (length self.new.terms ≤ length self.old.terms + 1) }
-    {
-        if let Some(sign) = sign(token) {
-            self.wanted = match self.wanted {
-                Wanted::Sign => Wanted::Value {
-                    negative: sign,
-                    more: true,
-                },
-                Wanted::Value {
-                    negative,
-                    more: true,
-                } => Wanted::Value {
-                    negative: times(negative, sign),
-                    more: false,
-                },
-                Wanted::Value { more: false, .. } => return Err(LineFault::Syntax),
-            };
-            return Ok(());
+/// Reads one token more: the term that it completes, if it completes one, and what may stand behind it. None where the
+/// token may not stand here.
+#[tactic(auto, unfolding(crate::specs::Expressions::terms))]
+fn read_token<'a>(wanted: Wanted, token: &Token<'a>) -> Option<(Option<Term<'a>>, Wanted)>
+    ensures { (ts : List Token) → terms wanted (token.now ∷ ts) ≡ terms_behind result ts }
+{
+    let Wanted::Value { negative, more } = wanted else {
+        let negative = sign(token)?;
+        return Some((
+            None,
+            Wanted::Value {
+                negative,
+                more: true,
+            },
+        ));
+    };
+    if let Some(sign) = sign(token) {
+        if !more {
+            return None;
         }
-        let Some(atom) = atom(token) else {
-            return Err(LineFault::Syntax);
-        };
-        let Wanted::Value { negative, .. } = self.wanted else {
-            return Err(LineFault::Syntax);
-        };
-        self.terms.push(Term { negative, atom })?;
-        self.wanted = Wanted::Sign;
-        Ok(())
+        let negative = times(negative, sign);
+        return Some((
+            None,
+            Wanted::Value {
+                negative,
+                more: false,
+            },
+        ));
     }
+    let atom = atom(token)?;
+    Some((Some(Term { negative, atom }), Wanted::Sign))
+}
+
+/// Whether all of the tokens are an expression.
+#[tactic(auto, using(crate::proofs::Sums::terms_end), unfolding(crate::specs::Expressions::value))]
+pub fn is_value(tokens: &[Token]) -> bool
+    ensures { result ≡ is_some (value tokens.now) }
+{
+    let mut wanted = START;
+    for token in tokens {
+        match read_token(wanted, token) {
+            Some((_, next)) => wanted = next,
+            None => return false,
+        }
+    }
+    matches!(wanted, Wanted::Sign)
 }
 
 /// The expression that all of the tokens spell.
-#[tactic(auto, unfolding(crate::specs::Expressions::terms))]
-pub fn read_expression<'a>(alloc: Global, tokens: &[Token<'a>]) -> Result<Expression<'a>, LineFault>
+#[tactic(auto, using(crate::proofs::Sums::terms_end, crate::proofs::Sums::with_terms_nothing), unfolding(crate::specs::Expressions::value))]
+pub fn read_value<'a>(alloc: Global, tokens: &[Token<'a>]) -> Result<Expression<'a>, Refusal>
     requires { length tokens.now ≤ 1024 }
-    ensures { Gives (λ e. e) result (sum_of tokens.now) }
+    ensures { Finds (λ e. e) result (value tokens.now) }
 {
-    let mut reader = Reader {
-        wanted: Wanted::Value {
-            negative: false,
-            more: true,
-        },
-        terms: Vec::new(alloc),
-    };
+    let mut wanted = START;
+    let mut terms = Vec::new(alloc);
     for token in tokens {
-        reader.take(token)?;
+        let Some((term, next)) = read_token(wanted, token) else {
+            return Err(Refusal::BadOperands);
+        };
+        if let Some(term) = term {
+            terms.push(term)?;
+        }
+        wanted = next;
     }
-    match reader.wanted {
-        Wanted::Sign => Ok(Expression::new(reader.terms)),
-        Wanted::Value { .. } => Err(LineFault::Syntax),
+    match wanted {
+        Wanted::Sign => Ok(Expression::new(terms)),
+        Wanted::Value { .. } => Err(Refusal::BadOperands),
     }
 }

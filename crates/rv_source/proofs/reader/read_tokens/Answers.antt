@@ -3,7 +3,7 @@ use Rattle.std.specs.Prelude.{Ok}
 use Rattle.std.proofs.lemmas.Result.{err_from_is_err_and}
 use Rattle.rv_source.specs.Reading.{rest_of}
 use Rattle.rv_source.proofs.Labelling.{line_label, line_no_label, line_rest, with_labels_append, with_labels_fails}
-use Rattle.rv_source.proofs.Pieces.{bind_fails}
+use Rattle.rv_source.proofs.Labelling.{bind_fails}
 use Rattle.rv_source.proofs.reader.read_tokens.Goals as goal
 
 pub loop-first-preserved : goal.loop-first-preserved

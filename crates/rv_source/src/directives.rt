@@ -1,0 +1,160 @@
+//! Directives.
+ghost use Rattle.std.specs.Prelude.{◌≡◌, ◌≤◌, ◌++◌, length};
+ghost use Rattle.std.specs.Option.{option_map};
+ghost use Rattle.rv_source.specs.declared.form.Directive.TheVariants as d;
+ghost use Rattle.rv_source.specs.declared.statement.Statement.TheVariants as s;
+ghost use Rattle.rv_source.specs.Operands.{operands_of};
+ghost use Rattle.rv_source.specs.Partial.{Finds, Becomes};
+ghost use Rattle.rv_source.specs.Expressions.{value};
+ghost use Rattle.rv_source.specs.Statements.{of_some, one, values, string, strings, space, directive};
+
+use crate::form::Directive;
+use crate::instructions::one_value;
+use crate::operand::{Operands, are_none, only, pair};
+use crate::places::symbol;
+use crate::refusal::Refusal;
+use crate::terms::read_value;
+use crate::{Bytes, Statement, Values};
+use rv_isa::Width;
+use rv_tokens::Token;
+use std::alloc::Global;
+
+/// The values of one or more operands.
+#[tactic(auto, using(crate::proofs::Listed::values_more, crate::proofs::Listed::values_none, crate::proofs::Listed::values_end, crate::proofs::Listed::some_operands, crate::proofs::Listed::no_operands))]
+fn read_values<'a>(alloc: Global, tokens: &[Token<'a>]) -> Result<Values<'a>, Refusal>
+    requires { length tokens.now ≤ 1024 }
+    ensures { Finds (λ v. v) result (of_some values (operands_of tokens.now)) }
+{
+    if are_none(tokens) {
+        return Err(Refusal::BadOperands);
+    }
+    let mut out = Vec::new(alloc);
+    let mut operands = Operands::of(tokens);
+    while let Some(operand) = operands.next() {
+        let value = read_value(alloc, operand)?;
+        out.push(value)?;
+    }
+    Ok(Values::new(out))
+}
+
+/// Appends the bytes of a string, with a byte 0 behind them where it is terminated.
+fn append_string(out: &mut Vec<u8>, terminated: bool, operand: &[Token]) -> Result<(), Refusal>
+    ensures { Becomes out.new.items result (option_map (λ bs. out.old.items ++ bs) (string terminated operand.now)) }
+{
+    let [token] = operand else {
+        return Err(Refusal::BadOperands);
+    };
+    let Token::Text(text) = token else {
+        return Err(Refusal::BadOperands);
+    };
+    text.append_to(out)?;
+    if terminated {
+        out.push(0)?;
+    }
+    Ok(())
+}
+
+/// The bytes of one or more strings, each with a byte 0 behind it where it is terminated.
+#[tactic(auto, using(crate::proofs::Listed::strings_more, crate::proofs::Listed::strings_none, crate::proofs::Listed::strings_end, crate::proofs::Listed::some_operands, crate::proofs::Listed::no_operands))]
+fn read_strings(alloc: Global, terminated: bool, tokens: &[Token]) -> Result<Bytes, Refusal>
+    requires { length tokens.now ≤ 1024 }
+    ensures { Finds (λ b. b) result (of_some (strings terminated) (operands_of tokens.now)) }
+{
+    if are_none(tokens) {
+        return Err(Refusal::BadOperands);
+    }
+    let mut out = Vec::new(alloc);
+    let mut operands = Operands::of(tokens);
+    while let Some(operand) = operands.next() {
+        append_string(&mut out, terminated, operand)?;
+    }
+    Ok(Bytes::new(out))
+}
+
+#[tactic(auto, unfolding(crate::specs::Statements::directive))]
+fn data<'a>(alloc: Global, width: Width, tokens: &[Token<'a>]) -> Result<Statement<'a>, Refusal>
+    requires { length tokens.now ≤ 1024 }
+    ensures { Finds (λ s. s) result (directive (d.Data width) (operands_of tokens.now)) }
+{
+    let values = read_values(alloc, tokens)?;
+    Ok(Statement::Data { width, values })
+}
+
+#[tactic(auto, unfolding(crate::specs::Statements::directive))]
+fn text<'a>(alloc: Global, terminated: bool, tokens: &[Token<'a>]) -> Result<Statement<'a>, Refusal>
+    requires { length tokens.now ≤ 1024 }
+    ensures { Finds (λ s. s) result (directive (d.Text terminated) (operands_of tokens.now)) }
+{
+    let bytes = read_strings(alloc, terminated, tokens)?;
+    Ok(Statement::Bytes(bytes))
+}
+
+/// `E` or `E,fill`
+fn space<'a>(alloc: Global, tokens: &[Token<'a>]) -> Result<Statement<'a>, Refusal>
+    requires { length tokens.now ≤ 1024 }
+    ensures { Finds (λ s. s) result (space (operands_of tokens.now)) }
+{
+    if let Some(size) = only(tokens) {
+        let size = read_value(alloc, size)?;
+        return Ok(Statement::Space { size, fill: None });
+    }
+    let Some((size, fill)) = pair(tokens) else {
+        return Err(Refusal::BadOperands);
+    };
+    let size = read_value(alloc, size)?;
+    let fill = read_value(alloc, fill)?;
+    Ok(Statement::Space {
+        size,
+        fill: Some(fill),
+    })
+}
+
+fn align<'a>(alloc: Global, tokens: &[Token<'a>]) -> Result<Statement<'a>, Refusal>
+    requires { length tokens.now ≤ 1024 }
+    ensures { Finds (λ s. s) result (one value (λ power. s.Align power) (operands_of tokens.now)) }
+{
+    let power = one_value(alloc, tokens)?;
+    Ok(Statement::Align { power })
+}
+
+fn balign<'a>(alloc: Global, tokens: &[Token<'a>]) -> Result<Statement<'a>, Refusal>
+    requires { length tokens.now ≤ 1024 }
+    ensures { Finds (λ s. s) result (one value (λ multiple. s.Balign multiple) (operands_of tokens.now)) }
+{
+    let multiple = one_value(alloc, tokens)?;
+    Ok(Statement::Balign { multiple })
+}
+
+#[tactic(auto, unfolding(crate::specs::Statements::directive))]
+fn constant<'a>(alloc: Global, tokens: &[Token<'a>]) -> Result<Statement<'a>, Refusal>
+    requires { length tokens.now ≤ 1024 }
+    ensures { Finds (λ s. s) result (directive d.Constant (operands_of tokens.now)) }
+{
+    let Some((name, value)) = pair(tokens) else {
+        return Err(Refusal::BadOperands);
+    };
+    let name = symbol(name)?;
+    let value = read_value(alloc, value)?;
+    Ok(Statement::Constant { name, value })
+}
+
+/// What a directive and its operands stand for.
+#[tactic(auto, unfolding(crate::specs::Statements::directive))]
+pub fn read_directive<'a>(
+    alloc: Global,
+    form: Directive,
+    tokens: &[Token<'a>],
+) -> Result<Statement<'a>, Refusal>
+    requires { length tokens.now ≤ 1024 }
+    ensures { Finds (λ s. s) result (directive form (operands_of tokens.now)) }
+{
+    match form {
+        Directive::Data(width) => data(alloc, width, tokens),
+        Directive::Text { terminated } => text(alloc, terminated, tokens),
+        Directive::Space => space(alloc, tokens),
+        Directive::Align => align(alloc, tokens),
+        Directive::Balign => balign(alloc, tokens),
+        Directive::Constant => constant(alloc, tokens),
+        Directive::Marker => Ok(Statement::Marker),
+    }
+}

@@ -1,0 +1,426 @@
+//! What the words of instructions and their operands stand for.
+ghost use Rattle.std.specs.Prelude.{◌≡◌, ◌<◌, ◌≤◌, ◌+◌, ◌*◌, length, IfOk, pos, List, Some};
+ghost use Rattle.rv_tokens.specs.declared.token.Token.{Token};
+ghost use Rattle.rv_isa.specs.Word.{IsInRange};
+ghost use Rattle.rv_isa.specs.declared.kind.Kind.TheVariants as k;
+ghost use Rattle.rv_source.specs.declared.form.Instruction.TheVariants as f;
+ghost use Rattle.rv_source.specs.declared.statement.Statement.TheVariants as s;
+ghost use Rattle.rv_source.specs.Operands.{operands_of, pair};
+ghost use Rattle.rv_source.specs.Partial.{Finds};
+ghost use Rattle.rv_source.specs.Expressions.{value};
+ghost use Rattle.rv_source.specs.Statements.{register, csr, immediate, alone, none, both, all, jal, jalr, load, store, fence, instruction};
+
+use crate::form::Instruction;
+use crate::operand::{are_none, only, pair, triple};
+use crate::places::{csr, fence_set, immediate, memory, register, register_in, upper};
+use crate::refusal::Refusal;
+use crate::terms::{is_value, read_value};
+use crate::{Expression, Immediate, Statement};
+use rv_isa::{AluOp, Cond, CsrOp, ImmOp, Instr, Kind, LoadOp, Reg, ShiftOp, Width};
+use rv_tokens::Token;
+use std::alloc::Global;
+
+/// The register with a number below 32.
+pub fn x(number: u8) -> Reg
+    requires { number < 32 }
+    ensures { result ≡ number }
+{
+    let Some(reg) = Reg::new(number) else {
+        unreachable!()
+    };
+    reg
+}
+
+/// The statement of an instruction whose fields are in range.
+pub fn instruction<'a>(kind: Kind) -> Statement<'a>
+    requires { IsInRange kind }
+    ensures { result ≡ s.Instruction kind }
+{
+    let Some(instr) = Instr::new(kind) else {
+        unreachable!()
+    };
+    Statement::Instruction(instr)
+}
+
+/// A jump to what a register says.
+pub fn jump_to<'a>(rd: Reg, base: Reg) -> Statement<'a>
+    requires link { rd < 32 }
+    requires base { base < 32 }
+    ensures { result ≡ s.Instruction (k.Jalr rd base (pos 0)) }
+{
+    instruction(Kind::Jalr {
+        rd,
+        base,
+        offset: 0,
+    })
+}
+
+/// A fence between two sets.
+fn ordered<'a>(first: u16, second: u16) -> Statement<'a>
+    requires first { first < 16 }
+    requires second { second < 16 }
+    ensures { result ≡ s.Instruction (k.Fence 0 0 (16 * first + second)) }
+{
+    instruction(Kind::Fence {
+        rd: x(0),
+        rs1: x(0),
+        imm: 16 * first + second,
+    })
+}
+
+/// A statement that takes no operands.
+pub fn alone<'a>(statement: Statement<'a>, tokens: &[Token<'a>]) -> Result<Statement<'a>, Refusal>
+    requires { length tokens.now ≤ 1024 }
+    ensures { Finds (λ s. s) result (none statement.entry (operands_of tokens.now)) }
+{
+    if are_none(tokens) {
+        Ok(statement)
+    } else {
+        Err(Refusal::BadOperands)
+    }
+}
+
+pub fn one_register(tokens: &[Token]) -> Result<Reg, Refusal>
+    requires { length tokens.now ≤ 1024 }
+    ensures value { Finds (λ r. r) result (alone register (operands_of tokens.now)) }
+    ensures below { IfOk result (λ r. r < 32) }
+{
+    let Some(reg) = only(tokens) else {
+        return Err(Refusal::BadOperands);
+    };
+    register(reg)
+}
+
+pub fn two_registers(tokens: &[Token]) -> Result<(Reg, Reg), Refusal>
+    requires { length tokens.now ≤ 1024 }
+    ensures value { Finds (λ p. p) result (both register register (operands_of tokens.now)) }
+    ensures below { IfOk result (λ p. (p.0 < 32) × (p.1 < 32)) }
+{
+    let Some((first, second)) = pair(tokens) else {
+        return Err(Refusal::BadOperands);
+    };
+    Ok((register(first)?, register(second)?))
+}
+
+fn three_registers(tokens: &[Token]) -> Result<(Reg, Reg, Reg), Refusal>
+    requires { length tokens.now ≤ 1024 }
+    ensures value { Finds (λ p. p) result (all register register register (operands_of tokens.now)) }
+    ensures below { IfOk result (λ p. (p.0 < 32) × (p.1 < 32) × (p.2 < 32)) }
+{
+    let Some((first, second, third)) = triple(tokens) else {
+        return Err(Refusal::BadOperands);
+    };
+    Ok((register(first)?, register(second)?, register(third)?))
+}
+
+pub fn one_value<'a>(alloc: Global, tokens: &[Token<'a>]) -> Result<Expression<'a>, Refusal>
+    requires { length tokens.now ≤ 1024 }
+    ensures { Finds (λ e. e) result (alone value (operands_of tokens.now)) }
+{
+    let Some(operand) = only(tokens) else {
+        return Err(Refusal::BadOperands);
+    };
+    read_value(alloc, operand)
+}
+
+pub fn register_and_value<'a>(
+    alloc: Global,
+    tokens: &[Token<'a>],
+) -> Result<(Reg, Expression<'a>), Refusal>
+    requires { length tokens.now ≤ 1024 }
+    ensures { Finds (λ p. p) result (both register value (operands_of tokens.now)) }
+{
+    let Some((reg, operand)) = pair(tokens) else {
+        return Err(Refusal::BadOperands);
+    };
+    Ok((register(reg)?, read_value(alloc, operand)?))
+}
+
+pub fn registers_and_value<'a>(
+    alloc: Global,
+    tokens: &[Token<'a>],
+) -> Result<(Reg, Reg, Expression<'a>), Refusal>
+    requires { length tokens.now ≤ 1024 }
+    ensures { Finds (λ p. p) result (all register register value (operands_of tokens.now)) }
+{
+    let Some((first, second, operand)) = triple(tokens) else {
+        return Err(Refusal::BadOperands);
+    };
+    Ok((
+        register(first)?,
+        register(second)?,
+        read_value(alloc, operand)?,
+    ))
+}
+
+fn registers_and_immediate<'a>(
+    alloc: Global,
+    tokens: &[Token<'a>],
+) -> Result<(Reg, Reg, Immediate<'a>), Refusal>
+    requires { length tokens.now ≤ 1024 }
+    ensures { Finds (λ p. p) result (all register register immediate (operands_of tokens.now)) }
+{
+    let Some((first, second, operand)) = triple(tokens) else {
+        return Err(Refusal::BadOperands);
+    };
+    Ok((
+        register(first)?,
+        register(second)?,
+        immediate(alloc, operand)?,
+    ))
+}
+
+#[tactic(auto, unfolding(crate::specs::Statements::instruction))]
+fn lui<'a>(alloc: Global, tokens: &[Token<'a>]) -> Result<Statement<'a>, Refusal>
+    requires { length tokens.now ≤ 1024 }
+    ensures { Finds (λ s. s) result (instruction f.Lui (operands_of tokens.now)) }
+{
+    let Some((rd, imm)) = pair(tokens) else {
+        return Err(Refusal::BadOperands);
+    };
+    let rd = register(rd)?;
+    let imm = upper(alloc, imm)?;
+    Ok(Statement::Lui { rd, imm })
+}
+
+#[tactic(auto, unfolding(crate::specs::Statements::instruction))]
+fn auipc<'a>(alloc: Global, tokens: &[Token<'a>]) -> Result<Statement<'a>, Refusal>
+    requires { length tokens.now ≤ 1024 }
+    ensures { Finds (λ s. s) result (instruction f.Auipc (operands_of tokens.now)) }
+{
+    let (rd, imm) = register_and_value(alloc, tokens)?;
+    Ok(Statement::Auipc { rd, imm })
+}
+
+/// `rd,target`, or `target` alone with x1 as the link
+fn jal<'a>(alloc: Global, tokens: &[Token<'a>]) -> Result<Statement<'a>, Refusal>
+    requires { length tokens.now ≤ 1024 }
+    ensures { Finds (λ s. s) result (jal (operands_of tokens.now)) }
+{
+    if let Some(target) = only(tokens) {
+        let target = read_value(alloc, target)?;
+        return Ok(Statement::Jal { rd: x(1), target });
+    }
+    let (rd, target) = register_and_value(alloc, tokens)?;
+    Ok(Statement::Jal { rd, target })
+}
+
+/// `rd,rs1` or `rd,m`
+fn jump_from<'a>(
+    alloc: Global,
+    rd: &[Token<'a>],
+    place: &[Token<'a>],
+) -> Result<Statement<'a>, Refusal>
+    requires { length place.now ≤ 1024 }
+    ensures { (operands : List (List Token)) → pair operands ≡ Some (rd.now, place.now) → Finds (λ s. s) result (jalr operands) }
+{
+    let rd = register(rd)?;
+    if let Some(base) = register_in(place) {
+        return Ok(jump_to(rd, base));
+    }
+    let (offset, base) = memory(alloc, place)?;
+    Ok(Statement::Jalr { rd, base, offset })
+}
+
+/// `rd,rs1`, `rd,m`, `rd,rs1,i`, or `rs1` with x1 as the link
+fn jalr<'a>(alloc: Global, tokens: &[Token<'a>]) -> Result<Statement<'a>, Refusal>
+    requires { length tokens.now ≤ 1024 }
+    ensures { Finds (λ s. s) result (jalr (operands_of tokens.now)) }
+{
+    if let Some(base) = only(tokens) {
+        let base = register(base)?;
+        return Ok(jump_to(x(1), base));
+    }
+    if let Some((rd, place)) = pair(tokens) {
+        return jump_from(alloc, rd, place);
+    }
+    let (rd, base, offset) = registers_and_immediate(alloc, tokens)?;
+    Ok(Statement::Jalr { rd, base, offset })
+}
+
+#[tactic(auto, unfolding(crate::specs::Statements::instruction))]
+fn branch<'a>(alloc: Global, cond: Cond, tokens: &[Token<'a>]) -> Result<Statement<'a>, Refusal>
+    requires { length tokens.now ≤ 1024 }
+    ensures { Finds (λ s. s) result (instruction (f.Branch cond) (operands_of tokens.now)) }
+{
+    let (rs1, rs2, target) = registers_and_value(alloc, tokens)?;
+    Ok(Statement::Branch {
+        cond,
+        rs1,
+        rs2,
+        target,
+    })
+}
+
+/// `rd,m` or `rd,E`
+fn load<'a>(alloc: Global, op: LoadOp, tokens: &[Token<'a>]) -> Result<Statement<'a>, Refusal>
+    requires { length tokens.now ≤ 1024 }
+    ensures { Finds (λ s. s) result (load op (operands_of tokens.now)) }
+{
+    let Some((rd, place)) = pair(tokens) else {
+        return Err(Refusal::BadOperands);
+    };
+    let rd = register(rd)?;
+    if is_value(place) {
+        let target = read_value(alloc, place)?;
+        return Ok(Statement::LoadFrom { op, rd, target });
+    }
+    let (offset, base) = memory(alloc, place)?;
+    Ok(Statement::Load {
+        op,
+        rd,
+        base,
+        offset,
+    })
+}
+
+/// `rs2,m` or `rs,E,rt`
+fn store<'a>(alloc: Global, width: Width, tokens: &[Token<'a>]) -> Result<Statement<'a>, Refusal>
+    requires { length tokens.now ≤ 1024 }
+    ensures { Finds (λ s. s) result (store width (operands_of tokens.now)) }
+{
+    if let Some((source, place)) = pair(tokens) {
+        let source = register(source)?;
+        let (offset, base) = memory(alloc, place)?;
+        return Ok(Statement::Store {
+            width,
+            source,
+            base,
+            offset,
+        });
+    }
+    let Some((source, target, scratch)) = triple(tokens) else {
+        return Err(Refusal::BadOperands);
+    };
+    let source = register(source)?;
+    let scratch = register(scratch)?;
+    let target = read_value(alloc, target)?;
+    Ok(Statement::StoreTo {
+        width,
+        source,
+        scratch,
+        target,
+    })
+}
+
+#[tactic(auto, unfolding(crate::specs::Statements::instruction))]
+fn op_imm<'a>(alloc: Global, op: ImmOp, tokens: &[Token<'a>]) -> Result<Statement<'a>, Refusal>
+    requires { length tokens.now ≤ 1024 }
+    ensures { Finds (λ s. s) result (instruction (f.OpImm op) (operands_of tokens.now)) }
+{
+    let (rd, rs1, imm) = registers_and_immediate(alloc, tokens)?;
+    Ok(Statement::OpImm { op, rd, rs1, imm })
+}
+
+#[tactic(auto, unfolding(crate::specs::Statements::instruction))]
+fn shift<'a>(alloc: Global, op: ShiftOp, tokens: &[Token<'a>]) -> Result<Statement<'a>, Refusal>
+    requires { length tokens.now ≤ 1024 }
+    ensures { Finds (λ s. s) result (instruction (f.Shift op) (operands_of tokens.now)) }
+{
+    let (rd, rs1, amount) = registers_and_value(alloc, tokens)?;
+    Ok(Statement::Shift {
+        op,
+        rd,
+        rs1,
+        amount,
+    })
+}
+
+#[tactic(auto, unfolding(crate::specs::Statements::instruction))]
+fn op<'a>(op: AluOp, tokens: &[Token<'a>]) -> Result<Statement<'a>, Refusal>
+    requires { length tokens.now ≤ 1024 }
+    ensures { Finds (λ s. s) result (instruction (f.Op op) (operands_of tokens.now)) }
+{
+    let (rd, rs1, rs2) = three_registers(tokens)?;
+    Ok(instruction(Kind::Op { op, rd, rs1, rs2 }))
+}
+
+#[tactic(auto, unfolding(crate::specs::Statements::instruction))]
+fn change_csr<'a>(op: CsrOp, tokens: &[Token<'a>]) -> Result<Statement<'a>, Refusal>
+    requires { length tokens.now ≤ 1024 }
+    ensures { Finds (λ s. s) result (instruction (f.Csr op) (operands_of tokens.now)) }
+{
+    let Some((rd, number, rs1)) = triple(tokens) else {
+        return Err(Refusal::BadOperands);
+    };
+    let rd = register(rd)?;
+    let csr = csr(number)?.number();
+    let rs1 = register(rs1)?;
+    Ok(instruction(Kind::Csr { op, rd, rs1, csr }))
+}
+
+#[tactic(auto, unfolding(crate::specs::Statements::instruction))]
+fn change_csr_imm<'a>(
+    alloc: Global,
+    op: CsrOp,
+    tokens: &[Token<'a>],
+) -> Result<Statement<'a>, Refusal>
+    requires { length tokens.now ≤ 1024 }
+    ensures { Finds (λ s. s) result (instruction (f.CsrImm op) (operands_of tokens.now)) }
+{
+    let Some((rd, number, imm)) = triple(tokens) else {
+        return Err(Refusal::BadOperands);
+    };
+    let rd = register(rd)?;
+    let csr = csr(number)?;
+    let imm = read_value(alloc, imm)?;
+    Ok(Statement::CsrImm { op, rd, imm, csr })
+}
+
+fn fence<'a>(tokens: &[Token<'a>]) -> Result<Statement<'a>, Refusal>
+    requires { length tokens.now ≤ 1024 }
+    ensures { Finds (λ s. s) result (fence (operands_of tokens.now)) }
+{
+    if are_none(tokens) {
+        return Ok(ordered(15, 15));
+    }
+    let Some((first, second)) = pair(tokens) else {
+        return Err(Refusal::BadOperands);
+    };
+    let first = fence_set(first)?;
+    let second = fence_set(second)?;
+    Ok(ordered(first, second))
+}
+
+/// `fence.i`
+fn fence_i<'a>() -> Statement<'a>
+    ensures { result ≡ s.Instruction (k.FenceI 0 0 0) }
+{
+    instruction(Kind::FenceI {
+        rd: x(0),
+        rs1: x(0),
+        imm: 0,
+    })
+}
+
+/// What an instruction's word and its operands stand for.
+#[tactic(auto, unfolding(crate::specs::Statements::instruction))]
+pub fn read_instruction<'a>(
+    alloc: Global,
+    form: Instruction,
+    tokens: &[Token<'a>],
+) -> Result<Statement<'a>, Refusal>
+    requires { length tokens.now ≤ 1024 }
+    ensures { Finds (λ s. s) result (instruction form (operands_of tokens.now)) }
+{
+    match form {
+        Instruction::Lui => lui(alloc, tokens),
+        Instruction::Auipc => auipc(alloc, tokens),
+        Instruction::Jal => jal(alloc, tokens),
+        Instruction::Jalr => jalr(alloc, tokens),
+        Instruction::Branch(cond) => branch(alloc, cond, tokens),
+        Instruction::Load(op) => load(alloc, op, tokens),
+        Instruction::Store(width) => store(alloc, width, tokens),
+        Instruction::OpImm(op) => op_imm(alloc, op, tokens),
+        Instruction::Shift(op) => shift(alloc, op, tokens),
+        Instruction::Op(kind) => op(kind, tokens),
+        Instruction::Csr(op) => change_csr(op, tokens),
+        Instruction::CsrImm(op) => change_csr_imm(alloc, op, tokens),
+        Instruction::Fence => fence(tokens),
+        Instruction::FenceI => alone(fence_i(), tokens),
+        Instruction::Ecall => alone(instruction(Kind::Ecall), tokens),
+        Instruction::Ebreak => alone(instruction(Kind::Ebreak), tokens),
+        Instruction::Mret => alone(instruction(Kind::Mret), tokens),
+        Instruction::Wfi => alone(instruction(Kind::Wfi), tokens),
+    }
+}
