@@ -5,8 +5,8 @@ use Rattle.std.specs.Option.{option_or}
 use Rattle.std.specs.List.{AllByRecursion}
 use Rattle.std.proofs.lemmas.Bool.Decides.{nat_tests}
 use Rattle.std.proofs.lemmas.List.{get_or-set_same, get_or-set_other}
-use Rattle.rv_source.specs.declared.expression.Direction.{Direction}
-use Rattle.rv_source.specs.declared.expression.Direction.TheVariants.{Backward, Forward}
+use Rattle.rv_tokens.specs.declared.token.Direction.{Direction}
+use Rattle.rv_tokens.specs.declared.token.Direction.TheVariants.{Backward, Forward}
 use Rattle.rv_asm.specs.declared.locals.LocalLabel.{LocalLabel}
 use Rattle.rv_asm.specs.Symbols.{nearest_before, nearest_after, nearest, of_number, AreOf, Rises, IsCut, AreListed}
 

@@ -5,9 +5,9 @@ use Rattle.std.specs.List.{All}
 use Rattle.std.proofs.lemmas.List.{get_or-map}
 use Rattle.rv_source.specs.Said.{Said}
 use Rattle.rv_source.specs.Reading.{said}
-use Rattle.rv_source.specs.Faults.{Fails as LineFails}
-use Rattle.rv_source.specs.declared.fault.LineFault.{LineFault}
-use Rattle.rv_source.specs.declared.fault.LineFault.TheVariants as line
+use Rattle.rv_tokens.specs.Faults.{Fails as LineFails}
+use Rattle.rv_tokens.specs.declared.fault.LineFault.{LineFault}
+use Rattle.rv_tokens.specs.declared.fault.LineFault.TheVariants as line
 use Rattle.rv_asm.specs.declared.fault.FaultKind.{FaultKind}
 use Rattle.rv_asm.specs.declared.fault.FaultKind.TheVariants.{OutOfMemory}
 use Rattle.rv_asm.specs.declared.fault.AsmFault.{AsmFault}

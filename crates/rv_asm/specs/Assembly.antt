@@ -4,7 +4,7 @@ use Rattle.std.specs.Prelude.{ℕ, suc, List, [], map, length, get_or, ℤ, pos,
 use Rattle.std.specs.Option.{option_map, option_or, unwrap_or}
 use Rattle.rv_source.specs.Said.{Said}
 use Rattle.rv_source.specs.Reading.{said}
-use Rattle.rv_source.specs.Lines.{lines}
+use Rattle.rv_tokens.specs.Lines.{lines}
 use Rattle.rv_asm.specs.declared.fault.FaultKind.{FaultKind}
 use Rattle.rv_asm.specs.declared.fault.AsmFault.{AsmFault}
 use Rattle.rv_asm.specs.Faults.{kind_of}

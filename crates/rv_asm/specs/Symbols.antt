@@ -7,8 +7,8 @@ use Rattle.std.specs.Str.{bytes_eq}
 use Rattle.rv_source.specs.declared.expression.Atom.{Atom}
 use Rattle.rv_source.specs.declared.expression.Atom.TheVariants.{Number, Symbol, Local, Here}
 use Rattle.rv_source.specs.declared.expression.Term.{Term}
-use Rattle.rv_source.specs.declared.expression.Direction.{Direction}
-use Rattle.rv_source.specs.declared.expression.Direction.TheVariants.{Backward, Forward}
+use Rattle.rv_tokens.specs.declared.token.Direction.{Direction}
+use Rattle.rv_tokens.specs.declared.token.Direction.TheVariants.{Backward, Forward}
 use Rattle.rv_asm.specs.declared.locals.LocalLabel.{LocalLabel}
 use Rattle.rv_asm.specs.Values.{is_word}
 

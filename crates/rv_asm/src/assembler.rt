@@ -1,7 +1,7 @@
 //! From source to image.
 ghost use Rattle.std.specs.Prelude.{◌≡◌, ◌≤◌, ◌<◌, Result, IfOk, length};
 ghost use Rattle.std.specs.List.{All};
-ghost use Rattle.rv_source.specs.Lines.{lines};
+ghost use Rattle.rv_tokens.specs.Lines.{lines};
 ghost use Rattle.rv_asm.specs.declared.fault.AsmFault.{AsmFault};
 ghost use Rattle.rv_asm.specs.Faults.{Gives};
 ghost use Rattle.rv_asm.specs.Assembly.{assembled};
@@ -11,7 +11,8 @@ use crate::layout::Layout;
 use crate::placed::Placed;
 use crate::symbols::Symbols;
 use crate::{AsmFault, FaultKind, Program};
-use rv_source::{Line, cut_lines, read_line};
+use rv_source::{Line, read_line};
+use rv_tokens::cut_lines;
 use std::alloc::Global;
 
 /// One more line, where no line before it had a fault in phase two.

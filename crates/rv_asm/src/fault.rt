@@ -2,7 +2,7 @@
 ghost use Rattle.std.specs.Prelude.{◌≡◌};
 ghost use Rattle.rv_asm.specs.Faults.{number_of, name_of};
 
-use rv_source::LineFault;
+use rv_tokens::LineFault;
 use std::alloc::{AllocError, AllocFailed};
 
 /// What is wrong with a line.

@@ -2,7 +2,7 @@
 ghost use Rattle.std.specs.Prelude.{◌≡◌, ◌<◌, ℕ, [], get_or, length, OnOk};
 ghost use Rattle.rv_asm.specs.Symbols.{Rises, IsCut};
 
-use rv_source::Direction;
+use rv_tokens::Direction;
 use std::alloc::{AllocError, Global};
 use std::marker::Model;
 

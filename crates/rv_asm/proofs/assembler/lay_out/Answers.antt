@@ -1,6 +1,6 @@
 use Rattle.std.proofs.Common.{◌≡◌, ◌∙◌, ◌+◌, ◌∷◌, length, ap, sym, arith}
 use Rattle.std.specs.Prelude.{Ok}
-use Rattle.rv_source.specs.Lines.{lines}
+use Rattle.rv_tokens.specs.Lines.{lines}
 use Rattle.rv_asm.specs.Faults.{IsFaultAt, kind_of}
 use Rattle.rv_asm.specs.Assembly.{all_said}
 use Rattle.rv_asm.specs.Steps.{State, laid_out}
@@ -25,7 +25,7 @@ pub returns-in-Err-clause-layout : goal.returns-in-Err-clause-layout
 returns-in-Err-clause-layout c =
     let at : IsFaultAt (c.loop-text.number + 1) (kind_of c.in-Err.fault) c.at.result = rw c.from.ensures at c.at.ensures in
     unread (lines c.args.source.now) c.loop-text.text-iterator c.loop-text.number c.loop-text.invariant.so_far c.in-Some.text.now c.next.new.self c.in-Some.ensures.steps
-    c.in-Err.fault c.at.result c.in-Err.ensures at
+    c.in-Err.fault c.at.result c.in-Err.ensures.says at
 
 pub loop-text-preserved : goal.loop-text-preserved
 loop-text-preserved c =
@@ -39,8 +39,8 @@ loop-text-preserved c =
     record {
       can_next = tt;
       is_finite = tt;
-      so_far = read_more texts rest n so text after cut c.in-Ok.line c.in-Ok.ensures;
-      layout = rw (← laid_out_more texts rest n so text after cut c.in-Ok.line c.in-Ok.ensures) (c.extended-layout.ensures (laid_out (all_said texts) n) c.loop-text.invariant.layout);
+      so_far = read_more texts rest n so text after cut c.in-Ok.line c.in-Ok.ensures.says;
+      layout = rw (← laid_out_more texts rest n so text after cut c.in-Ok.line c.in-Ok.ensures.says) (c.extended-layout.ensures (laid_out (all_said texts) n) c.loop-text.invariant.layout);
       counted = omega (arith, c.loop-text.invariant.counted, ap length cut);
     }
 
