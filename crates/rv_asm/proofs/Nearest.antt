@@ -8,7 +8,8 @@ use Rattle.std.proofs.lemmas.List.{get_or-set_same, get_or-set_other}
 use Rattle.rv_tokens.specs.declared.token.Direction.{Direction}
 use Rattle.rv_tokens.specs.declared.token.Direction.TheVariants.{Backward, Forward}
 use Rattle.rv_asm.specs.declared.locals.LocalLabel.{LocalLabel}
-use Rattle.rv_asm.specs.Symbols.{nearest_before, nearest_after, nearest, of_number, AreOf, Rises, IsCut, AreListed}
+use Rattle.rv_asm.specs.Symbols.{nearest_before, nearest_after, nearest}
+use Rattle.rv_asm.specs.Kept.{of_number, AreOf, Rises, IsCut, AreListed}
 
 -- ---- the definitions of another number do not count
 

@@ -6,7 +6,8 @@ use Rattle.std.proofs.lemmas.List.{drop_all}
 use Rattle.rv_asm.specs.declared.fault.FaultKind.{FaultKind}
 use Rattle.rv_asm.specs.declared.fault.FaultKind.TheVariants.{BadByte, LineTooLong, Syntax, UnknownWord, BadOperands, DuplicateSymbol, NotConstant, Misplaced, TooLarge, Undefined, OutOfRange, OutOfMemory}
 use Rattle.rv_asm.specs.declared.fault.AsmFault.{AsmFault}
-use Rattle.rv_asm.specs.Faults.{Fails, FailsBy, KindFails, IsFaultAt}
+use Rattle.rv_asm.specs.Faults.{Fails, FailsBy, IsFaultAt}
+use Rattle.rv_asm.specs.Kept.{KindFails}
 use Rattle.rv_asm.specs.Listing.{◌>>=◌}
 use Rattle.rv_asm.specs.Steps.{at_line, run}
 

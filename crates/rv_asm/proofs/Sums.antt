@@ -7,7 +7,8 @@ use Rattle.std.proofs.Math.Seq.{drop-cons}
 use Rattle.std.proofs.lemmas.List.{drop_all}
 use Rattle.rv_source.specs.declared.expression.Term.{Term}
 use Rattle.rv_asm.specs.Values.{is_word}
-use Rattle.rv_asm.specs.Symbols.{Definitions, IsNear, atom_value, added, sum_value}
+use Rattle.rv_asm.specs.Symbols.{Definitions, atom_value, added, sum_value}
+use Rattle.rv_asm.specs.Kept.{IsNear}
 
 near_word : (v : ℤ) → is_word v ≡ true → IsNear 4294967296 v
 near_word v h = record { low = grind (arith, ints); high = grind (arith, ints) }

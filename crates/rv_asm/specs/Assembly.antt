@@ -1,4 +1,4 @@
--- What a source is assembled to.
+-- What a source is assembled to. For readers to audit.
 -- Own language; see docs/ASSEMBLER.md.
 use Rattle.std.specs.Prelude.{ℕ, suc, List, [], map, length, get_or, ℤ, pos, Option, Some, None, Result, Ok, Err}
 use Rattle.std.specs.Option.{option_map, option_or, unwrap_or}

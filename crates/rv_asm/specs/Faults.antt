@@ -1,4 +1,4 @@
--- Faults, and answers that may fail.
+-- Faults, and answers that may fail. For readers to audit.
 -- Own language; see docs/ASSEMBLER.md.
 use Rattle.std.specs.Prelude.{◌≡◌, ℕ, List, Result, Ok, Err, codes}
 use Rattle.rv_tokens.specs.declared.fault.LineFault.{LineFault}
@@ -47,21 +47,6 @@ Fails fault meaning = FailsBy fault.kind fault meaning
 abbrev pub Gives : {A B : Type 0} → (A → B) → Result A AsmFault → Result B AsmFault → Type 0
 Gives view (Ok x) meaning = meaning ≡ Ok (view x)
 Gives view (Err fault) meaning = Fails fault meaning
-
--- ---- the same of an answer that doesn't know its line
-
-abbrev pub KindFails : {B : Type 0} → FaultKind → Result B FaultKind → Type 0
-KindFails OutOfMemory meaning = Unit {0}
-KindFails kind meaning = meaning ≡ Err kind
-
-abbrev pub KindGives : {A B : Type 0} → (A → B) → Result A FaultKind → Result B FaultKind → Type 0
-KindGives view (Ok x) meaning = meaning ≡ Ok (view x)
-KindGives view (Err kind) meaning = KindFails kind meaning
-
--- what a call left behind it is what is meant, unless memory ran out
-abbrev pub KindBecomes : {A B : Type 0} → B → Result A FaultKind → Result B FaultKind → Type 0
-KindBecomes new (Ok x) meaning = meaning ≡ Ok new
-KindBecomes new (Err kind) meaning = KindFails kind meaning
 
 -- what is wrong with a line that can't be read
 abbrev pub kind_of : LineFault → FaultKind

@@ -1,6 +1,7 @@
 pub mod Faults
 pub mod Symbols
 pub mod Values
+pub mod Kept
 pub mod Listing
 pub mod Layout
 pub mod Assembly

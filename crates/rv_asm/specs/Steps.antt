@@ -1,5 +1,5 @@
--- What the program keeps from line to line, and how it goes on: of these speak the contracts of its parts.
--- That the whole is what Assembly.antt says is proved in proofs/.
+-- Words of private contracts: what the program keeps from line to line, and how it goes on. That the whole is what
+-- Assembly.antt says is proved in proofs/.
 use Rattle.std.specs.Prelude.{◌≡◌, ℕ, suc, ◌+◌, List, [], ◌∷◌, ◌++◌, length, ℤ, pos, true, Option, Some, None, is_some, if◌then◌else◌, Result, Ok, Err}
 use Rattle.std.specs.Option.{option_map, unwrap_or}
 use Rattle.rv_source.specs.Said.{Said}

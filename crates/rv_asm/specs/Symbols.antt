@@ -1,8 +1,7 @@
--- What is defined in a source, and what an expression stands for.
+-- What is defined in a source, and what an expression stands for. For readers to audit.
 -- Own language; see docs/ASSEMBLER.md.
-use Rattle.std.specs.Prelude.{◌≡◌, ℕ, map, Vec, ◌&&◌, List, [], ◌∷◌, ℤ, pos, ◌+ℤ◌, ◌-ℤ◌, ◌≤ℤ◌, Bool, true, Option, Some, None, option_and_then, ◌==◌, nat_le, nat_lt, if◌then◌else◌, ◌≤◌, ◌<◌, get_or, length, suc}
+use Rattle.std.specs.Prelude.{ℕ, map, Vec, ◌&&◌, List, [], ◌∷◌, ℤ, pos, ◌+ℤ◌, ◌-ℤ◌, Bool, Option, Some, None, option_and_then, ◌==◌, nat_le, nat_lt, if◌then◌else◌}
 use Rattle.std.specs.Option.{option_map, option_or}
-use Rattle.std.specs.List.{AllByRecursion}
 use Rattle.std.specs.Str.{bytes_eq}
 use Rattle.rv_source.specs.declared.expression.Atom.{Atom}
 use Rattle.rv_source.specs.declared.expression.Atom.TheVariants.{Number, Symbol, Local, Here}
@@ -10,7 +9,6 @@ use Rattle.rv_source.specs.declared.expression.Term.{Term}
 use Rattle.rv_tokens.specs.declared.token.Direction.{Direction}
 use Rattle.rv_tokens.specs.declared.token.Direction.TheVariants.{Backward, Forward}
 use Rattle.rv_asm.specs.declared.locals.LocalLabel.{LocalLabel}
-use Rattle.rv_asm.specs.Values.{is_word}
 
 -- names and local labels with their values, in order of definition
 pub record Definitions : Type 0 where
@@ -58,37 +56,3 @@ sum_value ds line here (t ∷ ts) =
 -- a map's entries as definitions
 abbrev pub definitions_of : {A : Type 0} → List (Vec ℕ A × ℤ) → List (List ℕ × ℤ)
 definitions_of = map (λ e. (e.0.items, e.1))
-
--- each value is one of 32 bits, with or without a sign
-abbrev pub AreWords : List (List ℕ × ℤ) → Type 0
-AreWords ds = AllByRecursion (λ d. is_word d.1 ≡ true) ds
-
--- from -n to n
-pub record IsNear (n : ℕ) (v : ℤ) : Type 0 where
-  pub low : pos 0 ≤ℤ (v +ℤ pos n)
-  pub high : v ≤ℤ pos n
-
--- the definitions of one number
-abbrev pub of_number : ℕ → List LocalLabel → List LocalLabel
-of_number n [] = []
-of_number n (d ∷ ds) = if d.number == n then d ∷ of_number n ds else of_number n ds
-
--- all are of one number
-abbrev pub AreOf : ℕ → List LocalLabel → Type 0
-AreOf n ds = AllByRecursion (λ d. d.number ≡ n) ds
-
--- no line is before that of an earlier definition
-abbrev pub Rises : List LocalLabel → Type 0
-Rises [] = Unit {0}
-Rises (d ∷ ds) = AllByRecursion (λ e. d.line ≤ e.line) ds × Rises ds
-
--- the first n definitions stand on this line or before it, and the others after it
-pub record IsCut (ds : List LocalLabel) (line n : ℕ) : Type 0 where
-  pub within : n ≤ length ds
-  pub before : (k : ℕ) (d : LocalLabel) → k < n → (get_or ds k d).line ≤ line
-  pub after : (k : ℕ) (d : LocalLabel) → n ≤ k → k < length ds → line < (get_or ds k d).line
-
--- the definitions of each number, at its place
-pub record AreListed (lists : List (List LocalLabel)) (ds : List LocalLabel) : Type 0 where
-  pub each : (n : ℕ) → get_or lists n [] ≡ of_number n ds
-  pub rises : Rises ds

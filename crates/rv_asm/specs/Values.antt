@@ -1,4 +1,4 @@
--- Values in the places of a statement.
+-- Values in the places of a statement. For readers to audit.
 -- Own language; see docs/ASSEMBLER.md.
 use Rattle.std.specs.Prelude.{ℕ, ◌+◌, ◌-◌, ◌/◌, ◌%◌, ◌^◌, Bool, ◌&&◌, List, [], ◌∷◌, ℤ, pos, negsuc, ◌-ℤ◌, int_le, nat_lt, ◌==◌, Option, Some, None, if◌then◌else◌}
 use Rattle.rv_isa.specs.Number.{modulo, signed}

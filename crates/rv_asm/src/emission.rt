@@ -1,7 +1,7 @@
 //! The bytes of statements, with their values put in.
 ghost use Rattle.std.specs.Prelude.{◌≡◌, ◌<◌, ◌^◌, Some, IfOk};
 ghost use Rattle.rv_isa.specs.Number.{IsWithin, IsDistance};
-ghost use Rattle.rv_asm.specs.Faults.{KindBecomes};
+ghost use Rattle.rv_asm.specs.Kept.{KindBecomes};
 ghost use Rattle.rv_asm.specs.Steps.{appended};
 ghost use Rattle.rv_asm.specs.Symbols.{sum_value};
 ghost use Rattle.rv_asm.specs.Values.{immediate, upper_immediate, five_bits, distance, hi, lo, far};

@@ -30,7 +30,7 @@ impl Model for Known {
 impl Known {
     ghost use Rattle.std.specs.Prelude.{◌≡◌, ◌≤◌};
     ghost use Rattle.std.specs.List.{All};
-    ghost use Rattle.rv_asm.specs.Faults.{KindBecomes, KindGives};
+    ghost use Rattle.rv_asm.specs.Kept.{KindBecomes, KindGives};
     ghost use Rattle.rv_asm.specs.Layout.{start};
     ghost use Rattle.rv_asm.specs.Steps.{newly_labelled, all_labelled, newly_stated};
 
@@ -125,7 +125,7 @@ impl<'a> Model for Layout<'a> {
 impl<'a> Layout<'a> {
     ghost use Rattle.std.specs.Prelude.{◌≡◌, ◌≤◌};
     ghost use Rattle.std.specs.List.{All};
-    ghost use Rattle.rv_asm.specs.Faults.{KindBecomes};
+    ghost use Rattle.rv_asm.specs.Kept.{KindBecomes};
     ghost use Rattle.rv_asm.specs.Steps.{nothing, after_line};
 
     pub fn new(alloc: Global) -> Self

@@ -15,10 +15,9 @@ mod names;
 mod placed;
 mod program;
 mod symbols;
-#[cfg(test)]
-mod tests;
 mod values;
 
 pub use assembler::assemble;
 pub use fault::{AsmFault, FaultKind};
+pub use locals::LocalLabel;
 pub use program::Program;

@@ -1,18 +1,19 @@
 //! Local labels, which may be defined again and again.
 ghost use Rattle.std.specs.Prelude.{◌≡◌, ◌<◌, ℕ, [], get_or, length, OnOk};
-ghost use Rattle.rv_asm.specs.Symbols.{Rises, IsCut};
+ghost use Rattle.rv_asm.specs.Kept.{Rises, IsCut};
 
 use rv_tokens::Direction;
 use std::alloc::{AllocError, Global};
 use std::marker::Model;
 
-/// A definition of a local label.
+/// A definition of a local label, as the definitions speak of it; the program answers none.
 #[derive(Clone, Copy, PartialEq, Eq, Debug)]
 pub struct LocalLabel {
-    /// 0 to 9999.
+    /// Its number: 0 to 9999.
     pub number: u16,
-    /// Counted from 0.
+    /// The line on which it stands, counted from 0.
     pub line: usize,
+    /// The address of what follows it.
     pub address: u32,
 }
 
@@ -51,7 +52,8 @@ impl Model for Repeated {
 
 impl Repeated {
     ghost use Rattle.std.specs.Prelude.{◌≡◌, [], ◌∷◌, ◌++◌, OnOk, OnErr};
-    ghost use Rattle.rv_asm.specs.Symbols.{nearest, Rises, AreOf};
+    ghost use Rattle.rv_asm.specs.Symbols.{nearest};
+    ghost use Rattle.rv_asm.specs.Kept.{Rises, AreOf};
 
     fn new(alloc: Global) -> Self
         ensures { result ≡ [] }
@@ -119,7 +121,7 @@ pub struct Locals {
 impl Model for Locals {
     ghost use Rattle.std.specs.Prelude.{List};
     ghost use Rattle.rv_asm.specs.declared.locals.LocalLabel.{LocalLabel};
-    ghost use Rattle.rv_asm.specs.Symbols.{AreListed};
+    ghost use Rattle.rv_asm.specs.Kept.{AreListed};
 
     ghost Value = { List LocalLabel };
 

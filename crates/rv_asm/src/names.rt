@@ -15,7 +15,8 @@ pub struct Names {
 
 impl Model for Names {
     ghost use Rattle.std.specs.Prelude.{List, ℕ, ℤ};
-    ghost use Rattle.rv_asm.specs.Symbols.{definitions_of, AreWords};
+    ghost use Rattle.rv_asm.specs.Symbols.{definitions_of};
+    ghost use Rattle.rv_asm.specs.Kept.{AreWords};
 
     ghost Value = { List (List ℕ × ℤ) };
 

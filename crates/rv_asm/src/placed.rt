@@ -1,6 +1,6 @@
 //! Statements that have their place.
 ghost use Rattle.std.specs.Prelude.{◌≡◌};
-ghost use Rattle.rv_asm.specs.Faults.{KindGives};
+ghost use Rattle.rv_asm.specs.Kept.{KindGives};
 ghost use Rattle.rv_asm.specs.Layout.{renames};
 ghost use Rattle.rv_asm.specs.Steps.{placed};
 
@@ -53,7 +53,7 @@ impl<'a> Placed<'a> {
     ghost use Rattle.std.specs.Prelude.{◌≡◌, ◌≤◌, true, IfSome};
     ghost use Rattle.std.specs.Option.{option_map};
     ghost use Rattle.rv_asm.specs.Values.{is_word};
-    ghost use Rattle.rv_asm.specs.Faults.{KindGives, KindBecomes};
+    ghost use Rattle.rv_asm.specs.Kept.{KindGives, KindBecomes};
     ghost use Rattle.rv_asm.specs.Steps.{placed, end_of, definition_in, item_bytes, appended};
 
     /// The place of a statement on a line, where its fault in phase two is none.

@@ -1,6 +1,7 @@
 //! What a source defines, and what an expression stands for.
 ghost use Rattle.std.specs.Prelude.{◌≡◌, ◌^◌, true, [], IfSome};
-ghost use Rattle.rv_asm.specs.Symbols.{atom_value, sum_value, added, IsNear};
+ghost use Rattle.rv_asm.specs.Symbols.{atom_value, sum_value, added};
+ghost use Rattle.rv_asm.specs.Kept.{IsNear};
 ghost use Rattle.rv_asm.specs.Values.{is_word};
 
 use crate::locals::Locals;

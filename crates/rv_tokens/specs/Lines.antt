@@ -1,4 +1,4 @@
--- The lines of a source.
+-- The lines of a source. For readers to audit.
 -- Own language; see docs/ASSEMBLER.md.
 use Rattle.std.specs.Prelude.{ℕ, ◌-◌, ◌&&◌, List, [], ◌∷◌, length, take, map, if◌then◌else◌, ◌==◌, nat_lt, slice_index}
 

@@ -2,7 +2,7 @@ use Rattle.std.proofs.Common.{rules, ◌≡◌, ◌∙◌, ℕ, ◌≤◌, ◌<�
 use Rattle.std.specs.List.{AllByRecursion}
 use Rattle.std.proofs.lemmas.List.Elements.{recursion_from_All}
 use Rattle.rv_asm.specs.declared.locals.LocalLabel.{LocalLabel}
-use Rattle.rv_asm.specs.Symbols.{of_number, AreListed}
+use Rattle.rv_asm.specs.Kept.{of_number, AreListed}
 use Rattle.rv_asm.proofs.Nearest.{listed_push, get_or_any}
 use Rattle.rv_asm.proofs.locals.Locals.define.Goals as goal
 

@@ -1,5 +1,5 @@
 //! Tests of whole sources.
-use crate::{AsmFault, FaultKind, Program, assemble};
+use rv_asm::{AsmFault, FaultKind, Program, assemble};
 use std::alloc::Global;
 use std::process::Abort;
 use std::test::Fail;

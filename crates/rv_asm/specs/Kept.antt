@@ -1,0 +1,59 @@
+-- Words of private contracts: answers that don't know their line, and what is kept of values and local labels.
+-- Own language; see docs/ASSEMBLER.md.
+use Rattle.std.specs.Prelude.{◌≡◌, ℕ, List, [], ◌∷◌, ℤ, pos, ◌+ℤ◌, ◌≤ℤ◌, true, ◌==◌, if◌then◌else◌, ◌≤◌, ◌<◌, get_or, length, Result, Ok, Err}
+use Rattle.std.specs.List.{AllByRecursion}
+use Rattle.rv_asm.specs.declared.fault.FaultKind.{FaultKind}
+use Rattle.rv_asm.specs.declared.fault.FaultKind.TheVariants.{OutOfMemory}
+use Rattle.rv_asm.specs.declared.locals.LocalLabel.{LocalLabel}
+use Rattle.rv_asm.specs.Values.{is_word}
+
+-- ---- an answer that may fail, and doesn't know its line
+
+abbrev pub KindFails : {B : Type 0} → FaultKind → Result B FaultKind → Type 0
+KindFails OutOfMemory meaning = Unit {0}
+KindFails kind meaning = meaning ≡ Err kind
+
+abbrev pub KindGives : {A B : Type 0} → (A → B) → Result A FaultKind → Result B FaultKind → Type 0
+KindGives view (Ok x) meaning = meaning ≡ Ok (view x)
+KindGives view (Err kind) meaning = KindFails kind meaning
+
+-- what a call left behind it is what is meant, unless memory ran out
+abbrev pub KindBecomes : {A B : Type 0} → B → Result A FaultKind → Result B FaultKind → Type 0
+KindBecomes new (Ok x) meaning = meaning ≡ Ok new
+KindBecomes new (Err kind) meaning = KindFails kind meaning
+
+-- ---- what is kept of values and local labels
+
+-- each value is one of 32 bits, with or without a sign
+abbrev pub AreWords : List (List ℕ × ℤ) → Type 0
+AreWords ds = AllByRecursion (λ d. is_word d.1 ≡ true) ds
+
+-- from -n to n
+pub record IsNear (n : ℕ) (v : ℤ) : Type 0 where
+  pub low : pos 0 ≤ℤ (v +ℤ pos n)
+  pub high : v ≤ℤ pos n
+
+-- the definitions of one number
+abbrev pub of_number : ℕ → List LocalLabel → List LocalLabel
+of_number n [] = []
+of_number n (d ∷ ds) = if d.number == n then d ∷ of_number n ds else of_number n ds
+
+-- all are of one number
+abbrev pub AreOf : ℕ → List LocalLabel → Type 0
+AreOf n ds = AllByRecursion (λ d. d.number ≡ n) ds
+
+-- no line is before that of an earlier definition
+abbrev pub Rises : List LocalLabel → Type 0
+Rises [] = Unit {0}
+Rises (d ∷ ds) = AllByRecursion (λ e. d.line ≤ e.line) ds × Rises ds
+
+-- the first n definitions stand on this line or before it, and the others after it
+pub record IsCut (ds : List LocalLabel) (line n : ℕ) : Type 0 where
+  pub within : n ≤ length ds
+  pub before : (k : ℕ) (d : LocalLabel) → k < n → (get_or ds k d).line ≤ line
+  pub after : (k : ℕ) (d : LocalLabel) → n ≤ k → k < length ds → line < (get_or ds k d).line
+
+-- the definitions of each number, at its place
+pub record AreListed (lists : List (List LocalLabel)) (ds : List LocalLabel) : Type 0 where
+  pub each : (n : ℕ) → get_or lists n [] ≡ of_number n ds
+  pub rises : Rises ds

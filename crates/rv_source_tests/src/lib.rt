@@ -1,0 +1,9 @@
+//! Tests of the lines of a source, their tokens, and what they say.
+#![tactic(auto)]
+
+#[cfg(test)]
+mod lines;
+#[cfg(test)]
+mod statements;
+#[cfg(test)]
+mod tokens;
