@@ -1,5 +1,5 @@
 -- An image in a memory of zeros.
-use Rattle.std.proofs.Common.{◌≡◌, ℕ, ◌-◌, ◌++◌, List, length, drop, ap, ◌∙◌}
+use Rattle.std.proofs.Common.{◌≡◌, ℕ, ◌++◌, List, length, drop, ap, ◌∙◌}
 use Rattle.rv_ram.specs.Bytes.{zeros}
 use Rattle.rv_ram.proofs.Zeros.{drop_zeros}
 use Rattle.rv_board.specs.Boot.{ram_with}

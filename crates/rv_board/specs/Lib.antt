@@ -1,3 +1,4 @@
 pub mod State
 pub mod Boot
+pub mod Fits
 pub mod Move

@@ -1,16 +1,15 @@
 -- User mode reaches no register.
-use Rattle.std.proofs.Common.{◌≡◌, ℕ, ◌+◌, ◌*◌, ◌/◌, ◌%◌, ◌^◌, ◌<◌, ◌≤◌, ◌==◌, Bool, true, false, Option, Some, None, refl, ap, sym, ◌∙◌, arith, nat_le}
-use Rattle.std.specs.Prelude.{if◌then◌else◌, ◌&&◌, ◌||◌, not}
+use Rattle.std.proofs.Common.{◌≡◌, ℕ, ◌+◌, ◌*◌, ◌/◌, ◌%◌, ◌^◌, ◌<◌, ◌≤◌, ◌==◌, Bool, true, false, Option, Some, None, refl, ◌∙◌, arith}
+use Rattle.std.specs.Prelude.{◌&&◌, not}
 use Rattle.std.specs.Option.{option_map}
 use Rattle.std.proofs.lemmas.Bool.{leb-true}
 use Rattle.std.proofs.lemmas.Bool.Decides.{nat_tests}
-use Rattle.rv_isa.specs.declared.Lines.{Lines}
 use Rattle.rv_pmp.specs.Pmp.{PmpState}
 use Rattle.rv_pmp.specs.Pmp as protection
 use Rattle.rv_pmp.specs.declared.access.Mode.{Mode}
-use Rattle.rv_pmp.specs.declared.access.Mode.TheVariants.{User, Machine}
-use Rattle.rv_csr.specs.State.{CsrState}
-use Rattle.rv_csr.specs.Registers.{is_from_to, is_zero, register_at, may_read, may_write, loaded, stored, read, write}
+use Rattle.rv_pmp.specs.declared.access.Mode.TheVariants.{User}
+use Rattle.rv_csr.specs.Registers.{is_from_to, register_at, may_read, may_write}
+use Rattle.rv_csr.specs.declared.register.Register.{Register}
 
 -- an address of user level isn't one of machine level
 other : (addr at : ℕ) → addr / 2 ^ 8 % 4 ≡ 0 → at / 2 ^ 8 % 4 ≡ 3 → (addr == at) ≡ false
@@ -57,18 +56,16 @@ unfolding protection.register_at
 protection-user addr h =
     rw (other_range addr 0x3 0xA0 0xA3 h refl (omega arith) (omega arith), other_range addr 0x3 0xB0 0xBF h refl (omega arith) (omega arith)) refl
 
--- so a user may reach none
+-- so a user reaches none, neither one of the table nor one of protection
 
-pub register_at-below : (addr : ℕ) (mode : Mode) → may_read addr mode ≡ true → mode ≡ User → register_at addr ≡ None
-register_at-below addr mode h user = register_at-user addr (level_0 addr (rw user at h))
+pub no_register : {A : Type 0} (x : Option A) (addr : ℕ) (mode : Mode) (found : Option Register) (register : Register)
+    → may_read addr mode ≡ true → mode ≡ User → found ≡ register_at addr → found ≡ Some register → x ≡ None
+no_register x addr mode found register may user at is = let none = register_at-user addr (level_0 addr (rw user at may)) in cc
 
-pub load-below : (pmp : PmpState) (addr : ℕ) (mode : Mode) → may_read addr mode ≡ true → mode ≡ User → protection.load pmp addr ≡ None
+pub no_load : (pmp : PmpState) (addr : ℕ) (mode : Mode) (result : Option ℕ)
+    → may_read addr mode ≡ true → mode ≡ User → result ≡ protection.load pmp addr → result ≡ None
 unfolding protection.load
-load-below pmp addr mode h user = rw (protection-user addr (level_0 addr (rw user at h))) refl
-
-pub store-below : (pmp : PmpState) (addr word : ℕ) (mode : Mode) → may_read addr mode ≡ true → mode ≡ User → protection.store pmp addr word ≡ None
-unfolding protection.store
-store-below pmp addr word mode h user = rw (protection-user addr (level_0 addr (rw user at h))) refl
+no_load pmp addr mode result may user is = is ∙ rw (protection-user addr (level_0 addr (rw user at may))) refl
 
 pub may_read-from_write : (addr : ℕ) (mode : Mode) → may_write addr mode ≡ true → may_read addr mode ≡ true
 may_read-from_write addr mode h = both (may_read addr mode) (not (addr / 2 ^ 10 % 4 == 3)) h where
@@ -76,6 +73,10 @@ may_read-from_write addr mode h = both (may_read addr mode) (not (addr / 2 ^ 10 
   both true b e = refl
   both false b e = cc
 
-pub none-from_Stores : (old : PmpState) (addr word : ℕ) (new : PmpState) (result : Option Unit) → protection.Stores old addr word new result → protection.store old addr word ≡ None → result ≡ None
-none-from_Stores old addr word new (Some done) h none = cc
-none-from_Stores old addr word new None h none = refl
+pub no_store : (old : PmpState) (addr word : ℕ) (new : PmpState) (mode : Mode) (result : Option Unit)
+    → may_write addr mode ≡ true → mode ≡ User → protection.Stores old addr word new result → result ≡ None
+unfolding protection.store
+no_store old addr word new mode (Some done) may user stores = let none = protection-user addr (level_0 addr (rw user at (may_read-from_write addr mode may))) in absurd (gone none stores) where
+  gone : protection.register_at addr ≡ None → option_map (λ register. record { entries = protection.with_word old.entries register word }) (protection.register_at addr) ≡ Some new → ⊥
+  gone none e = let q = rw none at e in cc
+no_store old addr word new mode None may user stores = refl

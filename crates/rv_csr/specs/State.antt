@@ -1,5 +1,6 @@
 -- What the control registers hold. RISC-V Privileged Architecture 20211203, section 3.1.
-use Rattle.std.specs.Prelude.{ℕ, false}
+-- To be audited: public clauses speak of it.
+use Rattle.std.specs.Prelude.{false}
 use Rattle.rv_isa.specs.declared.Lines.{Lines}
 use Rattle.rv_pmp.specs.Pmp as protection
 use Rattle.rv_pmp.specs.Pmp.{PmpState}

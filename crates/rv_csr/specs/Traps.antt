@@ -1,12 +1,12 @@
 -- Interrupts, traps and the return from them. RISC-V Privileged Architecture 20211203, sections 3.1.6, 3.1.7, 3.1.9 and 3.3.2.
-use Rattle.std.specs.Prelude.{ℕ, ◌+◌, ◌-◌, ◌*◌, ◌/◌, ◌%◌, ◌^◌, Bool, true, false, ◌==◌, ◌&&◌, not, nat_le, if◌then◌else◌, Option, Some, None}
+-- To be audited: public clauses speak of it.
+use Rattle.std.specs.Prelude.{ℕ, ◌+◌, ◌-◌, ◌*◌, ◌%◌, ◌^◌, true, false, ◌==◌, ◌&&◌, not, nat_le, if◌then◌else◌, Option, Some, None}
 use Rattle.rv_isa.specs.declared.Lines.{Lines}
 use Rattle.rv_pmp.specs.Entry.{is_machine}
 use Rattle.rv_pmp.specs.declared.access.Mode.{Mode}
-use Rattle.rv_pmp.specs.declared.access.Mode.TheVariants.{User, Machine}
+use Rattle.rv_pmp.specs.declared.access.Mode.TheVariants.{User}
 use Rattle.rv_csr.specs.Registers.{aligned}
 use Rattle.rv_csr.specs.State.{CsrState}
-use Rattle.rv_csr.specs.declared.status.Status.{Status}
 
 -- ---- interrupts
 

@@ -4,10 +4,13 @@ ghost use Rattle.rv_csr.specs.Registers.{counted, grown, with_low, with_high, wr
 
 use crate::register;
 
+/// The two counters, each of 64 bits. Privileged Architecture 20211203, section 3.1.10.
 #[derive(Clone, Copy, PartialEq, Eq, Debug)]
-pub(crate) struct Counters {
-    pub(crate) cycles: u64,
-    pub(crate) retired: u64,
+pub struct Counters {
+    /// mcycle: the steps.
+    pub cycles: u64,
+    /// minstret: the instructions that retired.
+    pub retired: u64,
 }
 
 impl Counters {

@@ -80,7 +80,7 @@ impl Csrs {
 
     /// What a mode reads at an address while the interrupt lines have these levels, or None where it may not: no
     /// register is there, or the mode is too low. User mode may read none.
-    #[tactic(auto, unfolding(crate::specs::Registers::read))]
+    #[tactic(auto, using(crate::proofs::Levels::no_load), unfolding(crate::specs::Registers::read))]
     pub fn read(&self, addr: u16, mode: Mode, lines: Lines) -> Option<u32>
         ensures value { result ≡ registers.read self.now addr mode lines }
         ensures user { mode ≡ User → result ≡ None }
@@ -117,7 +117,7 @@ impl Csrs {
 
     /// Writes the register at an address, which keeps of the value what it can. None where the mode may not, as in
     /// `read` or because the register is read-only: nothing has changed.
-    #[tactic(auto, unfolding(crate::specs::Registers::write))]
+    #[tactic(auto, using(crate::proofs::Levels::no_store), unfolding(crate::specs::Registers::write))]
     pub fn write(&mut self, addr: u16, mode: Mode, value: u32) -> Option<()>
         ensures written { Writes self.old addr mode value self.new result }
         ensures user { mode ≡ User → result ≡ None }

@@ -6,8 +6,10 @@ mod counters;
 mod csrs;
 mod register;
 mod status;
-#[cfg(test)]
-mod tests;
 mod trap;
 
+pub use counters::Counters;
 pub use csrs::Csrs;
+pub use register::Register;
+pub use status::Status;
+pub use trap::TrapRegisters;

@@ -6,23 +6,37 @@ ghost use Rattle.rv_csr.specs.Registers as spec;
 use crate::status::mode_level;
 use rv_pmp::Mode;
 
-/// A control register, beside those of physical memory protection.
+/// A control register, beside those of physical memory protection: the one of this name in the standard. Privileged
+/// Architecture 20211203, section 3.1.
 #[derive(Clone, Copy, PartialEq, Eq, Debug)]
-pub(crate) enum Register {
+pub enum Register {
+    /// Interrupt enables, the mode before the last trap, and what loads, stores and WFI go by.
     Mstatus,
+    /// What the hart implements.
     Misa,
+    /// The interrupts that are enabled.
     Mie,
+    /// Where traps go.
     Mtvec,
+    /// A word for the trap's code.
     Mscratch,
+    /// The address of the instruction that trapped.
     Mepc,
+    /// Why it trapped.
     Mcause,
+    /// What is known besides.
     Mtval,
+    /// The interrupt lines that are high.
     Mip,
+    /// The low word of the count of steps.
     Mcycle,
+    /// Its high word.
     Mcycleh,
+    /// The low word of the count of retired instructions.
     Minstret,
+    /// Its high word.
     Minstreth,
-    /// One that reads 0.
+    /// One that reads 0 and keeps nothing.
     Zero,
 }
 

@@ -6,18 +6,19 @@ ghost use Rattle.rv_csr.specs.Registers as spec;
 use rv_isa::Lines;
 use rv_pmp::Mode;
 
+/// The fields of mstatus that this hart has. Privileged Architecture 20211203, section 3.1.6.
 #[derive(Clone, Copy, PartialEq, Eq, Debug)]
-pub(crate) struct Status {
+pub struct Status {
     /// MIE: whether machine mode takes interrupts.
-    pub(crate) interrupts: bool,
+    pub interrupts: bool,
     /// MPIE: MIE before the last trap.
-    pub(crate) previous_interrupts: bool,
+    pub previous_interrupts: bool,
     /// MPP: the mode before the last trap.
-    pub(crate) previous_mode: Mode,
+    pub previous_mode: Mode,
     /// MPRV: whether loads and stores go by MPP.
-    pub(crate) modify_privilege: bool,
+    pub modify_privilege: bool,
     /// TW: whether WFI in user mode is illegal.
-    pub(crate) timeout_wait: bool,
+    pub timeout_wait: bool,
 }
 
 impl Status {

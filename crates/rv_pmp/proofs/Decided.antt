@@ -1,27 +1,45 @@
 -- The decision by the spans that are kept is that of the regions.
-use Rattle.std.proofs.Common.{◌≡◌, ℕ, zero, suc, ◌+◌, ◌-◌, ◌*◌, ◌/◌, ◌%◌, ◌^◌, ◌<◌, ◌≤◌, ◌==◌, ◌⊎◌, inl, inr, Bool, true, false, cond, List, [], ◌∷◌, length, drop, get_or, Option, Some, None, refl, ap, sym, subst, ◌∙◌, arith, add-one, add-zero, nat_lt, nat_le}
-use Rattle.std.specs.Prelude.{if◌then◌else◌, ◌&&◌, ◌||◌, not, find}
+use Rattle.std.proofs.Common.{◌≡◌, ℕ, zero, suc, ◌+◌, ◌-◌, ◌*◌, ◌%◌, ◌^◌, ◌<◌, ◌≤◌, ◌⊎◌, inl, inr, Bool, true, false, cond, List, [], ◌∷◌, length, drop, get_or, Option, Some, None, refl, ap, sym, subst, ◌∙◌, arith, add-one, add-zero, nat_lt, nat_le}
+use Rattle.std.specs.Prelude.{if◌then◌else◌, ◌&&◌, ◌||◌, find, unwrap_or}
 use Rattle.std.specs.List.{list_any, list_all}
 use Rattle.std.proofs.lemmas.Bool.{ltb-true}
 use Rattle.std.proofs.lemmas.Bool.Decides.{nat_tests}
 use Rattle.std.proofs.lemmas.Nat.{pow_pos, pow-add}
 use Rattle.rv_pmp.specs.declared.access.Access.{Access}
 use Rattle.rv_pmp.specs.declared.access.Mode.{Mode}
-use Rattle.rv_pmp.specs.declared.access.Mode.TheVariants.{User, Machine}
+use Rattle.rv_pmp.specs.declared.access.Mode.TheVariants.{Machine}
 use Rattle.rv_pmp.specs.declared.entry.Entry.{Entry}
 use Rattle.rv_pmp.specs.declared.entry.Matching.{Matching}
 use Rattle.rv_pmp.specs.declared.entry.Matching.TheVariants.{Off, Tor, Na4, Napot}
 use Rattle.rv_pmp.specs.declared.span.Span.{Span}
-use Rattle.rv_pmp.specs.Entry.{is_machine, is_matching, is_between, entry_grants, matched, region, trailing_ones}
-use Rattle.rv_pmp.specs.Kept.{meets, holds, decided, some_on, some_locked}
+use Rattle.rv_pmp.specs.Entry.{is_machine, is_between, entry_grants, matched, region, trailing_ones}
+use Rattle.rv_pmp.specs.Kept.{is_matching, meets, holds, answered, decided, some_on, some_locked}
 use Rattle.rv_pmp.specs.Pmp.{PmpState, Guard, guards_from, bytes_from, answer, grants}
 use Rattle.rv_pmp.specs.Span.{no_bytes, span, span_of, spans_from}
 
 -- ---- one step of the search
 
 -- what the entry at a place answers, or the rest
-step : Mode → Access → ℕ → ℕ → Entry → Span → Bool → Bool
-step mode access first last e s rest = if meets s first last then holds s first last && entry_grants e mode access else rest
+step : Mode → Access → ℕ → ℕ → Entry → Span → Option Bool → Option Bool
+step mode access first last e s rest = if meets s first last then Some (holds s first last && entry_grants e mode access) else rest
+
+step-some : (mode : Mode) (access : Access) (first last : ℕ) (e : Entry) (s : Span) (rest : Option Bool) (granted : Bool)
+    → answered mode access first last e s ≡ Some granted → step mode access first last e s rest ≡ Some granted
+unfolding step
+step-some mode access first last e s rest granted h = go (meets s first last) h where
+  go : (b : Bool) → (if b then Some (holds s first last && entry_grants e mode access) else None) ≡ Some granted
+      → (if b then Some (holds s first last && entry_grants e mode access) else rest) ≡ Some granted
+  go true h = h
+  go false h = cc
+
+step-none : (mode : Mode) (access : Access) (first last : ℕ) (e : Entry) (s : Span) (rest : Option Bool)
+    → answered mode access first last e s ≡ None → step mode access first last e s rest ≡ rest
+unfolding step
+step-none mode access first last e s rest h = go (meets s first last) h where
+  go : (b : Bool) → (if b then Some (holds s first last && entry_grants e mode access) else None) ≡ None
+      → (if b then Some (holds s first last && entry_grants e mode access) else rest) ≡ rest
+  go true h = cc
+  go false h = refl
 
 decided-drop : (mode : Mode) (access : Access) (first last : ℕ) (es : List Entry) (ss : List Span) (i : ℕ) (e : Entry) (s : Span)
     → i < length es → i < length ss
@@ -33,33 +51,27 @@ decided-drop mode access first last (x ∷ es) [] i e s h k = absurd (omega arit
 decided-drop mode access first last (x ∷ es) (y ∷ ss) zero e s h k = refl
 decided-drop mode access first last (x ∷ es) (y ∷ ss) (suc i) e s h k = decided-drop mode access first last es ss i e s (omega arith) (omega arith)
 
-pub decided-held : (mode : Mode) (access : Access) (first last : ℕ) (es : List Entry) (ss : List Span) (i : ℕ) (e : Entry) (s : Span)
-    → i < length es → i < length ss → meets (get_or ss i s) first last ≡ true → holds (get_or ss i s) first last ≡ true
-    → decided mode access first last (drop i es) (drop i ss) ≡ entry_grants (get_or es i e) mode access
-unfolding step
-decided-held mode access first last es ss i e s h k m o = decided-drop mode access first last es ss i e s h k ∙ rw (m, o) refl
+pub decided-answered : (mode : Mode) (access : Access) (first last : ℕ) (es : List Entry) (ss : List Span) (i : ℕ) (e : Entry) (s : Span) (granted : Bool)
+    → i < length es → i < length ss → answered mode access first last (get_or es i e) (get_or ss i s) ≡ Some granted
+    → decided mode access first last (drop i es) (drop i ss) ≡ Some granted
+decided-answered mode access first last es ss i e s granted h k a =
+    decided-drop mode access first last es ss i e s h k
+    ∙ step-some mode access first last (get_or es i e) (get_or ss i s) (decided mode access first last (drop (suc i) es) (drop (suc i) ss)) granted a
 
-pub decided-cut : (mode : Mode) (access : Access) (first last : ℕ) (es : List Entry) (ss : List Span) (i : ℕ) (s : Span)
-    → i < length es → i < length ss → meets (get_or ss i s) first last ≡ true → holds (get_or ss i s) first last ≡ false
-    → decided mode access first last (drop i es) (drop i ss) ≡ false
-unfolding step
-decided-cut mode access first last [] ss i s h k m o = absurd (omega arith)
-decided-cut mode access first last (x ∷ es) ss i s h k m o = decided-drop mode access first last (x ∷ es) ss i x s h k ∙ rw (m, o) refl
-
-pub decided-passed : (mode : Mode) (access : Access) (first last : ℕ) (es : List Entry) (ss : List Span) (i : ℕ) (s : Span)
-    → i < length es → i < length ss → meets (get_or ss i s) first last ≡ false
+pub decided-passed : (mode : Mode) (access : Access) (first last : ℕ) (es : List Entry) (ss : List Span) (i : ℕ) (e : Entry) (s : Span)
+    → i < length es → i < length ss → answered mode access first last (get_or es i e) (get_or ss i s) ≡ None
     → decided mode access first last (drop (i + 1) es) (drop (i + 1) ss) ≡ decided mode access first last (drop i es) (drop i ss)
-unfolding step
-decided-passed mode access first last [] ss i s h k m = absurd (omega arith)
-decided-passed mode access first last (x ∷ es) ss i s h k m = rw add-one (sym (decided-drop mode access first last (x ∷ es) ss i x s h k ∙ rw m refl))
+decided-passed mode access first last es ss i e s h k a =
+    rw add-one (sym (decided-drop mode access first last es ss i e s h k
+    ∙ step-none mode access first last (get_or es i e) (get_or ss i s) (decided mode access first last (drop (suc i) es) (drop (suc i) ss)) a))
 
-decided-none : (mode : Mode) (access : Access) (first last : ℕ) (es : List Entry) → decided mode access first last es [] ≡ is_machine mode
+decided-none : (mode : Mode) (access : Access) (first last : ℕ) (es : List Entry) → decided mode access first last es [] ≡ None
 unfolding decided
 decided-none mode access first last [] = refl
 decided-none mode access first last (e ∷ es) = refl
 
 pub decided-end : (mode : Mode) (access : Access) (first last : ℕ) (es : List Entry) (ss : List Span) (i : ℕ)
-    → length es ≤ i → decided mode access first last (drop i es) (drop i ss) ≡ is_machine mode
+    → length es ≤ i → decided mode access first last (drop i es) (drop i ss) ≡ None
 unfolding decided
 decided-end mode access first last [] ss zero h = refl
 decided-end mode access first last [] [] (suc i) h = refl
@@ -146,18 +158,19 @@ list_all-region lower e a n = list_all-same (region lower e) (is_between (span_o
 -- ---- the decision by spans is that by regions
 
 pub decided-spans : (mode : Mode) (access : Access) (a n lower : ℕ) (es : List Entry)
-    → decided mode access a (a + suc n) es (spans_from lower es) ≡ answer mode access (bytes_from a (suc n)) (find (λ g. list_any g.region (bytes_from a (suc n))) (guards_from lower es))
+    → unwrap_or (decided mode access a (a + suc n) es (spans_from lower es)) (is_machine mode)
+    ≡ answer mode access (bytes_from a (suc n)) (find (λ g. list_any g.region (bytes_from a (suc n))) (guards_from lower es))
 unfolding decided spans_from guards_from
 decided-spans mode access a n lower [] = refl
 decided-spans mode access a n lower (e ∷ es) =
     rw (list_any-region lower e a n)
     (go (meets (span_of lower e) a (a + suc n)) (decided-spans mode access a n e.address es))
   where
-    rest : Bool
+    rest : Option Bool
     rest = decided mode access a (a + suc n) es (spans_from e.address es)
 
-    go : (b : Bool) → rest ≡ answer mode access (bytes_from a (suc n)) (find (λ g. list_any g.region (bytes_from a (suc n))) (guards_from e.address es))
-        → (if b then holds (span_of lower e) a (a + suc n) && entry_grants e mode access else rest)
+    go : (b : Bool) → unwrap_or rest (is_machine mode) ≡ answer mode access (bytes_from a (suc n)) (find (λ g. list_any g.region (bytes_from a (suc n))) (guards_from e.address es))
+        → unwrap_or (if b then Some (holds (span_of lower e) a (a + suc n) && entry_grants e mode access) else rest) (is_machine mode)
         ≡ answer mode access (bytes_from a (suc n)) (cond b (Some (record { entry = e; region = region lower e })) (find (λ g. list_any g.region (bytes_from a (suc n))) (guards_from e.address es)))
     go true h = ap (λ b. b && entry_grants e mode access) (sym (list_all-region lower e a n))
     go false h = h
@@ -180,7 +193,7 @@ off_meets Napot lower address first last h = cc
 
 -- where no entry matches addresses, none meets a byte
 pub decided-off : (mode : Mode) (access : Access) (first last lower : ℕ) (es : List Entry)
-    → some_on es ≡ false → decided mode access first last es (spans_from lower es) ≡ is_machine mode
+    → some_on es ≡ false → decided mode access first last es (spans_from lower es) ≡ None
 unfolding decided spans_from span_of
 decided-off mode access first last lower [] off = refl
 decided-off mode access first last lower (e ∷ es) off =
@@ -202,25 +215,25 @@ word_held s first last w some within m =
 -- so machine mode may access a part of a word where no entry is locked
 pub decided-word : (access : Access) (first last lower : ℕ) (es : List Entry)
     → some_locked es ≡ false → first < last → first % 4 + (last - first) ≤ 4
-    → decided Machine access first last es (spans_from lower es) ≡ true
+    → unwrap_or (decided Machine access first last es (spans_from lower es)) true ≡ true
 unfolding decided spans_from
 decided-word access first last lower [] free some within = refl
 decided-word access first last lower (e ∷ es) free some within =
     let parts = neither e.locked (some_locked es) free in
     go (meets (span_of lower e) first last) refl parts.0 (decided-word access first last e.address es parts.1 some within)
   where
-    rest : Bool
+    rest : Option Bool
     rest = decided Machine access first last es (spans_from e.address es)
 
-    go : (b : Bool) → meets (span_of lower e) first last ≡ b → e.locked ≡ false → rest ≡ true
-        → (if b then holds (span_of lower e) first last && entry_grants e Machine access else rest) ≡ true
+    go : (b : Bool) → meets (span_of lower e) first last ≡ b → e.locked ≡ false → unwrap_or rest true ≡ true
+        → unwrap_or (if b then Some (holds (span_of lower e) first last && entry_grants e Machine access) else rest) true ≡ true
     go true m l r = rw (word_held (span_of lower e) first last (whole lower e) some within m, l) refl
     go false m l r = r
 
 -- ---- an answer of the registers
 
 pub decided-grants : (pmp : PmpState) (mode : Mode) (access : Access) (first count : ℕ) → 0 < count
-    → decided mode access first (first + count) pmp.entries (spans_from 0 pmp.entries) ≡ grants pmp mode access first count
+    → unwrap_or (decided mode access first (first + count) pmp.entries (spans_from 0 pmp.entries)) (is_machine mode) ≡ grants pmp mode access first count
 unfolding grants
 decided-grants pmp mode access first zero h = absurd (omega arith)
 decided-grants pmp mode access first (suc n) h = decided-spans mode access first n 0 pmp.entries
@@ -228,7 +241,7 @@ decided-grants pmp mode access first (suc n) h = decided-spans mode access first
 pub grants-off : (pmp : PmpState) (mode : Mode) (access : Access) (first count : ℕ) → 0 < count
     → some_on pmp.entries ≡ false → grants pmp mode access first count ≡ is_machine mode
 grants-off pmp mode access first count h off =
-    sym (decided-grants pmp mode access first count h) ∙ decided-off mode access first (first + count) 0 pmp.entries off
+    sym (decided-grants pmp mode access first count h) ∙ ap (λ o. unwrap_or o (is_machine mode)) (decided-off mode access first (first + count) 0 pmp.entries off)
 
 pub grants-word : (pmp : PmpState) (access : Access) (first count : ℕ) → 0 < count
     → some_locked pmp.entries ≡ false → first % 4 + count ≤ 4 → grants pmp Machine access first count ≡ true
@@ -275,4 +288,13 @@ pub grants_each : (pmp : PmpState) (mode : Mode) (access : Access) (first count 
 unfolding grants answer_of
 grants_each pmp mode access first count i h granted = answer_each mode access first count i 0 pmp.entries h granted
 
-pub ruleset quick_answers = (grants-off, grants-word, decided-grants)
+-- as `allowed` asks: the answer of the entry that decides, or that of the mode
+pub grants-some : (pmp : PmpState) (mode : Mode) (access : Access) (first count : ℕ) (granted : Bool) → 0 < count
+    → decided mode access first (first + count) pmp.entries (spans_from 0 pmp.entries) ≡ Some granted → grants pmp mode access first count ≡ granted
+grants-some pmp mode access first count granted h d = sym (decided-grants pmp mode access first count h) ∙ ap (λ o. unwrap_or o (is_machine mode)) d
+
+pub grants-none : (pmp : PmpState) (mode : Mode) (access : Access) (first count : ℕ) → 0 < count
+    → decided mode access first (first + count) pmp.entries (spans_from 0 pmp.entries) ≡ None → grants pmp mode access first count ≡ is_machine mode
+grants-none pmp mode access first count h d = sym (decided-grants pmp mode access first count h) ∙ ap (λ o. unwrap_or o (is_machine mode)) d
+
+pub ruleset quick_answers = (grants-off, grants-word, grants-some, grants-none)

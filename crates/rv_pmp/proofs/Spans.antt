@@ -1,5 +1,5 @@
 -- The spans of the first entries, and those of the rest.
-use Rattle.std.proofs.Common.{◌≡◌, ℕ, zero, suc, ◌+◌, ◌<◌, ◌≤◌, List, [], ◌∷◌, ◌++◌, length, take, drop, get_or, refl, ap, sym, ◌∙◌, arith, add-one, append_assoc, append-nil}
+use Rattle.std.proofs.Common.{◌≡◌, ℕ, zero, suc, ◌+◌, ◌<◌, ◌≤◌, List, [], ◌∷◌, ◌++◌, length, take, drop, get_or, refl, arith, add-one, append_assoc, append-nil}
 use Rattle.std.proofs.lemmas.List.{take_more_set, take_all, drop_all}
 use Rattle.std.proofs.Math.ListN.{set}
 use Rattle.rv_pmp.specs.declared.entry.Entry.{Entry}

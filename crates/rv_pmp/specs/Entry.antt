@@ -1,5 +1,6 @@
 -- An entry of physical memory protection, and the bytes that it protects.
 -- RISC-V Privileged Architecture 20211203, section 3.7.1.
+-- To be audited: public clauses speak of it.
 use Rattle.std.specs.Prelude.{ℕ, zero, suc, ◌+◌, ◌-◌, ◌*◌, ◌/◌, ◌%◌, ◌^◌, Bool, true, false, ◌==◌, ◌&&◌, ◌||◌, not, nat_le, nat_lt, if◌then◌else◌}
 use Rattle.rv_isa.specs.Number.{truth}
 use Rattle.rv_pmp.specs.declared.access.Access.{Access}
@@ -25,13 +26,6 @@ matching_code Napot = 3
 
 unfoldable pub matching_of : ℕ → Matching
 matching_of code = if code == 0 then Off else (if code == 1 then Tor else (if code == 2 then Na4 else Napot))
-
--- the entry matches addresses
-abbrev pub is_matching : Matching → Bool
-is_matching Off = false
-is_matching Tor = true
-is_matching Na4 = true
-is_matching Napot = true
 
 -- its address is the end of a region that begins at the address of the entry before
 abbrev pub is_top : Matching → Bool

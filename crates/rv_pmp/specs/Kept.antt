@@ -1,13 +1,23 @@
 -- What the code keeps beside the registers, so that an access computes nothing of it.
-use Rattle.std.specs.Prelude.{◌≡◌, ℕ, ◌&&◌, nat_le, nat_lt, if◌then◌else◌, Bool, List, [], ◌∷◌, IsTrue, All}
+-- Not to be audited: private contracts alone speak of it.
+use Rattle.std.specs.Prelude.{◌≡◌, ℕ, ◌&&◌, nat_le, nat_lt, if◌then◌else◌, Bool, true, false, Option, Some, None, List, [], ◌∷◌}
 use Rattle.std.specs.List.{list_any}
 use Rattle.rv_pmp.specs.declared.entry.Entry.{Entry}
+use Rattle.rv_pmp.specs.declared.entry.Matching.{Matching}
+use Rattle.rv_pmp.specs.declared.entry.Matching.TheVariants.{Off, Tor, Na4, Napot}
 use Rattle.rv_pmp.specs.declared.span.Span.{Span}
 use Rattle.rv_pmp.specs.declared.access.Access.{Access}
 use Rattle.rv_pmp.specs.declared.access.Mode.{Mode}
-use Rattle.rv_pmp.specs.Entry.{is_machine, is_matching, entry_grants}
+use Rattle.rv_pmp.specs.Entry.{entry_grants}
 use Rattle.rv_pmp.specs.Pmp.{AllReadable}
 use Rattle.rv_pmp.specs.Span.{spans_from}
+
+-- an entry matches addresses
+abbrev pub is_matching : Matching → Bool
+is_matching Off = false
+is_matching Tor = true
+is_matching Na4 = true
+is_matching Napot = true
 
 -- some entry matches addresses, and some entry is locked
 abbrev pub some_on : List Entry → Bool
@@ -30,10 +40,15 @@ meets span first end = nat_lt span.first end && nat_lt first span.end
 abbrev pub holds : Span → ℕ → ℕ → Bool
 holds span first end = nat_le span.first first && nat_le end span.end
 
--- the first entry whose span meets the bytes decides
-unfoldable pub decided : Mode → Access → ℕ → ℕ → List Entry → List Span → Bool
-decided mode access first end [] spans = is_machine mode
-decided mode access first end (entry ∷ entries) [] = is_machine mode
+-- what an entry with its span answers for the bytes from a first one up to but not including an end, if it has any of them
+abbrev pub answered : Mode → Access → ℕ → ℕ → Entry → Span → Option Bool
+answered mode access first end entry span =
+    if meets span first end then Some (holds span first end && entry_grants entry mode access) else None
+
+-- the first entry that answers decides
+unfoldable pub decided : Mode → Access → ℕ → ℕ → List Entry → List Span → Option Bool
+decided mode access first end [] spans = None
+decided mode access first end (entry ∷ entries) [] = None
 decided mode access first end (entry ∷ entries) (span ∷ spans) =
-    if meets span first end then holds span first end && entry_grants entry mode access
+    if meets span first end then Some (holds span first end && entry_grants entry mode access)
     else decided mode access first end entries spans

@@ -1,14 +1,14 @@
 -- Physical memory protection. RISC-V Privileged Architecture 20211203, section 3.7.1.
-use Rattle.std.specs.Prelude.{◌≡◌, ℕ, zero, suc, ◌+◌, ◌-◌, ◌*◌, ◌/◌, ◌%◌, ◌^◌, Bool, true, false, ◌&&◌, nat_le, if◌then◌else◌, IsTrue, List, [], ◌∷◌, replicate, All, find, slice_get, slice_set, Option, Some, None}
+-- To be audited: public clauses speak of it.
+use Rattle.std.specs.Prelude.{◌≡◌, ℕ, zero, suc, ◌+◌, ◌-◌, ◌*◌, ◌/◌, ◌%◌, ◌^◌, Bool, false, ◌&&◌, nat_le, if◌then◌else◌, IsTrue, List, [], ◌∷◌, replicate, All, find, slice_get, slice_set, Option, Some, None}
 use Rattle.std.specs.List.{list_any, list_all}
 use Rattle.std.specs.Option.{option_map, option_map_or}
-use Rattle.rv_pmp.specs.declared.pmp.TheConstants.{ENTRIES}
 use Rattle.rv_pmp.specs.declared.access.Access.{Access}
 use Rattle.rv_pmp.specs.declared.access.Mode.{Mode}
 use Rattle.rv_pmp.specs.declared.entry.Entry.{Entry}
 use Rattle.rv_pmp.specs.declared.entry.Matching.TheVariants.{Off}
-use Rattle.rv_pmp.specs.declared.pmp.Register.{Register}
-use Rattle.rv_pmp.specs.declared.pmp.Register.TheVariants.{Config, Address}
+use Rattle.rv_pmp.specs.declared.register.PmpRegister.{PmpRegister}
+use Rattle.rv_pmp.specs.declared.register.PmpRegister.TheVariants.{Config, Address}
 use Rattle.rv_pmp.specs.Entry.{is_machine, is_top, config_byte, configured, addressed, region, entry_grants}
 
 -- the entries, of which the least has the highest priority
@@ -19,8 +19,9 @@ pub record PmpState : Type 0 where
 abbrev pub off_entry : Entry
 off_entry = record { address = 0; readable = false; writable = false; executable = false; locked = false; matching = Off }
 
+-- there are eight
 abbrev pub reset : PmpState
-reset = record { entries = replicate ENTRIES off_entry }
+reset = record { entries = replicate 8 off_entry }
 
 -- no entry lets write what it doesn't let read
 abbrev pub AllReadable : List Entry → Type 0
@@ -61,7 +62,7 @@ grants pmp mode access first count =
 -- ---- the registers: pmpcfg0 to pmpcfg3, of four entries each from the low byte on, and pmpaddr0 to pmpaddr15
 
 -- the register at an address of the control registers
-unfoldable pub register_at : ℕ → Option Register
+unfoldable pub register_at : ℕ → Option PmpRegister
 register_at addr =
     if nat_le 0x3A0 addr && nat_le addr 0x3A3 then Some (Config (4 * (addr - 0x3A0)))
     else (if nat_le 0x3B0 addr && nat_le addr 0x3BF then Some (Address (addr - 0x3B0))
@@ -74,7 +75,7 @@ config_at pmp place = option_map_or config_byte (slice_get pmp.entries place) 0
 abbrev pub address_at : PmpState → ℕ → ℕ
 address_at pmp place = option_map_or (λ entry. entry.address) (slice_get pmp.entries place) 0
 
-abbrev pub word_of : PmpState → Register → ℕ
+abbrev pub word_of : PmpState → PmpRegister → ℕ
 word_of pmp (Config first) =
     config_at pmp first + config_at pmp (first + 1) * 2 ^ 8 + config_at pmp (first + 2) * 2 ^ 16
     + config_at pmp (first + 3) * 2 ^ 24
@@ -101,7 +102,7 @@ with_address entries place word =
     else changed_at entries place (λ entry. addressed entry word)
 
 -- the entries after a word was written to a register
-unfoldable pub with_word : List Entry → Register → ℕ → List Entry
+unfoldable pub with_word : List Entry → PmpRegister → ℕ → List Entry
 with_word entries (Config first) word =
     let one = with_config entries first (byte_of word 0) in
     let two = with_config one (first + 1) (byte_of word 1) in

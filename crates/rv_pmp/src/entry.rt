@@ -1,16 +1,22 @@
 //! An entry, and the span of bytes that it protects.
 ghost use Rattle.std.specs.Prelude.{◌≡◌};
-ghost use Rattle.rv_pmp.specs.Entry.{is_matching, matching_code, matching_of, config_byte, entry_grants};
+ghost use Rattle.rv_pmp.specs.Entry.{matching_code, matching_of, config_byte, entry_grants};
 ghost use Rattle.rv_pmp.specs.Entry as spec;
+ghost use Rattle.rv_pmp.specs.Kept.{is_matching};
 
 use crate::{Access, Mode};
 
-/// How an entry's address is matched: the field A of its configuration byte.
+/// How an entry's address is matched: the field A of its configuration byte. Privileged Architecture 20211203, section
+/// 3.7.1.
 #[derive(Clone, Copy, PartialEq, Eq, Debug)]
-pub(crate) enum Matching {
+pub enum Matching {
+    /// No byte.
     Off,
+    /// The bytes from the address of the entry before, or from 0 for the first entry, up to but not including its own.
     Tor,
+    /// The four bytes at its address.
     Na4,
+    /// A power of two of bytes, 8 or more, of which the trailing ones of the address tell how many.
     Napot,
 }
 
@@ -49,15 +55,22 @@ impl Matching {
     }
 }
 
-/// An entry as its registers hold it: the address register, and the configuration byte's fields.
+/// An entry as its registers hold it: the address register, and the configuration byte's fields. Privileged
+/// Architecture 20211203, section 3.7.1.
 #[derive(Clone, Copy, PartialEq, Eq, Debug)]
-pub(crate) struct Entry {
-    pub(crate) address: u32,
-    pub(crate) readable: bool,
-    pub(crate) writable: bool,
-    pub(crate) executable: bool,
-    pub(crate) locked: bool,
-    pub(crate) matching: Matching,
+pub struct Entry {
+    /// The address register: an address divided by 4.
+    pub address: u32,
+    /// R: whether loads are granted.
+    pub readable: bool,
+    /// W: whether stores are granted.
+    pub writable: bool,
+    /// X: whether fetches are granted.
+    pub executable: bool,
+    /// L: whether the entry binds machine mode too, and keeps its registers until a reset.
+    pub locked: bool,
+    /// A: how the address is matched.
+    pub matching: Matching,
 }
 
 impl Entry {

@@ -5,9 +5,10 @@
 mod access;
 mod entry;
 mod pmp;
+mod register;
 mod span;
-#[cfg(test)]
-mod tests;
 
 pub use access::{Access, Mode};
-pub use pmp::Pmp;
+pub use entry::{Entry, Matching};
+pub use pmp::{Pmp, bytes_are_granted_alone};
+pub use register::PmpRegister;

@@ -1,42 +1,22 @@
 //! The entries, and what they grant.
 ghost use Rattle.std.specs.Prelude.{◌≡◌, ℕ, ◌+◌, ◌^◌, ◌<◌, true};
 ghost use Rattle.rv_isa.specs.Width.{bytes_of};
-ghost use Rattle.rv_pmp.specs.Kept.{some_on, some_locked, decided};
-ghost use Rattle.rv_pmp.specs.Pmp.{PmpState, reset, grants, load, register_at, config_at, with_config, with_address, with_word, AllReadable, WritableIsReadable, Stores};
+ghost use Rattle.rv_pmp.specs.Kept.{some_on, some_locked, answered, decided};
+ghost use Rattle.rv_pmp.specs.Pmp.{PmpState, reset, grants, load, config_at, with_config, with_address, with_word, AllReadable, WritableIsReadable, Stores};
 ghost use Rattle.rv_pmp.specs.Pmp as spec;
 ghost use Rattle.rv_pmp.specs.Span.{spans_from};
 ghost use Rattle.rv_pmp.specs.declared.access.Access.{Access};
 ghost use Rattle.rv_pmp.specs.declared.access.Mode.{Mode};
 
-use crate::entry::{Entry, Matching};
+use crate::entry::Entry;
+use crate::register::PmpRegister;
 use crate::span::Span;
 use crate::{Access, Mode};
 use rv_isa::Width;
 use std::marker::Model;
 
 /// How many entries there are.
-pub const ENTRIES: usize = 8;
-
-/// A register, with the entry that it belongs to: the first of four for a configuration register.
-#[derive(Clone, Copy, PartialEq, Eq, Debug)]
-enum Register {
-    Config(u8),
-    Address(u8),
-}
-
-impl Register {
-    /// The register at an address of the control registers, if there is one.
-    #[tactic(auto, unfolding(crate::specs::Pmp::register_at))]
-    fn at(addr: u16) -> Option<Register>
-        ensures { result ≡ register_at addr }
-    {
-        match addr {
-            0x3A0..=0x3A3 => Some(Register::Config((4 * (addr - 0x3A0)) as u8)),
-            0x3B0..=0x3BF => Some(Register::Address((addr - 0x3B0) as u8)),
-            _ => None,
-        }
-    }
-}
+const ENTRIES: usize = 8;
 
 /// The registers of physical memory protection, with the span of each entry's region beside them, so that an access
 /// computes none.
@@ -86,7 +66,7 @@ impl Pmp {
     pub fn read_csr(&self, addr: u16) -> Option<u32>
         ensures value { result ≡ load self.now addr }
     {
-        match Register::at(addr) {
+        match PmpRegister::at(addr) {
             Some(register) => Some(self.word(register)),
             None => None,
         }
@@ -100,7 +80,7 @@ impl Pmp {
         ensures readable { WritableIsReadable self.new }
     {
         let mut entries = self.entries;
-        match Register::at(addr) {
+        match PmpRegister::at(addr) {
             Some(register) => {
                 write_word(&mut entries, register, value);
                 *self = Pmp::of(entries);
@@ -110,18 +90,18 @@ impl Pmp {
         }
     }
 
-    fn word(&self, register: Register) -> u32
+    fn word(&self, register: PmpRegister) -> u32
         ensures { result ≡ spec.word_of self.now register }
     {
         match register {
-            Register::Config(first) => {
+            PmpRegister::Config(first) => {
                 let first = first as usize;
                 self.config(first) as u32
                     + ((self.config(first + 1) as u32) << 8)
                     + ((self.config(first + 2) as u32) << 16)
                     + ((self.config(first + 3) as u32) << 24)
             }
-            Register::Address(place) => match self.entries.get(place as usize) {
+            PmpRegister::Address(place) => match self.entries.get(place as usize) {
                 Some(entry) => entry.address,
                 None => 0,
             },
@@ -150,33 +130,36 @@ impl Pmp {
             return true;
         }
         let first = addr as u64;
-        decide(
+        match decide(
             &self.entries,
             &self.spans,
             mode,
             access,
             first,
             first + bytes as u64,
-        )
+        ) {
+            Some(granted) => granted,
+            None => mode.is_machine(),
+        }
     }
 }
 
 /// Writes a register.
 #[tactic(auto, unfolding(crate::specs::Pmp::with_word))]
-fn write_word(entries: &mut [Entry; ENTRIES], register: Register, word: u32)
+fn write_word(entries: &mut [Entry; ENTRIES], register: PmpRegister, word: u32)
     requires { AllReadable entries.old }
     ensures written { entries.new ≡ with_word entries.old register word }
     ensures readable { AllReadable entries.new }
 {
     match register {
-        Register::Config(first) => {
+        PmpRegister::Config(first) => {
             let first = first as usize;
             set_config(entries, first, byte_of(word, 0));
             set_config(entries, first + 1, byte_of(word, 1));
             set_config(entries, first + 2, byte_of(word, 2));
             set_config(entries, first + 3, byte_of(word, 3));
         }
-        Register::Address(place) => set_address(entries, place as usize, word),
+        PmpRegister::Address(place) => set_address(entries, place as usize, word),
     }
 }
 
@@ -229,7 +212,25 @@ pub fn bytes_are_granted_alone()
     ensures { (pmp : PmpState) (mode : Mode) (access : Access) (first count i : ℕ) → i < count → grants pmp mode access first count ≡ true → grants pmp mode access (first + i) 1 ≡ true }
 {}
 
-/// What the first entry answers whose span meets the bytes from `first` up to but not including `end`.
+/// What an entry with its span answers for the bytes from `first` up to but not including `end`: None where it has none
+/// of them.
+fn answer(
+    entry: &Entry,
+    span: &Span,
+    mode: Mode,
+    access: Access,
+    first: u64,
+    end: u64,
+) -> Option<bool>
+    ensures { result ≡ answered mode access first end entry.now span.now }
+{
+    if !span.meets(first, end) {
+        return None;
+    }
+    Some(span.holds(first, end) && entry.grants(mode, access))
+}
+
+/// What the first entry answers that has some of the bytes.
 fn decide(
     entries: &[Entry; ENTRIES],
     spans: &[Span; ENTRIES],
@@ -237,15 +238,15 @@ fn decide(
     access: Access,
     first: u64,
     end: u64,
-) -> bool
+) -> Option<bool>
     ensures { result ≡ decided mode access first end entries.now spans.now }
 {
     for place in 0..ENTRIES {
-        if spans[place].meets(first, end) {
-            return spans[place].holds(first, end) && entries[place].grants(mode, access);
+        if let Some(granted) = answer(&entries[place], &spans[place], mode, access, first, end) {
+            return Some(granted);
         }
     }
-    mode.is_machine()
+    None
 }
 
 /// The span of each entry's region.

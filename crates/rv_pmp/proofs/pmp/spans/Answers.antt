@@ -1,4 +1,4 @@
-use Rattle.std.proofs.Common.{◌≡◌, sym, ap, ◌∙◌, arith}
+use Rattle.std.proofs.Common.{sym, ◌∙◌, arith}
 use Rattle.std.proofs.lemmas.List.{length-set}
 use Rattle.rv_pmp.specs.declared.span.Span.{Span}
 use Rattle.rv_pmp.proofs.Spans.{spans-more, spans-end}

@@ -1,0 +1,26 @@
+//! The registers of protection among the control registers. Privileged Architecture 20211203, section 3.7.1.
+ghost use Rattle.std.specs.Prelude.{◌≡◌};
+ghost use Rattle.rv_pmp.specs.Pmp.{register_at};
+
+/// A register of protection, with the entry that it belongs to: the first of four for a configuration register.
+#[derive(Clone, Copy, PartialEq, Eq, Debug)]
+pub enum PmpRegister {
+    /// One of pmpcfg0 to pmpcfg3: the configuration bytes of four entries from this one on, low byte first.
+    Config(u8),
+    /// One of pmpaddr0 to pmpaddr15: the address of this entry.
+    Address(u8),
+}
+
+impl PmpRegister {
+    /// The register at an address of the control registers, if there is one.
+    #[tactic(auto, unfolding(crate::specs::Pmp::register_at))]
+    pub(crate) fn at(addr: u16) -> Option<PmpRegister>
+        ensures { result ≡ register_at addr }
+    {
+        match addr {
+            0x3A0..=0x3A3 => Some(PmpRegister::Config((4 * (addr - 0x3A0)) as u8)),
+            0x3B0..=0x3BF => Some(PmpRegister::Address((addr - 0x3B0) as u8)),
+            _ => None,
+        }
+    }
+}
