@@ -1,3 +1,4 @@
+-- To audit: public contracts cite this.
 -- What a load, a store, a fetch and the passing of time do on the bus.
 use Rattle.std.specs.Prelude.{◌≡◌, ℕ, Bool, true, false, ◌-◌, ◌%◌, nat_lt, nat_le, ◌&&◌, if◌then◌else◌, List, length, slice_index, Option, Some, None, Result, Ok, Err}
 use Rattle.std.specs.Option.{option_map}

@@ -1,3 +1,4 @@
+-- To audit: public contracts cite this.
 -- The address table (docs/BOARD.md): window, register and widths. Every other address or width is a fault.
 use Rattle.std.specs.Prelude.{ℕ, ◌+◌, ◌-◌, ◌==◌, ◌&&◌, nat_lt, nat_le, if◌then◌else◌}
 use Rattle.rv_isa.specs.declared.op.Width.{Width}
