@@ -1,5 +1,6 @@
+-- To audit: public contracts cite this.
 -- What a load, a store, a fetch and the passing of time do on the bus.
-use Rattle.std.specs.Prelude.{◌≡◌, ℕ, Bool, true, false, ◌-◌, ◌%◌, nat_lt, nat_le, ◌&&◌, if◌then◌else◌, List, length, slice_index, Option, Some, None, Result, Ok, Err}
+use Rattle.std.specs.Prelude.{ℕ, Bool, true, false, ◌-◌, ◌%◌, nat_lt, nat_le, ◌&&◌, if◌then◌else◌, List, length, slice_index, Option, Some, None}
 use Rattle.std.specs.Option.{option_map}
 use Rattle.rv_isa.specs.declared.op.Width.{Width}
 use Rattle.rv_isa.specs.declared.op.Width.TheVariants.{One, Two, Four}

@@ -1,3 +1,4 @@
+-- To audit: public contracts cite this.
 -- What stands on the bus: the memory as its bytes, and a record for each device.
 use Rattle.std.specs.Prelude.{ℕ, List, Option, None}
 use Rattle.rv_plic.specs.Plic.{PlicState}

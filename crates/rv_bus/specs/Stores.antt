@@ -1,3 +1,4 @@
+-- To audit: public contracts cite this.
 -- What a store answers and leaves.
 use Rattle.std.specs.Prelude.{◌≡◌, ℕ, true, Option, Some, None, Result, Ok, Err}
 use Rattle.rv_isa.specs.declared.op.Width.{Width}

@@ -3,7 +3,6 @@
 
 mod bus;
 mod places;
-#[cfg(test)]
-mod tests;
 
 pub use bus::{Bus, BusFault, Mark, StoreRefusal};
+pub use places::Place;

@@ -23,23 +23,26 @@ const PLIC: u32 = 0x0c00_0000;
 
 const PLIC_END: u32 = 0x1000_0000;
 
-/// What the address table has at an address.
+/// What the address table has at an address, for an access of some width.
 #[derive(Clone, Copy, Debug, PartialEq, Eq)]
 pub enum Place {
-    /// A byte of the memory, by its offset.
+    /// The memory, at this offset in bytes: accesses of every width, and fetches.
     Ram(u32),
+    /// The halt register: words.
     Halt,
-    /// An offset in the timer's window, which may hold no register.
+    /// This offset in bytes in the timer's window: words. There may be no register, and an access is then a fault.
     Timer(u32),
-    /// An offset in the interrupt controller's window.
+    /// This offset in bytes in the interrupt controller's window: words.
     Plic(u32),
+    /// A register of the serial port: accesses of every width.
     Serial(SerialReg),
+    /// Nothing: an access is a fault.
     Nowhere,
 }
 
 /// What stands at an address, for an access of this width.
 #[tactic(auto, using(crate::proofs::Fit::memory_within), unfolding(crate::specs::Places::place_of))]
-pub fn find_place(size: u32, addr: u32, width: Width) -> Place
+pub(crate) fn find_place(size: u32, addr: u32, width: Width) -> Place
     requires words { size % 4096 ≡ 0 }
     requires aligned { addr % bytes_of width ≡ 0 }
     ensures place { result ≡ place_of size addr width }

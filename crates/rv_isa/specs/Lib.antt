@@ -3,6 +3,7 @@ pub mod Meaning
 pub mod Names
 pub mod Number
 pub mod Op
+pub mod Tables
 pub mod Text
 pub mod Word
 pub mod Width

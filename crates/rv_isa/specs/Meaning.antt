@@ -1,3 +1,4 @@
+-- To audit: public contracts cite this.
 -- The kind that a word stands for: the table of words read backwards, by a search through every kind in range.
 -- No program runs the search: it says which function `decode` computes.
 use Rattle.std.specs.Prelude.{ℕ, zero, suc, ◌^◌, ◌==◌, if◌then◌else◌, ℤ, pos, negsuc, List, [], ◌∷◌, Option, Some, None}

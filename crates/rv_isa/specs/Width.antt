@@ -1,3 +1,4 @@
+-- To audit: public contracts cite this.
 -- How wide an access is, and what a load or an immediate instruction asks for.
 -- RISC-V Unprivileged ISA 20191213, sections 2.4 and 2.6.
 use Rattle.std.specs.Prelude.{ℕ, Bool, true, false}

@@ -1,3 +1,4 @@
+-- To audit: public contracts cite this.
 -- The halt register. A program ends the board by a store to it.
 use Rattle.std.specs.Prelude.{ℕ, ◌/◌, ◌%◌, ◌==◌, if◌then◌else◌, Option, Some}
 

@@ -1,3 +1,4 @@
+-- To audit: public contracts cite this.
 -- The serial port: a queue of received bytes, and a console of sent ones.
 use Rattle.std.specs.Prelude.{ℕ, Bool, true, false, ◌+◌, ◌%◌, nat_lt, if◌then◌else◌, List, [], ◌∷◌, ◌++◌, length, drop, slice_get, Option, Some, None}
 use Rattle.rv_mmio.specs.declared.serial.SerialReg.{SerialReg}

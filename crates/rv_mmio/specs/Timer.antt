@@ -1,3 +1,4 @@
+-- To audit: public contracts cite this.
 -- The machine timer: mtime and mtimecmp of the Privileged Architecture 20211203, section 3.2.1, and the
 -- software interrupt bit msip of section 3.1.9, each read and written in words.
 use Rattle.std.specs.Prelude.{◌≡◌, ℕ, Bool, false, ◌+◌, ◌-◌, ◌*◌, ◌/◌, ◌%◌, ◌^◌, ◌==◌, nat_le, if◌then◌else◌, Option, Some, None}

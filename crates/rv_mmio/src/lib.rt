@@ -3,10 +3,8 @@
 
 mod halt;
 mod serial;
-#[cfg(test)]
-mod tests;
 mod timer;
 
 pub use halt::Halt;
 pub use serial::{Serial, SerialReg};
-pub use timer::Timer;
+pub use timer::{Timer, TimerReg};

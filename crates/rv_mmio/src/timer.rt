@@ -4,13 +4,21 @@ ghost use Rattle.rv_mmio.specs.Timer.{reset, ticked, is_due, register_at, word_o
 
 use std::marker::Model;
 
-/// A register of the timer, a word long.
+/// A register of the timer, a word long, each at an offset of its own.
+///
+/// Privileged Architecture 20211203, section 3.2.1: mtime and mtimecmp have 64 bits, and a hart of 32 bits reaches
+/// each of their words alone.
 #[derive(Clone, Copy, PartialEq, Eq, Debug)]
-enum TimerReg {
+pub enum TimerReg {
+    /// The software interrupt bit in bit 0, at 0 (section 3.1.9).
     Msip,
+    /// The low word of the time to compare with, at 0x4000.
     MtimecmpLow,
+    /// The high word of the time to compare with, at 0x4004.
     MtimecmpHigh,
+    /// The low word of the time, at 0xBFF8.
     MtimeLow,
+    /// The high word of the time, at 0xBFFC.
     MtimeHigh,
 }
 

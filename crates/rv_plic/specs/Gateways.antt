@@ -1,3 +1,4 @@
+-- To audit: public contracts cite this.
 -- Interrupt gateways (PLIC Specification 1.0, "Interrupt Gateways"). A gateway turns the level of its source's line into
 -- requests, and forwards no other request until the one before is completed.
 use Rattle.std.specs.Prelude.{ℕ, Bool, if◌then◌else◌}

@@ -1,3 +1,4 @@
+-- To audit: public contracts cite this.
 -- The interrupt controller (PLIC Specification 1.0) with 31 sources and one context.
 use Rattle.std.specs.Prelude.{ℕ, Bool, ◌/◌, ◌%◌, ◌==◌, ◌&&◌, ◌||◌, not, nat_lt, nat_le, if◌then◌else◌, List, slice_index, slice_set, replicate, Option, Some, None, unwrap_or}
 use Rattle.std.specs.List.{find, list_any}

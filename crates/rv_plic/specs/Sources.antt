@@ -1,3 +1,4 @@
+-- To audit: public contracts cite this.
 -- Sets of interrupt sources, and their words in registers (PLIC Specification 1.0, "Interrupt Pending Bits" and
 -- "Interrupt Enables": bit s of a word is for source s, and there is no source 0).
 use Rattle.std.specs.Prelude.{ℕ, ◌^◌, ◌==◌, if◌then◌else◌, List, filter}

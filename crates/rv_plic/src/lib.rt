@@ -6,8 +6,7 @@ mod plic;
 mod register;
 mod set;
 mod source;
-#[cfg(test)]
-mod tests;
 
 pub use plic::Plic;
+pub use register::PlicReg;
 pub use source::Source;

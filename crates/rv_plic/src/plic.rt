@@ -108,9 +108,15 @@ impl Plic {
         ensures { result ≡ is_notified self.now }
     {
         match self.best() {
-            Some(source) => self.priority(source) > self.threshold,
+            Some(source) => self.is_above_threshold(source),
             None => false,
         }
+    }
+
+    fn is_above_threshold(&self, source: Source) -> bool
+        ensures { result ≡ nat_lt self.now.threshold (priority_of self.now source) }
+    {
+        self.priority(source) > self.threshold
     }
 
     fn priority(&self, source: Source) -> u8

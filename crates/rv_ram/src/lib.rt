@@ -2,8 +2,6 @@
 #![tactic(auto)]
 
 mod flat;
-#[cfg(test)]
-mod tests;
 
 ghost use Rattle.std.specs.Prelude.{◌≡◌, ◌+◌, ◌*◌, ◌%◌, ◌^◌, ◌<◌, ◌≤◌, length, slice_index, OnOk, OnErr};
 ghost use Rattle.rv_isa.specs.Width.{bytes_of};

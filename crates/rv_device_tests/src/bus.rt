@@ -1,5 +1,5 @@
-//! The bus over one page.
-use crate::{Bus, BusFault, StoreRefusal};
+//! The bus over a memory.
+use rv_bus::{Bus, BusFault, StoreRefusal};
 use rv_isa::{Lines, Width};
 use rv_mmio::Serial;
 use rv_plic::Source;
@@ -7,8 +7,23 @@ use rv_ram::FlatMemory;
 use std::alloc::Global;
 use std::test::Fail;
 
+/// A bus over one page.
 fn bus(alloc: Global) -> Result<Bus<FlatMemory>, Fail> {
     Ok(Bus::new(FlatMemory::new(alloc, 1)?, Serial::new(alloc)?))
+}
+
+#[test]
+fn each_word_of_64_pages(rt: HostRuntime) -> Result<(), Fail> {
+    let memory = FlatMemory::new(rt.alloc(), 64)?;
+    let mut bus = Bus::new(memory, Serial::new(rt.alloc())?);
+    for word in 0..65536u32 {
+        let stored = bus.store(0x8000_0000 + 4 * word, Width::Four, word);
+        assert_eq!(rt; stored, Ok(()), "{word}");
+    }
+    for word in 0..65536u32 {
+        assert_eq!(rt; bus.fetch(0x8000_0000 + 4 * word), Ok(word));
+    }
+    Ok(())
 }
 
 #[test]

@@ -1,6 +1,6 @@
 //! The memory through its trait.
-use crate::{ByteMemory, FlatMemory};
 use rv_isa::{NoMemory, Width};
+use rv_ram::{ByteMemory, FlatMemory};
 use std::process::Abort;
 use std::test::Fail;
 

@@ -1,6 +1,7 @@
+//! The interrupt controller.
 ghost use Rattle.std.specs.Prelude.{◌≡◌, ◌%◌, ◌<◌};
 
-use crate::{Plic, Source};
+use rv_plic::{Plic, Source};
 use std::process::Abort;
 use std::test::Fail;
 

@@ -1,5 +1,6 @@
-use crate::{Halt, Serial, SerialReg, Timer};
+//! Timer, serial port and halt register.
 use rv_isa::NoMemory;
+use rv_mmio::{Halt, Serial, SerialReg, Timer};
 use std::test::Fail;
 
 const MSIP: u32 = 0;
@@ -40,6 +41,19 @@ fn console(rt: HostRuntime) -> Result<(), Fail> {
     serial.store(SerialReg::Tx, 0x69)?;
     assert_eq!(rt; serial.console(), b"Hi".as_slice());
     assert_eq!(rt; serial.load(SerialReg::Tx), 0);
+    Ok(())
+}
+
+#[test]
+fn console_of_100_000_bytes(rt: HostRuntime) -> Result<(), Fail> {
+    let mut serial = Serial::new(rt.alloc())?;
+    for word in 0..100_000u32 {
+        assert_eq!(rt; serial.store(SerialReg::Tx, word), Ok(()));
+    }
+    assert_eq!(rt; serial.console().len(), 100_000);
+    for (index, &byte) in serial.console().iter().enumerate() {
+        assert_eq!(rt; byte as usize, index % 256);
+    }
     Ok(())
 }
 
