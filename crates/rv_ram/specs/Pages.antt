@@ -25,7 +25,7 @@ is_zero Four v = v == 0
 
 -- a write has to make its page: it is the first to store something other than zeros there
 abbrev pub makes_page : List Bool → ℕ → Width → ℕ → Bool
-makes_page made off w v = not (is_made made off) && not (is_zero w v)
+makes_page made off w v = not (is_zero w v) && not (is_made made off)
 
 -- the pages that exist after a write: those that did, and its own if something other than zeros was stored
 abbrev pub made_after : List Bool → ℕ → Width → ℕ → List Bool
