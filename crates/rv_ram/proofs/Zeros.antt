@@ -1,6 +1,6 @@
 -- Memories of zeros.
-use Rattle.std.proofs.Common.{◌≡◌, ℕ, ◌-◌, length, drop}
-use Rattle.std.proofs.lemmas.List.{length-replicate, drop-replicate}
+use Rattle.std.proofs.Common.{◌≡◌, ℕ, zero, suc, ◌+◌, ◌-◌, [], ◌∷◌, ◌++◌, length, drop, slice_index, slice_set, refl, ap, ◌∙◌}
+use Rattle.std.proofs.lemmas.List.{length-replicate, drop-replicate, replicate-append-replicate}
 use Rattle.rv_ram.specs.Bytes.{zeros}
 
 pub length_zeros : (n : ℕ) → length (zeros n) ≡ n
@@ -10,3 +10,27 @@ length_zeros n = length-replicate n 0
 pub drop_zeros : (k n : ℕ) → drop k (zeros n) ≡ zeros (n - k)
 unfolding zeros
 drop_zeros k n = drop-replicate k n 0
+
+pub append_zeros : (n m : ℕ) → zeros n ++ zeros m ≡ zeros (n + m)
+unfolding zeros
+append_zeros n m = replicate-append-replicate n m 0
+
+pub no_zeros : zeros 0 ≡ []
+unfolding zeros
+no_zeros = refl
+
+pub get_zeros : (n i : ℕ) → slice_index (zeros n) i ≡ 0
+unfolding zeros
+get_zeros zero i = refl
+get_zeros (suc n) zero = refl
+get_zeros (suc n) (suc i) = get_zeros n i
+
+set_zeros : (n i : ℕ) → slice_set (zeros n) i 0 ≡ zeros n
+unfolding zeros
+set_zeros zero i = refl
+set_zeros (suc n) zero = refl
+set_zeros (suc n) (suc i) = ap (λ xs. 0 ∷ xs) (set_zeros n i)
+
+-- a zero that is put among zeros changes nothing
+pub set_zero : (n i x : ℕ) → x ≡ 0 → slice_set (zeros n) i x ≡ zeros n
+set_zero n i x e = ap (λ y. slice_set (zeros n) i y) e ∙ set_zeros n i

@@ -1,8 +1,9 @@
 //! A memory whose bytes stand in one block.
-ghost use Rattle.std.specs.Prelude.{◌≡◌, ◌+◌, ◌*◌, ◌%◌, ◌^◌, ◌<◌, ◌≤◌, length, slice_index, IfOk, IsOk, OnOk};
+ghost use Rattle.std.specs.Prelude.{◌≡◌, ◌+◌, ◌*◌, ◌%◌, ◌^◌, ◌<◌, ◌≤◌, length, slice_index, IfOk, IsOk, OnOk, OnErr};
 ghost use Rattle.rv_isa.specs.Width.{bytes_of};
 ghost use Rattle.rv_ram.specs.Bytes.{word_at, put, zeros};
 
+use crate::values::{put_value, word_of};
 use crate::{ByteMemory, PAGE_BYTES};
 use rv_isa::{NoMemory, Width};
 use std::alloc::Global;
@@ -50,40 +51,18 @@ impl ByteMemory for FlatMemory {
         self.bytes[off as usize]
     }
 
-    // Four neighbours, which the compiler reads as one word.
     fn read_word(&self, off: u32) -> u32 {
-        let at = off as usize;
-        let b0 = self.bytes[at] as u32;
-        let b1 = self.bytes[at + 1] as u32;
-        let b2 = self.bytes[at + 2] as u32;
-        let b3 = self.bytes[at + 3] as u32;
-        b0 + (b1 << 8) + (b2 << 16) + (b3 << 24)
+        word_of(&self.bytes, off as usize)
     }
 
+    #[tactic(auto, using(crate::proofs::Put::length_put))]
     fn write(&mut self, off: u32, width: Width, value: u32) -> Result<(), NoMemory>
         requires in_range { off + bytes_of width ≤ length self.old }
         requires aligned { off % bytes_of width ≡ 0 }
         ensures succeeds { IsOk result }
         ensures ok { OnOk result (self.new ≡ put self.old off width value) }
     {
-        let at = off as usize;
-        match width {
-            Width::One => {
-                self.bytes[at] = (value % 256) as u8;
-                Ok(())
-            }
-            Width::Two => {
-                self.bytes[at] = (value % 256) as u8;
-                self.bytes[at + 1] = (value / 256 % 256) as u8;
-                Ok(())
-            }
-            Width::Four => {
-                self.bytes[at] = (value % 256) as u8;
-                self.bytes[at + 1] = (value / 256 % 256) as u8;
-                self.bytes[at + 2] = (value / 65536 % 256) as u8;
-                self.bytes[at + 3] = (value / 16777216) as u8;
-                Ok(())
-            }
-        }
+        put_value(&mut self.bytes, off as usize, width, value);
+        Ok(())
     }
 }

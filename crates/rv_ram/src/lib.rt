@@ -1,13 +1,20 @@
 //! Memories: lists of bytes, low byte first.
+//!
+//! - `ByteMemory` is what the layers above know of a memory: its size and its bytes.
+//! - `FlatMemory` makes all its bytes at once, and `PagedRam` a page at the first write that needs it.
 #![tactic(auto)]
 
 mod flat;
+mod page;
+mod paged;
+mod values;
 
 ghost use Rattle.std.specs.Prelude.{◌≡◌, ◌+◌, ◌*◌, ◌%◌, ◌^◌, ◌<◌, ◌≤◌, length, slice_index, OnOk, OnErr};
 ghost use Rattle.rv_isa.specs.Width.{bytes_of};
 ghost use Rattle.rv_ram.specs.Bytes.{word_at, put};
 
 pub use flat::FlatMemory;
+pub use paged::PagedRam;
 use rv_isa::{NoMemory, Width};
 
 /// How many bytes a page has. A memory has 1 to 4096 pages.

@@ -1,0 +1,32 @@
+-- To be audited.
+-- What the contract of `PagedRam` says of its pages (own definition; docs/ARCHITECTURE.md).
+use Rattle.std.specs.Prelude.{ℕ, ◌/◌, ◌%◌, ◌==◌, ◌&&◌, ◌||◌, not, Bool, false, List, replicate, slice_index_or, slice_set}
+use Rattle.rv_isa.specs.declared.op.Width.{Width}
+use Rattle.rv_isa.specs.declared.op.Width.TheVariants.{One, Two, Four}
+
+-- a memory that comes page by page: its bytes, and of each page of 4096 of them whether it exists
+pub record PagedBytes : Type 0 where
+  pub bytes : List ℕ
+  pub made : List Bool
+
+-- of so many pages none exists
+unfoldable pub none_made : ℕ → List Bool
+none_made pages = replicate pages false
+
+-- the page at an offset exists
+abbrev pub is_made : List Bool → ℕ → Bool
+is_made made off = slice_index_or made (off / 4096) false
+
+-- the low bytes of a value are all zero
+abbrev pub is_zero : Width → ℕ → Bool
+is_zero One v = v % 256 == 0
+is_zero Two v = v % 65536 == 0
+is_zero Four v = v == 0
+
+-- a write has to make its page: it is the first to store something other than zeros there
+abbrev pub makes_page : List Bool → ℕ → Width → ℕ → Bool
+makes_page made off w v = not (is_zero w v) && not (is_made made off)
+
+-- the pages that exist after a write: those that did, and its own if something other than zeros was stored
+abbrev pub made_after : List Bool → ℕ → Width → ℕ → List Bool
+made_after made off w v = slice_set made (off / 4096) (is_made made off || not (is_zero w v))

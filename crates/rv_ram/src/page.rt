@@ -1,0 +1,103 @@
+//! A page, which takes room only once something other than zeros is stored in it.
+ghost use Rattle.std.specs.Prelude.{◌≡◌, ◌+◌, ◌<◌, ◌≤◌, ◌||◌, not, false, length, slice_index, OnOk, OnErr};
+ghost use Rattle.std.specs.Vec.{vec_len};
+ghost use Rattle.rv_isa.specs.Width.{bytes_of};
+ghost use Rattle.rv_ram.specs.Bytes.{word_at, put, zeros};
+ghost use Rattle.rv_ram.specs.Pages.{is_zero};
+ghost use Rattle.rv_ram.specs.Table.{new_page};
+
+use crate::PAGE_BYTES;
+use crate::values::{put_value, stores_zeros, word_of};
+use rv_isa::{NoMemory, Width};
+use std::alloc::Global;
+use std::marker::Model;
+
+/// The 4096 bytes of a page. A page that does not exist yet keeps none of them, and reads as zeros.
+#[derive(Drop)]
+pub struct Page {
+    bytes: Vec<u8>,
+}
+
+impl Model for Page {
+    ghost use Rattle.std.specs.Prelude.{◌≡◌, length};
+    ghost use Rattle.rv_ram.specs.Table.{PageState, page_of};
+
+    ghost Value = { PageState };
+
+    ghost view = { λ p. page_of p.bytes.items };
+
+    ghost invariant = { λ p. length (page_of p.bytes.items).bytes ≡ 4096 };
+}
+
+impl Page {
+    /// A page that does not exist yet. Takes no memory.
+    #[tactic(auto, using(crate::proofs::Zeros::length_zeros))]
+    pub fn new(alloc: Global) -> Page
+        ensures { result ≡ new_page }
+    {
+        Page {
+            bytes: Vec::new(alloc),
+        }
+    }
+
+    /// The byte at a place.
+    #[tactic(auto, using(crate::proofs::Table::byte_of, crate::proofs::Table::no_byte))]
+    pub fn read(&self, at: usize) -> u8
+        requires { at < 4096 }
+        ensures { result ≡ slice_index self.now.bytes at }
+    {
+        if self.bytes.is_empty() {
+            0
+        } else {
+            self.bytes[at]
+        }
+    }
+
+    /// The word at a place.
+    #[tactic(auto, using(crate::proofs::Table::word_of_page, crate::proofs::Table::no_word))]
+    pub fn read_word(&self, at: usize) -> u32
+        requires { at + 4 ≤ 4096 }
+        ensures { result ≡ word_at self.now.bytes at }
+    {
+        if self.bytes.is_empty() {
+            0
+        } else {
+            word_of(&self.bytes, at)
+        }
+    }
+
+    /// Puts the low bytes of a value at a place. Only a page that does not exist yet takes memory, and only
+    /// for something other than zeros; a refused write changes nothing.
+    #[tactic(auto, using(crate::proofs::Put::length_put, crate::proofs::Zeros::length_zeros, crate::proofs::Table::put_unmade, crate::proofs::Table::unmade_bytes, crate::proofs::Table::unmade, crate::proofs::Table::made_bytes, crate::proofs::Table::is_made_page))]
+    pub fn write(&mut self, at: usize, width: Width, value: u32) -> Result<(), NoMemory>
+        requires { at + bytes_of width ≤ 4096 }
+        ensures whole { length self.new.bytes ≡ 4096 }
+        ensures ok { OnOk result (self.new.bytes ≡ put self.old.bytes at width value) }
+        ensures made { OnOk result (self.new.made ≡ (self.old.made || not (is_zero width value))) }
+        ensures err { OnErr result (self.new ≡ self.old) }
+        ensures unmade { OnErr result (self.old.made ≡ false) }
+        ensures nonzero { OnErr result (is_zero width value ≡ false) }
+    {
+        if self.bytes.is_empty() {
+            if stores_zeros(width, value) {
+                return Ok(());
+            }
+            make(&mut self.bytes, PAGE_BYTES as usize)?;
+        }
+        put_value(&mut self.bytes, at, width, value);
+        Ok(())
+    }
+}
+
+/// Makes the zeros of a page. It is apart, so that a write to a page that exists stays short.
+#[cold]
+#[inline(never)]
+#[tactic(auto, unfolding(crate::specs::Bytes::zeros))]
+fn make(bytes: &mut Vec<u8>, count: usize) -> Result<(), NoMemory>
+    requires { vec_len bytes.old ≡ 0 }
+    ensures ok { OnOk result (bytes.new.items ≡ zeros count) }
+    ensures err { OnErr result (bytes.new.items ≡ bytes.old.items) }
+{
+    bytes.resize(count, 0)?;
+    Ok(())
+}

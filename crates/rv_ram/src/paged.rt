@@ -1,0 +1,86 @@
+//! A memory whose pages come as they are written.
+ghost use Rattle.std.specs.Prelude.{◌≡◌, ◌+◌, ◌*◌, ◌/◌, ◌%◌, ◌^◌, ◌<◌, ◌≤◌, false, length, slice_index, IfOk, IsOk, OnOk, OnErr};
+ghost use Rattle.rv_isa.specs.Width.{bytes_of};
+ghost use Rattle.rv_ram.specs.Bytes.{word_at, put, zeros};
+ghost use Rattle.rv_ram.specs.Pages.{none_made, makes_page, made_after};
+
+use crate::page::Page;
+use crate::{ByteMemory, PAGE_BYTES};
+use rv_isa::{NoMemory, Width};
+use std::alloc::Global;
+use std::marker::Model;
+
+/// A memory whose pages take room only once something other than zeros is stored in them.
+///
+/// The table of the pages is made with the memory. So a write may be refused only where it is the first to store
+/// something other than zeros in its page; reads, and all other writes, take no memory.
+#[derive(Drop)]
+pub struct PagedRam {
+    pages: Vec<Page>,
+}
+
+impl Model for PagedRam {
+    ghost use Rattle.rv_ram.specs.Pages.{PagedBytes};
+    ghost use Rattle.rv_ram.specs.Table.{joined, made_of, IsTable};
+
+    ghost Value = { PagedBytes };
+
+    ghost view = { λ m. record { bytes = joined m.pages.items; made = made_of m.pages.items } };
+
+    ghost invariant = { λ m. IsTable m.pages.items };
+}
+
+impl PagedRam {
+    /// A memory of so many pages, all zero, of which none exists yet.
+    #[tactic(auto, using(crate::proofs::Table::joined_new, crate::proofs::Table::made_new, crate::proofs::Table::new_more, crate::proofs::Table::new_zero, crate::proofs::Table::is_table_new, crate::proofs::Zeros::length_zeros))]
+    pub fn new(alloc: Global, pages: u32) -> Result<PagedRam, NoMemory>
+        requires some { 1 ≤ pages }
+        requires most { pages ≤ 4096 }
+        ensures zeros { IfOk result (λ m. m.bytes ≡ zeros (4096 * pages)) }
+        ensures pages { IfOk result (λ m. m.made ≡ none_made pages) }
+        ensures size { IfOk result (λ m. length m.bytes ≡ 4096 * pages) }
+    {
+        let mut table = Vec::with_capacity(alloc, pages as usize)?;
+        for _n in 0..pages {
+            if table.push(Page::new(alloc)).is_err() {
+                return Err(NoMemory);
+            }
+        }
+        Ok(PagedRam { pages: table })
+    }
+}
+
+impl ByteMemory for PagedRam {
+    ghost bytes = { λ m. m.bytes };
+
+    #[tactic(auto, using(crate::proofs::Table::length_joined))]
+    fn size(&self) -> u32 {
+        PAGE_BYTES * self.pages.len() as u32
+    }
+
+    #[tactic(auto, using(crate::proofs::Table::index_in, crate::proofs::Table::byte_joined))]
+    fn read(&self, off: u32) -> u8 {
+        let page = &self.pages[(off / PAGE_BYTES) as usize];
+        page.read((off % PAGE_BYTES) as usize)
+    }
+
+    #[tactic(auto, using(crate::proofs::Table::index_in, crate::proofs::Table::word_joined))]
+    fn read_word(&self, off: u32) -> u32 {
+        let page = &self.pages[(off / PAGE_BYTES) as usize];
+        page.read_word((off % PAGE_BYTES) as usize)
+    }
+
+    #[tactic(auto, using(crate::proofs::Table::index_in, crate::proofs::Table::in_page, crate::proofs::Table::joined_put, crate::proofs::Table::made_of_set, crate::proofs::Table::made_of_get))]
+    fn write(&mut self, off: u32, width: Width, value: u32) -> Result<(), NoMemory>
+        requires in_range { off + bytes_of width ≤ length self.old.bytes }
+        requires aligned { off % bytes_of width ≡ 0 }
+        ensures ok { OnOk result (self.new.bytes ≡ put self.old.bytes off width value) }
+        ensures err { OnErr result (self.new.bytes ≡ self.old.bytes) }
+        ensures pages { OnOk result (self.new.made ≡ made_after self.old.made off width value) }
+        ensures same_pages { OnErr result (self.new.made ≡ self.old.made) }
+        ensures succeeds { makes_page self.old.made off width value ≡ false → IsOk result }
+    {
+        let page = &mut self.pages[(off / PAGE_BYTES) as usize];
+        page.write((off % PAGE_BYTES) as usize, width, value)
+    }
+}
