@@ -1,15 +1,12 @@
 -- Expressions, token by token.
-use Rattle.std.proofs.Common.{◌≡◌, ℕ, suc, ◌+◌, ◌<◌, Bool, true, false, List, [], ◌∷◌, ◌++◌, ◌≤◌, drop, get_or, length, ap, sym, ◌∙◌, refl, append_assoc, append-nil, add-one}
-use Rattle.std.specs.Prelude.{Option, Some, None, is_some}
-use Rattle.std.specs.Option.{option_map}
-use Rattle.std.proofs.Math.Seq.{drop-cons}
+use Rattle.std.proofs.Common.{◌≡◌, ℕ, List, [], ◌++◌, ◌≤◌, drop, length, ap, sym, refl, append_assoc, append-nil}
+use Rattle.std.specs.Prelude.{Option, Some, None}
 use Rattle.rv_source.specs.declared.expression.Term.{Term}
 use Rattle.rv_source.specs.declared.expression.Wanted.{Wanted}
 use Rattle.rv_source.specs.declared.expression.Wanted.TheVariants.{Sign, Value}
 use Rattle.std.proofs.lemmas.List.{drop_all}
 use Rattle.rv_tokens.specs.declared.token.Token.{Token}
 use Rattle.rv_source.specs.Expressions.{terms, with_terms}
-use Rattle.rv_source.specs.Partial.{terms_behind}
 
 pub with_terms_append : (ts us : List Term) (r : Option (List Term)) → with_terms ts (with_terms us r) ≡ with_terms (ts ++ us) r
 with_terms_append ts us (Some vs) = ap (λ x. Some x) (sym (append_assoc ts us vs))

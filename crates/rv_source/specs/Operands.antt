@@ -5,7 +5,6 @@ use Rattle.std.specs.List.{position}
 use Rattle.std.specs.Option.{option_map}
 use Rattle.rv_tokens.specs.declared.token.Token.{Token}
 use Rattle.rv_tokens.specs.declared.token.Token.TheVariants as t
-use Rattle.rv_source.specs.declared.expression.Term.{Term}
 use Rattle.rv_source.specs.Expressions.{value}
 
 abbrev pub is_comma : Token → Bool

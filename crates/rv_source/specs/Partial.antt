@@ -1,8 +1,7 @@
 -- Words of private contracts: answers for operands that a word may not take, and what has been read so far.
 -- Own language; see docs/ASSEMBLER.md.
-use Rattle.std.specs.Prelude.{◌≡◌, ℕ, List, [], ◌∷◌, ◌++◌, Option, Some, None, Result, Ok, Err}
+use Rattle.std.specs.Prelude.{◌≡◌, List, [], ◌∷◌, Option, Some, None, Result, Ok, Err}
 use Rattle.std.specs.Borrow.{Bor}
-use Rattle.std.specs.Option.{option_map}
 use Rattle.rv_tokens.specs.declared.token.Token.{Token}
 use Rattle.rv_source.specs.declared.expression.Term.{Term}
 use Rattle.rv_source.specs.declared.expression.Wanted.{Wanted}

@@ -1,6 +1,6 @@
 -- What a word and its operands stand for: the statements, form by form. For readers to audit.
 -- Own language; see docs/ASSEMBLER.md.
-use Rattle.std.specs.Prelude.{ℕ, ◌+◌, ◌*◌, Bool, true, false, not, ◌&&◌, List, [], ◌∷◌, ◌++◌, Option, Some, None, option_and_then, if◌then◌else◌, ◌==◌, nat_lt, pos, negsuc}
+use Rattle.std.specs.Prelude.{ℕ, ◌+◌, ◌*◌, Bool, not, ◌&&◌, List, [], ◌∷◌, ◌++◌, Option, Some, None, option_and_then, if◌then◌else◌, ◌==◌, nat_lt, pos, negsuc}
 use Rattle.std.specs.Option.{option_map, option_or}
 use Rattle.rv_isa.specs.Names.{lookup, register_names, csr_names}
 use Rattle.rv_isa.specs.declared.kind.Kind.TheVariants as k

@@ -1,8 +1,8 @@
-use Rattle.std.proofs.Common.{rules, ◌≡◌, ◌∙◌, ℕ, ◌≤◌, ◌<◌, ◌++◌, ◌∷◌, [], sym, ap, refl, arith, length, get_or, List}
+use Rattle.std.proofs.Common.{rules, ◌≡◌, ◌∙◌, ◌≤◌, ◌<◌, ◌++◌, ◌∷◌, [], length, get_or}
 use Rattle.std.specs.List.{AllByRecursion}
 use Rattle.std.proofs.lemmas.List.Elements.{recursion_from_All}
 use Rattle.rv_asm.specs.declared.locals.LocalLabel.{LocalLabel}
-use Rattle.rv_asm.specs.Kept.{of_number, AreListed}
+use Rattle.rv_asm.specs.Kept.{AreListed}
 use Rattle.rv_asm.proofs.Nearest.{listed_push, get_or_any}
 use Rattle.rv_asm.proofs.locals.Locals.define.Goals as goal
 

@@ -1,7 +1,7 @@
-use Rattle.std.proofs.Common.{rules, ◌≡◌, ◌∙◌, ℕ, ◌≤◌, ◌<◌, sym, ap, refl, arith, length, get_or, List}
+use Rattle.std.proofs.Common.{rules, ◌≡◌, ◌∙◌, ◌≤◌, ◌<◌, sym, ap, length, get_or, List}
 use Rattle.rv_asm.specs.declared.locals.LocalLabel.{LocalLabel}
 use Rattle.rv_asm.specs.Symbols.{nearest}
-use Rattle.rv_asm.specs.Kept.{of_number, Rises, AreOf}
+use Rattle.rv_asm.specs.Kept.{of_number}
 use Rattle.rv_asm.proofs.Nearest.{nearest_of, nearest_unlisted, list_is, are_of, rises_of}
 use Rattle.rv_asm.proofs.locals.Locals.nearest.Goals as goal
 use Rattle.rv_asm.proofs.locals.Locals.nearest.Goals.{After-index}

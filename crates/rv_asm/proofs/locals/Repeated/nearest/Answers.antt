@@ -1,8 +1,8 @@
-use Rattle.std.proofs.Common.{◌≡◌, ◌∙◌, ℕ, zero, suc, ◌+◌, ◌-◌, ◌<◌, ◌≤◌, sym, ap, refl, arith, length, get_or, List}
+use Rattle.std.proofs.Common.{◌≡◌, ◌∙◌, ℕ, zero, suc, ◌-◌, sym, ap, refl, arith, length, get_or, List}
 use Rattle.std.specs.Prelude.{Some, None}
 use Rattle.rv_asm.specs.declared.locals.LocalLabel.{LocalLabel}
-use Rattle.rv_asm.specs.Symbols.{nearest, nearest_before}
-use Rattle.rv_asm.specs.Kept.{IsCut, AreOf}
+use Rattle.rv_asm.specs.Symbols.{nearest_before}
+use Rattle.rv_asm.specs.Kept.{IsCut}
 use Rattle.rv_asm.proofs.Nearest.{cut_before, cut_after, cut_end, last_of}
 use Rattle.rv_asm.proofs.locals.Repeated.nearest.Goals as goal
 
