@@ -2,7 +2,8 @@
 use Rattle.std.proofs.Common.{ℕ, List}
 use Rattle.rv_words.specs.declared.Options.{Options}
 use Rattle.rv_cli.specs.Output.{output}
-use Rattle.rv_cli.specs.Run.{Gave, IsInOrder, Refused, RefusedBy, Side}
+use Rattle.rv_cli.specs.Meanings.{RefusedBy}
+use Rattle.rv_cli.specs.Run.{Gave, IsInOrder, Refused, Side}
 use Rattle.rv_cli.specs.declared.fault.CliFault.{CliFault}
 use Rattle.rv_cli.specs.declared.fault.CliFault.TheVariants.{ReadSource, Source, BadPages, BadSlots, ImageTooLarge, OutOfMemory, Write}
 

@@ -1,12 +1,19 @@
 -- The line of a fault, and the exit statuses (this project's own: docs/BOARD.md).
+-- To be audited: public clauses speak of it.
 use Rattle.std.specs.Prelude.{ℕ, List, [], ◌∷◌, ◌++◌, Result, Ok, Err, codes, zero, suc}
 use Rattle.std.specs.Fmt.{decimal}
 use Rattle.rv_asm.specs.Faults.{name_of, number_of}
 use Rattle.rv_asm.specs.declared.fault.AsmFault.{AsmFault}
 use Rattle.rv_cli.specs.declared.fault.CliFault.{CliFault}
 use Rattle.rv_cli.specs.declared.fault.CliFault.TheVariants.{ReadSource, Source, BadPages, BadSlots, ImageTooLarge, OutOfMemory, Write}
+use Rattle.rv_cli.specs.declared.fault.TextName.{TextName}
+use Rattle.rv_cli.specs.declared.fault.TextName.TheVariants as text_name
 use Rattle.rv_cli.specs.declared.fault.Ending.{Ending}
 use Rattle.rv_cli.specs.declared.fault.Ending.TheVariants.{Halted, Running}
+
+-- the fault of a text's reader
+abbrev pub read_fault_of : TextName → CliFault
+read_fault_of text_name.Source = ReadSource
 
 -- a text with a line end
 abbrev pub ended : List ℕ → List ℕ

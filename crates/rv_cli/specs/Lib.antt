@@ -1,4 +1,5 @@
 pub mod Faults
+pub mod Meanings
 pub mod Memory
 pub mod Output
 pub mod Run

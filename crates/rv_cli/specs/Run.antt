@@ -1,5 +1,6 @@
 -- What a run of a source text does, by what its reader gave and its writer took.
-use Rattle.std.specs.Prelude.{◌≡◌, ℕ, Bool, true, false, List, Option, Result, Ok, Err, ⊤}
+-- To be audited: public clauses speak of it.
+use Rattle.std.specs.Prelude.{◌≡◌, ℕ, Bool, true, false, List, Option, Result, Ok, Err}
 use Rattle.std.specs.Io.KnownBytes.{Appends}
 use Rattle.rv_words.specs.declared.Options.{Options}
 use Rattle.rv_cli.specs.Output.{output}
@@ -51,13 +52,6 @@ pub record CutShort (source out : Side) (options : Options) : Type 0 where
   pub is : output text options ≡ Ok (printed, ending)
   pub wrote : WroteBeginning out.old out.new printed
   pub failed : out.failed ≡ true
-
--- the fault is that of the meaning, unless memory ran out; it is no reader's or writer's
-abbrev pub RefusedBy : {A : Type 0} → Result A CliFault → CliFault → Type 0
-RefusedBy meaning OutOfMemory = ⊤
-RefusedBy meaning ReadSource = ⊥
-RefusedBy meaning Write = ⊥
-RefusedBy meaning fault = meaning ≡ Err fault
 
 -- why a run gave no ending
 abbrev pub Refused : Side → Side → Options → CliFault → Type 0

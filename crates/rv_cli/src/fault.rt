@@ -1,10 +1,10 @@
 //! How a run ends, why one gives no text, the line that says so, and what the program exits with.
-ghost use Rattle.std.specs.Prelude.{◌≡◌, ◌++◌, OnErr, OnOk, Some};
-ghost use Rattle.rv_cli.specs.Faults.{line_of, source_line_of, status_of};
+ghost use Rattle.std.specs.Prelude.{◌≡◌, ◌++◌, Err, IfErr, IfOk, Ok, OnErr, OnOk, Some};
+ghost use Rattle.rv_cli.specs.Faults.{line_of, read_fault_of, source_line_of, status_of};
 
 use rv_asm::AsmFault;
 use rv_isa::NoMemory;
-use std::fmt;
+use std::{fmt, io};
 use thiserror::Error;
 
 /// How a run ended.
@@ -41,6 +41,35 @@ pub enum CliFault {
     /// The writer failed, or took none of some bytes.
     #[error("Write")]
     Write,
+}
+
+/// A text that the program reads.
+#[derive(Clone, Copy, Debug, PartialEq, Eq)]
+pub enum TextName {
+    /// The source.
+    Source,
+}
+
+impl TextName {
+    /// The fault of the text's reader.
+    pub fn read_fault(self) -> CliFault
+        ensures { result ≡ read_fault_of self }
+    {
+        match self {
+            TextName::Source => CliFault::ReadSource,
+        }
+    }
+}
+
+/// The file of a text, or the fault of the text's reader where the file can't be opened.
+pub fn opened<F: Drop>(text: TextName, file: io::Result<F>) -> Result<F, CliFault>
+    ensures ok { IfOk file (λ f. result ≡ Ok f) }
+    ensures err { IfErr file (λ _. result ≡ Err (read_fault_of text)) }
+{
+    match file {
+        Ok(file) => Ok(file),
+        Err(_) => Err(text.read_fault()),
+    }
 }
 
 /// The line of a source that can't be assembled, without its line end.

@@ -9,12 +9,9 @@ mod run;
 mod steps;
 mod text;
 
-pub use fault::{CliFault, Ending, exit_status, fault_line};
+pub use fault::{CliFault, Ending, TextName, exit_status, fault_line, opened};
 pub use file::{FileIn, FileOut};
 pub use memory::{MemoryIn, MemoryOut};
 pub use run::run_text;
-pub use rv_words::{Options, Words, read_words};
+pub use rv_words::{NoRun, Options, Place, Words, read_words};
 pub use text::{InFailed, OutFailed, TextIn, TextOut};
-
-#[cfg(test)]
-mod tests;

@@ -1,11 +1,12 @@
 //! A run from a source text to the text that is printed.
 ghost use Rattle.std.specs.Prelude.{◌≡◌, ◌≢◌, ◌⊎◌, IfErr, IfOk, Ok, false};
 ghost use Rattle.rv_cli.specs.Output.{output, output_of_assembly};
-ghost use Rattle.rv_cli.specs.Run.{Ended, Gave, IsInOrder, Refused, RefusedBy, side};
+ghost use Rattle.rv_cli.specs.Meanings.{RefusedBy};
+ghost use Rattle.rv_cli.specs.Run.{Ended, Gave, IsInOrder, Refused, side};
 ghost use Rattle.rv_cli.specs.Texts.{IsUnreadable};
 ghost use Rattle.rv_cli.specs.declared.fault.CliFault.TheVariants.{OutOfMemory, ReadSource, Write};
 
-use crate::fault::{CliFault, Ending};
+use crate::fault::{CliFault, Ending, TextName};
 use crate::print::{ending, print_board};
 use crate::steps::run_steps;
 use crate::text::{ReadFault, TextIn, TextOut, read_whole, write_whole};
@@ -47,7 +48,7 @@ fn read_source<S: TextIn>(alloc: Global, source: &mut S) -> Result<Vec<u8>, CliF
 {
     match read_whole(alloc, source) {
         Ok(text) => Ok(text),
-        Err(ReadFault::Unreadable) => Err(CliFault::ReadSource),
+        Err(ReadFault::Unreadable) => Err(TextName::Source.read_fault()),
         Err(ReadFault::NoMemory) => Err(CliFault::OutOfMemory),
     }
 }

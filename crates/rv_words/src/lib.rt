@@ -7,8 +7,11 @@ ghost use Rattle.rv_words.specs.Board.{board_app, number_rule, source_rule, text
 ghost use Rattle.rv_words.specs.Parse.{IsBoardParse};
 ghost use Rattle.rv_words.specs.Read.{IsReadFrom};
 
+mod ends;
+
 use clap::error::ErrorKind;
 use clap::{Arg, ArgAction, ArgMatches, Command, Error, value_parser};
+pub use ends::{NoRun, Place};
 use std::alloc::{AllocError, Global};
 
 /// How far a board runs, and how large its memory and its cache are.
@@ -132,6 +135,3 @@ pub fn read_words<'a>(alloc: Global, words: &'a [&'a str]) -> Result<Words<'a>, 
     };
     Ok(Words { source, options })
 }
-
-#[cfg(test)]
-mod tests;

@@ -4,18 +4,15 @@
 //! go to the standard error.
 #![tactic(auto)]
 
-use clap::error::ErrorKind;
 use rv_cli::{
-    CliFault, Ending, FileIn, FileOut, Words, exit_status, fault_line, read_words, run_text,
+    CliFault, Ending, FileIn, FileOut, NoRun, Place, TextName, Words, exit_status, fault_line,
+    opened, read_words, run_text,
 };
 use std::alloc::AllocError;
 use std::env;
 use std::fs::File;
 use std::io::{self, Write};
 use std::process::ExitCode;
-
-/// The status of refused words.
-const REFUSED: u8 = 3;
 
 /// Writes the fault's line to the standard error, where there is memory for it.
 fn report(rt: &HostRuntime, fault: &CliFault) {
@@ -25,17 +22,18 @@ fn report(rt: &HostRuntime, fault: &CliFault) {
     }
 }
 
-/// Runs the source that the words name, from the standard input to the standard output where it
-/// is `-`.
+/// Runs the source that the words name.
 fn run(rt: &HostRuntime, words: &Words<'_>) -> Result<Ending, CliFault> {
     let mut out = FileOut::new(rt.stdout());
-    if words.source == "-" {
-        let mut source = FileIn::new(rt.stdin());
-        return run_text(rt.alloc(), &mut source, words.options, &mut out);
-    }
-    match File::open(rt, words.source) {
-        Ok(file) => run_text(rt.alloc(), &mut FileIn::new(file), words.options, &mut out),
-        Err(_) => Err(CliFault::ReadSource),
+    match words.source_place() {
+        Place::StandardInput => {
+            let mut source = FileIn::new(rt.stdin());
+            run_text(rt.alloc(), &mut source, words.options, &mut out)
+        }
+        Place::File(path) => {
+            let mut source = FileIn::new(opened(TextName::Source, File::open(rt, path))?);
+            run_text(rt.alloc(), &mut source, words.options, &mut out)
+        }
     }
 }
 
@@ -49,11 +47,14 @@ fn end(rt: &HostRuntime, outcome: &Result<Ending, CliFault>) -> u8 {
 
 /// Prints the help that was asked for, or why the words are not taken, and answers the status.
 fn refuse(rt: &HostRuntime, error: &clap::Error) -> u8 {
-    if error.kind() == ErrorKind::OutOfMemory {
-        return end(rt, &Err(CliFault::OutOfMemory));
+    let why = NoRun::of(error);
+    match why {
+        NoRun::OutOfMemory => report(rt, &CliFault::OutOfMemory),
+        NoRun::Help | NoRun::Refused => {
+            let _ = error.print(rt);
+        }
     }
-    let _ = error.print(rt);
-    if error.use_stderr() { REFUSED } else { 0 }
+    why.status()
 }
 
 /// Reads the words and does what they ask for.
@@ -77,7 +78,7 @@ fn lack_words(rt: &HostRuntime, error: &io::Error) -> u8 {
         return end(rt, &Err(CliFault::OutOfMemory));
     }
     let _ = rt.stderr().write_all(b"error: a word is not UTF-8\n");
-    REFUSED
+    NoRun::Refused.status()
 }
 
 fn main(rt: HostRuntime) -> ExitCode {

@@ -1,0 +1,54 @@
+//! The lines and the statuses of faults, and files that can't be opened.
+use rv_asm::{AsmFault, FaultKind};
+use rv_cli::{CliFault, TextName, exit_status, fault_line, opened};
+use std::alloc::Global;
+use std::io;
+use std::test::Fail;
+
+/// The line of the fault.
+pub fn line_of(alloc: Global, fault: &CliFault) -> Result<Vec<u8>, Fail> {
+    let mut line = Vec::new(alloc);
+    fault_line(fault, &mut line)?;
+    Ok(line)
+}
+
+#[test]
+fn names_each_fault(rt: HostRuntime) -> Result<(), Fail> {
+    let source = CliFault::Source(AsmFault {
+        line: 3,
+        kind: FaultKind::DuplicateSymbol,
+    });
+    let rows = [
+        (
+            CliFault::ReadSource,
+            "ReadSource",
+            "cannot read source\n",
+            4,
+        ),
+        (source, "Source", "source line 3: E6 DuplicateSymbol\n", 3),
+        (CliFault::BadPages, "BadPages", "bad pages\n", 3),
+        (CliFault::BadSlots, "BadSlots", "bad slots\n", 3),
+        (
+            CliFault::ImageTooLarge,
+            "ImageTooLarge",
+            "image too large\n",
+            3,
+        ),
+        (CliFault::OutOfMemory, "OutOfMemory", "out of memory\n", 4),
+        (CliFault::Write, "Write", "cannot write\n", 4),
+    ];
+    for (fault, name, line, status) in rows {
+        let shown = format!(in rt.alloc(); "{fault}")?;
+        assert!(rt; shown.as_str() == name);
+        assert!(rt; line_of(rt.alloc(), &fault)?.as_slice() == line.as_bytes());
+        assert_eq!(rt; exit_status(&Err(fault)), status);
+    }
+    Ok(())
+}
+
+#[test]
+fn an_unopened_file_is_its_reader_s_fault(rt: HostRuntime) {
+    let refused: io::Result<u8> = Err(io::Error::from(io::ErrorKind::PermissionDenied));
+    assert!(rt; opened(TextName::Source, refused) == Err(CliFault::ReadSource));
+    assert!(rt; opened(TextName::Source, Ok(7u8)) == Ok(7));
+}

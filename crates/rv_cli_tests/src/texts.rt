@@ -1,0 +1,193 @@
+//! Readers and writers that give little, fail, or are interrupted.
+use crate::runs::{DEFAULTS, HELLO};
+use rv_cli::{
+    CliFault, Ending, FileIn, FileOut, InFailed, MemoryIn, MemoryOut, Options, TextIn, TextOut,
+    exit_status, run_text,
+};
+use std::io::{self, ErrorKind, Read, Write};
+
+#[test]
+fn reads_and_writes_a_byte_a_call(rt: HostRuntime) {
+    let mut source = MemoryIn::new(HELLO).with_most(1);
+    let mut out = MemoryOut::new(rt.alloc()).with_most(1);
+    let outcome = run_text(rt.alloc(), &mut source, DEFAULTS, &mut out);
+    assert!(rt; outcome == Ok(Ending::Halted(0)));
+    assert!(rt; out.bytes() == b"H\nhalted 0 after 7 steps\n".as_slice());
+    assert!(rt; !source.failed() && !out.failed());
+}
+
+#[test]
+fn stops_at_a_failed_write(rt: HostRuntime) {
+    let failing = MemoryOut::new(rt.alloc())
+        .with_most(3)
+        .with_failure_after(1);
+    let taking_none = MemoryOut::new(rt.alloc()).with_most(0);
+    for (mut out, taken) in [(failing, "H\nh"), (taking_none, "")] {
+        let outcome = run_text(rt.alloc(), &mut MemoryIn::new(HELLO), DEFAULTS, &mut out);
+        assert!(rt; outcome == Err(CliFault::Write));
+        assert!(rt; out.bytes() == taken.as_bytes());
+        assert!(rt; out.failed());
+        assert_eq!(rt; exit_status(&outcome), 4);
+    }
+}
+
+/// A reader without an end.
+#[derive(Drop)]
+struct Endless;
+
+impl TextIn for Endless {
+    ghost use Rattle.std.specs.Prelude.{None, false};
+
+    ghost left = { λ _. None };
+
+    ghost has_failed = { λ _. false };
+
+    fn read(&mut self, buffer: &mut [u8]) -> Result<usize, InFailed> {
+        buffer.fill(b' ');
+        Ok(buffer.len())
+    }
+
+    fn failed(&self) -> bool {
+        false
+    }
+}
+
+#[test]
+fn stops_at_a_failed_read(rt: HostRuntime) {
+    let mut failing = MemoryIn::new(HELLO).with_most(4).with_failure_after(1);
+    let mut out = MemoryOut::new(rt.alloc());
+    let outcome = run_text(rt.alloc(), &mut failing, DEFAULTS, &mut out);
+    assert!(rt; outcome == Err(CliFault::ReadSource));
+    assert!(rt; failing.failed());
+    assert_eq!(rt; exit_status(&outcome), 4);
+    assert!(rt; out.bytes().is_empty());
+}
+
+#[test]
+fn leaves_a_reader_without_an_end(rt: HostRuntime) {
+    let mut out = MemoryOut::new(rt.alloc());
+    let outcome = run_text(rt.alloc(), &mut Endless, DEFAULTS, &mut out);
+    assert!(rt; outcome == Err(CliFault::ReadSource));
+    assert!(rt; out.bytes().is_empty());
+}
+
+/// A reader and writer of std of whose calls each odd one is interrupted, and which moves a byte at
+/// the others, up to the call that fails if there is one.
+#[derive(Drop)]
+struct Interrupted<'a> {
+    left: &'a [u8],
+    taken: [u8; 64],
+    count: usize,
+    calls: u32,
+    failing: Option<u32>,
+}
+
+impl<'a> Interrupted<'a> {
+    /// With these bytes to read, and a call that fails if one is named.
+    fn new(left: &'a [u8], failing: Option<u32>) -> Interrupted<'a> {
+        Interrupted {
+            left,
+            taken: [0; 64],
+            count: 0,
+            calls: 0,
+            failing,
+        }
+    }
+
+    /// Whether this call moves a byte.
+    fn call(&mut self) -> io::Result<()> {
+        self.calls = self.calls.saturating_add(1);
+        if self.failing == Some(self.calls) {
+            return Err(io::Error::from(ErrorKind::Other));
+        }
+        if self.calls % 2 == 1 {
+            return Err(io::Error::from(ErrorKind::Interrupted));
+        }
+        Ok(())
+    }
+}
+
+impl Read for Interrupted<'_> {
+    fn read(&mut self, buffer: &mut [u8]) -> io::Result<usize> {
+        self.call()?;
+        if self.left.is_empty() || buffer.is_empty() {
+            return Ok(0);
+        }
+        buffer[0] = self.left[0];
+        self.left = &self.left[1..];
+        Ok(1)
+    }
+}
+
+impl Write for Interrupted<'_> {
+    fn write(&mut self, bytes: &[u8]) -> io::Result<usize> {
+        self.call()?;
+        if bytes.is_empty() || self.count >= self.taken.len() {
+            return Ok(0);
+        }
+        self.taken[self.count] = bytes[0];
+        self.count += 1;
+        Ok(1)
+    }
+
+    fn flush(&mut self) -> io::Result<()> {
+        Ok(())
+    }
+}
+
+const WRITTEN: &[u8] = b"H\nhalted 0 after 7 steps\n";
+
+#[test]
+fn goes_on_after_an_interrupted_read(rt: HostRuntime) {
+    let mut source = FileIn::new(Interrupted::new(HELLO, None));
+    let mut out = MemoryOut::new(rt.alloc());
+    let outcome = run_text(rt.alloc(), &mut source, DEFAULTS, &mut out);
+    assert!(rt; outcome == Ok(Ending::Halted(0)));
+    assert!(rt; out.bytes() == WRITTEN);
+    assert!(rt; !source.failed());
+}
+
+#[test]
+fn goes_on_after_an_interrupted_write(rt: HostRuntime) {
+    let mut writer = Interrupted::new(b"", None);
+    let mut out = FileOut::new(&mut writer);
+    let outcome = run_text(rt.alloc(), &mut MemoryIn::new(HELLO), DEFAULTS, &mut out);
+    assert!(rt; outcome == Ok(Ending::Halted(0)));
+    assert!(rt; !out.failed());
+    assert!(rt; writer.taken.starts_with(WRITTEN));
+    assert_eq!(rt; writer.count, WRITTEN.len());
+}
+
+#[test]
+fn stops_at_a_read_of_std_that_fails(rt: HostRuntime) {
+    let mut source = FileIn::new(Interrupted::new(HELLO, Some(5)));
+    let mut out = MemoryOut::new(rt.alloc());
+    let outcome = run_text(rt.alloc(), &mut source, DEFAULTS, &mut out);
+    assert!(rt; outcome == Err(CliFault::ReadSource));
+    assert!(rt; source.failed());
+    assert!(rt; out.bytes().is_empty());
+}
+
+#[test]
+fn stops_at_a_write_of_std_that_fails(rt: HostRuntime) {
+    let mut writer = Interrupted::new(b"", Some(5));
+    let mut out = FileOut::new(&mut writer);
+    let outcome = run_text(rt.alloc(), &mut MemoryIn::new(HELLO), DEFAULTS, &mut out);
+    assert!(rt; outcome == Err(CliFault::Write));
+    assert!(rt; out.failed());
+    assert_eq!(rt; writer.count, 2);
+}
+
+#[test]
+fn reads_and_writes_by_std(rt: HostRuntime) {
+    let mut source = FileIn::new(b"x: jal x0,x".as_slice());
+    let mut printed = Vec::new(rt.alloc());
+    let mut out = FileOut::new(&mut printed);
+    let options = Options {
+        steps: 0,
+        ..DEFAULTS
+    };
+    let outcome = run_text(rt.alloc(), &mut source, options, &mut out);
+    assert!(rt; outcome == Ok(Ending::Running));
+    assert!(rt; printed.as_slice() == b"running at 80000000 after 0 steps\n".as_slice());
+}

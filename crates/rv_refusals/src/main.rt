@@ -1,0 +1,51 @@
+//! Runs of which each answer is the full one, or want of memory exactly as it is defined.
+//!
+//! `.ci/run` has one allocation of this program refused, by its number, and gives it on standard
+//! input as many bytes as it is to allocate before its runs: so each allocation of the runs is the
+//! refused one in turn. What it prints is the same whichever it is, unless an answer is wrong.
+#![tactic(auto)]
+
+mod guarded;
+mod hello;
+
+use std::alloc::Global;
+use std::io::{Read, Write};
+use std::process::ExitCode;
+
+/// How many bytes there are on standard input, up to 4096.
+fn given(rt: &HostRuntime) -> usize {
+    let mut buffer = [0u8; 4096];
+    rt.stdin().read(&mut buffer).unwrap_or(0)
+}
+
+/// So many allocations, which are kept, or those up to the refused one.
+fn allocations(alloc: Global, count: usize) -> Vec<Vec<u8>> {
+    let mut kept = Vec::new(alloc);
+    if kept.reserve(count).is_err() {
+        return kept;
+    }
+    for _ in 0..count {
+        let Ok(one) = Vec::from_slice(alloc, b"1") else {
+            return kept;
+        };
+        if kept.push(one).is_err() {
+            return kept;
+        }
+    }
+    kept
+}
+
+fn main(rt: HostRuntime) -> ExitCode {
+    let kept = allocations(rt.alloc(), given(&rt));
+    let line = if !hello::answers_right(rt.alloc()) {
+        b"a wrong answer of the run of a text\n".as_slice()
+    } else if !guarded::answers_right(rt.alloc()) {
+        b"a wrong answer of the assembler or the board\n".as_slice()
+    } else if kept.iter().all(|one| one.as_slice() == b"1".as_slice()) {
+        b"as defined\n".as_slice()
+    } else {
+        b"a lost byte\n".as_slice()
+    };
+    let _ = rt.stdout().write_all(line);
+    ExitCode::SUCCESS
+}
