@@ -1,17 +1,13 @@
 -- The board at reset.
 -- To be audited: public clauses speak of it.
 use Rattle.std.specs.Prelude.{ℕ, Bool, ◌*◌, ◌-◌, ◌^◌, ◌==◌, ◌&&◌, nat_le, nat_lt, not, if◌then◌else◌, List, [], ◌∷◌, ◌++◌, length, Option, Some, None}
-use Rattle.std.specs.List.{list_any}
 use Rattle.rv_ram.specs.Bytes.{zeros}
+use Rattle.rv_cache.specs.Noted.{is_slot_count}
 use Rattle.rv_bus.specs.State as bus
 use Rattle.rv_hart.specs.Step as hart
 use Rattle.rv_board.specs.State.{BoardState}
 use Rattle.rv_board.specs.declared.event.BootFault.{BootFault}
 use Rattle.rv_board.specs.declared.event.BootFault.TheVariants.{BadPages, BadSlots, ImageTooLarge}
-
--- a power of two from 64 to 4096
-abbrev pub is_slot_count : ℕ → Bool
-is_slot_count n = list_any (λ k. n == 2 ^ k) (6 ∷ 7 ∷ 8 ∷ 9 ∷ 10 ∷ 11 ∷ 12 ∷ [])
 
 -- why an image of so many bytes can't be booted with so many pages and slots: the first of these that applies
 unfoldable pub boot_fault : ℕ → ℕ → ℕ → Option BootFault

@@ -5,5 +5,5 @@ mod board;
 mod event;
 mod image;
 
-pub use board::Board;
+pub use board::{Board, BootedBoard};
 pub use event::{BootFault, Event, Stopped, TrapRecord};
