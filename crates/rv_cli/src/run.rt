@@ -11,10 +11,8 @@ use crate::print::{ending, print_board};
 use crate::steps::run_steps;
 use crate::text::{ReadFault, TextIn, TextOut, read_whole, write_whole};
 use rv_asm::{FaultKind, Program, assemble};
-use rv_board::{Board, BootFault};
-use rv_cache::NoCache;
+use rv_board::{BootFault, BootedBoard};
 use rv_isa::NoMemory;
-use rv_ram::FlatMemory;
 use rv_words::Options;
 use std::alloc::Global;
 
@@ -60,7 +58,7 @@ fn run_program(alloc: Global, program: &Program, options: Options) -> Result<Pri
 {
     let pages = u32::from(options.pages);
     let slots = u32::from(options.slots);
-    let mut board = match Board::<FlatMemory, NoCache>::boot(alloc, program, pages, slots) {
+    let mut board = match BootedBoard::boot(alloc, program, pages, slots) {
         Ok(board) => board,
         Err(BootFault::BadPages) => return Err(CliFault::BadPages),
         Err(BootFault::BadSlots) => return Err(CliFault::BadSlots),

@@ -1,8 +1,6 @@
 //! A user program that the protection of memory stops, assembled, booted and run.
 use rv_asm::{FaultKind, Program, assemble};
-use rv_board::{Board, BootFault, Event, TrapRecord};
-use rv_cache::NoCache;
-use rv_ram::FlatMemory;
+use rv_board::{BootFault, BootedBoard, Event, TrapRecord};
 use std::alloc::Global;
 
 const GUARDED: &[u8] =
@@ -15,7 +13,7 @@ const STOPPED: TrapRecord = TrapRecord {
 };
 
 /// Whether the board stands where it has to after 16 steps.
-fn stands_right(board: &Board<FlatMemory, NoCache>) -> bool {
+fn stands_right(board: &BootedBoard) -> bool {
     board.steps() == 16
         && board.ram(0x8000_010f) == Some(0x38)
         && board.ram(0x8000_0110) == Some(0)
@@ -25,7 +23,7 @@ fn stands_right(board: &Board<FlatMemory, NoCache>) -> bool {
 
 /// Whether the board runs its 16 steps: where it wants memory, those that are left are asked again.
 fn runs_right(alloc: Global, program: &Program) -> bool {
-    let mut board = match Board::<FlatMemory, NoCache>::boot(alloc, program, 1, 64) {
+    let mut board = match BootedBoard::boot(alloc, program, 1, 64) {
         Ok(board) => board,
         Err(fault) => return fault == BootFault::OutOfMemory,
     };
