@@ -1,4 +1,5 @@
--- What a source is assembled to. For readers to audit.
+-- What a source is assembled to.
+-- To audit: public contracts cite this.
 -- Own language; see docs/ASSEMBLER.md.
 use Rattle.std.specs.Prelude.{ℕ, suc, List, [], map, length, get_or, ℤ, pos, Option, Some, None, Result, Ok, Err}
 use Rattle.std.specs.Option.{option_map, option_or, unwrap_or}

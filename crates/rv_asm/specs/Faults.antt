@@ -1,4 +1,5 @@
--- Faults, and answers that may fail. For readers to audit.
+-- Faults, and answers that may fail.
+-- To audit: public contracts cite this.
 -- Own language; see docs/ASSEMBLER.md.
 use Rattle.std.specs.Prelude.{◌≡◌, ℕ, List, Result, Ok, Err, codes}
 use Rattle.rv_tokens.specs.declared.fault.LineFault.{LineFault}

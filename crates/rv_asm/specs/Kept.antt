@@ -1,5 +1,6 @@
--- Words of private contracts: answers that don't know their line, and what is kept of values and local labels.
+-- Answers that don't know their line, and what is kept of values and local labels.
 -- Own language; see docs/ASSEMBLER.md.
+-- Not to audit: private contracts alone cite this.
 use Rattle.std.specs.Prelude.{◌≡◌, ℕ, List, [], ◌∷◌, ℤ, pos, ◌+ℤ◌, ◌≤ℤ◌, true, ◌==◌, if◌then◌else◌, ◌≤◌, ◌<◌, get_or, length, Result, Ok, Err}
 use Rattle.std.specs.List.{AllByRecursion}
 use Rattle.rv_asm.specs.declared.fault.FaultKind.{FaultKind}

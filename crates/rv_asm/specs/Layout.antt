@@ -1,4 +1,5 @@
--- Where the lines of a source lie, what they define, and what is wrong with a line so far. For readers to audit.
+-- Where the lines of a source lie, what they define, and what is wrong with a line so far.
+-- To audit: public contracts cite this.
 -- Lines are counted from 0.
 -- Own language; see docs/ASSEMBLER.md.
 use Rattle.std.specs.Prelude.{ℕ, zero, suc, ◌+◌, ◌*◌, ◌^◌, ◌%◌, Bool, true, false, not, ◌||◌, ◌&&◌, List, [], ◌∷◌, ◌++◌, length, get_or, ℤ, pos, nat_lt, ◌==◌, Option, Some, None, option_and_then, is_some, if◌then◌else◌}

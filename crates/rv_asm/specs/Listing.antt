@@ -1,4 +1,5 @@
--- The bytes of a statement, once the values of its expressions are known. For readers to audit.
+-- The bytes of a statement, once the values of its expressions are known.
+-- To audit: public contracts cite this.
 -- Own language; see docs/ASSEMBLER.md.
 use Rattle.std.specs.Prelude.{ℕ, zero, suc, ◌-◌, ◌/◌, ◌^◌, List, [], ◌∷◌, ◌++◌, replicate, min, ℤ, pos, Option, Some, None, Result, Ok, Err, if◌then◌else◌}
 use Rattle.std.specs.Int.{to_le_bytes, w8, w16, w32}

@@ -1,5 +1,6 @@
--- Words of private contracts: what the program keeps from line to line, and how it goes on. That the whole is what
+-- What the program keeps from line to line, and how it goes on. That the whole is what
 -- Assembly.antt says is proved in proofs/.
+-- Not to audit: private contracts alone cite this.
 use Rattle.std.specs.Prelude.{◌≡◌, ℕ, suc, ◌+◌, List, [], ◌∷◌, ◌++◌, length, ℤ, pos, true, Option, Some, None, is_some, if◌then◌else◌, Result, Ok, Err}
 use Rattle.std.specs.Option.{option_map, unwrap_or}
 use Rattle.rv_source.specs.Said.{Said}

@@ -1,4 +1,5 @@
--- What is defined in a source, and what an expression stands for. For readers to audit.
+-- What is defined in a source, and what an expression stands for.
+-- To audit: public contracts cite this.
 -- Own language; see docs/ASSEMBLER.md.
 use Rattle.std.specs.Prelude.{ℕ, map, Vec, ◌&&◌, List, [], ◌∷◌, ℤ, pos, ◌+ℤ◌, ◌-ℤ◌, Bool, Option, Some, None, option_and_then, ◌==◌, nat_le, nat_lt, if◌then◌else◌}
 use Rattle.std.specs.Option.{option_map, option_or}

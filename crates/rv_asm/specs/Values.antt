@@ -1,4 +1,5 @@
--- Values in the places of a statement. For readers to audit.
+-- Values in the places of a statement.
+-- To audit: public contracts cite this.
 -- Own language; see docs/ASSEMBLER.md.
 use Rattle.std.specs.Prelude.{ℕ, ◌+◌, ◌-◌, ◌/◌, ◌%◌, ◌^◌, Bool, ◌&&◌, List, [], ◌∷◌, ℤ, pos, negsuc, ◌-ℤ◌, int_le, nat_lt, ◌==◌, Option, Some, None, if◌then◌else◌}
 use Rattle.rv_isa.specs.Number.{modulo, signed}

@@ -1,5 +1,5 @@
 -- The board at reset.
--- To be audited: public clauses speak of it.
+-- To audit: public contracts cite this.
 use Rattle.std.specs.Prelude.{ℕ, Bool, ◌*◌, ◌-◌, ◌^◌, ◌==◌, ◌&&◌, nat_le, nat_lt, not, if◌then◌else◌, List, [], ◌∷◌, ◌++◌, length, Option, Some, None}
 use Rattle.rv_ram.specs.Bytes.{zeros}
 use Rattle.rv_cache.specs.Noted.{is_slot_count}

@@ -1,5 +1,5 @@
 -- What events make of a board.
--- To be audited: public clauses speak of it.
+-- To audit: public contracts cite this.
 use Rattle.std.specs.Prelude.{◌≡◌, ◌<◌, ℕ, Bool, true, false, ◌+◌, ◌%◌, ◌^◌, List, [], ◌∷◌, ◌++◌, length, take, slice_get, Option, Some, None}
 use Rattle.circular_buffer.specs.Buffer.{keep_last}
 use Rattle.rv_hart.specs.State.{Machine}

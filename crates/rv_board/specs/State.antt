@@ -1,5 +1,5 @@
 -- All that a board is.
--- To be audited: public clauses speak of it.
+-- To audit: public contracts cite this.
 use Rattle.std.specs.Prelude.{ℕ, List, slice_index, Option}
 use Rattle.rv_plic.specs.Plic.{PlicState}
 use Rattle.rv_mmio.specs.Timer.{TimerState}

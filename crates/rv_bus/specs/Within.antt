@@ -1,4 +1,4 @@
--- Not to audit: only private contracts and proofs use this.
+-- Not to audit: private contracts alone cite this.
 -- A place that an access may use.
 use Rattle.std.specs.Prelude.{◌≡◌, ℕ, ◌+◌, ◌%◌, ◌≤◌, ◌<◌}
 use Rattle.rv_isa.specs.declared.op.Width.{Width}

@@ -1,5 +1,5 @@
 -- The line of a fault, and the exit statuses (this project's own: docs/BOARD.md).
--- To be audited: public clauses speak of it.
+-- To audit: public contracts cite this.
 use Rattle.std.specs.Prelude.{ℕ, List, [], ◌∷◌, ◌++◌, Result, Ok, Err, codes, zero, suc}
 use Rattle.std.specs.Fmt.{decimal}
 use Rattle.rv_asm.specs.Faults.{name_of, number_of}

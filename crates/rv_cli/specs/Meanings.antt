@@ -1,5 +1,5 @@
 -- A run whose source was read, by what its source means.
--- Not to be audited: private contracts alone speak of it.
+-- Not to audit: private contracts alone cite this.
 use Rattle.std.specs.Prelude.{◌≡◌, Result, Err, ⊤}
 use Rattle.rv_cli.specs.declared.fault.CliFault.{CliFault}
 use Rattle.rv_cli.specs.declared.fault.CliFault.TheVariants.{OutOfMemory, ReadSource, Write}

@@ -1,5 +1,5 @@
 -- What a reader or a writer over memory or a file is.
--- To be audited: public clauses speak of it.
+-- To audit: public contracts cite this.
 use Rattle.std.specs.Prelude.{ℕ, Bool, List, Option, Some, None, zero, suc}
 
 -- over memory: its bytes (those left to a reader, those taken by a writer), the most that a call

@@ -1,5 +1,5 @@
 -- What a run of a source text prints and how it ends (this project's own: docs/BOARD.md).
--- To be audited: public clauses speak of it.
+-- To audit: public contracts cite this.
 use Rattle.std.specs.Prelude.{ℕ, ◌-◌, ◌==◌, ◌||◌, false, List, [], ◌∷◌, ◌++◌, Option, Some, None, Result, Ok, Err, codes, if◌then◌else◌, length, nat_eq, replicate}
 use Rattle.std.specs.Fmt.{decimal, digits}
 use Rattle.std.specs.List.{ends_with}

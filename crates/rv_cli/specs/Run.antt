@@ -1,5 +1,5 @@
 -- What a run of a source text does, by what its reader gave and its writer took.
--- To be audited: public clauses speak of it.
+-- To audit: public contracts cite this.
 use Rattle.std.specs.Prelude.{◌≡◌, ℕ, Bool, true, false, List, Option, Result, Ok, Err}
 use Rattle.std.specs.Io.KnownBytes.{Appends}
 use Rattle.rv_words.specs.declared.Options.{Options}

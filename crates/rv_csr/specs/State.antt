@@ -1,5 +1,5 @@
 -- What the control registers hold. RISC-V Privileged Architecture 20211203, section 3.1.
--- To be audited: public clauses speak of it.
+-- To audit: public contracts cite this.
 use Rattle.std.specs.Prelude.{false}
 use Rattle.rv_isa.specs.declared.Lines.{Lines}
 use Rattle.rv_pmp.specs.Pmp as protection

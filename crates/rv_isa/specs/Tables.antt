@@ -1,4 +1,4 @@
--- Not to audit: only private contracts and proofs use this.
+-- Not to audit: private contracts alone cite this.
 -- A table of the program, as the entries that a definition looks a name up in.
 use Rattle.std.specs.Prelude.{ℕ, List, map}
 use Rattle.std.specs.Borrow.{Bor}

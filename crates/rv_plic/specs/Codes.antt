@@ -1,4 +1,4 @@
--- Not to audit: only private contracts and proofs use this.
+-- Not to audit: private contracts alone cite this.
 -- The states as data that can be told apart.
 use Rattle.std.specs.Prelude.{ℕ, List, refl}
 use Rattle.std.specs.Coded.{Coded, code_by, coded×, coded_list, coded_ℕ}

@@ -1,4 +1,4 @@
--- Not to audit: only private contracts and proofs use this.
+-- Not to audit: private contracts alone cite this.
 -- What it is to be the best source, as a property.
 use Rattle.std.specs.Prelude.{◌≡◌, ℕ, Bool, true, false, ◌<◌, ◌≤◌, Option, Some, None}
 use Rattle.rv_plic.specs.Plic.{PlicState, is_candidate, priority_of}

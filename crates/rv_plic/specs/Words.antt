@@ -1,4 +1,4 @@
--- Not to audit: only private contracts and proofs use this.
+-- Not to audit: private contracts alone cite this.
 -- The law that the word of a set of sources is the word that the set was made of. It is no part of any definition: a
 -- set of sources in the code is such a word.
 use Rattle.std.proofs.Common.{◌≡◌, ℕ, zero, suc, ◌+◌, ◌*◌, ◌%◌, ◌^◌, ◌<◌, ◌≤◌, Bool, true, false, refl, sym, ◌∙◌, ap, arith, add-zero, inl, inr}

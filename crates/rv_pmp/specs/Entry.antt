@@ -1,6 +1,6 @@
 -- An entry of physical memory protection, and the bytes that it protects.
 -- RISC-V Privileged Architecture 20211203, section 3.7.1.
--- To be audited: public clauses speak of it.
+-- To audit: public contracts cite this.
 use Rattle.std.specs.Prelude.{ℕ, zero, suc, ◌+◌, ◌-◌, ◌*◌, ◌/◌, ◌%◌, ◌^◌, Bool, true, false, ◌==◌, ◌&&◌, ◌||◌, not, nat_le, nat_lt, if◌then◌else◌}
 use Rattle.rv_isa.specs.Number.{truth}
 use Rattle.rv_pmp.specs.declared.access.Access.{Access}

@@ -1,5 +1,5 @@
 -- What the code keeps beside the registers, so that an access computes nothing of it.
--- Not to be audited: private contracts alone speak of it.
+-- Not to audit: private contracts alone cite this.
 use Rattle.std.specs.Prelude.{◌≡◌, ℕ, ◌&&◌, nat_le, nat_lt, if◌then◌else◌, Bool, true, false, Option, Some, None, List, [], ◌∷◌}
 use Rattle.std.specs.List.{list_any}
 use Rattle.rv_pmp.specs.declared.entry.Entry.{Entry}

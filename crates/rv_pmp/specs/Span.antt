@@ -1,5 +1,5 @@
 -- The span of bytes that the code keeps beside an entry, computed when a register is written: its region.
--- Not to be audited: private contracts alone speak of it.
+-- Not to audit: private contracts alone cite this.
 use Rattle.std.specs.Prelude.{ℕ, ◌+◌, ◌-◌, ◌*◌, ◌^◌, nat_lt, if◌then◌else◌, List, [], ◌∷◌}
 use Rattle.rv_pmp.specs.declared.entry.Entry.{Entry}
 use Rattle.rv_pmp.specs.declared.entry.Matching.{Matching}

@@ -1,4 +1,4 @@
--- To be audited.
+-- To audit: public contracts cite this.
 -- A memory as the list of its bytes. RISC-V Unprivileged ISA 20191213, section 1.4: memory is addressed by bytes, and a
 -- word stands low byte first.
 use Rattle.std.specs.Prelude.{◌≡◌, ℕ, ◌+◌, ◌*◌, ◌/◌, ◌%◌, ◌^◌, ◌≤◌, List, length, slice_index, slice_set, replicate}

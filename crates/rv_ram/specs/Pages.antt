@@ -1,4 +1,4 @@
--- To be audited.
+-- To audit: public contracts cite this.
 -- What the contract of `PagedRam` says of its pages (own definition; docs/ARCHITECTURE.md).
 use Rattle.std.specs.Prelude.{ℕ, ◌/◌, ◌%◌, ◌==◌, ◌&&◌, ◌||◌, not, Bool, false, List, replicate, slice_index_or, slice_set}
 use Rattle.rv_isa.specs.declared.op.Width.{Width}

@@ -1,4 +1,4 @@
--- Not to be audited: only words of private contracts.
+-- Not to audit: private contracts alone cite this.
 -- A memory as the table of its pages.
 use Rattle.std.specs.Prelude.{◌≡◌, ℕ, ◌≤◌, List, [], ◌∷◌, ◌++◌, length, Bool, true, false, replicate}
 use Rattle.rv_ram.specs.Bytes.{zeros}

@@ -1,4 +1,5 @@
--- Expressions, as tokens spell them: atoms joined by signs. For readers to audit.
+-- Expressions, as tokens spell them: atoms joined by signs.
+-- To audit: public contracts cite this.
 -- Own language; see docs/ASSEMBLER.md.
 use Rattle.std.specs.Prelude.{ℕ, Bool, true, false, not, List, [], ◌∷◌, ◌++◌, Option, Some, None, if◌then◌else◌, codes}
 use Rattle.std.specs.Option.{option_map}

@@ -1,5 +1,6 @@
--- Words of private contracts: answers for operands that a word may not take, and what has been read so far.
+-- Answers for operands that a word may not take, and what has been read so far.
 -- Own language; see docs/ASSEMBLER.md.
+-- Not to audit: private contracts alone cite this.
 use Rattle.std.specs.Prelude.{◌≡◌, List, [], ◌∷◌, Option, Some, None, Result, Ok, Err}
 use Rattle.std.specs.Borrow.{Bor}
 use Rattle.rv_tokens.specs.declared.token.Token.{Token}

@@ -1,4 +1,5 @@
--- What a line of a source says, or what is wrong with it. For readers to audit.
+-- What a line of a source says, or what is wrong with it.
+-- To audit: public contracts cite this.
 -- Own language; see docs/ASSEMBLER.md.
 use Rattle.std.specs.Prelude.{ℕ, Bool, true, false, List, [], ◌∷◌, ◌++◌, Option, Some, None, Result, Ok, Err, if◌then◌else◌}
 use Rattle.std.specs.Option.{ok_or}

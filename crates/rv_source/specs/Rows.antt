@@ -1,5 +1,6 @@
--- The rows of the program's tables, as bytes and forms: for private contracts.
+-- The rows of the program's tables, as bytes and forms.
 -- Own language; see docs/ASSEMBLER.md.
+-- Not to audit: private contracts alone cite this.
 use Rattle.std.specs.Prelude.{ℕ, List, map}
 use Rattle.std.specs.Borrow.{Bor}
 

@@ -1,4 +1,5 @@
--- What a line says. For readers to audit.
+-- What a line says.
+-- To audit: public contracts cite this.
 -- Own language; see docs/ASSEMBLER.md.
 use Rattle.std.specs.Prelude.{List, Option}
 use Rattle.rv_source.specs.declared.line.Label.{Label}

@@ -1,4 +1,5 @@
--- The words of statements, and the form of each: the tables of docs/ASSEMBLER.md, row by row. For readers to audit.
+-- The words of statements, and the form of each: the tables of docs/ASSEMBLER.md, row by row.
+-- To audit: public contracts cite this.
 -- Own language; see docs/ASSEMBLER.md.
 use Rattle.std.specs.Prelude.{ℕ, true, false, List, [], ◌∷◌, Option, Some, None, if◌then◌else◌, codes}
 use Rattle.std.specs.Option.{option_map, option_or}

@@ -1,4 +1,5 @@
--- The lines of a source. For readers to audit.
+-- The lines of a source.
+-- To audit: public contracts cite this.
 -- Own language; see docs/ASSEMBLER.md.
 use Rattle.std.specs.Prelude.{ℕ, ◌-◌, ◌&&◌, List, [], ◌∷◌, length, take, map, if◌then◌else◌, ◌==◌, nat_lt, slice_index}
 

@@ -1,5 +1,6 @@
 -- What a line is made of: its tokens, each the longest at its place, with blanks between them and at most one comment.
--- For readers to audit.
+--
+-- To audit: public contracts cite this.
 -- Own language; see docs/ASSEMBLER.md.
 use Rattle.std.specs.Prelude.{◌≡◌, ◌⊎◌, ◌↔◌, ℕ, ◌<◌, ◌≤◌, true, false, List, [], ◌∷◌, ◌++◌, length, Some, Result, Ok, Err}
 use Rattle.std.specs.List.{list_all}

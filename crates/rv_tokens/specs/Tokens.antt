@@ -1,4 +1,5 @@
--- How tokens are spelled, and which tokens a line has. For readers to audit.
+-- How tokens are spelled, and which tokens a line has.
+-- To audit: public contracts cite this.
 -- Own language; see docs/ASSEMBLER.md.
 use Rattle.std.specs.Prelude.{ℕ, zero, suc, pred, ◌-◌, Bool, true, not, ◌&&◌, ◌||◌, List, [], ◌∷◌, ◌++◌, length, take, drop, if◌then◌else◌, ◌==◌, nat_le, nat_lt, Option, Some, None, option_and_then, Result, Ok, Err, slice_index, codes}
 use Rattle.std.specs.List.{list_all}

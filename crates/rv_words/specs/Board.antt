@@ -1,5 +1,5 @@
 -- The command `rvboard [SOURCE] [--steps N] [--pages P] [--slots S]`, as what a parse by `clap` reads of it.
--- To be audited: public clauses speak of it.
+-- To audit: public contracts cite this.
 use Rattle.std.specs.Prelude.{ℕ, pos, List, [], ◌∷◌, Some, codes, map}
 use Rattle.std.specs.Borrow.{Bor}
 use Rattle.clap.specs.Words.{App, Rule, Text, new_app, new_rule, with_rule}

@@ -1,5 +1,5 @@
 -- What a parse of the command has, whatever the words.
--- Not to be audited: private contracts alone speak of it.
+-- Not to audit: private contracts alone cite this.
 use Rattle.std.specs.Prelude.{◌≡◌, ℕ, pos, Some, codes, is_some, true, List}
 use Rattle.clap.specs.Lexer.{without_minus}
 use Rattle.clap.specs.Values.{IsSignedIn}
