@@ -4,6 +4,8 @@
 #[cfg(test)]
 mod board;
 #[cfg(test)]
+mod everywhere;
+#[cfg(test)]
 mod memory;
 #[cfg(test)]
 mod sources;

@@ -1,11 +1,12 @@
 //! Small programs, and how their boards stand after some steps.
+use crate::everywhere::same;
 use rv_asm::assemble;
-use rv_board::{Board, Event, TrapRecord};
-use rv_cache::NoCache;
+use rv_board::{Board, BootedBoard, Event, TrapRecord};
+use rv_cache::{Decoded, NoCache};
 use rv_isa::Reg;
 use rv_plic::Source;
 use rv_pmp::Mode;
-use rv_ram::FlatMemory;
+use rv_ram::{ByteMemory, FlatMemory};
 use std::alloc::Global;
 use std::process::Abort;
 use std::test::Fail;
@@ -27,8 +28,6 @@ const MSTATUS: u16 = 0x300;
 const MCYCLE: u16 = 0xb00;
 
 const MINSTRET: u16 = 0xb02;
-
-type Flat = Board<FlatMemory, NoCache>;
 
 /// How a board stands after so many further steps: what its pc, some registers, control registers and bytes of memory
 /// hold, and the last of its traps, if it had any.
@@ -54,23 +53,23 @@ const PLAIN: Stand = Stand {
     trap: None,
 };
 
-fn boot(alloc: Global, source: &[u8]) -> Result<Flat, Fail> {
+fn boot(alloc: Global, source: &[u8]) -> Result<BootedBoard, Fail> {
     let program = assemble(alloc, source)?;
     Ok(Board::boot(alloc, &program, 1, 1024)?)
 }
 
-fn last_trap(board: &Flat) -> Option<(u32, u32, u32)> {
+fn last_trap<M: ByteMemory, C: Decoded>(board: &Board<M, C>) -> Option<(u32, u32, u32)> {
     let index = board.trap_count().checked_sub(1)?;
     let TrapRecord { cause, epc, tval } = board.trap(index)?;
     Some((cause, epc, tval))
 }
 
-fn reg(board: &Flat, number: u8) -> Option<u32> {
+fn reg<M: ByteMemory, C: Decoded>(board: &Board<M, C>, number: u8) -> Option<u32> {
     Some(board.reg(Reg::new(number)?))
 }
 
 /// The board stands so.
-fn check(rt: &impl Abort, board: &Flat, stand: &Stand) {
+fn check<M: ByteMemory, C: Decoded>(rt: &impl Abort, board: &Board<M, C>, stand: &Stand) {
     assert_eq!(rt; board.pc(), stand.pc);
     assert_eq!(rt; board.mode(), stand.mode);
     assert_eq!(rt; last_trap(board), stand.trap);
@@ -85,14 +84,32 @@ fn check(rt: &impl Abort, board: &Flat, stand: &Stand) {
     }
 }
 
-/// The board of the source stands so, one after the other.
-fn follow(rt: &impl Abort, alloc: Global, source: &[u8], stands: &[Stand]) -> Result<(), Fail> {
-    let mut board = boot(alloc, source)?;
+/// The board stands so, one after the other.
+fn follow_on<M: ByteMemory, C: Decoded>(
+    rt: &impl Abort,
+    board: &mut Board<M, C>,
+    stands: &[Stand],
+) -> Result<(), Fail> {
     for stand in stands {
         for _ in 0..stand.steps {
             board.apply(Event::Step)?;
         }
-        check(rt, &board, stand);
+        check(rt, board, stand);
+    }
+    Ok(())
+}
+
+/// The board of the source stands so, one after the other, over each memory and cache; and whatever it is read by, it
+/// is the same over all of them.
+fn follow(rt: &impl Abort, alloc: Global, source: &[u8], stands: &[Stand]) -> Result<(), Fail> {
+    let program = assemble(alloc, source)?;
+    let memory = FlatMemory::new(alloc, 1)?;
+    let mut plain = Board::with_parts(alloc, &program, memory, NoCache)?;
+    follow_on(rt, &mut plain, stands)?;
+    for slots in [64, 1024, 4096] {
+        let mut board = Board::boot(alloc, &program, 1, slots)?;
+        follow_on(rt, &mut board, stands)?;
+        same(rt, &plain, &board);
     }
     Ok(())
 }
