@@ -1,4 +1,5 @@
 //! Sources on a board.
+use crate::everywhere::same;
 use crate::memory::Stubborn;
 use rv_asm::{Program, assemble};
 use rv_board::{Board, BootFault, Event, Stopped, TrapRecord};
@@ -118,25 +119,69 @@ fn boot_faults_come_in_their_order(rt: HostRuntime) -> Result<(), Fail> {
     Ok(())
 }
 
+/// A store into the second page, whose memory refuses so many writes behind the image's.
+fn stubborn(alloc: Global, refusals: u32) -> Result<Board<Stubborn, NoCache>, Fail> {
+    let memory = Stubborn {
+        memory: FlatMemory::new(alloc, 2)?,
+        good: 8,
+        refusals,
+    };
+    let program = program(alloc, STORES)?;
+    Ok(Board::with_parts(alloc, &program, memory, NoCache)?)
+}
+
+const STORES: &[u8] = b"lui t0,0x80001\nsw t0,0(t0)";
+
 #[test]
 fn a_refused_step_can_be_asked_again(rt: HostRuntime) -> Result<(), Fail> {
-    let program = program(rt.alloc(), b"lui t0,0x80001\nsw t0,0(t0)")?;
-    let memory = Stubborn {
-        memory: FlatMemory::new(rt.alloc(), 2)?,
-        good: 8,
-        refusals: 2,
-    };
-    let mut board = Board::with_parts(rt.alloc(), &program, memory, NoCache)?;
+    let mut board = stubborn(rt.alloc(), 1)?;
+    let program = program(rt.alloc(), STORES)?;
+    let mut other = Board::boot(rt.alloc(), &program, 2, SLOTS)?;
     assert_eq!(rt; board.apply(Event::Step), Ok(()));
+    assert_eq!(rt; other.apply(Event::Step), Ok(()));
     assert_eq!(rt; board.apply(Event::Step), Err(NoMemory));
+    // Whatever it is read by, the board is as before the refused step.
+    same(&rt, &board, &other);
     assert_eq!(rt; board.steps(), 1);
+    assert_eq!(rt; board.timer().load(0xbff8), Some(1));
     assert_eq!(rt; board.pc(), 0x8000_0004);
-    assert_eq!(rt;
-        board.run(&[Event::Rx(1), Event::Step]),
-        Err(Stopped { done: 1 })
-    );
+    assert_eq!(rt; board.ram(0x8000_1003), Some(0));
+    // The same event again succeeds.
+    assert_eq!(rt; board.apply(Event::Step), Ok(()));
+    assert_eq!(rt; other.apply(Event::Step), Ok(()));
+    same(&rt, &board, &other);
+    for (addr, byte) in [
+        (0x8000_1000, 0),
+        (0x8000_1001, 0x10),
+        (0x8000_1002, 0),
+        (0x8000_1003, 0x80),
+    ] {
+        assert_eq!(rt; board.ram(addr), Some(byte));
+        assert_eq!(rt; other.ram(addr), Some(byte));
+    }
+    Ok(())
+}
+
+#[test]
+fn a_run_stops_at_a_refused_step(rt: HostRuntime) -> Result<(), Fail> {
+    let mut board = stubborn(rt.alloc(), 1)?;
+    let events = [Event::Step, Event::Rx(1), Event::Step];
+    assert_eq!(rt; board.run(&events), Err(Stopped { done: 2 }));
+    assert_eq!(rt; board.steps(), 1);
+    assert_eq!(rt; board.serial().waiting(), 1);
     assert_eq!(rt; board.apply(Event::Step), Ok(()));
     assert_eq!(rt; board.steps(), 2);
     assert_eq!(rt; board.ram(0x8000_1003), Some(0x80));
+    Ok(())
+}
+
+// `boot` with an image of this size is a test of the command line.
+#[test]
+fn the_largest_image_fits_the_largest_memory(rt: HostRuntime) -> Result<(), Fail> {
+    let program = program(rt.alloc(), b".space 16777215\n.byte 1")?;
+    let memory = FlatMemory::new(rt.alloc(), 4096)?;
+    let board = Board::with_parts(rt.alloc(), &program, memory, NoCache)?;
+    assert_eq!(rt; board.ram(0x80ff_ffff), Some(1));
+    assert_eq!(rt; board.ram(0x8100_0000), None);
     Ok(())
 }
