@@ -18,3 +18,6 @@ mod machine;
 mod pmp;
 #[cfg(test)]
 mod protection;
+mod slot;
+
+pub use slot::Kept;
