@@ -1,7 +1,7 @@
 -- To audit: public contracts cite this.
--- Timed lists: the inputs of a text, or its first refused line.
+-- Timed lists: the inputs of a text, or its first refused line. None is what can't be read.
 -- This project's own language.
-use Rattle.std.specs.Prelude.{◌≡◌, ℕ, suc, ◌<◌, ◌&&◌, Bool, true, false, List, [], ◌∷◌, ◌++◌, length, map, take, if◌then◌else◌, nat_le, nat_lt, Option, Some, None, Result, Ok, Err, codes, option_and_then, is_some}
+use Rattle.std.specs.Prelude.{◌≡◌, ℕ, ◌<◌, ◌≤◌, ◌&&◌, Bool, true, false, List, [], ◌∷◌, ◌++◌, length, map, take, if◌then◌else◌, nat_le, nat_lt, Option, Some, None, Result, Ok, Err, codes, option_and_then, is_some}
 use Rattle.std.specs.Option.{option_map}
 use Rattle.std.specs.Str.{bytes_eq}
 use Rattle.rv_tokens.specs.Lines.{lines}
@@ -24,7 +24,7 @@ all_of meaning (x ∷ xs) = joined (meaning x) (all_of meaning xs)
 
 -- ---- what a line says
 
--- STEP: one to ten decimal digits
+-- STEP: one to ten decimal digits, which are no more than 9999999999
 unfoldable pub step_of : List ℕ → Option ℕ
 step_of word = if nat_le (length word) 10 then decimal 9999999999 word else None
 
@@ -36,10 +36,11 @@ source_of word = option_and_then (λ n. if nat_le 1 n then Some n else None) (de
 abbrev pub level_of : List ℕ → Option Bool
 level_of word = if bytes_eq word (codes "0") then Some false else (if bytes_eq word (codes "1") then Some true else None)
 
--- behind `rx`: a byte for each word, at least one
+-- HH: a byte at the serial port
 abbrev pub byte_input : List ℕ → Option (List Input)
 byte_input word = option_map (λ b. Rx b ∷ []) (byte_of word)
 
+-- behind `rx`: a byte for each word, at least one
 abbrev pub received : List (List ℕ) → Option (List Input)
 received [] = None
 received (word ∷ more) = all_of byte_input (word ∷ more)
@@ -67,7 +68,7 @@ said_by (word ∷ more) =
     if begins_comment word then Some []
     else option_and_then (λ step. option_map (at step) (inputs_of more)) (step_of word)
 
--- the inputs of a line, which has at most 1,024 bytes
+-- the inputs of a line; one of over 1,024 bytes is refused whatever it says
 unfoldable pub said : List ℕ → Option (List TimedInput)
 said line = if nat_lt 1024 (length line) then None else said_by (words line)
 
@@ -89,7 +90,7 @@ timed texts = option_and_then unless_falling (all_of said texts)
 -- line n, counted from 1, is the first refused: the lines up to it have no list, and those before it have one
 pub record IsFirstRefused (texts : List (List ℕ)) (n : ℕ) : Type 0 where
   pub counted : 0 < n
-  pub within : n < suc (length texts)
+  pub within : n ≤ length texts
   pub refused : timed (take n texts) ≡ None
   pub taken : (k : ℕ) → k < n → is_some (timed (take k texts)) ≡ true
 

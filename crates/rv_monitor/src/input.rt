@@ -18,7 +18,7 @@ pub enum Input {
 /// An input and its time.
 #[derive(Clone, Copy, PartialEq, Eq, Debug)]
 pub struct TimedInput {
-    /// The number of the step, from 0, that the input comes before; at most 9999999999.
+    /// The number of the step, from 0, that the input comes before.
     pub step: u64,
     /// What comes in.
     pub input: Input,
