@@ -1,0 +1,4 @@
+pub mod Numbers
+pub mod Words
+pub mod Timed
+pub mod Reading

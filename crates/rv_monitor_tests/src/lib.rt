@@ -1,0 +1,7 @@
+//! Tests of timed lists.
+#![tactic(auto)]
+
+#[cfg(test)]
+mod lists;
+#[cfg(test)]
+mod refusals;
