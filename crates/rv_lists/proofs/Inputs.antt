@@ -1,0 +1,127 @@
+-- Inputs behind others.
+use Rattle.std.proofs.Common.{◌≡◌, ◌∙◌, ℕ, suc, ◌-◌, ◌<◌, ◌≤◌, Bool, true, false, cond, List, [], ◌∷◌, ◌++◌, length, get_or, refl, sym, ap, arith, append-nil, append_assoc}
+use Rattle.std.proofs.lemmas.Bool.Decides.{nat_tests}
+use Rattle.std.specs.Prelude.{Option, Some, None, nat_le, nat_lt, ◌&&◌, codes}
+use Rattle.std.specs.Str.{bytes_eq}
+use Rattle.std.specs.Option.{option_map}
+use Rattle.rv_lists.specs.declared.input.Input.{Input}
+use Rattle.rv_lists.specs.declared.input.Input.TheVariants.{Rx}
+use Rattle.rv_lists.specs.declared.input.TimedInput.{TimedInput}
+use Rattle.rv_lists.specs.Numbers.{byte_of}
+use Rattle.rv_lists.specs.Timed.{joined, all_of, byte_input, received, driven, inputs_of, at, never_falls}
+use Rattle.rv_lists.specs.Reading.{latest, with_inputs, behind}
+
+pub latest_is : (xs : List TimedInput) (d : TimedInput) → 0 < length xs → (get_or xs (length xs - 1) d).step ≡ latest xs
+latest_is [] d h = absurd (omega arith)
+latest_is (x ∷ []) d h = refl
+latest_is (x ∷ y ∷ more) d h =
+    let e : suc (suc (length more)) - 1 ≡ suc (length (y ∷ more) - 1) = omega arith in
+    rw e (latest_is (y ∷ more) d (omega arith))
+
+-- ---- received bytes
+
+pub received_all : (ws : List (List ℕ)) → nat_lt 0 (length ws) ≡ true → all_of byte_input ws ≡ received ws
+received_all [] h = absurd cc
+received_all (w ∷ ws) h = refl
+
+pub received_none : (ws : List (List ℕ)) → nat_lt 0 (length ws) ≡ false → received ws ≡ None
+received_none [] h = refl
+received_none (w ∷ ws) h = absurd (grind (arith, nat_tests))
+
+with_pushed : (before : List TimedInput) (step b : ℕ) (r : Option (List Input)) → with_inputs (before ++ record { step = step; input = Rx b } ∷ []) step r ≡ with_inputs before step (option_map (λ zs. Rx b ∷ zs) r)
+with_pushed before step b (Some is) = ap (λ x. Some x) (append_assoc before (record { step = step; input = Rx b } ∷ []) (at step is))
+with_pushed before step b None = refl
+
+pub received_more : (before : List TimedInput) (step b : ℕ) (w : List ℕ) (ws words : List (List ℕ)) → words ≡ w ∷ ws → byte_of w ≡ Some b
+    → with_inputs (before ++ record { step = step; input = Rx b } ∷ []) step (all_of byte_input ws) ≡ with_inputs before step (all_of byte_input words)
+unfolding all_of
+received_more before step b w ws words e is = rw (e, is) (with_pushed before step b (all_of byte_input ws))
+
+pub received_bad : (before : List TimedInput) (step : ℕ) (w : List ℕ) (ws words : List (List ℕ)) → words ≡ w ∷ ws → byte_of w ≡ None → with_inputs before step (all_of byte_input words) ≡ None
+unfolding all_of
+received_bad before step w ws words e is = rw (e, is) refl
+
+pub received_end : (before : List TimedInput) (step : ℕ) (words : List (List ℕ)) → words ≡ [] → with_inputs before step (all_of byte_input words) ≡ Some before
+unfolding all_of
+received_end before step words e = rw e (ap (λ x. Some x) (append-nil before))
+
+-- ---- the inputs of one step behind those before it
+
+level : (m n : ℕ) → m ≤ n → nat_le m n ≡ true
+level m n h = grind (arith, nat_tests)
+
+above : (m n : ℕ) → n < m → nat_le m n ≡ false
+above m n h = grind (arith, nat_tests)
+
+below : (m n : ℕ) → nat_lt m n ≡ true → m < n
+below m n h = grind (arith, nat_tests)
+
+not_below : (m n : ℕ) → nat_lt m n ≡ false → n ≤ m
+not_below m n h = grind (arith, nat_tests)
+
+and_left : (a b : Bool) → (a && b) ≡ true → a ≡ true
+and_left true b h = refl
+and_left false b h = h
+
+and_right : (a b : Bool) → (a && b) ≡ true → b ≡ true
+and_right true b h = h
+and_right false b h = absurd cc
+
+and_true : (a : Bool) → (a && true) ≡ a
+and_true true = refl
+and_true false = refl
+
+at_once : (step : ℕ) (is : List Input) → never_falls (at step is) ≡ true
+unfolding never_falls
+at_once step [] = refl
+at_once step (i ∷ []) = refl
+at_once step (i ∷ j ∷ is) = rw (level step step (omega arith)) (at_once step (j ∷ is))
+
+-- whether the steps fall is told by the last before and the first behind
+falls_between : (before : List TimedInput) (step : ℕ) (i : Input) (is : List Input) → never_falls before ≡ true → never_falls (before ++ at step (i ∷ is)) ≡ nat_le (latest before) step
+unfolding never_falls
+falls_between [] step i is h = at_once step (i ∷ is) ∙ sym (level 0 step (omega arith))
+falls_between (x ∷ []) step i is h = ap (λ b. nat_le x.step step && b) (at_once step (i ∷ is)) ∙ and_true (nat_le x.step step)
+falls_between (x ∷ y ∷ more) step i is h =
+    rw (and_left (nat_le x.step y.step) (never_falls (y ∷ more)) h)
+    (falls_between (y ∷ more) step i is (and_right (nat_le x.step y.step) (never_falls (y ∷ more)) h))
+
+pub behind_none : (before : List TimedInput) (r : Option (List TimedInput)) → r ≡ None → behind before r ≡ None
+behind_none before r e = rw e refl
+
+pub behind_nothing : (before : List TimedInput) (r : Option (List TimedInput)) → never_falls before ≡ true → r ≡ Some [] → behind before r ≡ Some before
+behind_nothing before r h e = rw (e, append-nil, h) refl
+
+module _ (before : List TimedInput) (rising : never_falls before ≡ true) (step : ℕ) where
+  pub behind_step : nat_lt step (latest before) ≡ false → (r : Option (List Input)) → ((is : List Input) → r ≡ Some is → 0 < length is) → behind before (option_map (at step) r) ≡ with_inputs before step r
+  behind_step le None some = refl
+  behind_step le (Some []) some = absurd (omega (arith, some [] refl))
+  behind_step le (Some (i ∷ is)) some = rw (falls_between before step i is rising, level (latest before) step (not_below step (latest before) le)) refl
+
+  pub behind_fallen : nat_lt step (latest before) ≡ true → (r : Option (List Input)) → ((is : List Input) → r ≡ Some is → 0 < length is) → behind before (option_map (at step) r) ≡ None
+  behind_fallen lt None some = refl
+  behind_fallen lt (Some []) some = absurd (omega (arith, some [] refl))
+  behind_fallen lt (Some (i ∷ is)) some = rw (falls_between before step i is rising, above (latest before) step (below step (latest before) lt)) refl
+
+-- ---- a timed line has an input
+
+received_by : (a : Option ℕ) (r : Option (List Input)) (is : List Input) → joined (option_map (λ b. Rx b ∷ []) a) r ≡ Some is → 0 < length is
+received_by None r is e = absurd cc
+received_by (Some b) None is e = absurd cc
+received_by (Some b) (Some js) is e = let same : Rx b ∷ js ≡ is = cc in rw (← same) (omega arith)
+
+received_some : (ws : List (List ℕ)) (is : List Input) → received ws ≡ Some is → 0 < length is
+unfolding all_of
+received_some [] is e = absurd cc
+received_some (w ∷ ws) is e = received_by (byte_of w) (all_of byte_input ws) is e
+
+some_by : (a b : Bool) (r : Option (List Input)) (d : Option Input) → ((is : List Input) → r ≡ Some is → 0 < length is) → (is : List Input) → cond a r (cond b (option_map (λ i. i ∷ []) d) None) ≡ Some is → 0 < length is
+some_by true b r d some is e = some is e
+some_by false true r None some is e = absurd cc
+some_by false true r (Some i) some is e = let same : i ∷ [] ≡ is = cc in rw (← same) (omega arith)
+some_by false false r d some is e = absurd cc
+
+pub inputs_some : (ws : List (List ℕ)) (is : List Input) → inputs_of ws ≡ Some is → 0 < length is
+unfolding inputs_of
+inputs_some [] is e = absurd cc
+inputs_some (kind ∷ ws) is e = some_by (bytes_eq kind (codes "rx")) (bytes_eq kind (codes "line")) (received ws) (driven ws) (received_some ws) is e

@@ -1,0 +1,99 @@
+-- How far the lines of a timed list have been read.
+use Rattle.std.proofs.Common.{◌≡◌, ◌∙◌, ℕ, zero, suc, ◌+◌, ◌<◌, Bool, true, false, cond, List, [], ◌∷◌, ◌++◌, length, take, drop, refl, sym, ap, arith, add-one, append-nil, append_assoc, length-drop, below_more}
+use Rattle.std.specs.Prelude.{Option, Some, None, is_some, option_and_then}
+use Rattle.std.proofs.lemmas.List.{take_all}
+use Rattle.rv_lists.specs.declared.input.TimedInput.{TimedInput}
+use Rattle.rv_lists.specs.Timed.{joined, all_of, said, never_falls, unless_falling, timed, IsFirstRefused}
+use Rattle.rv_lists.specs.Reading.{behind}
+
+joined_assoc : {B : Type 0} (a b c : Option (List B)) → joined a (joined b c) ≡ joined (joined a b) c
+joined_assoc None b c = refl
+joined_assoc (Some xs) None c = refl
+joined_assoc (Some xs) (Some ys) None = refl
+joined_assoc (Some xs) (Some ys) (Some zs) = ap (λ x. Some x) (sym (append_assoc xs ys zs))
+
+joined_nothing : {B : Type 0} (a : Option (List B)) → joined a (Some []) ≡ joined (Some []) a
+joined_nothing None = refl
+joined_nothing (Some xs) = ap (λ x. Some x) (append-nil xs)
+
+-- one more part
+all_of_more : {A B : Type 0} (meaning : A → Option (List B)) (xs : List A) (x : A) → all_of meaning (xs ++ x ∷ []) ≡ joined (all_of meaning xs) (meaning x)
+unfolding all_of
+all_of_more meaning [] x = joined_nothing (meaning x)
+all_of_more meaning (y ∷ ys) x = ap (joined (meaning y)) (all_of_more meaning ys x) ∙ joined_assoc (meaning y) (all_of meaning ys) (meaning x)
+
+-- ---- what has a list
+
+rising_by : (xs before : List TimedInput) (b : Bool) → never_falls xs ≡ b → cond b (Some xs) None ≡ Some before → (xs ≡ before) × (never_falls xs ≡ true)
+rising_by xs before true e h = (cc, e)
+rising_by xs before false e h = absurd cc
+
+listed_by : (r : Option (List TimedInput)) (before : List TimedInput) → option_and_then unless_falling r ≡ Some before → (r ≡ Some before) × (never_falls before ≡ true)
+listed_by None before h = absurd cc
+listed_by (Some xs) before h = let p = rising_by xs before (never_falls xs) refl h in (ap (λ x. Some x) p.0, rw p.0 at p.1)
+
+listed : (texts : List (List ℕ)) (before : List TimedInput) → timed texts ≡ Some before → (all_of said texts ≡ Some before) × (never_falls before ≡ true)
+unfolding timed
+listed texts before h = listed_by (all_of said texts) before h
+
+pub rising : (texts : List (List ℕ)) (before : List TimedInput) → timed texts ≡ Some before → never_falls before ≡ true
+rising texts before h = (listed texts before h).1
+
+behind_by : (before : List TimedInput) (s : Option (List TimedInput)) → option_and_then unless_falling (joined (Some before) s) ≡ behind before s
+behind_by before None = refl
+behind_by before (Some xs) = refl
+
+-- one more line
+timed_more : (texts : List (List ℕ)) (text : List ℕ) (before : List TimedInput) → timed texts ≡ Some before → timed (texts ++ text ∷ []) ≡ behind before (said text)
+unfolding timed
+timed_more texts text before h = rw (all_of_more said texts text, (listed texts before h).0) (behind_by before (said text))
+
+-- ---- the first n texts have these inputs, and the others are left
+
+pub record SoFar (texts rest : List (List ℕ)) (n : ℕ) (inputs : List TimedInput) : Type 0 where
+  pub left : rest ≡ drop n texts
+  pub inputs_are : timed (take n texts) ≡ Some inputs
+  pub taken : (k : ℕ) → k < n + 1 → is_some (timed (take k texts)) ≡ true
+
+begun_taken : (texts : List (List ℕ)) (k : ℕ) → k < 0 + 1 → is_some (timed (take k texts)) ≡ true
+unfolding timed all_of never_falls
+begun_taken texts zero h = refl
+begun_taken texts (suc k) h = absurd (omega arith)
+
+pub begun : (texts : List (List ℕ)) → SoFar texts texts 0 []
+unfolding timed all_of never_falls
+begun texts = record { left = refl; inputs_are = refl; taken = begun_taken texts }
+
+record IsAt (texts : List (List ℕ)) (n : ℕ) (text : List ℕ) (after : List (List ℕ)) : Type 0 where
+  below : n < length texts
+  front : take (suc n) texts ≡ take n texts ++ text ∷ []
+  back : drop (suc n) texts ≡ after
+
+dropped : (texts : List (List ℕ)) (n : ℕ) (text : List ℕ) (after : List (List ℕ)) → drop n texts ≡ text ∷ after → IsAt texts n text after
+dropped [] zero text after e = absurd cc
+dropped [] (suc n) text after e = absurd cc
+dropped (t ∷ ts) zero text after e = record { below = omega arith; front = ap (λ x. x ∷ []) cc; back = cc }
+dropped (t ∷ ts) (suc n) text after e = let r = dropped ts n text after e in record { below = omega (arith, r.below); front = ap (λ xs. t ∷ xs) r.front; back = r.back }
+
+module _ (texts rest : List (List ℕ)) (n : ℕ) (inputs : List TimedInput) (so : SoFar texts rest n inputs) where
+  module _ (text : List ℕ) (after : List (List ℕ)) (cut : rest ≡ text ∷ after) where
+    next : IsAt texts n text after
+    next = dropped texts n text after (sym so.left ∙ cut)
+
+    next_is : timed (take (n + 1) texts) ≡ behind inputs (said text)
+    next_is = rw (add-one, next.front) (timed_more (take n texts) text inputs so.inputs_are)
+
+    more_taken : (new : List TimedInput) → behind inputs (said text) ≡ Some new → (k : ℕ) → k < n + 1 + 1 → is_some (timed (take k texts)) ≡ true
+    more_taken new e = below_more (λ k. is_some (timed (take k texts)) ≡ true) (n + 1) so.taken (rw (next_is, e) refl)
+
+    pub read_more : (new : List TimedInput) → behind inputs (said text) ≡ Some new → SoFar texts after (n + 1) new
+    read_more new e = record { left = rw add-one (sym next.back); inputs_are = next_is ∙ e; taken = more_taken new e }
+
+    pub refused : behind inputs (said text) ≡ None → IsFirstRefused texts (n + 1)
+    refused e = record { counted = omega arith; within = omega (arith, next.below); refused = next_is ∙ e; taken = so.taken }
+
+  pub read_all : rest ≡ [] → timed texts ≡ Some inputs
+  read_all h =
+      let none : length rest ≡ 0 = rw h refl in
+      let all : take n texts ≡ texts = take_all n texts (omega (arith, length-drop n texts, ap length so.left, none)) in
+      sym (ap timed all) ∙ so.inputs_are
