@@ -5,7 +5,7 @@ use std::process::Abort;
 use std::test::Fail;
 
 fn program(alloc: Global, source: &[u8]) -> Result<Program, &'static str> {
-    assemble(alloc, source).map_err(|_| "the source is refused")
+    assemble(alloc, source).ok().ok_or("the source is refused")
 }
 
 /// The source has this image.
@@ -92,7 +92,7 @@ fn spaces_and_alignments(rt: HostRuntime) -> Result<(), Fail> {
 fn markers_have_no_effect(rt: HostRuntime) -> Result<(), Fail> {
     check(
         &rt,
-        b".text\n.data\n.rodata\n.bss\n.section .x,\"a\"\n.globl x\n.global x\n.local x\n.option norvc\n.type x,@function\n.size x,.-x\n.file \"a\"\n.ident \"b\"\n.attribute 4,16\nx:",
+        b".text\n.data\n.rodata\n.bss\n.section .x,\"a\"\n.globl x\n.global x\n.local ( : )\n.option norvc\n.type x,@function\n.size x,.-x\n.file \"a\"\n.ident \"b\"\n.attribute 4,16\nx:",
         b"",
         rt.alloc(),
     )

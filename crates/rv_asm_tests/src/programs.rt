@@ -5,7 +5,7 @@ use std::process::Abort;
 use std::test::Fail;
 
 fn program(alloc: Global, source: &[u8]) -> Result<Program, &'static str> {
-    assemble(alloc, source).map_err(|_| "the source is refused")
+    assemble(alloc, source).ok().ok_or("the source is refused")
 }
 
 /// The source has this image.
@@ -348,6 +348,10 @@ sw a0,start,t0                  # 00000297 e2a2a623
 1: j 1b                         # 0000006f
 end: nop                        # 00000013
 .word 1--1,2+-3,-'a',+4         # 00000002 ffffffff ffffff9f 00000004
+jalr a0,a1,%lo(0x80000800)      # 80058567
+sltiu a0,a1,%lo(0x80000800)     # 8005b513
+csrr a0,772                     # 30402573
+fence iorw,or                   # 0f60000f
 ";
 
 /// The words that stand in hexadecimal digits behind the last `#` of each line.
@@ -366,7 +370,7 @@ fn words_of(alloc: Global, source: &[u8]) -> Result<Vec<u8>, Fail> {
 #[test]
 fn each_word(rt: HostRuntime) -> Result<(), Fail> {
     let image = words_of(rt.alloc(), EACH_WORD)?;
-    assert_eq!(rt; image.len(), 612);
+    assert_eq!(rt; image.len(), 628);
     check(&rt, rt.alloc(), EACH_WORD, image.as_slice())
 }
 
@@ -374,7 +378,7 @@ fn each_word(rt: HostRuntime) -> Result<(), Fail> {
 #[test]
 fn assembles_or_wants_memory(rt: HostRuntime) -> Result<(), Fail> {
     match assemble(rt.alloc(), EACH_WORD) {
-        Ok(program) => assert_eq!(rt; program.bytes().len(), 612),
+        Ok(program) => assert_eq!(rt; program.bytes().len(), 628),
         Err(fault) => {
             let want = AsmFault {
                 line: 0,

@@ -1,5 +1,5 @@
 //! A text that comes in pieces, and one that goes out in pieces.
-ghost use Rattle.std.specs.Prelude.{◌≡◌, ◌≤◌, ◌==◌, ◌&&◌, ◌||◌, ℕ, Bool, List, Option, IfErr, IfOk, OnErr, OnOk, false, length, nat_lt, true};
+ghost use Rattle.std.specs.Prelude.{◌≡◌, ◌≤◌, ◌<◌, ◌-◌, [], ◌==◌, ◌&&◌, ◌||◌, ℕ, Bool, List, Option, IfErr, IfOk, OnErr, OnOk, false, length, take, drop, nat_lt, true};
 ghost use Rattle.std.specs.Io.KnownBytes.{Appends, ReadConsumes, WriteAppends};
 ghost use Rattle.rv_cli.specs.Texts.{GavePart, GaveWhole, IsUnreadable, WroteBeginning};
 ghost use Rattle.rv_cli.specs.declared.text.ReadFault.TheVariants.{NoMemory, Unreadable};
@@ -103,6 +103,24 @@ pub(crate) fn read_whole<R: TextIn>(alloc: Global, reader: &mut R) -> Result<Vec
     }
 }
 
+/// Writes some of the bytes behind the first `done`, and answers how many were written in all.
+fn write_more<W: TextOut>(out: &mut W, bytes: &[u8], done: usize) -> Result<usize, OutFailed>
+    requires some { done < length bytes.now }
+    requires sound { W.has_failed out.old ≡ false }
+    ensures more { IfOk result (λ n. done < n) }
+    ensures within { IfOk result (λ n. n ≤ length bytes.now) }
+    ensures took { IfOk result (λ n. Appends (W.taken out.old) (W.taken out.new) (take (n - done) (drop done bytes.now))) }
+    ensures sound { OnOk result (W.has_failed out.new ≡ false) }
+    ensures err { OnErr result (Appends (W.taken out.old) (W.taken out.new) []) }
+    ensures failed { OnErr result (W.has_failed out.new ≡ true) }
+{
+    match out.write(&bytes[done..]) {
+        Ok(0) => Err(OutFailed),
+        Ok(count) => Ok(done + count),
+        Err(failed) => Err(failed),
+    }
+}
+
 /// Writes all the bytes, or a beginning of them.
 pub(crate) fn write_whole<W: TextOut>(out: &mut W, bytes: &[u8]) -> Result<(), OutFailed>
     requires { W.has_failed out.old ≡ false }
@@ -113,11 +131,7 @@ pub(crate) fn write_whole<W: TextOut>(out: &mut W, bytes: &[u8]) -> Result<(), O
 {
     let mut done = 0;
     while done < bytes.len() {
-        match out.write(&bytes[done..]) {
-            Ok(0) => return Err(OutFailed),
-            Ok(count) => done += count,
-            Err(failed) => return Err(failed),
-        }
+        done = write_more(out, bytes, done)?;
     }
     Ok(())
 }

@@ -1,5 +1,5 @@
 //! Boards of given parts.
-use rv_asm::assemble;
+use crate::machine::program;
 use rv_board::{Board, BootFault};
 use rv_cache::NoCache;
 use rv_ram::FlatMemory;
@@ -7,7 +7,7 @@ use std::test::Fail;
 
 #[test]
 fn an_image_may_be_too_large_for_its_memory(rt: HostRuntime) -> Result<(), Fail> {
-    let program = assemble(rt.alloc(), b".space 4097")?;
+    let program = program(rt.alloc(), b".space 4097")?;
     let memory = FlatMemory::new(rt.alloc(), 1)?;
     assert_eq!(rt;
         Board::with_parts(rt.alloc(), &program, memory, NoCache).err(),

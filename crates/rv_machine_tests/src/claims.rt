@@ -14,7 +14,7 @@ const CLAIM_INTO_X0: &[u8] =
     b"lui t0,0xC000\nli t1,7\nsw t1,12(t0)\nlui t2,0xC002\nli t1,8\nsw t1,0(t2)\nlui t0,0xC200\nlw x0,4(t0)";
 
 /// The board of such a source before the load, with source 3 pending.
-fn pending(alloc: Global, source: &[u8]) -> Result<BootedBoard, Fail> {
+fn pending(alloc: Global, source: &[u8]) -> Result<BootedBoard, &'static str> {
     let mut board = after(alloc, source, 6)?;
     raise(&mut board, 3)?;
     go(&mut board, 1)?;

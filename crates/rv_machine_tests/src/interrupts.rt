@@ -21,7 +21,7 @@ const VECTORED_EXTERNAL: &[u8] =
 li t1,0x800\ncsrw mie,t1\ncsrwi mstatus,8\nj .";
 
 /// The board of such a source with source 3, after the step that takes the interrupt.
-fn interrupted(alloc: Global, source: &[u8]) -> Result<BootedBoard, Fail> {
+fn interrupted(alloc: Global, source: &[u8]) -> Result<BootedBoard, &'static str> {
     let mut board = after(alloc, source, 13)?;
     raise(&mut board, 3)?;
     go(&mut board, 1)?;

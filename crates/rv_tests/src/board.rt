@@ -2,7 +2,7 @@
 use crate::everywhere::same;
 use crate::memory::Stubborn;
 use rv_asm::{Program, assemble};
-use rv_board::{Board, BootFault, Event, Stopped, TrapRecord};
+use rv_board::{Board, BootFault, BootedBoard, Event, Stopped, TrapRecord};
 use rv_cache::{Decoded, NoCache};
 use rv_isa::{NoMemory, Reg};
 use rv_ram::{ByteMemory, FlatMemory};
@@ -14,8 +14,25 @@ const SLOTS: u32 = 1024;
 const HELLO: &[u8] =
     b"lui t0,0x10000\nli a0,72\nsw a0,0(t0)\nlui t1,0x100\nli t2,0x5555\nsw t2,0(t1)";
 
-fn program(alloc: Global, source: &[u8]) -> Result<Program, Fail> {
-    Ok(assemble(alloc, source)?)
+// What is refused is a text here: a fault of many kinds, turned into a test's failure, costs minutes of proof.
+fn program(alloc: Global, source: &[u8]) -> Result<Program, &'static str> {
+    assemble(alloc, source).ok().ok_or("the source is refused")
+}
+
+fn booted(alloc: Global, program: &Program, pages: u32) -> Result<BootedBoard, &'static str> {
+    Board::boot(alloc, program, pages, SLOTS)
+        .ok()
+        .ok_or("the board doesn't boot")
+}
+
+fn flat(
+    alloc: Global,
+    program: &Program,
+    memory: FlatMemory,
+) -> Result<Board<FlatMemory, NoCache>, &'static str> {
+    Board::with_parts(alloc, program, memory, NoCache)
+        .ok()
+        .ok_or("the board doesn't boot")
 }
 
 fn reg<M: ByteMemory, C: Decoded>(board: &Board<M, C>, number: u8) -> Option<u32> {
@@ -25,7 +42,7 @@ fn reg<M: ByteMemory, C: Decoded>(board: &Board<M, C>, number: u8) -> Option<u32
 #[test]
 fn hello_prints_and_halts(rt: HostRuntime) -> Result<(), Fail> {
     let program = program(rt.alloc(), HELLO)?;
-    let mut board = Board::boot(rt.alloc(), &program, 256, SLOTS)?;
+    let mut board = booted(rt.alloc(), &program, 256)?;
     assert_eq!(rt; board.ram(0x8000_0000), Some(0xb7));
     assert_eq!(rt; board.run(&[Event::Step; 7]), Ok(()));
     // A halted board is changed by no event.
@@ -41,7 +58,7 @@ fn hello_prints_and_halts(rt: HostRuntime) -> Result<(), Fail> {
 #[test]
 fn the_empty_source_traps(rt: HostRuntime) -> Result<(), Fail> {
     let program = program(rt.alloc(), b"")?;
-    let mut board = Board::boot(rt.alloc(), &program, 1, SLOTS)?;
+    let mut board = booted(rt.alloc(), &program, 1)?;
     assert_eq!(rt; board.run(&[Event::Step; 2]), Ok(()));
     assert_eq!(rt; board.trap_count(), 2);
     let illegal = TrapRecord {
@@ -66,7 +83,7 @@ fn constants_are_loaded_in_one_or_two_words(rt: HostRuntime) -> Result<(), Fail>
         b"li a0,2047\nli a1,2048\nli a2,-2048\nli a3,0x80000800\nli a4,0xFFFFFFFF\nli a5,0x12345000";
     let program = program(rt.alloc(), source)?;
     assert_eq!(rt; program.bytes().len(), 32);
-    let mut board = Board::boot(rt.alloc(), &program, 1, SLOTS)?;
+    let mut board = booted(rt.alloc(), &program, 1)?;
     assert_eq!(rt; board.run(&[Event::Step; 8]), Ok(()));
     let values = [
         2047,
@@ -85,7 +102,7 @@ fn constants_are_loaded_in_one_or_two_words(rt: HostRuntime) -> Result<(), Fail>
 #[test]
 fn stores_reach_the_memory_s_end(rt: HostRuntime) -> Result<(), Fail> {
     let program = program(rt.alloc(), b"li t0,0x80000FFC\nsw t0,0(t0)\nsw t0,4(t0)")?;
-    let mut board = Board::boot(rt.alloc(), &program, 1, SLOTS)?;
+    let mut board = booted(rt.alloc(), &program, 1)?;
     assert_eq!(rt; board.run(&[Event::Step; 4]), Ok(()));
     assert_eq!(rt; board.ram(0x8000_0fff), Some(0x80));
     let beyond = TrapRecord {
@@ -127,7 +144,8 @@ fn stubborn(alloc: Global, refusals: u32) -> Result<Board<Stubborn, NoCache>, Fa
         refusals,
     };
     let program = program(alloc, STORES)?;
-    Ok(Board::with_parts(alloc, &program, memory, NoCache)?)
+    let board = Board::with_parts(alloc, &program, memory, NoCache);
+    Ok(board.ok().ok_or("the board doesn't boot")?)
 }
 
 const STORES: &[u8] = b"lui t0,0x80001\nsw t0,0(t0)";
@@ -136,7 +154,7 @@ const STORES: &[u8] = b"lui t0,0x80001\nsw t0,0(t0)";
 fn a_refused_step_can_be_asked_again(rt: HostRuntime) -> Result<(), Fail> {
     let mut board = stubborn(rt.alloc(), 1)?;
     let program = program(rt.alloc(), STORES)?;
-    let mut other = Board::boot(rt.alloc(), &program, 2, SLOTS)?;
+    let mut other = booted(rt.alloc(), &program, 2)?;
     assert_eq!(rt; board.apply(Event::Step), Ok(()));
     assert_eq!(rt; other.apply(Event::Step), Ok(()));
     assert_eq!(rt; board.apply(Event::Step), Err(NoMemory));
@@ -180,7 +198,7 @@ fn a_run_stops_at_a_refused_step(rt: HostRuntime) -> Result<(), Fail> {
 fn the_largest_image_fits_the_largest_memory(rt: HostRuntime) -> Result<(), Fail> {
     let program = program(rt.alloc(), b".space 16777215\n.byte 1")?;
     let memory = FlatMemory::new(rt.alloc(), 4096)?;
-    let board = Board::with_parts(rt.alloc(), &program, memory, NoCache)?;
+    let board = flat(rt.alloc(), &program, memory)?;
     assert_eq!(rt; board.ram(0x80ff_ffff), Some(1));
     assert_eq!(rt; board.ram(0x8100_0000), None);
     Ok(())

@@ -1,6 +1,6 @@
 //! Small programs, and how their boards stand after some steps.
 use crate::everywhere::same;
-use rv_asm::assemble;
+use rv_asm::{Program, assemble};
 use rv_board::{Board, BootedBoard, Event, TrapRecord};
 use rv_cache::{Decoded, NoCache};
 use rv_isa::Reg;
@@ -53,9 +53,34 @@ const PLAIN: Stand = Stand {
     trap: None,
 };
 
-fn boot(alloc: Global, source: &[u8]) -> Result<BootedBoard, Fail> {
-    let program = assemble(alloc, source)?;
-    Ok(Board::boot(alloc, &program, 1, 1024)?)
+// What is refused is a text here: a fault of many kinds, turned into a test's failure, costs minutes of proof.
+fn program(alloc: Global, source: &[u8]) -> Result<Program, &'static str> {
+    assemble(alloc, source).ok().ok_or("the source is refused")
+}
+
+fn booted(alloc: Global, program: &Program, slots: u32) -> Result<BootedBoard, &'static str> {
+    Board::boot(alloc, program, 1, slots)
+        .ok()
+        .ok_or("the board doesn't boot")
+}
+
+fn boot(alloc: Global, source: &[u8]) -> Result<BootedBoard, &'static str> {
+    booted(alloc, &program(alloc, source)?, 1024)
+}
+
+/// A board over flat memory, with no cache.
+fn plain(alloc: Global, program: &Program) -> Result<Board<FlatMemory, NoCache>, &'static str> {
+    let memory = FlatMemory::new(alloc, 1).ok().ok_or("no memory")?;
+    Board::with_parts(alloc, program, memory, NoCache)
+        .ok()
+        .ok_or("the board doesn't boot")
+}
+
+fn apply<M: ByteMemory, C: Decoded>(
+    board: &mut Board<M, C>,
+    event: Event,
+) -> Result<(), &'static str> {
+    board.apply(event).ok().ok_or("memory is refused")
 }
 
 fn last_trap<M: ByteMemory, C: Decoded>(board: &Board<M, C>) -> Option<(u32, u32, u32)> {
@@ -89,10 +114,10 @@ fn follow_on<M: ByteMemory, C: Decoded>(
     rt: &impl Abort,
     board: &mut Board<M, C>,
     stands: &[Stand],
-) -> Result<(), Fail> {
+) -> Result<(), &'static str> {
     for stand in stands {
         for _ in 0..stand.steps {
-            board.apply(Event::Step)?;
+            apply(board, Event::Step)?;
         }
         check(rt, board, stand);
     }
@@ -102,12 +127,11 @@ fn follow_on<M: ByteMemory, C: Decoded>(
 /// The board of the source stands so, one after the other, over each memory and cache; and whatever it is read by, it
 /// is the same over all of them.
 fn follow(rt: &impl Abort, alloc: Global, source: &[u8], stands: &[Stand]) -> Result<(), Fail> {
-    let program = assemble(alloc, source)?;
-    let memory = FlatMemory::new(alloc, 1)?;
-    let mut plain = Board::with_parts(alloc, &program, memory, NoCache)?;
+    let program = program(alloc, source)?;
+    let mut plain = plain(alloc, &program)?;
     follow_on(rt, &mut plain, stands)?;
     for slots in [64, 1024, 4096] {
-        let mut board = Board::boot(alloc, &program, 1, slots)?;
+        let mut board = booted(alloc, &program, slots)?;
         follow_on(rt, &mut board, stands)?;
         same(rt, &plain, &board);
     }
@@ -333,7 +357,7 @@ fn loads_extend_and_are_refused(rt: HostRuntime) -> Result<(), Fail> {
 /// The board of `j .` after these events, with the pending interrupt sources.
 fn pending_after(alloc: Global, events: &[Event]) -> Result<u32, Fail> {
     let mut board = boot(alloc, b"j .")?;
-    board.run(events).map_err(|_| "memory is refused")?;
+    board.run(events).ok().ok_or("memory is refused")?;
     Ok(board.plic().peek(0x1000))
 }
 
@@ -358,12 +382,12 @@ const ECHO: &[u8] = b"lui t0,0x10000\nlw a0,4(t0)\nsw a0,0(t0)";
 #[test]
 fn a_byte_comes_when_it_comes(rt: HostRuntime) -> Result<(), Fail> {
     let mut board = boot(rt.alloc(), ECHO)?;
-    board.apply(Event::Rx(0x5a))?;
+    apply(&mut board, Event::Rx(0x5a))?;
     assert_eq!(rt; board.run(&[Event::Step; 3]), Ok(()));
     assert_eq!(rt; board.console(), b"Z".as_slice());
     let mut late = boot(rt.alloc(), ECHO)?;
     assert_eq!(rt; late.run(&[Event::Step; 3]), Ok(()));
-    late.apply(Event::Rx(0x5a))?;
+    apply(&mut late, Event::Rx(0x5a))?;
     assert_eq!(rt; late.console(), b"\0".as_slice());
     assert_eq!(rt; late.serial().waiting(), 1);
     Ok(())
