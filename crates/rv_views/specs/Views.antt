@@ -1,10 +1,11 @@
 -- To audit: public contracts cite this.
 -- What is printed of a board: one definition a command.
 -- This project's own language.
-use Rattle.std.specs.Prelude.{ℕ, zero, suc, ◌+◌, ◌-◌, ◌*◌, ◌/◌, ◌%◌, ◌^◌, ◌==◌, List, [], ◌∷◌, ◌++◌, if◌then◌else◌, nat_lt, Option, Some, None, option_and_then, unwrap_or, codes}
+use Rattle.std.specs.Prelude.{ℕ, zero, suc, ◌+◌, ◌-◌, ◌*◌, ◌/◌, ◌%◌, ◌^◌, ◌==◌, List, [], ◌∷◌, ◌++◌, if◌then◌else◌, min, Option, Some, None, option_and_then, unwrap_or, codes}
 use Rattle.std.specs.Option.{option_map}
 use Rattle.std.specs.List.{flat_map}
 use Rattle.std.specs.Fmt.{decimal}
+use Rattle.std.specs.Int.{div_ceil}
 use Rattle.rv_isa.specs.Meaning.{means}
 use Rattle.rv_isa.specs.Text.{text}
 use Rattle.rv_isa.specs.declared.kind.Kind.{Kind}
@@ -62,18 +63,21 @@ abbrev pub byte_text : Option ℕ → List ℕ
 byte_text None = codes "--"
 byte_text (Some byte) = hex 2 byte
 
--- a line of so many bytes
+-- a byte in its line, behind a space
+unfoldable pub byte_in_line : BoardState → ℕ → ℕ → List ℕ
+byte_in_line b addr offset = codes " " ++ byte_text (byte_behind b addr offset)
+
+-- an address and so many bytes from there on
 unfoldable pub bytes_line : BoardState → ℕ → ℕ → List ℕ
-bytes_line b addr count =
-    line (hex 8 addr ++ codes ":" ++ pieces (λ i. codes " " ++ byte_text (byte_behind b addr i)) count)
+bytes_line b addr count = line (hex 8 addr ++ codes ":" ++ pieces (byte_in_line b addr) count)
 
--- how many bytes stand in line k of so many in all: 16, and in the last those that are left
-abbrev pub line_count : ℕ → ℕ → ℕ
-line_count count k = if nat_lt (16 * k + 16) count then 16 else count - 16 * k
+-- line k of so many bytes in all: 16 of them, and in the last line those that are left
+unfoldable pub memory_line : BoardState → ℕ → ℕ → ℕ → List ℕ
+memory_line b addr count k = bytes_line b ((addr + 16 * k) % 2 ^ 32) (min 16 (count - 16 * k))
 
--- `m`: lines of 16 bytes
+-- `m`: as many lines as it takes
 unfoldable pub memory_text : BoardState → ℕ → ℕ → List ℕ
-memory_text b addr count = pieces (λ k. bytes_line b ((addr + 16 * k) % 2 ^ 32) (line_count count k)) ((count + 15) / 16)
+memory_text b addr count = pieces (memory_line b addr count) (div_ceil count 16)
 
 -- the word at an address, low byte first, where all its bytes are
 unfoldable pub word_of : BoardState → ℕ → Option ℕ
@@ -98,8 +102,12 @@ instruction_text b addr = line (hex 8 addr ++ codes ": " ++ word_text (word_of b
 
 -- ---- traps
 
+-- a word behind its label
+unfoldable pub labelled : List ℕ → ℕ → List ℕ
+labelled label word = label ++ hex 8 word
+
 unfoldable pub trap_text : TrapRecord → List ℕ
-trap_text t = line (codes "trap cause=" ++ hex 8 t.cause ++ codes " epc=" ++ hex 8 t.epc ++ codes " tval=" ++ hex 8 t.tval)
+trap_text t = line (labelled (codes "trap cause=") t.cause ++ labelled (codes " epc=") t.epc ++ labelled (codes " tval=") t.tval)
 
 -- `t`: the kept traps, oldest first
 abbrev pub traps_text : BoardState → List ℕ

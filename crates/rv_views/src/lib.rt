@@ -5,9 +5,15 @@
 //! count something.
 #![tactic(auto)]
 
+mod memory;
 mod number;
 mod registers;
+mod stop;
 mod text;
+mod trap;
 
+pub use memory::{write_instruction, write_memory};
 pub use number::{eight_digits, two_digits};
-pub use registers::{mode_letter, write_registers};
+pub use registers::{mode_letter, write_control_register, write_registers};
+pub use stop::{STOP_BYTES, write_stop};
+pub use trap::write_traps;
