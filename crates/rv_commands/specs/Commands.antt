@@ -1,7 +1,7 @@
 -- To audit: public contracts cite this.
 -- Command lines: what each says. None is a line that says nothing that can be done.
 -- This project's own language.
-use Rattle.std.specs.Prelude.{ℕ, ℤ, ◌&&◌, List, [], ◌∷◌, length, if◌then◌else◌, nat_le, nat_lt, Option, Some, None, codes, option_and_then}
+use Rattle.std.specs.Prelude.{◌≡◌, ℕ, ℤ, ⊤, ◌&&◌, List, [], ◌∷◌, length, if◌then◌else◌, nat_le, nat_lt, Option, Some, None, codes, option_and_then}
 use Rattle.std.specs.Option.{option_map}
 use Rattle.std.specs.Str.{bytes_eq}
 use Rattle.rv_isa.specs.Names.{lookup, csr_names}
@@ -83,3 +83,8 @@ said_by symbols (word ∷ more) = if begins_comment word then Some Nothing else 
 -- a line; one of over 1,024 bytes is refused whatever it says
 unfoldable pub command_of : List ℕ → List (List ℕ × ℤ) → Option Command
 command_of line symbols = if nat_lt 1024 (length line) then None else said_by symbols (words line)
+
+-- a command's control register is that of its name
+abbrev pub IsNamed : Command → Type 0
+IsNamed (ControlRegister name csr) = lookup name csr_names ≡ Some csr
+IsNamed _ = ⊤

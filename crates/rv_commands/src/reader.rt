@@ -2,7 +2,7 @@
 ghost use Rattle.std.specs.Prelude.{◌≡◌, ◌≤◌, IfSome};
 ghost use Rattle.std.specs.Option.{option_copied};
 ghost use Rattle.rv_lists.specs.Words.{words};
-ghost use Rattle.rv_commands.specs.Commands.{number_of, byte_count, only, number_alone, address_alone, alone, steps, going, control_register, memory, row, command_of};
+ghost use Rattle.rv_commands.specs.Commands.{number_of, byte_count, only, number_alone, address_alone, alone, steps, going, control_register, memory, row, command_of, IsNamed};
 
 use crate::Command;
 use crate::address::address;
@@ -142,9 +142,9 @@ fn row<'a>(word: &[u8], rest: &'a [u8], program: &Program) -> Option<Command<'a>
     }
 }
 
-/// What a line says, or None where it is no command. The names of a program's symbols stand for their values.
+/// What a line says.
 #[tactic(auto, unfolding(crate::specs::Commands::command_of))]
-pub fn read_command<'a>(line: &'a [u8], program: &Program) -> Option<Command<'a>>
+fn read<'a>(line: &'a [u8], program: &Program) -> Option<Command<'a>>
     ensures { result ≡ command_of line.now program.now.symbols }
 {
     if line.len() > LONGEST_LINE {
@@ -157,4 +157,13 @@ pub fn read_command<'a>(line: &'a [u8], program: &Program) -> Option<Command<'a>
         return Some(Command::Nothing);
     }
     row(first, rest, program)
+}
+
+/// What a line says, or None where it is no command. The names of a program's symbols stand for their values.
+#[tactic(auto, using(crate::proofs::Named::is_named))]
+pub fn read_command<'a>(line: &'a [u8], program: &Program) -> Option<Command<'a>>
+    ensures value { result ≡ command_of line.now program.now.symbols }
+    ensures named { IfSome result IsNamed }
+{
+    read(line, program)
 }
