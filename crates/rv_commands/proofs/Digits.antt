@@ -24,43 +24,39 @@ pub record SoFar (digits : List ℕ) (i sum : ℕ) : Type 0 where
   pub sum_is : fold step sum (drop i digits) ≡ hex_value digits
   pub all_are : list_all is_digit (drop i digits) ≡ list_all is_digit digits
 
-above : (m n : ℕ) → n < m → nat_le m n ≡ false
-above m n h = grind (arith, nat_tests)
+-- how many digits there may be
+abbrev is_count : ℕ → Bool
+is_count n = nat_le 1 n && nat_le n 8
 
-within : (m n : ℕ) → m ≤ n → nat_le m n ≡ true
-within m n h = grind (arith, nat_tests)
+few_by : (n : ℕ) (a b : Bool) → nat_le 1 n ≡ a → nat_le n 8 ≡ b → (a && b) ≡ true → (0 < n) × (n ≤ 8)
+few_by n true true p q h = grind (arith, nat_tests)
+few_by n true false p q h = absurd cc
+few_by n false b p q h = absurd cc
 
-none_at : {A : Type 0} (a b d : Bool) (x : A) → d ≡ false → None ≡ cond (a && (b && d)) (Some x) None
-none_at true true d x h = rw h refl
-none_at false b d x h = refl
-none_at true false d x h = refl
+few : (n : ℕ) → is_count n ≡ true → (0 < n) × (n ≤ 8)
+few n h = few_by n (nat_le 1 n) (nat_le n 8) refl refl h
 
-some_at : {A : Type 0} (a b d : Bool) (x y : A) → a ≡ true → b ≡ true → d ≡ true → x ≡ y → Some x ≡ cond (a && (b && d)) (Some y) None
-some_at a b d x y p q r e = rw (p, q, r, e) refl
+none_at : {A : Type 0} (a d : Bool) (x : A) → d ≡ false → None ≡ cond (a && d) (Some x) None
+none_at true d x h = rw h refl
+none_at false d x h = refl
 
-none_long : {A : Type 0} (a d : Bool) (x : A) → None ≡ cond (a && (false && d)) (Some x) None
-none_long true d x = refl
-none_long false d x = refl
-
-pub hexadecimal-empty : (ds : List ℕ) → length ds ≡ 0 → None ≡ hexadecimal ds
+pub hexadecimal-refused : (ds : List ℕ) → is_count (length ds) ≡ false → None ≡ hexadecimal ds
 unfolding hexadecimal
-hexadecimal-empty ds h = rw (above 1 (length ds) (omega arith)) refl
-
-pub hexadecimal-long : (ds : List ℕ) → 8 < length ds → None ≡ hexadecimal ds
-unfolding hexadecimal
-hexadecimal-long ds h = rw (above (length ds) 8 h) (none_long (nat_le 1 (length ds)) (list_all is_digit ds) (hex_value ds))
+hexadecimal-refused ds h = rw h refl
 
 hexadecimal-bad : (ds : List ℕ) → list_all is_digit ds ≡ false → None ≡ hexadecimal ds
 unfolding hexadecimal
-hexadecimal-bad ds h = none_at (nat_le 1 (length ds)) (nat_le (length ds) 8) (list_all is_digit ds) (hex_value ds) h
+hexadecimal-bad ds h = none_at (is_count (length ds)) (list_all is_digit ds) (hex_value ds) h
 
 -- a byte that is no digit
 pub not_a_digit : (ds : List ℕ) (i : ℕ) → i < length ds → hex_digit (get_or ds i 0) ≡ None → None ≡ hexadecimal ds
 not_a_digit ds i h e = hexadecimal-bad ds (list_all_at is_digit ds i 0 h (rw e refl))
 
 -- there is room for a digit more
-pub fits : (i sum d : ℕ) → i < 8 → sum < 16 ^ i → d < 16 → 16 * sum + d < 2 ^ 32
-fits i sum d h s e = omega (arith, pow-le-pow_right {n = 16} (omega arith) {i = i} {j = 7} (omega arith))
+pub fits : (ds : List ℕ) (i sum d : ℕ) → is_count (length ds) ≡ true → i < length ds → SoFar ds i sum → d < 16 → 16 * sum + d < 2 ^ 32
+fits ds i sum d count h so small =
+    let most = (few (length ds) count).1 in
+    omega (arith, so.below, most, pow-le-pow_right {n = 16} (omega arith) {i = i} {j = 7} (omega (arith, most)))
 
 -- one digit more
 sum_next : (sum x d : ℕ) (xs : List ℕ) → hex_digit x ≡ Some d → fold step sum (x ∷ xs) ≡ fold step (16 * sum + d) xs
@@ -80,9 +76,10 @@ next_so_far ds i sum d h so digit small =
     }
 
 -- all digits
-pub whole : (ds : List ℕ) (i sum : ℕ) → 0 < length ds → length ds ≤ 8 → length ds ≤ i → SoFar ds i sum → Some sum ≡ hexadecimal ds
+pub whole : (ds : List ℕ) (i sum : ℕ) → is_count (length ds) ≡ true → length ds ≤ i → SoFar ds i sum → Some sum ≡ hexadecimal ds
 unfolding hexadecimal
-whole ds i sum some few end so =
+whole ds i sum count end so =
     let e : drop i ds ≡ [] = drop_all i ds end in
-    some_at (nat_le 1 (length ds)) (nat_le (length ds) 8) (list_all is_digit ds) sum (hex_value ds)
-    (within 1 (length ds) some) (within (length ds) 8 few) (sym (rw e at so.all_are)) (rw e at so.sum_is)
+    let all : list_all is_digit ds ≡ true = sym (rw e at so.all_are) in
+    let is : sum ≡ hex_value ds = rw e at so.sum_is in
+    rw (count, all, is) refl

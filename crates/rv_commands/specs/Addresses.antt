@@ -15,7 +15,7 @@ hex_value digits = fold (λ v b. 16 * v + unwrap_or (hex_digit b) 0) 0 digits
 -- one to eight hexadecimal digits
 unfoldable pub hexadecimal : List ℕ → Option ℕ
 hexadecimal digits =
-    if nat_le 1 (length digits) && (nat_le (length digits) 8 && list_all (λ b. is_some (hex_digit b)) digits)
+    if (nat_le 1 (length digits) && nat_le (length digits) 8) && list_all (λ b. is_some (hex_digit b)) digits
     then Some (hex_value digits)
     else None
 

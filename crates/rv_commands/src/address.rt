@@ -1,22 +1,23 @@
 //! Reads addresses.
-ghost use Rattle.std.specs.Prelude.{◌≡◌, ◌^◌};
+ghost use Rattle.std.specs.Prelude.{◌≡◌, ◌^◌, ◌&&◌, nat_le};
 ghost use Rattle.rv_isa.specs.Number.{modulo};
 ghost use Rattle.rv_commands.specs.Addresses.{hexadecimal, address_of};
 
 use rv_asm::Program;
 use rv_lists::hex_digit;
 
-/// The most hexadecimal digits of an address.
-const MOST_DIGITS: usize = 8;
+/// Whether an address may have so many hexadecimal digits.
+fn is_digit_count(count: usize) -> bool
+    ensures { result ≡ (nat_le 1 count && nat_le count 8) }
+{
+    1 <= count && count <= 8
+}
 
 /// The number that one to eight hexadecimal digits stand for.
 fn hexadecimal(digits: &[u8]) -> Option<u32>
     ensures { result ≡ hexadecimal digits.now }
 {
-    if digits.is_empty() {
-        return None;
-    }
-    if digits.len() > MOST_DIGITS {
+    if !is_digit_count(digits.len()) {
         return None;
     }
     let mut sum: u32 = 0;
