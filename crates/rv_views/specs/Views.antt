@@ -1,8 +1,7 @@
 -- To audit: public contracts cite this.
 -- What is printed of a board: one definition a command.
 -- This project's own language.
-use Rattle.std.specs.Prelude.{ℕ, zero, suc, ◌+◌, ◌-◌, ◌*◌, ◌/◌, ◌%◌, ◌^◌, ◌==◌, List, [], ◌∷◌, ◌++◌, if◌then◌else◌, min, Option, Some, None, option_and_then, unwrap_or, codes}
-use Rattle.std.specs.Option.{option_map}
+use Rattle.std.specs.Prelude.{ℕ, zero, suc, ◌+◌, ◌-◌, ◌*◌, ◌%◌, ◌^◌, ◌==◌, List, [], ◌∷◌, ◌++◌, if◌then◌else◌, min, Option, Some, None, unwrap_or, codes}
 use Rattle.std.specs.List.{flat_map}
 use Rattle.std.specs.Fmt.{decimal}
 use Rattle.std.specs.Int.{div_ceil}
@@ -79,12 +78,14 @@ memory_line b addr count k = bytes_line b ((addr + 16 * k) % 2 ^ 32) (min 16 (co
 unfoldable pub memory_text : BoardState → ℕ → ℕ → List ℕ
 memory_text b addr count = pieces (memory_line b addr count) (div_ceil count 16)
 
--- the word at an address, low byte first, where all its bytes are
+-- the word of four bytes, low one first, where all are there
+abbrev pub word_from : Option ℕ → Option ℕ → Option ℕ → Option ℕ → Option ℕ
+word_from (Some b0) (Some b1) (Some b2) (Some b3) = Some (b0 + 256 * b1 + 65536 * b2 + 16777216 * b3)
+word_from _ _ _ _ = None
+
+-- the word at an address
 unfoldable pub word_of : BoardState → ℕ → Option ℕ
-word_of b addr =
-    option_and_then (λ b0. option_and_then (λ b1. option_and_then (λ b2. option_map (λ b3.
-    b0 + 256 * b1 + 65536 * b2 + 16777216 * b3)
-    (byte_behind b addr 3)) (byte_behind b addr 2)) (byte_behind b addr 1)) (byte_behind b addr 0)
+word_of b addr = word_from (byte_behind b addr 0) (byte_behind b addr 1) (byte_behind b addr 2) (byte_behind b addr 3)
 
 -- an instruction's text, or `illegal` where none has the word
 abbrev pub meaning_text : Option Kind → List ℕ
