@@ -2,10 +2,10 @@
 use crate::everywhere::same;
 use crate::memory::Stubborn;
 use rv_asm::{Program, assemble};
-use rv_board::{Board, BootFault, BootedBoard, Event, Stopped, TrapRecord};
-use rv_cache::{Decoded, NoCache};
-use rv_isa::{NoMemory, Reg};
-use rv_ram::{ByteMemory, FlatMemory};
+use rv_board::{Board, BootFault, BootedBoard, Event, Stopped};
+use rv_cache::NoCache;
+use rv_isa::NoMemory;
+use rv_ram::FlatMemory;
 use std::alloc::Global;
 use std::test::Fail;
 
@@ -35,10 +35,6 @@ fn flat(
         .ok_or("the board doesn't boot")
 }
 
-fn reg<M: ByteMemory, C: Decoded>(board: &Board<M, C>, number: u8) -> Option<u32> {
-    Some(board.reg(Reg::new(number)?))
-}
-
 #[test]
 fn hello_prints_and_halts(rt: HostRuntime) -> Result<(), Fail> {
     let program = program(rt.alloc(), HELLO)?;
@@ -52,65 +48,6 @@ fn hello_prints_and_halts(rt: HostRuntime) -> Result<(), Fail> {
     assert_eq!(rt; board.halted(), Some(0));
     assert_eq!(rt; board.steps(), 7);
     assert_eq!(rt; board.pc(), 0x8000_001c);
-    Ok(())
-}
-
-#[test]
-fn the_empty_source_traps(rt: HostRuntime) -> Result<(), Fail> {
-    let program = program(rt.alloc(), b"")?;
-    let mut board = booted(rt.alloc(), &program, 1)?;
-    assert_eq!(rt; board.run(&[Event::Step; 2]), Ok(()));
-    assert_eq!(rt; board.trap_count(), 2);
-    let illegal = TrapRecord {
-        cause: 2,
-        epc: 0x8000_0000,
-        tval: 0,
-    };
-    assert_eq!(rt; board.trap(0), Some(illegal));
-    let no_memory_there = TrapRecord {
-        cause: 1,
-        epc: 0,
-        tval: 0,
-    };
-    assert_eq!(rt; board.trap(1), Some(no_memory_there));
-    assert_eq!(rt; board.pc(), 0);
-    Ok(())
-}
-
-#[test]
-fn constants_are_loaded_in_one_or_two_words(rt: HostRuntime) -> Result<(), Fail> {
-    let source =
-        b"li a0,2047\nli a1,2048\nli a2,-2048\nli a3,0x80000800\nli a4,0xFFFFFFFF\nli a5,0x12345000";
-    let program = program(rt.alloc(), source)?;
-    assert_eq!(rt; program.bytes().len(), 32);
-    let mut board = booted(rt.alloc(), &program, 1)?;
-    assert_eq!(rt; board.run(&[Event::Step; 8]), Ok(()));
-    let values = [
-        2047,
-        2048,
-        0xffff_f800,
-        0x8000_0800,
-        0xffff_ffff,
-        0x1234_5000,
-    ];
-    for (number, value) in (10..16u8).zip(values) {
-        assert_eq!(rt; reg(&board, number), Some(value));
-    }
-    Ok(())
-}
-
-#[test]
-fn stores_reach_the_memory_s_end(rt: HostRuntime) -> Result<(), Fail> {
-    let program = program(rt.alloc(), b"li t0,0x80000FFC\nsw t0,0(t0)\nsw t0,4(t0)")?;
-    let mut board = booted(rt.alloc(), &program, 1)?;
-    assert_eq!(rt; board.run(&[Event::Step; 4]), Ok(()));
-    assert_eq!(rt; board.ram(0x8000_0fff), Some(0x80));
-    let beyond = TrapRecord {
-        cause: 7,
-        epc: 0x8000_000c,
-        tval: 0x8000_1000,
-    };
-    assert_eq!(rt; board.trap(0), Some(beyond));
     Ok(())
 }
 

@@ -139,6 +139,64 @@ fn follow(rt: &impl Abort, alloc: Global, source: &[u8], stands: &[Stand]) -> Re
 }
 
 #[test]
+fn the_empty_source_traps(rt: HostRuntime) -> Result<(), Fail> {
+    follow(
+        &rt,
+        rt.alloc(),
+        b"",
+        &[
+            Stand {
+                steps: 1,
+                trap: Some((2, 0x8000_0000, 0)),
+                ..PLAIN
+            },
+            Stand {
+                steps: 1,
+                trap: Some((1, 0, 0)),
+                ..PLAIN
+            },
+        ],
+    )
+}
+
+#[test]
+fn constants_are_loaded_in_one_or_two_words(rt: HostRuntime) -> Result<(), Fail> {
+    follow(
+        &rt,
+        rt.alloc(),
+        b"li a0,2047\nli a1,2048\nli a2,-2048\nli a3,0x80000800\nli a4,0xFFFFFFFF\nli a5,0x12345000",
+        &[Stand {
+            steps: 8,
+            pc: 0x8000_0020,
+            regs: &[
+                (A0, 2047),
+                (A1, 2048),
+                (12, 0xffff_f800),
+                (13, 0x8000_0800),
+                (14, 0xffff_ffff),
+                (15, 0x1234_5000),
+            ],
+            ..PLAIN
+        }],
+    )
+}
+
+#[test]
+fn stores_reach_the_memory_s_end(rt: HostRuntime) -> Result<(), Fail> {
+    follow(
+        &rt,
+        rt.alloc(),
+        b"li t0,0x80000FFC\nsw t0,0(t0)\nsw t0,4(t0)",
+        &[Stand {
+            steps: 4,
+            bytes: &[(0x8000_0fff, 0x80), (0x8000_0ffc, 0xfc)],
+            trap: Some((7, 0x8000_000c, 0x8000_1000)),
+            ..PLAIN
+        }],
+    )
+}
+
+#[test]
 fn what_was_stored_is_done_next(rt: HostRuntime) -> Result<(), Fail> {
     follow(
         &rt,
