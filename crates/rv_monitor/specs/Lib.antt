@@ -1,0 +1,5 @@
+pub mod Events
+pub mod State
+pub mod Stops
+pub mod Laws
+pub mod Asked

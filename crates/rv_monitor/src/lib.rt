@@ -1,0 +1,11 @@
+//! A session over a board: it takes steps and gives the inputs of a timed list before theirs, up to a limit, and may
+//! stop at breakpoints.
+#![tactic(auto)]
+
+mod breakpoints;
+mod session;
+mod stop;
+mod timed;
+
+// pub use session::Session;
+pub use stop::Stop;
