@@ -6,7 +6,6 @@ use Rattle.std.specs.Ordering.{nat_cmp}
 use Rattle.std.specs.Cmp.{nat_cmp_total, unsigned_tied, nat_eq_equiv}
 use Rattle.std.specs.FinSet as set
 use Rattle.std.specs.FinSet.{from_list, insert, remove, contains, same_set, contains-empty, contains-insert, contains-remove, nat_cmp-IsAntisymmetric}
-use Rattle.rv_monitor.specs.State.{Addresses}
 
 abbrev is_in : List ℕ → ℕ → Bool
 is_in xs q = list_any (nat_eq q) xs

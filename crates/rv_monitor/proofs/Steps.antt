@@ -1,13 +1,12 @@
 -- Steps with their inputs.
-use Rattle.std.proofs.Common.{◌≡◌, ◌∙◌, ℕ, zero, suc, ◌+◌, ◌-◌, ◌<◌, ◌≤◌, Bool, true, false, cond, List, [], ◌∷◌, ◌++◌, length, get_or, take, drop, refl, sym, ap, arith, append-nil, append_assoc, add_assoc}
-use Rattle.std.specs.Prelude.{nat_le, nat_lt, nat_eq, filter, map, Option, Some, None, Result, Ok, Err, OnOk, OnErr}
+use Rattle.std.proofs.Common.{◌≡◌, ◌∙◌, ℕ, zero, suc, ◌+◌, ◌<◌, ◌≤◌, true, false, List, [], ◌∷◌, ◌++◌, length, get_or, take, drop, refl, sym, ap, arith, append-nil, append_assoc, add_assoc}
+use Rattle.std.specs.Prelude.{nat_lt, nat_eq, map, Option, Some, None}
 use Rattle.std.proofs.lemmas.List.{map-append, length-drop, drop-drop}
 use Rattle.std.proofs.lemmas.List.Elements.{filter_more}
 use Rattle.std.proofs.lemmas.List.Filters.{length-filter_more}
 use Rattle.std.proofs.lemmas.Bool.Decides.{nat_tests}
 use Rattle.rv_board.specs.State.{BoardState}
 use Rattle.rv_board.specs.Move.{moved, run, writes, writes_by}
-use Rattle.rv_board.specs.declared.event.Event.{Event}
 use Rattle.rv_board.specs.declared.event.Event.TheVariants.{Step}
 use Rattle.rv_board.proofs.Runs.{run_append, run_more}
 use Rattle.rv_lists.specs.declared.input.Input.{Input}
@@ -17,7 +16,7 @@ use Rattle.rv_lists.specs.Timed.{never_falls}
 use Rattle.rv_monitor.specs.Events.{event_of, inputs_at, events_of}
 use Rattle.rv_monitor.specs.State.{TimedState, IsInTime, rest, count_before, after, with_due}
 use Rattle.rv_monitor.specs.Laws.{RunsJoin, CallsJoin}
-use Rattle.rv_monitor.proofs.Times.{from, of, late_from, late_of, late_count, drop_rises, drop_from, none_before, due_step, later_of, later_count, none_of, count_most}
+use Rattle.rv_monitor.proofs.Times.{from, late_from, late_of, late_count, drop_rises, drop_from, none_before, due_step, later_of, later_count, none_of, count_most}
 
 -- ---- no input is refused
 

@@ -1,16 +1,15 @@
 -- When a call ends.
-use Rattle.std.proofs.Common.{◌≡◌, ◌∙◌, ℕ, zero, suc, ◌+◌, ◌-◌, ◌<◌, ◌≤◌, true, false, refl, sym, ap, arith, below_more}
-use Rattle.std.specs.Prelude.{nat_lt, ◌&&◌, Option, Some, None, unwrap_or, is_some}
+use Rattle.std.proofs.Common.{◌≡◌, ◌∙◌, ℕ, ◌+◌, ◌-◌, ◌<◌, ◌≤◌, true, false, refl, sym, ap, arith, below_more}
+use Rattle.std.specs.Prelude.{nat_lt, Some, None, unwrap_or, is_some}
 use Rattle.std.proofs.lemmas.Bool.Decides.{nat_tests}
-use Rattle.std.specs.FinSet as set
-use Rattle.rv_board.specs.State.{BoardState, halted_of, pc_of}
+use Rattle.rv_board.specs.State.{BoardState, halted_of}
 use Rattle.rv_board.specs.Move.{writes}
 use Rattle.rv_board.specs.declared.event.Event.TheVariants.{Step}
 use Rattle.rv_monitor.specs.declared.stop.Stop.{Stop}
-use Rattle.rv_monitor.specs.declared.stop.Stop.TheVariants.{Halted, Breakpoint, Limit}
+use Rattle.rv_monitor.specs.declared.stop.Stop.TheVariants.{Halted, Limit}
 use Rattle.rv_monitor.specs.State.{Addresses, TimedState, IsInTime, after, with_due}
-use Rattle.rv_monitor.specs.Stops.{stop_after, IsCount, HasStopped, IsRefused}
-use Rattle.rv_monitor.proofs.Steps.{after_none, after_more}
+use Rattle.rv_monitor.specs.Stops.{stop_after, HasStopped, IsRefused}
+use Rattle.rv_monitor.proofs.Steps.{after_none}
 
 some_step : (n : ℕ) → 0 < n → nat_lt 0 n ≡ true
 some_step n h = grind (arith, nat_tests)

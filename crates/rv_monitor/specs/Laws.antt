@@ -6,7 +6,7 @@ use Rattle.rv_board.specs.Move.{run}
 use Rattle.rv_lists.specs.Timed.{never_falls}
 use Rattle.rv_lists.specs.declared.input.TimedInput.{TimedInput}
 use Rattle.rv_monitor.specs.Events.{events_of}
-use Rattle.rv_monitor.specs.State.{TimedState, IsInTime, count_before, after, with_due}
+use Rattle.rv_monitor.specs.State.{TimedState, count_before, after, with_due}
 
 -- a run of the first steps and then of the next, with the inputs that weren't given, is the run of all
 abbrev pub RunsJoin : Type 0

@@ -7,5 +7,5 @@ mod session;
 mod stop;
 mod timed;
 
-// pub use session::Session;
+pub use session::{Session, calls_join};
 pub use stop::Stop;
