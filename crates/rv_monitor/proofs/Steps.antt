@@ -1,10 +1,11 @@
 -- Steps with their inputs.
 use Rattle.std.proofs.Common.{◌≡◌, ◌∙◌, ℕ, zero, suc, ◌+◌, ◌<◌, ◌≤◌, true, false, List, [], ◌∷◌, ◌++◌, length, get_or, take, drop, refl, sym, ap, arith, append-nil, append_assoc, add_assoc}
-use Rattle.std.specs.Prelude.{nat_lt, nat_eq, map, Option, Some, None}
+use Rattle.std.specs.Prelude.{nat_eq, nat_lt, filter, map, Option, Some, None, Result, Ok, Err, OnOk}
 use Rattle.std.proofs.lemmas.List.{map-append, length-drop, drop-drop}
 use Rattle.std.proofs.lemmas.List.Elements.{filter_more}
 use Rattle.std.proofs.lemmas.List.Filters.{length-filter_more}
 use Rattle.std.proofs.lemmas.Bool.Decides.{nat_tests}
+use Rattle.rv_isa.specs.declared.NoMemory.{NoMemory}
 use Rattle.rv_board.specs.State.{BoardState}
 use Rattle.rv_board.specs.Move.{moved, run, writes, writes_by}
 use Rattle.rv_board.specs.declared.event.Event.TheVariants.{Step}
@@ -140,6 +141,14 @@ pub after_step : (s : TimedState) → after s 1 ≡ record (with_due s) { board 
 unfolding after with_due
 after_step s = same _ _ s.inputs _ _ _ _ (run_step s.board (rest s) s.taken) refl refl
 
+pub step_done : (r : Result Unit NoMemory) (s given new : TimedState) → given ≡ with_due s
+    → OnOk r (new ≡ record given { board = moved given.board Step; taken = given.taken + 1 }) → OnOk r (new ≡ after s 1)
+unfolding with_due
+step_done (Ok u) s given new e h =
+    let stepped : TimedState → TimedState = λ i. record i { board = moved i.board Step; taken = i.taken + 1 } in
+    h ∙ (ap stepped e ∙ sym (after_step s))
+step_done (Err x) s given new e h = tt
+
 -- ---- what is in time stays so
 
 place_within : (s : TimedState) (t : ℕ) → IsInTime s → s.place + count_before t (rest s) ≤ length s.inputs
@@ -151,14 +160,6 @@ in_time_due s h = record {
   within = place_within s (s.taken + 1) h;
   rising = h.rising;
   ahead = ap (from s.taken) (rest_late s (s.taken + 1)) ∙ drop_from s.taken (count_before (s.taken + 1) (rest s)) (rest s) h.ahead;
-}
-
-pub in_time_after : (s : TimedState) → IsInTime s → IsInTime (after s 1)
-unfolding after
-in_time_after s h = record {
-  within = place_within s (s.taken + 1) h;
-  rising = h.rising;
-  ahead = ap (from (s.taken + 1)) (rest_late s (s.taken + 1)) ∙ late_from (s.taken + 1) (rest s) (drop_rises s.place s.inputs h.rising);
 }
 
 -- the fields of a state whose next inputs were given, so many
@@ -173,18 +174,14 @@ module _ (b : BoardState) (xs more : List TimedInput) (place t n : ℕ) (is : mo
   unfolding with_due
   given_in_time c h = rw number (let g = in_time_due old h in record { within = g.within; rising = g.rising; ahead = g.ahead })
 
-  pub taken_in_time : (c : BoardState) → IsInTime old → IsInTime (record { board = c; inputs = xs; place = place + n; taken = t + 1 })
-  unfolding after
-  taken_in_time c h = rw number (let g = in_time_after old h in record { within = g.within; rising = g.rising; ahead = g.ahead })
+  pub given_all : IsInTime old → from (t + 1) (drop (place + n) xs) ≡ true
+  given_all h =
+      ap (λ i. from (t + 1) (drop (place + i) xs)) number
+      ∙ (ap (from (t + 1)) (rest_late old (t + 1)) ∙ late_from (t + 1) (rest old) (drop_rises place xs h.rising))
 
   pub given_is_due : (c : BoardState) → c ≡ run b (inputs_at more t) → ◌≡◌ {A = TimedState} (record { board = c; inputs = xs; place = place + n; taken = t }) (with_due old)
   unfolding with_due
   given_is_due c ran = same _ _ xs _ _ _ _ (ran ∙ ap (λ ys. run b (inputs_at ys t)) is) (ap (λ i. place + i) number) refl
-
-  pub taken_is_after : (c e : BoardState) → c ≡ run b (inputs_at more t) → e ≡ moved c Step → ◌≡◌ {A = TimedState} (record { board = e; inputs = xs; place = place + n; taken = t + 1 }) (after old 1)
-  unfolding with_due
-  taken_is_after c e ran step =
-      same _ _ xs _ _ _ _ (step ∙ ap (λ u. moved u Step) (ran ∙ ap (λ ys. run b (inputs_at ys t)) is)) (ap (λ i. place + i) number) refl ∙ sym (after_step old)
 
 -- ---- the inputs of a time, one after another
 
