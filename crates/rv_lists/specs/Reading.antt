@@ -1,23 +1,12 @@
 -- Not to audit: private contracts alone cite this.
 -- How far a timed list has been read.
-use Rattle.std.specs.Prelude.{◌≡◌, ℕ, Bool, List, [], ◌∷◌, ◌++◌, length, Option, Some, None, Result, Ok, Err, nat_lt, option_and_then}
-use Rattle.std.specs.Borrow.{Bor}
+use Rattle.std.specs.Prelude.{◌≡◌, ℕ, List, [], ◌∷◌, ◌++◌, Option, Some, None, Result, Ok, Err, option_and_then}
 use Rattle.std.specs.Option.{option_map}
 use Rattle.rv_lists.specs.declared.input.Input.{Input}
 use Rattle.rv_lists.specs.declared.input.TimedInput.{TimedInput}
 use Rattle.rv_lists.specs.declared.refusal.Refusal.{Refusal}
 use Rattle.rv_lists.specs.declared.refusal.Refusal.TheVariants.{BadLine, OutOfMemory}
-use Rattle.rv_lists.specs.Words.{words}
 use Rattle.rv_lists.specs.Timed.{at, unless_falling}
-
--- the first word of a text, and what follows it
-abbrev pub IsFirstWord : List ℕ → Option (Bor (List ℕ) × Bor (List ℕ)) → Type 0
-IsFirstWord text None = words text ≡ []
-IsFirstWord text (Some p) = words text ≡ p.0.now ∷ words p.1.now
-
--- whether a text has a word
-abbrev pub has_word : List ℕ → Bool
-has_word text = nat_lt 0 (length (words text))
 
 -- the step of the last input, or 0
 abbrev pub latest : List TimedInput → ℕ

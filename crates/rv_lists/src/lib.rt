@@ -21,4 +21,6 @@ mod word;
 
 pub use fault::TimelineFault;
 pub use input::{Input, TimedInput};
+pub use number::{decimal, hex_digit};
 pub use timeline::Timeline;
+pub use word::{begins_comment, first_word, has_word};

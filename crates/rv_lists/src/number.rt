@@ -5,8 +5,8 @@ ghost use Rattle.rv_lists.specs.Timed.{step_of, source_of, level_of};
 
 use rv_plic::Source;
 
-/// The number that decimal digits stand for, where there is a digit and it is no more than this.
-fn decimal(most: u64, word: &[u8]) -> Option<u64>
+/// The number that decimal digits stand for, where there is a digit and it is no more than this; leading zeros are taken.
+pub fn decimal(most: u64, word: &[u8]) -> Option<u64>
     requires { most < 10000000000 }
     ensures value { result ≡ decimal most word.now }
     ensures below { IfSome result (λ n. n ≤ most) }
@@ -63,8 +63,9 @@ pub fn level(word: &[u8]) -> Option<bool>
     }
 }
 
+/// The number that a hexadecimal digit of either case stands for.
 #[tactic(auto, unfolding(crate::specs::Numbers::hex_digit))]
-fn hex_digit(b: u8) -> Option<u8>
+pub fn hex_digit(b: u8) -> Option<u8>
     ensures value { result ≡ hex_digit b }
     ensures below { IfSome result (λ n. n < 16) }
 {

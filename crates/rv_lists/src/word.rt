@@ -1,8 +1,7 @@
 //! The words of a line.
 ghost use Rattle.std.specs.Prelude.{◌≡◌, ◌<◌, ◌+◌, length, take, drop, IfSome};
 ghost use Rattle.std.specs.List.{position};
-ghost use Rattle.rv_lists.specs.Words.{is_blank, begins_comment};
-ghost use Rattle.rv_lists.specs.Reading.{IsFirstWord, has_word};
+ghost use Rattle.rv_lists.specs.Words.{is_blank, begins_comment, IsFirstWord, has_word};
 
 /// The place of the first blank.
 fn blank(text: &[u8]) -> Option<usize>
@@ -12,7 +11,7 @@ fn blank(text: &[u8]) -> Option<usize>
     text.iter().position(|b| *b == b' ' || *b == b'\t')
 }
 
-/// The first word of a text, and what follows it.
+/// The first word of a text, and what follows it; None where the text has no word. Spaces and tabs part words.
 pub fn first_word<'a>(text: &'a [u8]) -> Option<(&'a [u8], &'a [u8])>
     ensures value { IsFirstWord text.now result }
     ensures shorter { IfSome result (λ p. length p.1.now < length text.now) }

@@ -1,0 +1,88 @@
+-- How far the digits of an address have been read.
+use Rattle.std.proofs.Common.{◌≡◌, ℕ, suc, ◌+◌, ◌*◌, ◌^◌, ◌<◌, ◌≤◌, Bool, true, false, cond, List, [], ◌∷◌, length, drop, fold, get_or, refl, sym, ap, ◌∙◌, arith, add-one}
+use Rattle.std.specs.List.{list_all}
+use Rattle.std.specs.Prelude.{None, Some, nat_le, ◌&&◌, is_some, unwrap_or}
+use Rattle.std.proofs.lemmas.Bool.Decides.{nat_tests}
+use Rattle.std.proofs.lemmas.Grind.{pow_more}
+use Rattle.std.proofs.lemmas.List.{drop_all}
+use Rattle.std.proofs.lemmas.List.Folds.{list_all_at}
+use Rattle.std.proofs.Math.Nat.{pow-le-pow_right}
+use Rattle.std.proofs.Math.Seq.{drop-cons}
+use Rattle.rv_lists.specs.Numbers.{hex_digit}
+use Rattle.rv_commands.specs.Addresses.{hex_value, hexadecimal}
+
+-- the digits from the first on, and the others
+abbrev is_digit : ℕ → Bool
+is_digit b = is_some (hex_digit b)
+
+abbrev step : ℕ → ℕ → ℕ
+step v b = 16 * v + unwrap_or (hex_digit b) 0
+
+-- the first i digits are digits and stand for sum
+pub record SoFar (digits : List ℕ) (i sum : ℕ) : Type 0 where
+  pub below : sum < 16 ^ i
+  pub sum_is : fold step sum (drop i digits) ≡ hex_value digits
+  pub all_are : list_all is_digit (drop i digits) ≡ list_all is_digit digits
+
+above : (m n : ℕ) → n < m → nat_le m n ≡ false
+above m n h = grind (arith, nat_tests)
+
+within : (m n : ℕ) → m ≤ n → nat_le m n ≡ true
+within m n h = grind (arith, nat_tests)
+
+none_at : {A : Type 0} (a b d : Bool) (x : A) → d ≡ false → None ≡ cond (a && (b && d)) (Some x) None
+none_at true true d x h = rw h refl
+none_at false b d x h = refl
+none_at true false d x h = refl
+
+some_at : {A : Type 0} (a b d : Bool) (x y : A) → a ≡ true → b ≡ true → d ≡ true → x ≡ y → Some x ≡ cond (a && (b && d)) (Some y) None
+some_at a b d x y p q r e = rw (p, q, r, e) refl
+
+none_long : {A : Type 0} (a d : Bool) (x : A) → None ≡ cond (a && (false && d)) (Some x) None
+none_long true d x = refl
+none_long false d x = refl
+
+pub hexadecimal-empty : (ds : List ℕ) → length ds ≡ 0 → None ≡ hexadecimal ds
+unfolding hexadecimal
+hexadecimal-empty ds h = rw (above 1 (length ds) (omega arith)) refl
+
+pub hexadecimal-long : (ds : List ℕ) → 8 < length ds → None ≡ hexadecimal ds
+unfolding hexadecimal
+hexadecimal-long ds h = rw (above (length ds) 8 h) (none_long (nat_le 1 (length ds)) (list_all is_digit ds) (hex_value ds))
+
+hexadecimal-bad : (ds : List ℕ) → list_all is_digit ds ≡ false → None ≡ hexadecimal ds
+unfolding hexadecimal
+hexadecimal-bad ds h = none_at (nat_le 1 (length ds)) (nat_le (length ds) 8) (list_all is_digit ds) (hex_value ds) h
+
+-- a byte that is no digit
+pub not_a_digit : (ds : List ℕ) (i : ℕ) → i < length ds → hex_digit (get_or ds i 0) ≡ None → None ≡ hexadecimal ds
+not_a_digit ds i h e = hexadecimal-bad ds (list_all_at is_digit ds i 0 h (rw e refl))
+
+-- there is room for a digit more
+pub fits : (i sum d : ℕ) → i < 8 → sum < 16 ^ i → d < 16 → 16 * sum + d < 2 ^ 32
+fits i sum d h s e = omega (arith, pow-le-pow_right {n = 16} (omega arith) {i = i} {j = 7} (omega arith))
+
+-- one digit more
+sum_next : (sum x d : ℕ) (xs : List ℕ) → hex_digit x ≡ Some d → fold step sum (x ∷ xs) ≡ fold step (16 * sum + d) xs
+sum_next sum x d xs e = ap (λ o. fold step (16 * sum + unwrap_or o 0) xs) e
+
+all_next : (x d : ℕ) (xs : List ℕ) → hex_digit x ≡ Some d → list_all is_digit (x ∷ xs) ≡ list_all is_digit xs
+all_next x d xs e = ap (λ o. is_some o && list_all is_digit xs) e
+
+pub next_so_far : (ds : List ℕ) (i sum d : ℕ) → i < length ds → SoFar ds i sum → hex_digit (get_or ds i 0) ≡ Some d → d < 16 → SoFar ds (i + 1) (16 * sum + d)
+next_so_far ds i sum d h so digit small =
+    let e : drop i ds ≡ get_or ds i 0 ∷ drop (suc i) ds = drop-cons ds i 0 h in
+    let rest : drop (i + 1) ds ≡ drop (suc i) ds = ap (λ n. drop n ds) (add-one i) in
+    record {
+      below = omega (arith, so.below, pow_more 16 i);
+      sum_is = ap (fold step (16 * sum + d)) rest ∙ (sym (sum_next sum (get_or ds i 0) d (drop (suc i) ds) digit) ∙ (ap (fold step sum) (sym e) ∙ so.sum_is));
+      all_are = ap (list_all is_digit) rest ∙ (sym (all_next (get_or ds i 0) d (drop (suc i) ds) digit) ∙ (ap (list_all is_digit) (sym e) ∙ so.all_are));
+    }
+
+-- all digits
+pub whole : (ds : List ℕ) (i sum : ℕ) → 0 < length ds → length ds ≤ 8 → length ds ≤ i → SoFar ds i sum → Some sum ≡ hexadecimal ds
+unfolding hexadecimal
+whole ds i sum some few end so =
+    let e : drop i ds ≡ [] = drop_all i ds end in
+    some_at (nat_le 1 (length ds)) (nat_le (length ds) 8) (list_all is_digit ds) sum (hex_value ds)
+    (within 1 (length ds) some) (within (length ds) 8 few) (sym (rw e at so.all_are)) (rw e at so.sum_is)

@@ -1,0 +1,26 @@
+-- To audit: public contracts cite this.
+-- Addresses, as a command spells them.
+-- This project's own language.
+use Rattle.std.specs.Prelude.{ℕ, ◌+◌, ◌*◌, ◌^◌, ◌&&◌, ℤ, List, length, drop, fold, if◌then◌else◌, nat_eq, nat_le, Option, Some, None, codes, is_some, unwrap_or}
+use Rattle.std.specs.Option.{option_map}
+use Rattle.std.specs.List.{list_all, starts_with}
+use Rattle.rv_isa.specs.Number.{modulo}
+use Rattle.rv_lists.specs.Numbers.{hex_digit}
+use Rattle.rv_asm.specs.Symbols.{value_of}
+
+-- what hexadecimal digits stand for, the first of them the highest
+abbrev pub hex_value : List ℕ → ℕ
+hex_value digits = fold (λ v b. 16 * v + unwrap_or (hex_digit b) 0) 0 digits
+
+-- one to eight hexadecimal digits
+unfoldable pub hexadecimal : List ℕ → Option ℕ
+hexadecimal digits =
+    if nat_le 1 (length digits) && (nat_le (length digits) 8 && list_all (λ b. is_some (hex_digit b)) digits)
+    then Some (hex_value digits)
+    else None
+
+-- ADDR: `0x` and one to eight hexadecimal digits, or a symbol, modulo 2 ^ 32
+unfoldable pub address_of : List (List ℕ × ℤ) → List ℕ → Option ℕ
+address_of symbols word =
+    if starts_with nat_eq word (codes "0x") then hexadecimal (drop 2 word)
+    else option_map (λ value. modulo value (2 ^ 32)) (value_of symbols word)

@@ -1,0 +1,49 @@
+//! Reads addresses.
+ghost use Rattle.std.specs.Prelude.{◌≡◌, ◌^◌};
+ghost use Rattle.rv_isa.specs.Number.{modulo};
+ghost use Rattle.rv_commands.specs.Addresses.{hexadecimal, address_of};
+
+use rv_asm::Program;
+use rv_lists::hex_digit;
+
+/// The most hexadecimal digits of an address.
+const MOST_DIGITS: usize = 8;
+
+/// The number that one to eight hexadecimal digits stand for.
+fn hexadecimal(digits: &[u8]) -> Option<u32>
+    ensures { result ≡ hexadecimal digits.now }
+{
+    if digits.is_empty() {
+        return None;
+    }
+    if digits.len() > MOST_DIGITS {
+        return None;
+    }
+    let mut sum: u32 = 0;
+    for digit in digits {
+        let Some(value) = hex_digit(*digit) else {
+            return None;
+        };
+        sum = 16 * sum + u32::from(value);
+    }
+    Some(sum)
+}
+
+/// The low 32 bits of a value.
+fn low_word(value: i64) -> u32
+    ensures { result ≡ modulo value (2 ^ 32) }
+{
+    value.rem_euclid(0x1_0000_0000) as u32
+}
+
+/// The address that a word stands for: a number behind `0x`, or a symbol of the program.
+#[tactic(auto, unfolding(crate::specs::Addresses::address_of))]
+pub fn address(word: &[u8], program: &Program) -> Option<u32>
+    ensures { result ≡ address_of program.now.symbols word.now }
+{
+    if word.starts_with(b"0x") {
+        hexadecimal(word.split_at(2).1)
+    } else {
+        Some(low_word(program.symbol(word)?))
+    }
+}

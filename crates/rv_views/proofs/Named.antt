@@ -1,0 +1,49 @@
+-- Every control register with a name can be read.
+use Rattle.std.proofs.Common.{◌≡◌, ℕ, Bool, true, false, cond, List, [], ◌∷◌, refl, rules}
+use Rattle.std.specs.Fmt.{digits}
+use Rattle.std.specs.List.{list_all}
+use Rattle.std.specs.Str.{bytes_eq}
+use Rattle.std.specs.Prelude.{Option, Some, None, ◌&&◌, is_some, IsSome}
+use Rattle.rv_isa.specs.Names.{lookup, csr_names}
+use Rattle.rv_isa.specs.declared.Lines.{Lines}
+use Rattle.rv_pmp.specs.Pmp.{load}
+use Rattle.rv_pmp.specs.Pmp as protection
+use Rattle.rv_pmp.specs.declared.access.Mode.TheVariants.{Machine}
+use Rattle.rv_csr.specs.Registers.{read, register_at}
+use Rattle.rv_csr.specs.State.{CsrState}
+use Rattle.rv_board.specs.State.{BoardState, csr_of}
+use Rattle.rv_bus.specs.Access.{lines_of}
+
+abbrev is_read : CsrState → Lines → ℕ → Bool
+is_read state lines addr = is_some (read state addr Machine lines)
+
+all_are_read : (state : CsrState) (lines : Lines) → list_all (λ e. is_read state lines e.1) csr_names ≡ true
+unfolding csr_names digits read register_at load protection.register_at
+all_are_read state lines = refl
+
+and_left : (a b : Bool) → (a && b) ≡ true → a ≡ true
+and_left true b h = refl
+and_left false b h = h
+
+and_right : (a b : Bool) → (a && b) ≡ true → b ≡ true
+and_right true b h = h
+and_right false b h = absurd cc
+
+found_by : (p : ℕ → Bool) (csr first : ℕ) (rest : Bool) (later : Option ℕ) (here : Bool) → (p first && rest) ≡ true
+    → (rest ≡ true → later ≡ Some csr → p csr ≡ true) → cond here (Some first) later ≡ Some csr → p csr ≡ true
+found_by p csr first rest later true all more is = let same : first ≡ csr = cc in rw (← same) (and_left (p first) rest all)
+found_by p csr first rest later false all more is = more (and_right (p first) rest all) is
+
+found : (p : ℕ → Bool) (name : List ℕ) (csr : ℕ) (es : List (List ℕ × ℕ)) → list_all (λ e. p e.1) es ≡ true → lookup name es ≡ Some csr → p csr ≡ true
+found p name csr [] all is = absurd cc
+found p name csr (e ∷ es) all is =
+    found_by p csr e.1 (list_all (λ e. p e.1) es) (lookup name es) (bytes_eq e.0 name) all (found p name csr es) is
+
+some_of : {A : Type 0} (o : Option A) → is_some o ≡ true → IsSome o
+some_of (Some x) h = search rules
+some_of None h = absurd cc
+
+pub named_is_read : (b : BoardState) (name : List ℕ) (csr : ℕ) → lookup name csr_names ≡ Some csr → IsSome (csr_of b csr)
+named_is_read b name csr is =
+    some_of (csr_of b csr)
+    (found (is_read b.machine.csrs (lines_of b.machine.bus)) name csr csr_names (all_are_read b.machine.csrs (lines_of b.machine.bus)) is)

@@ -1,0 +1,19 @@
+//! What the monitor prints of a board, as lines of text.
+//!
+//! Each call appends to a text, and leaves it as it was where memory is refused. No call changes the board: none reads
+//! a device, so no received byte is taken and no interrupt is claimed. Numbers are hexadecimal in lower case unless they
+//! count something.
+#![tactic(auto)]
+
+mod memory;
+mod number;
+mod registers;
+mod stop;
+mod text;
+mod trap;
+
+pub use memory::{write_instruction, write_memory};
+pub use number::{eight_digits, two_digits};
+pub use registers::{mode_letter, write_control_register, write_registers};
+pub use stop::{STOP_BYTES, write_stop};
+pub use trap::write_traps;
