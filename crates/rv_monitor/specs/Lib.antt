@@ -3,3 +3,4 @@ pub mod State
 pub mod Stops
 pub mod Laws
 pub mod Asked
+pub mod Commands

@@ -3,9 +3,11 @@
 #![tactic(auto)]
 
 mod breakpoints;
+mod command;
 mod session;
 mod stop;
 mod timed;
 
+pub use command::Next;
 pub use session::{Session, calls_join};
 pub use stop::Stop;
