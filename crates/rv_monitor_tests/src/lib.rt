@@ -4,6 +4,8 @@
 #[cfg(test)]
 mod breakpoints;
 #[cfg(test)]
+mod commands;
+#[cfg(test)]
 mod inputs;
 #[cfg(test)]
 mod limits;

@@ -1,6 +1,8 @@
 //! Steps that are refused for want of memory.
 ghost use Rattle.std.specs.Prelude.{◌≡◌, ◌+◌, ◌≤◌, ◌%◌, length, OnOk, OnErr};
 
+use crate::commands::{refuses, says};
+use crate::sessions::{go, go_refused, set, stands, step};
 use rv_asm::assemble;
 use rv_board::Board;
 use rv_cache::NoCache;
@@ -60,38 +62,53 @@ fn session(alloc: Global, timed: &[u8], refusals: u32) -> Result<Session<Stubbor
 
 const TIMED: &[u8] = b"0 rx 40\n1 rx 41\n1 rx 42\n2 rx 43";
 
+/// The byte that the store changes.
+fn stored(session: &Session<Stubborn, NoCache>) -> Option<u8> {
+    session.board().ram(0x8000_1003)
+}
+
 #[test]
 fn the_next_call_goes_on_with_the_refused_step(rt: HostRuntime) -> Result<(), Fail> {
     let mut session = session(rt.alloc(), TIMED, 1)?;
-    assert_eq!(&rt; session.go(9), Err(NoMemory));
-    assert_eq!(&rt; session.taken(), 1);
-    assert_eq!(&rt; session.board().pc(), 0x8000_0004);
-    assert_eq!(&rt; session.board().ram(0x8000_1003), Some(0));
+    go_refused(&rt, &mut session, 9, 1);
     // The inputs before the refused step were given, and none behind it.
-    assert_eq!(&rt; session.board().serial().waiting(), 3);
-    assert_eq!(&rt; session.step(1), Ok(Stop::Limit));
-    assert_eq!(&rt; session.taken(), 2);
-    assert_eq!(&rt; session.board().ram(0x8000_1003), Some(0x80));
+    stands(&rt, &session, 0x8000_0004, 3, 1);
+    assert_eq!(&rt; stored(&session), Some(0));
+    step(&rt, &mut session, 1, Stop::Limit, 2);
     // No input was given again.
-    assert_eq!(&rt; session.board().serial().waiting(), 3);
-    assert_eq!(&rt; session.go(9), Ok(Stop::Limit));
-    assert_eq!(&rt; session.taken(), 3);
-    assert_eq!(rt; session.board().serial().waiting(), 4);
+    stands(&rt, &session, 0x8000_0008, 3, 2);
+    assert_eq!(&rt; stored(&session), Some(0x80));
+    go(&rt, &mut session, 9, Stop::Limit, 3);
+    stands(&rt, &session, 0x8000_0008, 4, 3);
     Ok(())
 }
 
 #[test]
 fn a_step_may_be_refused_again(rt: HostRuntime) -> Result<(), Fail> {
     let mut session = session(rt.alloc(), TIMED, 2)?;
-    session.set_break(0x8000_0004)?;
-    assert_eq!(&rt; session.go(9), Ok(Stop::Breakpoint));
-    assert_eq!(&rt; session.go(9), Err(NoMemory));
-    assert_eq!(&rt; session.go(0), Ok(Stop::Limit));
-    assert_eq!(&rt; session.step(1), Err(NoMemory));
-    assert_eq!(&rt; session.taken(), 1);
-    assert_eq!(&rt; session.board().serial().waiting(), 3);
-    assert_eq!(&rt; session.go(1), Ok(Stop::Limit));
-    assert_eq!(&rt; session.taken(), 2);
-    assert_eq!(rt; session.board().serial().waiting(), 3);
+    set(&mut session, &[0x8000_0004])?;
+    go(&rt, &mut session, 9, Stop::Breakpoint, 1);
+    stands(&rt, &session, 0x8000_0004, 1, 1);
+    go_refused(&rt, &mut session, 9, 1);
+    go(&rt, &mut session, 0, Stop::Limit, 1);
+    go_refused(&rt, &mut session, 1, 1);
+    stands(&rt, &session, 0x8000_0004, 3, 1);
+    go(&rt, &mut session, 1, Stop::Limit, 2);
+    stands(&rt, &session, 0x8000_0008, 3, 2);
+    Ok(())
+}
+
+#[test]
+fn a_refused_command_answers_nothing(rt: HostRuntime) -> Result<(), Fail> {
+    let mut session = session(rt.alloc(), TIMED, 1)?;
+    refuses(&rt, &mut session, b"s 3", rt.alloc());
+    stands(&rt, &session, 0x8000_0004, 3, 1);
+    says(
+        &rt,
+        &mut session,
+        b"s 3",
+        b"stop limit pc=80000008 mode=M steps=3\n",
+        rt.alloc(),
+    );
     Ok(())
 }
