@@ -1,0 +1,4 @@
+pub mod Sets
+pub mod Times
+pub mod Steps
+pub mod Stopping

@@ -1,0 +1,43 @@
+-- Lists of addresses as sets.
+use Rattle.std.proofs.Common.{◌≡◌, ◌∙◌, ℕ, Bool, true, false, cond, List, [], ◌∷◌, length, sym, refl, ap, arith}
+use Rattle.std.specs.Prelude.{nat_eq, ◌||◌, ◌&&◌, not}
+use Rattle.std.specs.List.{list_any}
+use Rattle.std.specs.Ordering.{nat_cmp}
+use Rattle.std.specs.Cmp.{nat_cmp_total, unsigned_tied, nat_eq_equiv}
+use Rattle.std.specs.FinSet as set
+use Rattle.std.specs.FinSet.{from_list, insert, remove, contains, same_set, contains-empty, contains-insert, contains-remove, nat_cmp-IsAntisymmetric}
+
+abbrev is_in : List ℕ → ℕ → Bool
+is_in xs q = list_any (nat_eq q) xs
+
+pub has : (xs : List ℕ) (q : ℕ) → contains (from_list {R = nat_cmp} xs) q ≡ is_in xs q
+has [] q = contains-empty nat_cmp q
+has (x ∷ xs) q = contains-insert nat_cmp_total _ x q ∙ (ap (λ b. b || contains (from_list {R = nat_cmp} xs) q) (unsigned_tied q x) ∙ ap (λ b. nat_eq q x || b) (has xs q))
+
+or_else : (a b : Bool) → cond a true b ≡ (a || b)
+or_else true b = refl
+or_else false b = refl
+
+and_not : (a b : Bool) → cond a false b ≡ (not a && b)
+and_not true b = refl
+and_not false b = refl
+
+-- the members of a set with one more
+pub inserted : (xs ys : List ℕ) (x : ℕ) → ((q : ℕ) → is_in ys q ≡ cond (nat_eq x q) true (is_in xs q)) → from_list {R = nat_cmp} ys ≡ insert (from_list xs) x
+inserted xs ys x each = same_set nat_cmp_total nat_cmp-IsAntisymmetric _ _ (λ q.
+    has ys q ∙ (each q ∙ (or_else (nat_eq x q) (is_in xs q)
+    ∙ sym (contains-insert nat_cmp_total (from_list xs) x q ∙ (ap (λ b. b || contains (from_list {R = nat_cmp} xs) q) (unsigned_tied q x ∙ nat_eq_equiv.symm q x) ∙ ap (λ b. nat_eq x q || b) (has xs q))))))
+
+-- and with one less
+pub removed : (xs ys : List ℕ) (x : ℕ) → ((q : ℕ) → is_in ys q ≡ cond (nat_eq x q) false (is_in xs q)) → from_list {R = nat_cmp} ys ≡ remove (from_list xs) x
+removed xs ys x each = same_set nat_cmp_total nat_cmp-IsAntisymmetric _ _ (λ q.
+    has ys q ∙ (each q ∙ (and_not (nat_eq x q) (is_in xs q)
+    ∙ sym (contains-remove nat_cmp_total (from_list xs) x q ∙ (ap (λ b. not b && contains (from_list {R = nat_cmp} xs) q) (unsigned_tied q x ∙ nat_eq_equiv.symm q x) ∙ ap (λ b. not (nat_eq x q) && b) (has xs q))))))
+
+-- the empty set has none
+pub has_none : (xs : List ℕ) (q : ℕ) → length xs ≡ 0 → contains (from_list {R = nat_cmp} xs) q ≡ false
+has_none [] q e = contains-empty nat_cmp q
+has_none (x ∷ xs) q e = absurd (omega arith)
+
+pub none_asked : (q : ℕ) → false ≡ contains (set.empty {R = nat_cmp}) q
+none_asked q = sym (contains-empty nat_cmp q)

@@ -1,0 +1,241 @@
+-- Steps with their inputs.
+use Rattle.std.proofs.Common.{◌≡◌, ◌∙◌, ℕ, zero, suc, ◌+◌, ◌<◌, ◌≤◌, true, false, List, [], ◌∷◌, ◌++◌, length, get_or, take, drop, refl, sym, ap, arith, append-nil, append_assoc, add_assoc}
+use Rattle.std.specs.Prelude.{nat_eq, nat_lt, map, Option, Some, None, Result, Ok, Err, OnOk}
+use Rattle.std.proofs.lemmas.List.{map-append, length-drop, drop-drop}
+use Rattle.std.proofs.lemmas.List.Elements.{filter_more}
+use Rattle.std.proofs.lemmas.List.Filters.{length-filter_more}
+use Rattle.std.proofs.lemmas.Bool.Decides.{nat_tests}
+use Rattle.rv_isa.specs.declared.NoMemory.{NoMemory}
+use Rattle.rv_board.specs.State.{BoardState}
+use Rattle.rv_board.specs.Move.{moved, run, writes, writes_by}
+use Rattle.rv_board.specs.declared.event.Event.TheVariants.{Step}
+use Rattle.rv_board.proofs.Runs.{run_append, run_more}
+use Rattle.rv_lists.specs.declared.input.Input.{Input}
+use Rattle.rv_lists.specs.declared.input.Input.TheVariants.{Rx, Line}
+use Rattle.rv_lists.specs.declared.input.TimedInput.{TimedInput}
+use Rattle.rv_lists.specs.Timed.{never_falls}
+use Rattle.rv_monitor.specs.Events.{event_of, inputs_at, events_of}
+use Rattle.rv_monitor.specs.State.{TimedState, IsInTime, rest, count_before, after, with_due}
+use Rattle.rv_monitor.specs.Laws.{RunsJoin, CallsJoin}
+use Rattle.rv_monitor.proofs.Times.{from, late_from, late_of, late_count, drop_rises, drop_from, none_before, due_step, later_of, later_count, none_of, count_most}
+
+-- ---- no input is refused
+
+no_write : (h : Option ℕ) (b : BoardState) (i : Input) → writes_by h b (event_of i) ≡ false
+no_write None b (Rx byte) = refl
+no_write None b (Line source high) = refl
+no_write (Some code) b (Rx byte) = refl
+no_write (Some code) b (Line source high) = refl
+
+pub input_writes_not : (b : BoardState) (i : Input) → writes b (event_of i) ≡ false
+unfolding writes
+input_writes_not b i = no_write b.machine.bus.halt b i
+
+-- ---- events of more steps
+
+-- the inputs that are due, of those behind what was given before
+pub inputs_late : (xs : List TimedInput) (t u : ℕ) → t ≤ u → never_falls xs ≡ true → inputs_at (drop (count_before t xs) xs) u ≡ inputs_at xs u
+unfolding inputs_at
+inputs_late xs t u k h = ap (map (λ x. event_of x.input)) (late_of t u k xs h)
+
+pub events_late : (xs : List TimedInput) (t u count : ℕ) → t ≤ u → never_falls xs ≡ true → events_of (drop (count_before t xs) xs) u count ≡ events_of xs u count
+unfolding events_of
+events_late xs t u zero k h = refl
+events_late xs t u (suc count) k h =
+    let due : inputs_at (drop (count_before t xs) xs) (u + count) ≡ inputs_at xs (u + count) = inputs_late xs t (u + count) (omega arith) h in
+    rw (events_late xs t u count k h, due) refl
+
+pub events_join : (xs : List TimedInput) (t k j : ℕ) → events_of xs t (k + j) ≡ events_of xs t k ++ events_of xs (t + k) j
+unfolding events_of
+events_join xs t k zero =
+    let e : k + 0 ≡ k = omega arith in
+    ap (events_of xs t) e ∙ sym (append-nil (events_of xs t k))
+events_join xs t k (suc j) =
+    let e : k + suc j ≡ suc (k + j) = omega arith in
+    let f : t + (k + j) ≡ (t + k) + j = omega arith in
+    ap (events_of xs t) e ∙ rw (events_join xs t k j, f) (append_assoc (events_of xs t k) (events_of xs (t + k) j) (inputs_at xs ((t + k) + j) ++ Step ∷ []))
+
+-- the events of a first step
+pub run_step : (b : BoardState) (xs : List TimedInput) (t : ℕ) → run b (events_of xs t 1) ≡ moved (run b (inputs_at xs t)) Step
+unfolding events_of
+run_step b xs t =
+    let e : t + 0 ≡ t = omega arith in
+    rw e (run_more b (inputs_at xs t) Step)
+
+-- steps and then more, with the inputs that weren't given
+pub run_join : (b : BoardState) (xs : List TimedInput) (t k j : ℕ) → never_falls xs ≡ true
+    → run (run b (events_of xs t k)) (events_of (drop (count_before (t + k) xs) xs) (t + k) j) ≡ run b (events_of xs t (k + j))
+run_join b xs t k j h =
+    ap (run (run b (events_of xs t k))) (events_late xs (t + k) (t + k) j (omega arith) h)
+    ∙ (sym (run_append b (events_of xs t k) (events_of xs (t + k) j)) ∙ ap (run b) (sym (events_join xs t k j)))
+
+-- steps after inputs that were given before them
+none_due : (xs : List TimedInput) (t : ℕ) → never_falls xs ≡ true → inputs_at (drop (count_before (t + 1) xs) xs) t ≡ []
+unfolding inputs_at
+none_due xs t h = ap (map (λ x. event_of x.input)) (none_of t (drop (count_before (t + 1) xs) xs) (late_from (t + 1) xs h))
+
+-- a first step and more
+run_first : (b : BoardState) (xs : List TimedInput) (t j : ℕ) → run b (events_of xs t (1 + j)) ≡ run (moved (run b (inputs_at xs t)) Step) (events_of xs (t + 1) j)
+run_first b xs t j =
+    ap (run b) (events_join xs t 1 j)
+    ∙ (run_append b (events_of xs t 1) (events_of xs (t + 1) j) ∙ ap (λ c. run c (events_of xs (t + 1) j)) (run_step b xs t))
+
+pub run_due : (b : BoardState) (xs : List TimedInput) (t j : ℕ) → never_falls xs ≡ true
+    → run (run b (inputs_at xs t)) (events_of (drop (count_before (t + 1) xs) xs) t (1 + j)) ≡ run b (events_of xs t (1 + j))
+run_due b xs t j h =
+    let late = drop (count_before (t + 1) xs) xs in
+    run_first (run b (inputs_at xs t)) late t j
+    ∙ (ap (λ es. run (moved (run (run b (inputs_at xs t)) es) Step) (events_of late (t + 1) j)) (none_due xs t h)
+    ∙ (ap (run (moved (run b (inputs_at xs t)) Step)) (events_late xs (t + 1) (t + 1) j (omega arith) h)
+    ∙ sym (run_first b xs t j)))
+
+-- ---- states
+
+same : (b c : BoardState) (xs : List TimedInput) (p q t u : ℕ) → b ≡ c → p ≡ q → t ≡ u
+    → ◌≡◌ {A = TimedState} (record { board = b; inputs = xs; place = p; taken = t }) (record { board = c; inputs = xs; place = q; taken = u })
+same b c xs p q t u e f g = cc
+
+-- what wasn't given of a list, and then what wasn't given of that
+rest_late : (s : TimedState) (t : ℕ) → drop (s.place + count_before t (rest s)) s.inputs ≡ drop (count_before t (rest s)) (rest s)
+rest_late s t = sym (drop-drop (count_before t (rest s)) s.place s.inputs)
+
+place_late : (s : TimedState) (t u : ℕ) → t ≤ u → never_falls s.inputs ≡ true
+    → (s.place + count_before t (rest s)) + count_before u (drop (s.place + count_before t (rest s)) s.inputs) ≡ s.place + count_before u (rest s)
+place_late s t u k h =
+    ap (λ xs. (s.place + count_before t (rest s)) + count_before u xs) (rest_late s t)
+    ∙ (add_assoc s.place (count_before t (rest s)) (count_before u (drop (count_before t (rest s)) (rest s)))
+    ∙ ap (λ n. s.place + n) (late_count t u k (rest s) (drop_rises s.place s.inputs h)))
+
+pub after_none : (s : TimedState) → IsInTime s → after s 0 ≡ s
+unfolding after events_of
+after_none s h =
+    let now : s.taken + 0 ≡ s.taken = omega arith in
+    let none : count_before (s.taken + 0) (rest s) ≡ 0 = ap (λ t. count_before t (rest s)) now ∙ none_before s.taken (rest s) h.ahead in
+    same s.board s.board s.inputs _ _ _ _ refl (omega (arith, none)) now
+
+pub after_more : (s : TimedState) (k j : ℕ) → never_falls s.inputs ≡ true → after (after s k) j ≡ after s (k + j)
+unfolding after
+after_more s k j h =
+    let sum : (s.taken + k) + j ≡ s.taken + (k + j) = omega arith in
+    same _ _ s.inputs _ _ _ _
+    (ap (λ xs. run (run s.board (events_of (rest s) s.taken k)) (events_of xs (s.taken + k) j)) (rest_late s (s.taken + k))
+    ∙ run_join s.board (rest s) s.taken k j (drop_rises s.place s.inputs h))
+    (place_late s (s.taken + k) ((s.taken + k) + j) (omega arith) h ∙ ap (λ t. s.place + count_before t (rest s)) sum)
+    sum
+
+pub after_due : (s : TimedState) (j : ℕ) → never_falls s.inputs ≡ true → after (with_due s) (1 + j) ≡ after s (1 + j)
+unfolding after with_due
+after_due s j h =
+    same _ _ s.inputs _ _ _ _
+    (ap (λ xs. run (run s.board (inputs_at (rest s) s.taken)) (events_of xs s.taken (1 + j))) (rest_late s (s.taken + 1))
+    ∙ run_due s.board (rest s) s.taken j (drop_rises s.place s.inputs h))
+    (place_late s (s.taken + 1) (s.taken + (1 + j)) (omega arith) h)
+    refl
+
+after_rises : (s : TimedState) (k : ℕ) → never_falls s.inputs ≡ true → never_falls (after s k).inputs ≡ true
+unfolding after
+after_rises s k h = h
+
+-- the next step, with its inputs given
+pub after_step : (s : TimedState) → after s 1 ≡ record (with_due s) { board = moved (with_due s).board Step; taken = s.taken + 1 }
+unfolding after with_due
+after_step s = same _ _ s.inputs _ _ _ _ (run_step s.board (rest s) s.taken) refl refl
+
+pub step_done : (r : Result Unit NoMemory) (s given new : TimedState) → given ≡ with_due s
+    → OnOk r (new ≡ record given { board = moved given.board Step; taken = given.taken + 1 }) → OnOk r (new ≡ after s 1)
+unfolding with_due
+step_done (Ok u) s given new e h =
+    let stepped : TimedState → TimedState = λ i. record i { board = moved i.board Step; taken = i.taken + 1 } in
+    h ∙ (ap stepped e ∙ sym (after_step s))
+step_done (Err x) s given new e h = tt
+
+-- ---- what is in time stays so
+
+place_within : (s : TimedState) (t : ℕ) → IsInTime s → s.place + count_before t (rest s) ≤ length s.inputs
+place_within s t h = let w : s.place ≤ length s.inputs = h.within in omega (arith, count_most t (rest s), length-drop s.place s.inputs)
+
+pub in_time_due : (s : TimedState) → IsInTime s → IsInTime (with_due s)
+unfolding with_due
+in_time_due s h = record {
+  within = place_within s (s.taken + 1) h;
+  rising = h.rising;
+  ahead = ap (from s.taken) (rest_late s (s.taken + 1)) ∙ drop_from s.taken (count_before (s.taken + 1) (rest s)) (rest s) h.ahead;
+}
+
+-- the fields of a state whose next inputs were given, so many
+module _ (b : BoardState) (xs more : List TimedInput) (place t n : ℕ) (is : more ≡ drop place xs) (count : n ≡ count_before (t + 1) more) where
+  abbrev pub old : TimedState
+  old = record { board = b; inputs = xs; place = place; taken = t }
+
+  number : n ≡ count_before (t + 1) (rest old)
+  number = count ∙ ap (count_before (t + 1)) is
+
+  pub given_in_time : (c : BoardState) → IsInTime old → IsInTime (record { board = c; inputs = xs; place = place + n; taken = t })
+  unfolding with_due
+  given_in_time c h = rw number (let g = in_time_due old h in record { within = g.within; rising = g.rising; ahead = g.ahead })
+
+  pub given_all : IsInTime old → from (t + 1) (drop (place + n) xs) ≡ true
+  given_all h =
+      ap (λ i. from (t + 1) (drop (place + i) xs)) number
+      ∙ (ap (from (t + 1)) (rest_late old (t + 1)) ∙ late_from (t + 1) (rest old) (drop_rises place xs h.rising))
+
+  pub given_is_due : (c : BoardState) → c ≡ run b (inputs_at more t) → ◌≡◌ {A = TimedState} (record { board = c; inputs = xs; place = place + n; taken = t }) (with_due old)
+  unfolding with_due
+  given_is_due c ran = same _ _ xs _ _ _ _ (ran ∙ ap (λ ys. run b (inputs_at ys t)) is) (ap (λ i. place + i) number) refl
+
+-- ---- the inputs of a time, one after another
+
+now : (t : ℕ) (x : TimedInput) → t ≤ x.step → x.step ≤ t → nat_eq x.step t ≡ true
+now t x h k = grind (arith, nat_tests)
+
+soon : (t : ℕ) (x : TimedInput) → x.step ≤ t → nat_lt x.step (t + 1) ≡ true
+soon t x h = grind (arith, nat_tests)
+
+inputs_more : (xs : List TimedInput) (t i : ℕ) (d : TimedInput) → i < length xs → nat_eq (get_or xs i d).step t ≡ true
+    → inputs_at (take (i + 1) xs) t ≡ inputs_at (take i xs) t ++ event_of (get_or xs i d).input ∷ []
+unfolding inputs_at
+inputs_more xs t i d lt e = rw (filter_more (λ x. nat_eq x.step t) xs i d lt, e, map-append) refl
+
+-- one more input was given
+pub ran_more : (b s new : BoardState) (xs : List TimedInput) (t i : ℕ) (x d : TimedInput) → from t xs ≡ true → i < length xs
+    → x ≡ get_or xs i d → x.step ≤ t → s ≡ run b (inputs_at (take i xs) t) → new ≡ moved s (event_of x.input) → new ≡ run b (inputs_at (take (i + 1) xs) t)
+ran_more b s new xs t i x d h lt at le was is =
+    let here : (get_or xs i d).step ≤ t = rw (← at) le in
+    let due = now t (get_or xs i d) (due_step t xs i d h lt) here in
+    is ∙ (ap (λ y. moved s (event_of y.input)) at ∙ (ap (λ c. moved c (event_of (get_or xs i d).input)) was
+    ∙ (sym (run_more b (inputs_at (take i xs) t) (event_of (get_or xs i d).input)) ∙ ap (run b) (sym (inputs_more xs t i d lt due)))))
+
+pub count_more : (xs : List TimedInput) (t i : ℕ) (x d : TimedInput) → i < length xs → x ≡ get_or xs i d → x.step ≤ t
+    → count_before (t + 1) (take i xs) ≡ i → count_before (t + 1) (take (i + 1) xs) ≡ i + 1
+count_more xs t i x d lt at le was =
+    let here : (get_or xs i d).step ≤ t = rw (← at) le in
+    length-filter_more (λ y. nat_lt y.step (t + 1)) xs i d lt ∙ rw (soon t (get_or xs i d) here, was) refl
+
+-- one of a later time: all that are due were given
+pub ran_all : (b s : BoardState) (xs : List TimedInput) (t i : ℕ) (x d : TimedInput) → never_falls xs ≡ true → i < length xs
+    → x ≡ get_or xs i d → t < x.step → s ≡ run b (inputs_at (take i xs) t) → s ≡ run b (inputs_at xs t)
+unfolding inputs_at
+ran_all b s xs t i x d h lt at later was =
+    let here : t < (get_or xs i d).step = rw (← at) later in
+    was ∙ ap (λ ys. run b (map (λ y. event_of y.input) ys)) (sym (later_of t xs i d h lt here))
+
+pub count_all : (xs : List TimedInput) (t i : ℕ) (x d : TimedInput) → never_falls xs ≡ true → i < length xs
+    → x ≡ get_or xs i d → t < x.step → count_before (t + 1) (take i xs) ≡ i → i ≡ count_before (t + 1) xs
+count_all xs t i x d h lt at later was =
+    let here : t < (get_or xs i d).step = rw (← at) later in
+    sym (later_count t xs i d h lt here ∙ was)
+
+-- ---- the laws
+
+pub runs_join : RunsJoin
+runs_join b timed k j h =
+    let z : 0 + k ≡ k = omega arith in
+    let joined = run_join b timed 0 k j h in
+    rw z at joined
+
+pub calls_join : (s : TimedState) → IsInTime s → CallsJoin s
+calls_join s h = record {
+  none = after_none s h;
+  more = λ k j. after_more s k j h.rising;
+  again = λ k j. after_due (after s k) j (after_rises s k h.rising) ∙ after_more s k (1 + j) h.rising;
+}

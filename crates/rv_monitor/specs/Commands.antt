@@ -1,0 +1,89 @@
+-- To audit: public contracts cite this.
+-- What each command does, and what it answers. None is a line that is no command.
+-- This project's own language.
+use Rattle.std.specs.Prelude.{◌≡◌, ◌⊎◌, ℕ, ◌-◌, List, [], ◌++◌, if◌then◌else◌, Option, Some, None, codes, unwrap_or}
+use Rattle.std.specs.FinSet as set
+use Rattle.rv_commands.specs.declared.command.Command.{Command}
+use Rattle.rv_commands.specs.declared.command.Command.TheVariants.{Step, Go, SetBreak, ClearBreak, Registers, ControlRegister, Memory, Instruction, Traps, Quit, Nothing}
+use Rattle.rv_views.specs.Numbers.{hex}
+use Rattle.rv_views.specs.Views.{line, registers_text, control_register_text, memory_text, instruction_text, traps_text, stop_text}
+use Rattle.rv_monitor.specs.declared.stop.Stop.{Stop}
+use Rattle.rv_monitor.specs.declared.stop.Stop.TheVariants.{Halted, Breakpoint, Limit}
+use Rattle.rv_monitor.specs.declared.command.Next.{Next}
+use Rattle.rv_monitor.specs.declared.command.Next.TheVariants as next
+use Rattle.rv_monitor.specs.State.{Addresses, SessionState, most_of}
+use Rattle.rv_monitor.specs.Stops.{stop_after, HasStopped, IsRefused}
+
+-- ---- steps
+
+-- why steps ended, by the session before and behind them
+abbrev pub stop_of : Addresses → SessionState → SessionState → Stop
+stop_of breakpoints old new = unwrap_or (stop_after breakpoints new.timed.board (new.timed.taken - old.timed.taken)) Limit
+
+-- a call for so many steps took its steps, and nothing else changed
+pub record Took (breakpoints : Addresses) (n : ℕ) (old new : SessionState) : Type 0 where
+  pub stopped : HasStopped breakpoints (most_of old n) old.timed new.timed (stop_of breakpoints old new)
+  pub others : new ≡ record old { timed = new.timed }
+
+-- or was refused one of them
+pub record WasRefused (breakpoints : Addresses) (n : ℕ) (old new : SessionState) : Type 0 where
+  pub refused : IsRefused breakpoints (most_of old n) old.timed new.timed
+  pub others : new ≡ record old { timed = new.timed }
+
+-- the N of `c`, or all steps that are left
+abbrev pub going_for : SessionState → Option ℕ → ℕ
+going_for s None = s.limit - s.timed.taken
+going_for s (Some n) = n
+
+-- ---- what a command leaves
+
+abbrev pub Leaves : Option Command → SessionState → SessionState → Type 0
+Leaves (Some (Step n)) old new = Took set.empty n old new
+Leaves (Some (Go n)) old new = Took old.breakpoints (going_for old n) old new
+Leaves (Some (SetBreak addr)) old new = new ≡ record old { breakpoints = set.insert old.breakpoints addr }
+Leaves (Some (ClearBreak addr)) old new = new ≡ record old { breakpoints = set.remove old.breakpoints addr }
+Leaves _ old new = new ≡ old
+
+-- what a command leaves where memory ran out: only steps may have been taken; a line that answers nothing takes no memory
+abbrev pub LeavesRefused : Option Command → SessionState → SessionState → Type 0
+LeavesRefused (Some (Step n)) old new = (new ≡ old) ⊎ WasRefused set.empty n old new
+LeavesRefused (Some (Go n)) old new = (new ≡ old) ⊎ WasRefused old.breakpoints (going_for old n) old new
+LeavesRefused (Some Quit) old new = ⊥
+LeavesRefused (Some Nothing) old new = ⊥
+LeavesRefused _ old new = new ≡ old
+
+-- ---- what it answers
+
+abbrev pub word_of : Stop → List ℕ
+word_of Halted = codes "halted"
+word_of Breakpoint = codes "break"
+word_of Limit = codes "limit"
+
+-- `s` and `c`: why the steps ended, and where the board stands
+abbrev pub steps_text : Addresses → SessionState → SessionState → List ℕ
+steps_text breakpoints old new = stop_text new.timed.board (word_of (stop_of breakpoints old new))
+
+-- `d`: the address, if it was a breakpoint
+abbrev pub cleared_text : Addresses → ℕ → List ℕ
+cleared_text breakpoints addr = if set.contains breakpoints addr then line (codes "clear " ++ hex 8 addr) else line (codes "no break")
+
+-- by the session before and behind it
+abbrev pub answer : Option Command → SessionState → SessionState → List ℕ
+answer None old new = line (codes "?")
+answer (Some (Step n)) old new = steps_text set.empty old new
+answer (Some (Go n)) old new = steps_text old.breakpoints old new
+answer (Some (SetBreak addr)) old new = line (codes "break " ++ hex 8 addr)
+answer (Some (ClearBreak addr)) old new = cleared_text old.breakpoints addr
+answer (Some Registers) old new = registers_text old.timed.board
+answer (Some (ControlRegister name csr)) old new = control_register_text old.timed.board name csr
+answer (Some (Memory addr count)) old new = memory_text old.timed.board addr count
+answer (Some (Instruction addr)) old new = instruction_text old.timed.board addr
+answer (Some Traps) old new = traps_text old.timed.board
+answer (Some Quit) old new = []
+answer (Some Nothing) old new = []
+
+-- ---- and what comes behind it
+
+abbrev pub next_of : Option Command → Next
+next_of (Some Quit) = next.Quit
+next_of _ = next.More

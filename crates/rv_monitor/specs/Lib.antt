@@ -1,0 +1,6 @@
+pub mod Events
+pub mod State
+pub mod Stops
+pub mod Laws
+pub mod Asked
+pub mod Commands

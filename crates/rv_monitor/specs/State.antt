@@ -1,0 +1,71 @@
+-- To audit: public contracts cite this.
+-- All that a session is.
+use Rattle.std.specs.Prelude.{◌≡◌, ℕ, ◌+◌, ◌-◌, ◌≤◌, min, true, List, length, drop, filter, nat_le, nat_lt}
+use Rattle.std.specs.List.{list_all}
+use Rattle.std.specs.Ordering.{nat_cmp}
+use Rattle.std.specs.FinSet as set
+use Rattle.std.specs.FinSet.{FinSet}
+use Rattle.rv_asm.specs.Assembly.{Assembly}
+use Rattle.rv_board.specs.State.{BoardState}
+use Rattle.rv_board.specs.Move.{run}
+use Rattle.rv_lists.specs.Timed.{never_falls}
+use Rattle.rv_lists.specs.declared.input.TimedInput.{TimedInput}
+use Rattle.rv_monitor.specs.Events.{inputs_at, events_of}
+
+-- sets of addresses
+abbrev pub Addresses : Type 0
+Addresses = FinSet nat_cmp
+
+-- a board with all its timed inputs, the place of the first that it wasn't given, and how many steps were taken
+pub record TimedState : Type 0 where
+  pub board : BoardState
+  pub inputs : List TimedInput
+  pub place : ℕ
+  pub taken : ℕ
+
+-- with the program that was booted, the most steps that may be taken, and the breakpoints
+pub record SessionState : Type 0 where
+  pub timed : TimedState
+  pub program : Assembly
+  pub limit : ℕ
+  pub breakpoints : Addresses
+
+-- the inputs that weren't given
+abbrev pub rest : TimedState → List TimedInput
+rest s = drop s.place s.inputs
+
+-- no input comes before one of an earlier time, and those of steps that were taken were given
+pub record IsInTime (s : TimedState) : Type 0 where
+  pub within : s.place ≤ length s.inputs
+  pub rising : never_falls s.inputs ≡ true
+  pub ahead : list_all (λ x. nat_le s.taken x.step) (rest s) ≡ true
+
+-- a session before its first step
+abbrev pub start : BoardState → List TimedInput → Assembly → ℕ → SessionState
+start board inputs program limit =
+    record { timed = record { board = board; inputs = inputs; place = 0; taken = 0 }; program = program; limit = limit; breakpoints = set.empty }
+
+-- the most steps that a call for so many may take
+abbrev pub most_of : SessionState → ℕ → ℕ
+most_of s n = min n (s.limit - s.timed.taken)
+
+-- ---- what steps make of it
+
+-- how many inputs have a time below this
+abbrev pub count_before : ℕ → List TimedInput → ℕ
+count_before step timed = length (filter (λ x. nat_lt x.step step) timed)
+
+-- after so many more steps
+unfoldable pub after : TimedState → ℕ → TimedState
+after s count = record s {
+  board = run s.board (events_of (rest s) s.taken count);
+  place = s.place + count_before (s.taken + count) (rest s);
+  taken = s.taken + count;
+}
+
+-- with the inputs of the next step given
+unfoldable pub with_due : TimedState → TimedState
+with_due s = record s {
+  board = run s.board (inputs_at (rest s) s.taken);
+  place = s.place + count_before (s.taken + 1) (rest s);
+}

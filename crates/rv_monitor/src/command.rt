@@ -1,0 +1,166 @@
+//! Commands over a session.
+ghost use Rattle.std.specs.Prelude.{◌≡◌, ◌⊎◌, ◌++◌, ◌+◌, ◌-◌, ◌≤◌, Some, length, IfOk, OnOk, OnErr, codes, vec_len, vec_capacity};
+ghost use Rattle.std.specs.FinSet as set;
+ghost use Rattle.rv_views.specs.Numbers.{hex};
+ghost use Rattle.rv_views.specs.Views.{line, stop_text};
+ghost use Rattle.rv_commands.specs.Commands.{command_of, IsNamed};
+ghost use Rattle.rv_monitor.specs.Commands.{Took, WasRefused, Leaves, LeavesRefused, going_for, steps_text, cleared_text, answer, next_of, word_of};
+
+use crate::session::Session;
+use crate::stop::Stop;
+use rv_cache::Decoded;
+use rv_commands::{Command, read_command};
+use rv_isa::NoMemory;
+use rv_ram::ByteMemory;
+use rv_views::{
+    STOP_BYTES, eight_digits, write_control_register, write_instruction, write_memory,
+    write_registers, write_stop, write_traps,
+};
+
+/// What comes behind a command.
+#[derive(Clone, Copy, PartialEq, Eq, Debug)]
+pub enum Next {
+    /// More commands.
+    More,
+    /// None.
+    Quit,
+}
+
+/// How many bytes the word of a stop has at most.
+const WORD_BYTES: usize = 6;
+
+/// How many bytes the line of a breakpoint has at most.
+const BREAK_BYTES: usize = 15;
+
+/// The word of a stop.
+fn stop_word(stop: Stop) -> &'static str
+    ensures word { result.now ≡ word_of stop }
+    ensures short { length result.now ≤ WORD_BYTES }
+{
+    match stop {
+        Stop::Halted => "halted",
+        Stop::Breakpoint => "break",
+        Stop::Limit => "limit",
+    }
+}
+
+/// Appends a piece that the text has room for.
+fn append_within(text: &mut Vec<u8>, piece: &[u8])
+    requires { vec_len text.old + length piece.now ≤ vec_capacity text.old }
+    ensures items { text.new.items ≡ text.old.items ++ piece.now }
+    ensures len { vec_len text.new ≡ vec_len text.old + length piece.now }
+    ensures capacity { vec_capacity text.old ≤ vec_capacity text.new }
+{
+    text.extend_from_slice(piece).unwrap();
+}
+
+/// Appends a line of an address behind a word, to a text that has room for it.
+fn append_address(text: &mut Vec<u8>, word: &[u8], addr: u32)
+    requires { vec_len text.old + length word.now + 9 ≤ vec_capacity text.old }
+    ensures { text.new.items ≡ text.old.items ++ line (word.now ++ hex 8 addr) }
+{
+    append_within(text, word);
+    append_within(text, &eight_digits(addr));
+    append_within(text, b"\n");
+}
+
+impl<M: ByteMemory, C: Decoded> Session<M, C> {
+    /// Takes steps, and says why they ended.
+    fn answer_step(&mut self, count: u64, text: &mut Vec<u8>) -> Result<(), NoMemory>
+        ensures ok { OnOk result (Took set.empty count self.old self.new) }
+        ensures text { OnOk result (text.new.items ≡ text.old.items ++ steps_text set.empty self.old self.new) }
+        ensures err { OnErr result ((self.new ≡ self.old) ⊎ WasRefused set.empty count self.old self.new) }
+        ensures unwritten { OnErr result (text.new.items ≡ text.old.items) }
+    {
+        text.reserve(WORD_BYTES + STOP_BYTES)?;
+        let stop = self.step(count)?;
+        write_stop(self.board(), stop_word(stop), text)
+    }
+
+    /// Takes steps up to a breakpoint, or all that are left, and says why they ended.
+    fn answer_go(&mut self, count: Option<u64>, text: &mut Vec<u8>) -> Result<(), NoMemory>
+        ensures ok { OnOk result (Took self.old.breakpoints (going_for self.old count) self.old self.new) }
+        ensures text { OnOk result (text.new.items ≡ text.old.items ++ steps_text self.old.breakpoints self.old self.new) }
+        ensures err { OnErr result ((self.new ≡ self.old) ⊎ WasRefused self.old.breakpoints (going_for self.old count) self.old self.new) }
+        ensures unwritten { OnErr result (text.new.items ≡ text.old.items) }
+    {
+        text.reserve(WORD_BYTES + STOP_BYTES)?;
+        let most = count.unwrap_or(self.limit() - self.taken());
+        let stop = self.go(most)?;
+        write_stop(self.board(), stop_word(stop), text)
+    }
+
+    /// Sets a breakpoint, and says where.
+    fn answer_set(&mut self, addr: u32, text: &mut Vec<u8>) -> Result<(), NoMemory>
+        ensures ok { OnOk result (self.new ≡ record self.old { breakpoints = set.insert self.old.breakpoints addr }) }
+        ensures text { OnOk result (text.new.items ≡ text.old.items ++ line (codes "break " ++ hex 8 addr)) }
+        ensures err { OnErr result (self.new ≡ self.old) }
+        ensures unwritten { OnErr result (text.new.items ≡ text.old.items) }
+    {
+        text.reserve(BREAK_BYTES)?;
+        self.set_break(addr)?;
+        append_address(text, b"break ", addr);
+        Ok(())
+    }
+
+    /// Clears a breakpoint, and says where it was.
+    fn answer_clear(&mut self, addr: u32, text: &mut Vec<u8>) -> Result<(), NoMemory>
+        ensures ok { OnOk result (self.new ≡ record self.old { breakpoints = set.remove self.old.breakpoints addr }) }
+        ensures text { OnOk result (text.new.items ≡ text.old.items ++ cleared_text self.old.breakpoints addr) }
+        ensures err { OnErr result (self.new ≡ self.old) }
+        ensures unwritten { OnErr result (text.new.items ≡ text.old.items) }
+    {
+        text.reserve(BREAK_BYTES)?;
+        if self.clear_break(addr) {
+            append_address(text, b"clear ", addr);
+        } else {
+            append_within(text, b"no break\n");
+        }
+        Ok(())
+    }
+
+    /// Does a command and appends its answer.
+    fn answer<'a>(&mut self, command: Command<'a>, text: &mut Vec<u8>) -> Result<Next, NoMemory>
+        requires { IsNamed command }
+        ensures next { IfOk result (λ next. next ≡ next_of (Some command.entry)) }
+        ensures ok { OnOk result (Leaves (Some command.entry) self.old self.new) }
+        ensures text { OnOk result (text.new.items ≡ text.old.items ++ answer (Some command.entry) self.old self.new) }
+        ensures err { OnErr result (LeavesRefused (Some command.entry) self.old self.new) }
+        ensures unwritten { OnErr result (text.new.items ≡ text.old.items) }
+    {
+        match command {
+            Command::Step { count } => self.answer_step(count, text)?,
+            Command::Go { count } => self.answer_go(count, text)?,
+            Command::SetBreak { addr } => self.answer_set(addr, text)?,
+            Command::ClearBreak { addr } => self.answer_clear(addr, text)?,
+            Command::Registers => write_registers(self.board(), text)?,
+            Command::ControlRegister { name, csr } => {
+                write_control_register(self.board(), name.bytes(), csr, text)?
+            }
+            Command::Memory { addr, count } => write_memory(self.board(), addr, count, text)?,
+            Command::Instruction { addr } => write_instruction(self.board(), addr, text)?,
+            Command::Traps => write_traps(self.board(), text)?,
+            Command::Quit => return Ok(Next::Quit),
+            Command::Nothing => (),
+        }
+        Ok(Next::More)
+    }
+
+    /// Does what a command line says, and appends its answer to a text.
+    ///
+    /// Room for the answer is made first. Where memory is refused, the text is as it was, and only steps that were taken
+    /// stand.
+    pub fn command(&mut self, line: &[u8], text: &mut Vec<u8>) -> Result<Next, NoMemory>
+        ensures next { IfOk result (λ next. next ≡ next_of (command_of line.now self.old.program.symbols)) }
+        ensures ok { OnOk result (Leaves (command_of line.now self.old.program.symbols) self.old self.new) }
+        ensures text { OnOk result (text.new.items ≡ text.old.items ++ answer (command_of line.now self.old.program.symbols) self.old self.new) }
+        ensures err { OnErr result (LeavesRefused (command_of line.now self.old.program.symbols) self.old self.new) }
+        ensures unwritten { OnErr result (text.new.items ≡ text.old.items) }
+    {
+        let Some(command) = read_command(line, self.program()) else {
+            text.extend_from_slice(b"?\n")?;
+            return Ok(Next::More);
+        };
+        self.answer(command, text)
+    }
+}

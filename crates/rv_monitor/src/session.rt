@@ -1,0 +1,164 @@
+//! Sessions.
+ghost use Rattle.std.specs.Prelude.{◌≡◌, ◌+◌, ◌-◌, ◌≤◌, ◌<◌, min, OnOk, OnErr, IfOk};
+ghost use Rattle.std.specs.FinSet as set;
+ghost use Rattle.rv_monitor.specs.Laws.{RunsJoin, CallsJoin};
+ghost use Rattle.rv_monitor.specs.State.{TimedState, IsInTime, start, most_of};
+ghost use Rattle.rv_monitor.specs.Stops.{HasStopped, IsRefused};
+
+use crate::breakpoints::Breakpoints;
+use crate::stop::Stop;
+use crate::timed::TimedBoard;
+use rv_asm::Program;
+use rv_board::Board;
+use rv_cache::Decoded;
+use rv_isa::NoMemory;
+use rv_lists::Timeline;
+use rv_ram::ByteMemory;
+use std::alloc::Global;
+use std::marker::Model;
+
+/// A board with the program that it was booted with, its timed inputs, a limit of steps, and breakpoints.
+///
+/// Step number t, from 0, comes behind the inputs of time t in their order. However many calls take the steps, the
+/// board ends as if one call had taken them.
+#[derive(Drop)]
+pub struct Session<M: ByteMemory, C: Decoded> {
+    timed: TimedBoard<M, C>,
+    program: Program,
+    /// The most steps that may be taken in all.
+    limit: u64,
+    breakpoints: Breakpoints,
+}
+
+impl<M: ByteMemory, C: Decoded> Model for Session<M, C> {
+    ghost use Rattle.std.specs.Prelude.{◌≤◌};
+    ghost use Rattle.std.specs.Coded.{codes, coded_ℕ};
+    ghost use Rattle.std.specs.FinSet as set;
+    ghost use Rattle.std.specs.Ordering.{nat_cmp};
+    ghost use Rattle.rv_plic.specs.Codes.{plic_code};
+    ghost use Rattle.rv_monitor.specs.State.{SessionState};
+
+    ghost Value = { SessionState };
+
+    ghost coded = { Prim.hlevel (codes, plic_code, set.code {R = nat_cmp} coded_ℕ) };
+
+    ghost view = { λ s. record { timed = s.timed; program = s.program; limit = s.limit; breakpoints = s.breakpoints } };
+
+    ghost invariant = { λ s. s.timed.taken ≤ s.limit };
+}
+
+impl<M: ByteMemory, C: Decoded> Session<M, C> {
+    /// A session that has taken no step and may take so many, with no breakpoint. It takes no memory.
+    pub fn new(
+        alloc: Global,
+        board: Board<M, C>,
+        timeline: Timeline,
+        program: Program,
+        limit: u64,
+    ) -> Session<M, C>
+        ensures { result ≡ start board timeline program limit }
+    {
+        Session {
+            timed: TimedBoard::new(board, timeline),
+            program,
+            limit,
+            breakpoints: Breakpoints::new(alloc),
+        }
+    }
+
+    /// The board.
+    pub fn board(&self) -> &Board<M, C>
+        ensures value { result.now ≡ self.now.timed.board }
+        ensures in_time { IsInTime self.now.timed }
+    {
+        self.timed.board()
+    }
+
+    /// The program that the board was booted with.
+    pub fn program(&self) -> &Program
+        ensures { result.now ≡ self.now.program }
+    {
+        &self.program
+    }
+
+    /// How many steps were taken in this session.
+    pub fn taken(&self) -> u64
+        ensures value { result ≡ self.now.timed.taken }
+        ensures most { result ≤ self.now.limit }
+    {
+        let _limit = self.limit;
+        self.timed.taken()
+    }
+
+    /// The most steps that may be taken in all.
+    pub fn limit(&self) -> u64
+        ensures { result ≡ self.now.limit }
+    {
+        self.limit
+    }
+
+    /// Whether an address is a breakpoint.
+    pub fn has_break(&self, address: u32) -> bool
+        ensures { result ≡ set.contains self.now.breakpoints address }
+    {
+        self.breakpoints.contains(address)
+    }
+
+    /// Makes an address a breakpoint. A refused call changes nothing.
+    pub fn set_break(&mut self, address: u32) -> Result<(), NoMemory>
+        ensures ok { OnOk result (self.new ≡ record self.old { breakpoints = set.insert self.old.breakpoints address }) }
+        ensures err { OnErr result (self.new ≡ self.old) }
+    {
+        self.breakpoints.insert(address)
+    }
+
+    /// Takes a breakpoint away, and says whether it was there.
+    pub fn clear_break(&mut self, address: u32) -> bool
+        ensures was { result ≡ set.contains self.old.breakpoints address }
+        ensures gone { self.new ≡ record self.old { breakpoints = set.remove self.old.breakpoints address } }
+    {
+        self.breakpoints.remove(address)
+    }
+
+    /// The most steps that a call for so many may take.
+    fn most(&self, n: u64) -> u64
+        ensures value { result ≡ most_of self.now n }
+        ensures within { self.now.timed.taken + result ≤ self.now.limit }
+    {
+        n.min(self.limit - self.timed.taken())
+    }
+
+    /// Takes so many steps, whatever the breakpoints, unless the board halts or the limit comes first.
+    ///
+    /// A refused step leaves the board behind the steps before it and the inputs before it. The next call goes on with
+    /// the refused step, and gives no input again.
+    pub fn step(&mut self, n: u64) -> Result<Stop, NoMemory>
+        ensures ok { IfOk result (HasStopped set.empty (most_of self.old n) self.old.timed self.new.timed) }
+        ensures err { OnErr result (IsRefused set.empty (most_of self.old n) self.old.timed self.new.timed) }
+        ensures others { self.new ≡ record self.old { timed = self.new.timed } }
+    {
+        let most = self.most(n);
+        self.timed.advance(most, None)
+    }
+
+    /// Takes so many steps, unless the board halts, comes to a breakpoint or the limit comes first. A breakpoint is
+    /// asked after each step, and so not before the first.
+    ///
+    /// A refused step leaves the board behind the steps before it and the inputs before it. The next call goes on with
+    /// the refused step, and gives no input again.
+    pub fn go(&mut self, n: u64) -> Result<Stop, NoMemory>
+        ensures ok { IfOk result (HasStopped self.old.breakpoints (most_of self.old n) self.old.timed self.new.timed) }
+        ensures err { OnErr result (IsRefused self.old.breakpoints (most_of self.old n) self.old.timed self.new.timed) }
+        ensures others { self.new ≡ record self.old { timed = self.new.timed } }
+    {
+        let most = self.most(n);
+        self.timed.advance(most, Some(&self.breakpoints))
+    }
+}
+
+/// A law: steps may be taken in as many calls as one likes, and a call behind a refusal goes on where it stood.
+#[tactic(auto, using(crate::proofs::Steps::runs_join))]
+pub fn calls_join()
+    ensures runs { RunsJoin }
+    ensures calls { (s : TimedState) → IsInTime s → CallsJoin s }
+{}
