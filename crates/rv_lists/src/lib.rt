@@ -9,6 +9,8 @@
 //!
 //! STEP has one to ten decimal digits, and no line's STEP is below one of a line before. STEP and N may have leading
 //! zeros.
+//!
+//! The monitor's command lines are cut into words, and their numbers read, by the same calls.
 #![tactic(auto)]
 
 mod fault;

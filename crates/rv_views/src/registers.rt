@@ -84,6 +84,7 @@ fn registers<M: ByteMemory, C: Decoded>(
 {
     let mut text = Vec::new(alloc);
     for number in 0..32 {
+        // Each number below 32 has a register.
         let register = Reg::new(number).unwrap();
         append_in_line(board, register, &mut text)?;
     }
@@ -105,8 +106,8 @@ pub fn write_registers<M: ByteMemory, C: Decoded>(
     append(text, lines.as_slice())
 }
 
-/// Appends a line of a control register: its name as given, and what machine mode reads there. Each name of the table
-/// names a register that can be read.
+/// Appends a line of a control register: its name as given, and what machine mode reads there. `csr` is the number that
+/// `csr_named` gives for the name.
 #[tactic(auto, using(crate::proofs::Named::named_is_read), unfolding(crate::specs::Views::control_register_text))]
 pub fn write_control_register<M: ByteMemory, C: Decoded>(
     board: &Board<M, C>,
@@ -119,6 +120,7 @@ pub fn write_control_register<M: ByteMemory, C: Decoded>(
     ensures err { OnErr result (text.new.items ≡ text.old.items) }
     ensures read { IsSome (csr_of board.now csr) }
 {
+    // Each name of the table has a register that can be read.
     let value = board.csr(csr).unwrap();
     let mut line = Vec::new(*text.allocator());
     append(&mut line, name)?;

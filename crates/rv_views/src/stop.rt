@@ -21,10 +21,9 @@ pub fn write_stop<M: ByteMemory, C: Decoded>(
     word: &str,
     text: &mut Vec<u8>,
 ) -> Result<(), NoMemory>
-    requires { length word.now ≤ 1024 }
     ensures ok { OnOk result (text.new.items ≡ text.old.items ++ stop_text board.now word.now) }
     ensures err { OnErr result (text.new.items ≡ text.old.items) }
-    ensures room { vec_len text.old + length word.now + STOP_BYTES ≤ vec_capacity text.old → IsOk result }
+    ensures room { vec_len text.old + length word.now + 52 ≤ vec_capacity text.old → IsOk result }
 {
     text.reserve(word.len() + STOP_BYTES)?;
     let mut buffer = Buffer::new();

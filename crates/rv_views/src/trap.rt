@@ -37,6 +37,7 @@ fn traps<M: ByteMemory, C: Decoded>(alloc: Global, board: &Board<M, C>) -> Resul
 {
     let mut text = Vec::new(alloc);
     for index in 0..board.trap_count() {
+        // Each index below the count has a trap.
         let trap = board.trap(index).unwrap();
         append_trap(trap, &mut text)?;
     }
