@@ -6,7 +6,7 @@ use std::test::Fail;
 #[test]
 fn a_jump_to_itself_stops_after_one_step(rt: HostRuntime) -> Result<(), Fail> {
     let mut session = session(rt.alloc(), LOOP, b"", 100)?;
-    set(&mut session, &[0x8000_0000])?;
+    set(&rt, &mut session, 0x8000_0000);
     go(&rt, &mut session, 10, Stop::Breakpoint, 1);
     // The next call goes on from the breakpoint.
     go(&rt, &mut session, 10, Stop::Breakpoint, 2);
@@ -17,7 +17,8 @@ fn a_jump_to_itself_stops_after_one_step(rt: HostRuntime) -> Result<(), Fail> {
 #[test]
 fn a_call_stops_at_the_first_breakpoint(rt: HostRuntime) -> Result<(), Fail> {
     let mut session = session(rt.alloc(), HALT, b"", 100)?;
-    set(&mut session, &[0x8000_000c, 0x8000_0008])?;
+    set(&rt, &mut session, 0x8000_000c);
+    set(&rt, &mut session, 0x8000_0008);
     go(&rt, &mut session, 10, Stop::Breakpoint, 2);
     go(&rt, &mut session, 1, Stop::Breakpoint, 3);
     stands(&rt, &session, 0x8000_000c, 0, 3);
@@ -28,7 +29,7 @@ fn a_call_stops_at_the_first_breakpoint(rt: HostRuntime) -> Result<(), Fail> {
 #[test]
 fn halting_comes_before_a_breakpoint(rt: HostRuntime) -> Result<(), Fail> {
     let mut session = session(rt.alloc(), HALT, b"", 100)?;
-    set(&mut session, &[0x8000_0010])?;
+    set(&rt, &mut session, 0x8000_0010);
     go(&rt, &mut session, 10, Stop::Halted, 4);
     stands(&rt, &session, 0x8000_0010, 0, 4);
     go(&rt, &mut session, 10, Stop::Halted, 4);
@@ -38,7 +39,7 @@ fn halting_comes_before_a_breakpoint(rt: HostRuntime) -> Result<(), Fail> {
 #[test]
 fn a_breakpoint_comes_before_the_limit(rt: HostRuntime) -> Result<(), Fail> {
     let mut session = session(rt.alloc(), LOOP, b"", 1)?;
-    set(&mut session, &[0x8000_0000])?;
+    set(&rt, &mut session, 0x8000_0000);
     go(&rt, &mut session, 1, Stop::Breakpoint, 1);
     go(&rt, &mut session, 1, Stop::Limit, 1);
     Ok(())
@@ -47,7 +48,7 @@ fn a_breakpoint_comes_before_the_limit(rt: HostRuntime) -> Result<(), Fail> {
 #[test]
 fn single_steps_ask_no_breakpoint(rt: HostRuntime) -> Result<(), Fail> {
     let mut session = session(rt.alloc(), LOOP, b"", 100)?;
-    set(&mut session, &[0x8000_0000])?;
+    set(&rt, &mut session, 0x8000_0000);
     step(&rt, &mut session, 3, Stop::Limit, 3);
     Ok(())
 }
@@ -56,11 +57,12 @@ fn single_steps_ask_no_breakpoint(rt: HostRuntime) -> Result<(), Fail> {
 fn breakpoints_are_a_set(rt: HostRuntime) -> Result<(), Fail> {
     let mut session = session(rt.alloc(), LOOP, b"", 100)?;
     clear(&rt, &mut session, 0x8000_0000, false);
-    set(&mut session, &[0x8000_0000, 0x8000_0000, 0xffff_ffff])?;
-    assert!(&rt; session.has_break(0x8000_0000));
+    set(&rt, &mut session, 0x8000_0000);
+    set(&rt, &mut session, 0x8000_0000);
+    set(&rt, &mut session, 0xffff_ffff);
     clear(&rt, &mut session, 0x8000_0000, true);
     clear(&rt, &mut session, 0x8000_0000, false);
-    assert!(&rt; session.has_break(0xffff_ffff));
+    clear(&rt, &mut session, 0xffff_ffff, true);
     go(&rt, &mut session, 3, Stop::Limit, 3);
     Ok(())
 }

@@ -177,19 +177,28 @@ fn boards_are_shown(rt: HostRuntime) -> Result<(), Fail> {
     Ok(())
 }
 
-#[test]
-fn all_registers_are_shown(rt: HostRuntime) -> Result<(), Fail> {
-    let alloc = rt.alloc();
-    let mut session = session(alloc, LOOP, b"", 100)?;
+/// Eight lines of four registers, each of twelve bytes and what stands behind it, and a line of 18 bytes.
+fn shows_registers<M: ByteMemory, C: Decoded>(
+    rt: &impl Abort,
+    session: &mut Session<M, C>,
+    alloc: Global,
+) {
     let mut text = Vec::new(alloc);
-    assert_eq!(&rt; session.command(b"r", &mut text), Ok(Next::More));
-    // Eight lines of four registers with twelve bytes each and what stands behind it, and a line of 18 bytes.
-    assert_eq!(&rt; text.len(), 8 * 4 * 13 + 19);
-    assert!(&rt; text.as_slice().starts_with(b"x00=00000000 x01=00000000 "));
+    let next = session.command(b"r", &mut text);
+    assert_eq!(rt; next, Ok(Next::More));
+    assert_eq!(rt; text.len(), 8 * 4 * 13 + 19);
+    assert!(rt; text.as_slice().starts_with(b"x00=00000000 x01=00000000 "));
     assert!(rt;
         text.as_slice()
             .ends_with(b" x31=00000000\npc=80000000 mode=M\n")
     );
+}
+
+#[test]
+fn all_registers_are_shown(rt: HostRuntime) -> Result<(), Fail> {
+    let alloc = rt.alloc();
+    let mut session = session(alloc, LOOP, b"", 100)?;
+    shows_registers(&rt, &mut session, alloc);
     Ok(())
 }
 
@@ -207,14 +216,26 @@ fn other_lines_are_answered(rt: HostRuntime) -> Result<(), Fail> {
     Ok(())
 }
 
+/// Answers stand behind each other, and `q` ends the commands.
+fn answers_in_order<M: ByteMemory, C: Decoded>(
+    rt: &impl Abort,
+    session: &mut Session<M, C>,
+    alloc: Global,
+) {
+    let mut text = Vec::new(alloc);
+    let first = session.command(b"b 0x1", &mut text);
+    let second = session.command(b"x", &mut text);
+    let last = session.command(b"q", &mut text);
+    assert_eq!(rt; first, Ok(Next::More));
+    assert_eq!(rt; second, Ok(Next::More));
+    assert_eq!(rt; last, Ok(Next::Quit));
+    assert_eq!(rt; text.as_slice(), b"break 00000001\n?\n".as_slice());
+}
+
 #[test]
 fn answers_stand_behind_each_other(rt: HostRuntime) -> Result<(), Fail> {
     let alloc = rt.alloc();
     let mut session = session(alloc, LOOP, b"", 100)?;
-    let mut text = Vec::new(alloc);
-    assert_eq!(&rt; session.command(b"b 0x1", &mut text), Ok(Next::More));
-    assert_eq!(&rt; session.command(b"x", &mut text), Ok(Next::More));
-    assert_eq!(&rt; session.command(b"q", &mut text), Ok(Next::Quit));
-    assert_eq!(rt; text.as_slice(), b"break 00000001\n?\n".as_slice());
+    answers_in_order(&rt, &mut session, alloc);
     Ok(())
 }

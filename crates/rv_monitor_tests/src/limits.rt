@@ -6,7 +6,7 @@ use std::test::Fail;
 #[test]
 fn calls_for_no_step_do_nothing(rt: HostRuntime) -> Result<(), Fail> {
     let mut session = session(rt.alloc(), LOOP, b"0 rx 41", 100)?;
-    set(&mut session, &[0x8000_0000])?;
+    set(&rt, &mut session, 0x8000_0000);
     go(&rt, &mut session, 0, Stop::Limit, 0);
     step(&rt, &mut session, 0, Stop::Limit, 0);
     stands(&rt, &session, 0x8000_0000, 0, 0);

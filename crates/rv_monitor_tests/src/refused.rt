@@ -5,12 +5,13 @@ use crate::commands::{refuses, says};
 use crate::sessions::{go, go_refused, set, stands, step};
 use rv_asm::assemble;
 use rv_board::Board;
-use rv_cache::NoCache;
+use rv_cache::{Decoded, NoCache};
 use rv_isa::{NoMemory, Width};
 use rv_lists::Timeline;
 use rv_monitor::{Session, Stop};
 use rv_ram::{ByteMemory, FlatMemory};
 use std::alloc::Global;
+use std::process::Abort;
 use std::test::Fail;
 
 /// A memory whose next writes after so many good ones are refused, so many times.
@@ -62,9 +63,9 @@ fn session(alloc: Global, timed: &[u8], refusals: u32) -> Result<Session<Stubbor
 
 const TIMED: &[u8] = b"0 rx 40\n1 rx 41\n1 rx 42\n2 rx 43";
 
-/// The byte that the store changes.
-fn stored(session: &Session<Stubborn, NoCache>) -> Option<u8> {
-    session.board().ram(0x8000_1003)
+/// The highest byte of the word that is stored.
+fn stored<M: ByteMemory, C: Decoded>(rt: &impl Abort, session: &Session<M, C>, byte: u8) {
+    assert_eq!(rt; session.board().ram(0x8000_1003), Some(byte));
 }
 
 #[test]
@@ -73,11 +74,11 @@ fn the_next_call_goes_on_with_the_refused_step(rt: HostRuntime) -> Result<(), Fa
     go_refused(&rt, &mut session, 9, 1);
     // The inputs before the refused step were given, and none behind it.
     stands(&rt, &session, 0x8000_0004, 3, 1);
-    assert_eq!(&rt; stored(&session), Some(0));
+    stored(&rt, &session, 0);
     step(&rt, &mut session, 1, Stop::Limit, 2);
     // No input was given again.
     stands(&rt, &session, 0x8000_0008, 3, 2);
-    assert_eq!(&rt; stored(&session), Some(0x80));
+    stored(&rt, &session, 0x80);
     go(&rt, &mut session, 9, Stop::Limit, 3);
     stands(&rt, &session, 0x8000_0008, 4, 3);
     Ok(())
@@ -86,7 +87,7 @@ fn the_next_call_goes_on_with_the_refused_step(rt: HostRuntime) -> Result<(), Fa
 #[test]
 fn a_step_may_be_refused_again(rt: HostRuntime) -> Result<(), Fail> {
     let mut session = session(rt.alloc(), TIMED, 2)?;
-    set(&mut session, &[0x8000_0004])?;
+    set(&rt, &mut session, 0x8000_0004);
     go(&rt, &mut session, 9, Stop::Breakpoint, 1);
     stands(&rt, &session, 0x8000_0004, 1, 1);
     go_refused(&rt, &mut session, 9, 1);

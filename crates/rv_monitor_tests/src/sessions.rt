@@ -70,15 +70,11 @@ pub fn go_refused<M: ByteMemory, C: Decoded>(
     assert_eq!(rt; session.taken(), taken);
 }
 
-/// Breakpoints are set.
-pub fn set<M: ByteMemory, C: Decoded>(
-    session: &mut Session<M, C>,
-    addresses: &[u32],
-) -> Result<(), Fail> {
-    for address in addresses {
-        session.set_break(*address)?;
-    }
-    Ok(())
+/// A breakpoint is set.
+pub fn set<M: ByteMemory, C: Decoded>(rt: &impl Abort, session: &mut Session<M, C>, address: u32) {
+    let answer = session.set_break(address);
+    assert_eq!(rt; answer, Ok(()));
+    assert!(rt; session.has_break(address));
 }
 
 /// A breakpoint is cleared, with this answer.
@@ -107,9 +103,15 @@ pub fn stands<M: ByteMemory, C: Decoded>(
     assert_eq!(rt; board.steps(), steps);
 }
 
-/// What a register holds.
-pub fn reg<M: ByteMemory, C: Decoded>(session: &Session<M, C>, number: u8) -> Option<u32> {
-    Some(session.board().reg(Reg::new(number)?))
+/// A register holds this.
+pub fn holds<M: ByteMemory, C: Decoded>(
+    rt: &impl Abort,
+    session: &Session<M, C>,
+    number: u8,
+    value: u32,
+) {
+    let register = Reg::new(number);
+    assert_eq!(rt; register.map(|r| session.board().reg(r)), Some(value));
 }
 
 /// Which interrupts are pending.
