@@ -118,6 +118,7 @@ impl Pmp {
     }
 
     /// Whether a mode may access the bytes of this width from an address on, which may be any.
+    #[inline(always)]
     #[tactic(auto, using(crate::proofs::Decided::quick_answers))]
     pub fn allowed(&self, mode: Mode, access: Access, addr: u32, width: Width) -> bool
         ensures { result ≡ grants self.now mode access addr (bytes_of width) }
@@ -125,6 +126,15 @@ impl Pmp {
         if !self.any_on {
             return mode.is_machine();
         }
+        self.granted(mode, access, addr, width)
+    }
+
+    /// What the entries grant. It is apart, so that `allowed` stays short where none is on.
+    #[inline(never)]
+    #[tactic(auto, using(crate::proofs::Decided::quick_answers))]
+    fn granted(&self, mode: Mode, access: Access, addr: u32, width: Width) -> bool
+        ensures { result ≡ grants self.now mode access addr (bytes_of width) }
+    {
         let bytes = width.bytes();
         if mode.is_machine() && !self.any_locked && addr % 4 + bytes <= 4 {
             return true;
