@@ -2,7 +2,7 @@
 ghost use Rattle.std.specs.Prelude.{◌≡◌, ◌%◌, ◌<◌, ◌&&◌, nat_lt, slice_index, slice_set, unwrap_or};
 ghost use Rattle.std.specs.FinSet as set;
 ghost use Rattle.rv_plic.specs.Leads.{Leads, LeadsBelow};
-ghost use Rattle.rv_plic.specs.Plic.{reset, with_line, forwarded, priority_of, best, is_notified, claimed, completed, word_at, with_word, load_value, after_load, stored};
+ghost use Rattle.rv_plic.specs.Plic.{PlicState, reset, with_line, ready, forwarded, withdrawn, priority_of, best, is_notified, claimed, completed, word_at, with_word, load_value, after_load, stored};
 
 use crate::Source;
 use crate::gateway::Gateways;
@@ -18,6 +18,8 @@ pub struct Plic {
     enabled: SourceSet,
     priorities: [u8; 32],
     threshold: u8,
+    /// The sources whose gateways have a request to forward, so that a tick asks only whether there are any.
+    ready: SourceSet,
 }
 
 impl Model for Plic {
@@ -30,11 +32,19 @@ impl Model for Plic {
 
     ghost view = { λ p. record { gateways = p.gateways; pending = p.pending; enabled = p.enabled; priorities = p.priorities; threshold = p.threshold } };
 
-    ghost inverse = { λ p. record { gateways = p.gateways; pending = p.pending; enabled = p.enabled; priorities = p.priorities; threshold = p.threshold } };
+    ghost use Rattle.std.specs.Prelude.{◌≡◌};
+    ghost use Rattle.rv_plic.specs.Gateways.{requests};
+
+    ghost invariant = { λ p. requests p.gateways p.pending ≡ p.ready };
+
+    ghost inverse = { λ p. record { gateways = p.gateways; pending = p.pending; enabled = p.enabled; priorities = p.priorities; threshold = p.threshold; ready = requests p.gateways p.pending } };
+
+    ghost inverse_ok = { λ p h i. record { gateways = p.gateways; pending = p.pending; enabled = p.enabled; priorities = p.priorities; threshold = p.threshold; ready = h i } };
 }
 
 impl Plic {
     /// The controller after a reset: all lines low, nothing pending or enabled, and priorities and threshold 0.
+    #[tactic(auto, using(crate::proofs::Forwarded::none_at_reset))]
     pub fn new() -> Plic
         ensures { result ≡ reset }
     {
@@ -44,6 +54,7 @@ impl Plic {
             enabled: SourceSet::new(),
             priorities: [0; 32],
             threshold: 0,
+            ready: SourceSet::new(),
         }
     }
 
@@ -52,14 +63,38 @@ impl Plic {
         ensures { self.new ≡ with_line self.old source high }
     {
         self.gateways.set_line(source, high);
+        self.ready = self.gateways.requests(self.pending);
+    }
+
+    /// The sources whose gateways have a request to forward.
+    pub fn ready(&self) -> SourceSet
+        ensures { result ≡ ready self.now }
+    {
+        self.ready
     }
 
     /// Each gateway forwards its request, if it has one.
+    #[tactic(auto, using(crate::proofs::Forwarded::none_forwarded))]
     pub fn forward(&mut self)
         ensures { self.new ≡ forwarded self.old }
     {
+        if self.ready.is_empty() {
+            return;
+        }
         let requests = self.gateways.forward(self.pending);
         self.pending = self.pending.union(requests);
+        self.ready = self.gateways.requests(self.pending);
+    }
+
+    /// The controller before the requests of these sources were forwarded.
+    #[tactic(auto, using(crate::proofs::Forwarded::withdrawn_forwarded))]
+    pub fn withdraw(&mut self, requests: SourceSet)
+        ensures after { self.new ≡ withdrawn self.old requests }
+        ensures undoes { (before : PlicState) → self.old ≡ forwarded before → requests ≡ ready before → self.new ≡ before }
+    {
+        self.gateways.withdraw(requests);
+        self.pending = self.pending.difference(requests);
+        self.ready = self.gateways.requests(self.pending);
     }
 
     /// What a load at an offset gives. A load of the claim register claims. Where no register is, it gives 0.
@@ -167,6 +202,7 @@ impl Plic {
         match self.best() {
             Some(source) => {
                 self.pending.remove(source);
+                self.ready = self.gateways.requests(self.pending);
                 source.number() as u32
             }
             None => 0,
@@ -178,6 +214,7 @@ impl Plic {
     {
         if let Some(source) = self.enabled.get(word) {
             self.gateways.complete(source);
+            self.ready = self.gateways.requests(self.pending);
         }
     }
 
