@@ -2,7 +2,7 @@
 ghost use Rattle.std.specs.Prelude.{◌≡◌, ℕ, ◌+◌, ◌^◌, ◌<◌, true};
 ghost use Rattle.rv_isa.specs.Width.{bytes_of};
 ghost use Rattle.rv_pmp.specs.Kept.{some_on, some_locked, answered, decided};
-ghost use Rattle.rv_pmp.specs.Pmp.{PmpState, reset, grants, load, config_at, with_config, with_address, with_word, AllReadable, WritableIsReadable, Stores};
+ghost use Rattle.rv_pmp.specs.Pmp.{PmpState, reset, grants, locks, load, config_at, with_config, with_address, with_word, AllReadable, WritableIsReadable, Stores};
 ghost use Rattle.rv_pmp.specs.Pmp as spec;
 ghost use Rattle.rv_pmp.specs.Span.{spans_from};
 ghost use Rattle.rv_pmp.specs.declared.access.Access.{Access};
@@ -115,6 +115,13 @@ impl Pmp {
             Some(entry) => entry.config(),
             None => 0,
         }
+    }
+
+    /// Whether an entry is locked. Where none is, machine mode is granted every access at a multiple of its width.
+    pub fn locks(&self) -> bool
+        ensures { result ≡ locks self.now }
+    {
+        self.any_locked
     }
 
     /// Whether a mode may access the bytes of this width from an address on, which may be any.

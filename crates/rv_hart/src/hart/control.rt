@@ -6,6 +6,7 @@ ghost use Rattle.rv_hart.specs.Effect.{reg, csr_effect, return_effect, wait_effe
 ghost use Rattle.rv_hart.specs.Tries.{Does};
 
 use super::Hart;
+use crate::known::Known;
 use crate::trap::Trap;
 use crate::values::{combine, illegal, is_write};
 use rv_cache::Decoded;
@@ -89,7 +90,7 @@ impl<M: ByteMemory, C: Decoded> Hart<M, C> {
         if is_write(exchange.op, exchange.field) {
             let value = combine(exchange.op, old, exchange.operand);
             match self.csrs.write(exchange.csr, self.mode, value) {
-                Some(()) => (),
+                Some(()) => self.known = Known::of(&self.csrs, self.mode),
                 None => return Err(illegal(instr)),
             }
         }
@@ -116,6 +117,7 @@ impl<M: ByteMemory, C: Decoded> Hart<M, C> {
                 let (mode, pc) = self.csrs.leave_trap();
                 self.mode = mode;
                 self.pc = pc;
+                self.known = Known::of(&self.csrs, self.mode);
                 return Ok(());
             }
         }
