@@ -1,8 +1,9 @@
 //! The interrupt controller.
 ghost use Rattle.std.specs.Prelude.{◌≡◌, ◌%◌, ◌<◌, ◌&&◌, nat_lt, slice_index, slice_set, unwrap_or};
 ghost use Rattle.std.specs.FinSet as set;
+ghost use Rattle.rv_plic.specs.Kept.{sources_above};
 ghost use Rattle.rv_plic.specs.Leads.{Leads, LeadsBelow};
-ghost use Rattle.rv_plic.specs.Plic.{PlicState, reset, with_line, ready, forwarded, withdrawn, priority_of, best, is_notified, claimed, completed, word_at, with_word, load_value, after_load, stored};
+ghost use Rattle.rv_plic.specs.Plic.{PlicState, reset, with_line, ready, forwarded, withdrawn, best, is_notified, claimed, completed, word_at, with_word, load_value, after_load, stored};
 
 use crate::Source;
 use crate::gateway::Gateways;
@@ -16,8 +17,9 @@ pub struct Plic {
     gateways: Gateways,
     pending: SourceSet,
     enabled: SourceSet,
-    priorities: [u8; 32],
-    threshold: u8,
+    levels: Levels,
+    /// The sources above the threshold, so that the external line is told by words.
+    above: SourceSet,
     /// The sources whose gateways have a request to forward, so that a tick asks only whether there are any.
     ready: SourceSet,
 }
@@ -30,21 +32,22 @@ impl Model for Plic {
 
     ghost coded = { plic_code };
 
-    ghost view = { λ p. record { gateways = p.gateways; pending = p.pending; enabled = p.enabled; priorities = p.priorities; threshold = p.threshold } };
+    ghost view = { λ p. record { gateways = p.gateways; pending = p.pending; enabled = p.enabled; priorities = p.levels.priorities; threshold = p.levels.threshold } };
 
     ghost use Rattle.std.specs.Prelude.{◌≡◌};
     ghost use Rattle.rv_plic.specs.Gateways.{requests};
+    ghost use Rattle.rv_plic.specs.Kept.{sources_above};
 
-    ghost invariant = { λ p. requests p.gateways p.pending ≡ p.ready };
+    ghost invariant = { λ p. (requests p.gateways p.pending ≡ p.ready) × (sources_above p.levels.priorities p.levels.threshold ≡ p.above) };
 
-    ghost inverse = { λ p. record { gateways = p.gateways; pending = p.pending; enabled = p.enabled; priorities = p.priorities; threshold = p.threshold; ready = requests p.gateways p.pending } };
+    ghost inverse = { λ p. record { gateways = p.gateways; pending = p.pending; enabled = p.enabled; levels = record { priorities = p.priorities; threshold = p.threshold }; above = sources_above p.priorities p.threshold; ready = requests p.gateways p.pending } };
 
-    ghost inverse_ok = { λ p h i. record { gateways = p.gateways; pending = p.pending; enabled = p.enabled; priorities = p.priorities; threshold = p.threshold; ready = h i } };
+    ghost inverse_ok = { λ p h i. record { gateways = p.gateways; pending = p.pending; enabled = p.enabled; levels = p.levels; above = h.1 i; ready = h.0 i } };
 }
 
 impl Plic {
     /// The controller after a reset: all lines low, nothing pending or enabled, and priorities and threshold 0.
-    #[tactic(auto, using(crate::proofs::Forwarded::none_at_reset))]
+    #[tactic(auto, using(crate::proofs::Forwarded::none_at_reset, crate::proofs::Above::none_above))]
     pub fn new() -> Plic
         ensures { result ≡ reset }
     {
@@ -52,8 +55,11 @@ impl Plic {
             gateways: Gateways::new(),
             pending: SourceSet::new(),
             enabled: SourceSet::new(),
-            priorities: [0; 32],
-            threshold: 0,
+            levels: Levels {
+                priorities: [0; 32],
+                threshold: 0,
+            },
+            above: SourceSet::new(),
             ready: SourceSet::new(),
         }
     }
@@ -138,32 +144,32 @@ impl Plic {
     }
 
     /// The level of the external interrupt line.
-    #[tactic(auto, using(crate::proofs::Best::leading))]
+    #[tactic(auto, using(crate::proofs::Above::none_notified, crate::proofs::Above::some_notified))]
     pub fn external(&self) -> bool
         ensures { result ≡ is_notified self.now }
     {
-        match self.best() {
-            Some(source) => self.is_above_threshold(source),
-            None => false,
-        }
+        let waiting = self.pending.intersection(self.enabled);
+        let notified = waiting.intersection(self.above);
+        !notified.is_empty()
     }
 
-    fn is_above_threshold(&self, source: Source) -> bool
-        ensures { result ≡ nat_lt self.now.threshold (priority_of self.now source) }
-    {
-        self.priority(source) > self.threshold
-    }
-
-    fn priority(&self, source: Source) -> u8
-        ensures { result ≡ priority_of self.now source }
-    {
-        self.priorities[source.number() as usize]
-    }
-
+    #[tactic(auto, using(crate::proofs::Above::above_raised, crate::proofs::Above::above_lowered))]
     fn set_priority(&mut self, source: Source, priority: u8)
         ensures { self.new ≡ record self.old { priorities = slice_set self.old.priorities source priority } }
     {
-        self.priorities[source.number() as usize] = priority;
+        self.levels.priorities[source.number() as usize] = priority;
+        if self.levels.is_above_threshold(source) {
+            self.above.insert(source);
+        } else {
+            self.above.remove(source);
+        }
+    }
+
+    fn set_threshold(&mut self, threshold: u8)
+        ensures { self.new ≡ record self.old { threshold = threshold } }
+    {
+        self.levels.threshold = threshold;
+        self.above = self.levels.above();
     }
 
     #[tactic(auto, using(crate::proofs::Best::leading))]
@@ -171,10 +177,10 @@ impl Plic {
         ensures { result ≡ word_at self.now reg }
     {
         match reg {
-            PlicReg::Priority(source) => self.priority(source) as u32,
+            PlicReg::Priority(source) => self.levels.priority(source) as u32,
             PlicReg::Pending => self.pending.word(),
             PlicReg::Enables => self.enabled.word(),
-            PlicReg::Threshold => self.threshold as u32,
+            PlicReg::Threshold => self.levels.threshold as u32,
             PlicReg::Claim => match self.best() {
                 Some(source) => source.number() as u32,
                 None => 0,
@@ -189,7 +195,7 @@ impl Plic {
             PlicReg::Priority(source) => self.set_priority(source, (word % 8) as u8),
             PlicReg::Pending => (),
             PlicReg::Enables => self.enabled = SourceSet::from_word(word),
-            PlicReg::Threshold => self.threshold = (word % 8) as u8,
+            PlicReg::Threshold => self.set_threshold((word % 8) as u8),
             PlicReg::Claim => self.complete(word),
         }
     }
@@ -227,7 +233,44 @@ impl Plic {
         if waiting.is_empty() {
             return None;
         }
-        highest(waiting, &self.priorities)
+        highest(waiting, &self.levels.priorities)
+    }
+}
+
+/// The priority of each source by its number, and the threshold.
+#[derive(Clone, Copy, PartialEq, Eq, Debug)]
+struct Levels {
+    priorities: [u8; 32],
+    threshold: u8,
+}
+
+impl Levels {
+    fn priority(&self, source: Source) -> u8
+        ensures { result ≡ slice_index self.now.priorities source }
+    {
+        self.priorities[source.number() as usize]
+    }
+
+    fn is_above_threshold(&self, source: Source) -> bool
+        ensures { result ≡ nat_lt self.now.threshold (slice_index self.now.priorities source) }
+    {
+        self.priority(source) > self.threshold
+    }
+
+    /// The sources whose priorities are above the threshold.
+    #[tactic(auto, using(crate::proofs::Above::gathering))]
+    fn above(&self) -> SourceSet
+        ensures { result ≡ sources_above self.now.priorities self.now.threshold }
+    {
+        let mut above = SourceSet::new();
+        for number in 1..32u8 {
+            if let Some(source) = Source::new(number)
+                && self.is_above_threshold(source)
+            {
+                above.insert(source);
+            }
+        }
+        above
     }
 }
 
