@@ -17,7 +17,8 @@ pub struct Plic {
     gateways: Gateways,
     pending: SourceSet,
     enabled: SourceSet,
-    levels: Levels,
+    priorities: [u8; 32],
+    threshold: u8,
     /// The sources above the threshold, so that the external line is told by words.
     above: SourceSet,
     /// The sources whose gateways have a request to forward, so that a tick asks only whether there are any.
@@ -32,17 +33,17 @@ impl Model for Plic {
 
     ghost coded = { plic_code };
 
-    ghost view = { λ p. record { gateways = p.gateways; pending = p.pending; enabled = p.enabled; priorities = p.levels.priorities; threshold = p.levels.threshold } };
+    ghost view = { λ p. record { gateways = p.gateways; pending = p.pending; enabled = p.enabled; priorities = p.priorities; threshold = p.threshold } };
 
     ghost use Rattle.std.specs.Prelude.{◌≡◌};
     ghost use Rattle.rv_plic.specs.Gateways.{requests};
     ghost use Rattle.rv_plic.specs.Kept.{sources_above};
 
-    ghost invariant = { λ p. (requests p.gateways p.pending ≡ p.ready) × (sources_above p.levels.priorities p.levels.threshold ≡ p.above) };
+    ghost invariant = { λ p. (requests p.gateways p.pending ≡ p.ready) × (sources_above p.priorities p.threshold ≡ p.above) };
 
-    ghost inverse = { λ p. record { gateways = p.gateways; pending = p.pending; enabled = p.enabled; levels = record { priorities = p.priorities; threshold = p.threshold }; above = sources_above p.priorities p.threshold; ready = requests p.gateways p.pending } };
+    ghost inverse = { λ p. record { gateways = p.gateways; pending = p.pending; enabled = p.enabled; priorities = p.priorities; threshold = p.threshold; above = sources_above p.priorities p.threshold; ready = requests p.gateways p.pending } };
 
-    ghost inverse_ok = { λ p h i. record { gateways = p.gateways; pending = p.pending; enabled = p.enabled; levels = p.levels; above = h.1 i; ready = h.0 i } };
+    ghost inverse_ok = { λ p h i. record { gateways = p.gateways; pending = p.pending; enabled = p.enabled; priorities = p.priorities; threshold = p.threshold; above = h.1 i; ready = h.0 i } };
 }
 
 impl Plic {
@@ -55,10 +56,8 @@ impl Plic {
             gateways: Gateways::new(),
             pending: SourceSet::new(),
             enabled: SourceSet::new(),
-            levels: Levels {
-                priorities: [0; 32],
-                threshold: 0,
-            },
+            priorities: [0; 32],
+            threshold: 0,
             above: SourceSet::new(),
             ready: SourceSet::new(),
         }
@@ -157,8 +156,12 @@ impl Plic {
     fn set_priority(&mut self, source: Source, priority: u8)
         ensures { self.new ≡ record self.old { priorities = slice_set self.old.priorities source priority } }
     {
-        self.levels.priorities[source.number() as usize] = priority;
-        if self.levels.is_above_threshold(source) {
+        self.priorities[source.number() as usize] = priority;
+        let levels = Levels {
+            priorities: self.priorities,
+            threshold: self.threshold,
+        };
+        if levels.is_above_threshold(source) {
             self.above.insert(source);
         } else {
             self.above.remove(source);
@@ -168,8 +171,12 @@ impl Plic {
     fn set_threshold(&mut self, threshold: u8)
         ensures { self.new ≡ record self.old { threshold = threshold } }
     {
-        self.levels.threshold = threshold;
-        self.above = self.levels.above();
+        self.threshold = threshold;
+        let levels = Levels {
+            priorities: self.priorities,
+            threshold,
+        };
+        self.above = levels.above();
     }
 
     #[tactic(auto, using(crate::proofs::Best::leading))]
@@ -177,10 +184,10 @@ impl Plic {
         ensures { result ≡ word_at self.now reg }
     {
         match reg {
-            PlicReg::Priority(source) => self.levels.priority(source) as u32,
+            PlicReg::Priority(source) => self.priorities[source.number() as usize] as u32,
             PlicReg::Pending => self.pending.word(),
             PlicReg::Enables => self.enabled.word(),
-            PlicReg::Threshold => self.levels.threshold as u32,
+            PlicReg::Threshold => self.threshold as u32,
             PlicReg::Claim => match self.best() {
                 Some(source) => source.number() as u32,
                 None => 0,
@@ -233,11 +240,11 @@ impl Plic {
         if waiting.is_empty() {
             return None;
         }
-        highest(waiting, &self.levels.priorities)
+        highest(waiting, &self.priorities)
     }
 }
 
-/// The priority of each source by its number, and the threshold.
+/// The priority of each source by its number, and the threshold: what tells which sources are above it.
 #[derive(Clone, Copy, PartialEq, Eq, Debug)]
 struct Levels {
     priorities: [u8; 32],
