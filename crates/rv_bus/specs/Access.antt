@@ -12,7 +12,7 @@ use Rattle.rv_mmio.specs.Serial as serial
 use Rattle.rv_mmio.specs.Halt.{halted_by}
 use Rattle.rv_mmio.specs.declared.serial.SerialReg.{SerialReg}
 use Rattle.rv_mmio.specs.declared.serial.SerialReg.TheVariants.{Tx, Rx, Status}
-use Rattle.rv_bus.specs.State.{BusState}
+use Rattle.rv_bus.specs.State.{BusState, MarkState, TickState}
 use Rattle.rv_bus.specs.Places.{place_of}
 use Rattle.rv_bus.specs.declared.places.Place.{Place}
 use Rattle.rv_bus.specs.declared.places.Place.TheVariants.{Ram, Halt, Timer, Plic, Serial, Nowhere}
@@ -95,6 +95,14 @@ ram_byte ram a =
 -- time passes, and the gateways forward their requests
 abbrev pub ticked : BusState → BusState
 ticked b = record b { timer = timer.ticked b.timer; plic = plic.forwarded b.plic }
+
+-- what the next tick changes, and timer and interrupt controller before a tick that changed this
+abbrev pub next_tick : BusState → TickState
+next_tick b = record { time = b.timer.time; requests = plic.ready b.plic }
+
+abbrev pub mark_before : BusState → TickState → MarkState
+mark_before b tick =
+    record { timer = record b.timer { time = tick.time }; plic = plic.withdrawn b.plic tick.requests }
 
 -- the levels of the interrupt lines
 abbrev pub lines_of : BusState → Lines

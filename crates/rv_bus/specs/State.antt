@@ -1,6 +1,7 @@
 -- To audit: public contracts cite this.
 -- What stands on the bus: the memory as its bytes, and a record for each device.
 use Rattle.std.specs.Prelude.{ℕ, List, Option, None}
+use Rattle.rv_plic.specs.Sources.{Sources}
 use Rattle.rv_plic.specs.Plic.{PlicState}
 use Rattle.rv_plic.specs.Plic as plic
 use Rattle.rv_mmio.specs.Timer.{TimerState}
@@ -19,6 +20,11 @@ pub record BusState : Type 0 where
 pub record MarkState : Type 0 where
   pub timer : TimerState
   pub plic : PlicState
+
+-- what a tick changes, by the least that tells it: the time, and the sources whose requests it forwards
+pub record TickState : Type 0 where
+  pub time : ℕ
+  pub requests : Sources
 
 -- the bus at reset, over these bytes
 abbrev pub reset : List ℕ → BusState

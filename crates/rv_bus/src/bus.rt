@@ -3,15 +3,15 @@ ghost use Rattle.std.specs.Prelude.{◌≡◌, ◌≢◌, ◌+◌, ◌*◌, ◌/
 ghost use Rattle.rv_isa.specs.Width.{bytes_of};
 ghost use Rattle.rv_ram.specs.Bytes.{value_at, HasPages};
 ghost use Rattle.rv_mmio.specs.Serial as serial;
-ghost use Rattle.rv_bus.specs.State.{reset};
-ghost use Rattle.rv_bus.specs.Access.{place, load, after_load, fetch, low_bits, ram_byte, ticked, lines_of, with_line, received};
+ghost use Rattle.rv_bus.specs.State.{BusState, reset};
+ghost use Rattle.rv_bus.specs.Access.{place, load, after_load, fetch, low_bits, ram_byte, ticked, next_tick, mark_before, lines_of, with_line, received};
 ghost use Rattle.rv_bus.specs.Within.{IsWithin};
 ghost use Rattle.rv_bus.specs.Stores.{Stores, Answers};
 
 use crate::places::{Place, find_place};
 use rv_isa::{Lines, NoMemory, Width};
 use rv_mmio::{Halt, Serial, SerialReg, Timer};
-use rv_plic::{Plic, Source};
+use rv_plic::{Plic, Source, SourceSet};
 use rv_ram::ByteMemory;
 use std::marker::Model;
 
@@ -47,6 +47,27 @@ impl Model for Mark {
     ghost view = { λ m. record { timer = m.timer; plic = m.plic } };
 
     ghost inverse = { λ m. record { timer = m.timer; plic = m.plic } };
+}
+
+/// What a tick changes, as it is before it: the time, and the sources whose requests it forwards.
+#[derive(Clone, Copy, Debug, PartialEq, Eq)]
+pub struct Tick {
+    time: u64,
+    requests: SourceSet,
+}
+
+impl Model for Tick {
+    ghost use Rattle.std.specs.Coded.{codes};
+    ghost use Rattle.rv_plic.specs.Codes.{sources_code};
+    ghost use Rattle.rv_bus.specs.State.{TickState};
+
+    ghost Value = { TickState };
+
+    ghost coded = { Prim.hlevel (codes, sources_code) };
+
+    ghost view = { λ t. record { time = t.time; requests = t.requests } };
+
+    ghost inverse = { λ t. record { time = t.time; requests = t.requests } };
 }
 
 /// The memory and the devices, each at its addresses.
@@ -255,6 +276,29 @@ impl<M: ByteMemory> Bus<M> {
     {
         self.timer = mark.timer;
         self.plic = mark.plic;
+    }
+
+    /// What the next tick changes, as it is now. It is less than a mark, and as good as one.
+    pub fn next_tick(&self) -> Tick
+        ensures { result ≡ next_tick self.now }
+    {
+        Tick {
+            time: self.timer.time(),
+            requests: self.plic.ready(),
+        }
+    }
+
+    /// The mark before a tick, which changed this.
+    pub fn mark_before(&self, tick: Tick) -> Mark
+        ensures value { result ≡ mark_before self.now tick }
+        ensures before { (old : BusState) → self.now ≡ ticked old → tick ≡ next_tick old → result ≡ record { timer = old.timer; plic = old.plic } }
+    {
+        let mut plic = self.plic;
+        plic.withdraw(tick.requests);
+        Mark {
+            timer: self.timer.at_time(tick.time),
+            plic,
+        }
     }
 
     /// The code with which the board was halted, if it was.

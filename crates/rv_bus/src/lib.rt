@@ -4,5 +4,5 @@
 mod bus;
 mod places;
 
-pub use bus::{Bus, BusFault, Mark, StoreRefusal};
+pub use bus::{Bus, BusFault, Mark, StoreRefusal, Tick};
 pub use places::Place;

@@ -4,6 +4,7 @@ ghost use Rattle.rv_csr.specs.Registers.{value_of, with_value, Writes};
 ghost use Rattle.rv_csr.specs.Registers as registers;
 ghost use Rattle.rv_csr.specs.State.{reset};
 ghost use Rattle.rv_csr.specs.Traps as traps;
+ghost use Rattle.rv_isa.specs.declared.Lines.{Lines};
 ghost use Rattle.rv_pmp.specs.declared.access.Mode.{Mode};
 ghost use Rattle.rv_pmp.specs.declared.access.Mode.TheVariants.{User};
 
@@ -157,6 +158,19 @@ impl Csrs {
             ),
             Register::Misa | Register::Mip | Register::Zero => (),
         }
+    }
+
+    /// Whether an interrupt can be taken in a mode, if its line is high: then some interrupt is enabled, and machine mode
+    /// lets it in. Where none can, the lines need not be asked.
+    #[tactic(auto, using(crate::proofs::Asked::none_pending))]
+    pub fn takes_interrupts(&self, mode: Mode) -> bool
+        ensures value { result ≡ traps.takes_interrupts self.now mode }
+        ensures none { result ≡ false → (lines : Lines) → traps.pending self.now mode lines ≡ None }
+    {
+        if !self.status.interrupts && mode.is_machine() {
+            return false;
+        }
+        self.enables.software || self.enables.timer || self.enables.external
     }
 
     /// The cause of the interrupt to be taken in a mode while the interrupt lines have these levels, if there is one.

@@ -1,5 +1,6 @@
 pub mod State
 pub mod Coherent
+pub mod Known
 pub mod Effect
 pub mod Fetched
 pub mod Keeps

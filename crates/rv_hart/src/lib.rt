@@ -3,6 +3,7 @@
 #![tactic(auto)]
 
 mod hart;
+mod known;
 mod trap;
 mod values;
 

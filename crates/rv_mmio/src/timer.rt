@@ -76,6 +76,24 @@ impl Timer {
         self.time = self.time.wrapping_add(1);
     }
 
+    /// The time.
+    pub fn time(&self) -> u64
+        ensures { result ≡ self.now.time }
+    {
+        self.time
+    }
+
+    /// This timer at another time.
+    pub fn at_time(&self, time: u64) -> Timer
+        ensures { result ≡ record self.now { time = time } }
+    {
+        Timer {
+            software: self.software,
+            time,
+            compare: self.compare,
+        }
+    }
+
     /// What a load at an offset gives, or None where no register is.
     #[tactic(auto, unfolding(crate::specs::Timer::load))]
     pub fn load(&self, off: u32) -> Option<u32>

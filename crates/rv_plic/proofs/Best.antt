@@ -6,17 +6,17 @@ use Rattle.std.specs.Option.{option_map_or}
 use Rattle.std.specs.FinSet.{contains, intersection, empty, contains-empty, contains-intersection}
 use Rattle.std.specs.Ordering.{nat_cmp}
 use Rattle.std.specs.Cmp.{nat_cmp_total}
-use Rattle.std.proofs.lemmas.Bool.{cases_eq, cases_lt, and_parts, and_from, or_from, or_left, or_right, and_left, and_right, not_from_false, not-true, le-ltb, lt-ltb, ltb-true, eq-eqb, ne_eqb, both_ways, false_from_ne_true}
+use Rattle.std.proofs.lemmas.Bool.{cases_eq, and_parts, and_from, or_from, or_left, or_right, and_left, and_right, not_from_false, not-true, le-ltb, lt-ltb, eq-eqb, ne_eqb, both_ways}
 use Rattle.rv_plic.specs.Sources.{sources}
 use Rattle.rv_plic.specs.Words.{any-range}
-use Rattle.rv_plic.specs.Plic.{PlicState, is_waiting, is_candidate, priority_of, best, is_notified}
+use Rattle.rv_plic.specs.Plic.{PlicState, is_waiting, is_candidate, priority_of, best}
 use Rattle.rv_plic.specs.Leads.{IsFirst, LeadsBelow, Leads}
 
-and_unless : (x y : Bool) → (x ≡ true → y ≡ false) → (x && y) ≡ false
+pub and_unless : (x y : Bool) → (x ≡ true → y ≡ false) → (x && y) ≡ false
 and_unless true y h = h refl
 and_unless false y h = refl
 
-none-range : (test : ℕ → Bool) (a n : ℕ) → ((t : ℕ) → a ≤ t → t < a + n → test t ≡ false) → list_any test (range_with_len a n) ≡ false
+pub none-range : (test : ℕ → Bool) (a n : ℕ) → ((t : ℕ) → a ≤ t → t < a + n → test t ≡ false) → list_any test (range_with_len a n) ≡ false
 none-range test a zero none = refl
 none-range test a (suc n) none =
     or_from (test a) _ (none a (omega arith) (omega arith)) (none-range test (a + 1) n (λ t low high. none t (omega arith) (omega arith)))
@@ -144,35 +144,4 @@ pub leads_none : (plic : PlicState) → intersection plic.pending plic.enabled �
 leads_none plic none =
     λ t low high. and_left (is_waiting plic t) _ (sym (contains-intersection nat_cmp_total plic.pending plic.enabled t) ∙ ap (λ s. contains s t) none ∙ contains-empty nat_cmp t)
 
--- ---- the external line
-module _ (is_in : ℕ → Bool) (priority : ℕ → ℕ) (threshold n : ℕ) where
-  abbrev above_threshold : ℕ → Bool
-  above_threshold source = is_in source && nat_lt threshold (priority source)
-
-  above_leads : (found : Option ℕ) → LeadsBelow (1 + n) (in_with_priority is_in priority) priority found → option_map_or priority found 0 ≤ threshold → list_any above_threshold (range_with_len 1 n) ≡ false
-  above_leads None none low =
-      none-range above_threshold 1 n (λ t above below. and_unless (is_in t) _ (λ is. false_from_ne_true _ (λ over.
-      let high : threshold < priority t = ltb-true threshold (priority t) over in
-      both_ways _ (none t above below) (has_priority is_in priority t is (omega arith)))))
-  above_leads (Some source) leads low =
-      none-range above_threshold 1 n (λ t above below. and_unless (is_in t) _ (λ is. false_from_ne_true _ (λ over.
-      let high : threshold < priority t = ltb-true threshold (priority t) over in
-      let first : IsFirst priority source t = leads.3 t above below (has_priority is_in priority t is (omega arith)) in
-      omega (arith, first.higher))))
-
-  leads_above : (source : ℕ) → LeadsBelow (1 + n) (in_with_priority is_in priority) priority (Some source) → list_any above_threshold (range_with_len 1 n) ≡ nat_lt threshold (priority source)
-  leads_above source leads =
-      elim (cases_lt threshold (priority source)) [
-        | inl over ↦ any-range above_threshold 1 n source leads.0 leads.1 (and_from _ _ (and_parts _ _ leads.2).0 (lt-ltb threshold (priority source) over)) ∙ sym (lt-ltb threshold (priority source) over)
-        | inr under ↦ above_leads (Some source) leads under ∙ sym (le-ltb threshold (priority source) under)
-      ]
-
-pub notified_by : (plic : PlicState) (source : ℕ) → Leads plic (Some source) → is_notified plic ≡ nat_lt plic.threshold (priority_of plic source)
-unfolding is_notified sources
-notified_by plic source leads = leads_above (is_waiting plic) (priority_of plic) plic.threshold 31 source leads
-
-pub not_notified : (plic : PlicState) → Leads plic None → is_notified plic ≡ false
-unfolding is_notified sources
-not_notified plic none = above_leads (is_waiting plic) (priority_of plic) plic.threshold 31 None none (omega arith)
-
-pub ruleset leading = (best_leads, leads_among, leads_none, notified_by, not_notified)
+pub ruleset leading = (best_leads, leads_among, leads_none)

@@ -1,2 +1,4 @@
+pub mod Above
 pub mod Best
+pub mod Forwarded
 pub mod Words

@@ -25,5 +25,9 @@ abbrev pub after_requests : GatewayState → Sources → GatewayState
 after_requests gateways pending =
     record gateways { outstanding = union gateways.outstanding (requests gateways pending) }
 
+-- before the requests of these sources were forwarded
+abbrev pub withdrawn : GatewayState → Sources → GatewayState
+withdrawn gateways sources = record gateways { outstanding = difference gateways.outstanding sources }
+
 abbrev pub after_completion : GatewayState → ℕ → GatewayState
 after_completion gateways source = record gateways { outstanding = remove gateways.outstanding source }

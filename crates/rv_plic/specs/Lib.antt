@@ -4,3 +4,4 @@ pub mod Leads
 pub mod Plic
 pub mod Sources
 pub mod Words
+pub mod Kept

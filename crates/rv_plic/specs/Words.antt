@@ -36,7 +36,7 @@ and_self : (x y : Bool) → (x ≡ true → y ≡ true) → (x && y) ≡ x
 and_self true y h = h refl
 and_self false y h = refl
 
-contains-filtered : (p : ℕ → Bool) (a n q : ℕ) → (p q ≡ true → (a ≤ q) × (q < a + n)) → contains (from_list {R = nat_cmp} (filter p (range_with_len a n))) q ≡ p q
+pub contains-filtered : (p : ℕ → Bool) (a n q : ℕ) → (p q ≡ true → (a ≤ q) × (q < a + n)) → contains (from_list {R = nat_cmp} (filter p (range_with_len a n))) q ≡ p q
 contains-filtered p a n q within =
     contains-from_list_nat (filter p (range_with_len a n)) q
     ∙ any-filter_same (λ y. nat_eq y q) p (p q) (λ k e. ap p (eqb-true k q e)) (range_with_len a n)

@@ -1,6 +1,6 @@
 //! Interrupt gateways, which turn the levels of lines into requests.
 ghost use Rattle.std.specs.Prelude.{◌≡◌};
-ghost use Rattle.rv_plic.specs.Gateways.{all_low, with_line, requests, after_requests, after_completion};
+ghost use Rattle.rv_plic.specs.Gateways.{all_low, with_line, requests, after_requests, withdrawn, after_completion};
 
 use crate::Source;
 use crate::set::SourceSet;
@@ -47,14 +47,28 @@ impl Gateways {
         }
     }
 
+    /// The sources whose gateways have a request to forward, where those of `pending` wait already.
+    pub fn requests(&self, pending: SourceSet) -> SourceSet
+        ensures { result ≡ requests self.now pending }
+    {
+        self.high.difference(self.outstanding).difference(pending)
+    }
+
     /// The sources whose gateways forward a request now, where those of `pending` wait already.
     pub fn forward(&mut self, pending: SourceSet) -> SourceSet
         ensures value { result ≡ requests self.old pending }
         ensures after { self.new ≡ after_requests self.old pending }
     {
-        let requests = self.high.difference(self.outstanding).difference(pending);
+        let requests = self.requests(pending);
         self.outstanding = self.outstanding.union(requests);
         requests
+    }
+
+    /// The gateways before these sources' requests were forwarded.
+    pub fn withdraw(&mut self, requests: SourceSet)
+        ensures { self.new ≡ withdrawn self.old requests }
+    {
+        self.outstanding = self.outstanding.difference(requests);
     }
 
     pub fn complete(&mut self, source: Source)

@@ -9,4 +9,5 @@ mod source;
 
 pub use plic::Plic;
 pub use register::PlicReg;
+pub use set::SourceSet;
 pub use source::Source;

@@ -1,8 +1,9 @@
 //! The interrupt controller.
 ghost use Rattle.std.specs.Prelude.{◌≡◌, ◌%◌, ◌<◌, ◌&&◌, nat_lt, slice_index, slice_set, unwrap_or};
 ghost use Rattle.std.specs.FinSet as set;
+ghost use Rattle.rv_plic.specs.Kept.{sources_above};
 ghost use Rattle.rv_plic.specs.Leads.{Leads, LeadsBelow};
-ghost use Rattle.rv_plic.specs.Plic.{reset, with_line, forwarded, priority_of, best, is_notified, claimed, completed, word_at, with_word, load_value, after_load, stored};
+ghost use Rattle.rv_plic.specs.Plic.{PlicState, reset, with_line, ready, forwarded, withdrawn, best, is_notified, claimed, completed, word_at, with_word, load_value, after_load, stored};
 
 use crate::Source;
 use crate::gateway::Gateways;
@@ -18,6 +19,10 @@ pub struct Plic {
     enabled: SourceSet,
     priorities: [u8; 32],
     threshold: u8,
+    /// The sources above the threshold, so that the external line is told by words.
+    above: SourceSet,
+    /// The sources whose gateways have a request to forward, so that a tick asks only whether there are any.
+    ready: SourceSet,
 }
 
 impl Model for Plic {
@@ -30,11 +35,20 @@ impl Model for Plic {
 
     ghost view = { λ p. record { gateways = p.gateways; pending = p.pending; enabled = p.enabled; priorities = p.priorities; threshold = p.threshold } };
 
-    ghost inverse = { λ p. record { gateways = p.gateways; pending = p.pending; enabled = p.enabled; priorities = p.priorities; threshold = p.threshold } };
+    ghost use Rattle.std.specs.Prelude.{◌≡◌};
+    ghost use Rattle.rv_plic.specs.Gateways.{requests};
+    ghost use Rattle.rv_plic.specs.Kept.{sources_above};
+
+    ghost invariant = { λ p. (requests p.gateways p.pending ≡ p.ready) × (sources_above p.priorities p.threshold ≡ p.above) };
+
+    ghost inverse = { λ p. record { gateways = p.gateways; pending = p.pending; enabled = p.enabled; priorities = p.priorities; threshold = p.threshold; above = sources_above p.priorities p.threshold; ready = requests p.gateways p.pending } };
+
+    ghost inverse_ok = { λ p h i. record { gateways = p.gateways; pending = p.pending; enabled = p.enabled; priorities = p.priorities; threshold = p.threshold; above = h.1 i; ready = h.0 i } };
 }
 
 impl Plic {
     /// The controller after a reset: all lines low, nothing pending or enabled, and priorities and threshold 0.
+    #[tactic(auto, using(crate::proofs::Forwarded::none_at_reset, crate::proofs::Above::none_above))]
     pub fn new() -> Plic
         ensures { result ≡ reset }
     {
@@ -44,6 +58,8 @@ impl Plic {
             enabled: SourceSet::new(),
             priorities: [0; 32],
             threshold: 0,
+            above: SourceSet::new(),
+            ready: SourceSet::new(),
         }
     }
 
@@ -52,14 +68,38 @@ impl Plic {
         ensures { self.new ≡ with_line self.old source high }
     {
         self.gateways.set_line(source, high);
+        self.ready = self.gateways.requests(self.pending);
+    }
+
+    /// The sources whose gateways have a request to forward.
+    pub fn ready(&self) -> SourceSet
+        ensures { result ≡ ready self.now }
+    {
+        self.ready
     }
 
     /// Each gateway forwards its request, if it has one.
+    #[tactic(auto, using(crate::proofs::Forwarded::none_forwarded))]
     pub fn forward(&mut self)
         ensures { self.new ≡ forwarded self.old }
     {
+        if self.ready.is_empty() {
+            return;
+        }
         let requests = self.gateways.forward(self.pending);
         self.pending = self.pending.union(requests);
+        self.ready = self.gateways.requests(self.pending);
+    }
+
+    /// The controller before the requests of these sources were forwarded.
+    #[tactic(auto, using(crate::proofs::Forwarded::withdrawn_forwarded))]
+    pub fn withdraw(&mut self, requests: SourceSet)
+        ensures after { self.new ≡ withdrawn self.old requests }
+        ensures undoes { (before : PlicState) → self.old ≡ forwarded before → requests ≡ ready before → self.new ≡ before }
+    {
+        self.gateways.withdraw(requests);
+        self.pending = self.pending.difference(requests);
+        self.ready = self.gateways.requests(self.pending);
     }
 
     /// What a load at an offset gives. A load of the claim register claims. Where no register is, it gives 0.
@@ -103,32 +143,40 @@ impl Plic {
     }
 
     /// The level of the external interrupt line.
-    #[tactic(auto, using(crate::proofs::Best::leading))]
+    #[tactic(auto, using(crate::proofs::Above::none_notified, crate::proofs::Above::some_notified))]
     pub fn external(&self) -> bool
         ensures { result ≡ is_notified self.now }
     {
-        match self.best() {
-            Some(source) => self.is_above_threshold(source),
-            None => false,
-        }
+        let waiting = self.pending.intersection(self.enabled);
+        let notified = waiting.intersection(self.above);
+        !notified.is_empty()
     }
 
-    fn is_above_threshold(&self, source: Source) -> bool
-        ensures { result ≡ nat_lt self.now.threshold (priority_of self.now source) }
-    {
-        self.priority(source) > self.threshold
-    }
-
-    fn priority(&self, source: Source) -> u8
-        ensures { result ≡ priority_of self.now source }
-    {
-        self.priorities[source.number() as usize]
-    }
-
+    #[tactic(auto, using(crate::proofs::Above::above_raised, crate::proofs::Above::above_lowered))]
     fn set_priority(&mut self, source: Source, priority: u8)
         ensures { self.new ≡ record self.old { priorities = slice_set self.old.priorities source priority } }
     {
         self.priorities[source.number() as usize] = priority;
+        let levels = Levels {
+            priorities: self.priorities,
+            threshold: self.threshold,
+        };
+        if levels.is_above_threshold(source) {
+            self.above.insert(source);
+        } else {
+            self.above.remove(source);
+        }
+    }
+
+    fn set_threshold(&mut self, threshold: u8)
+        ensures { self.new ≡ record self.old { threshold = threshold } }
+    {
+        self.threshold = threshold;
+        let levels = Levels {
+            priorities: self.priorities,
+            threshold,
+        };
+        self.above = levels.above();
     }
 
     #[tactic(auto, using(crate::proofs::Best::leading))]
@@ -136,7 +184,7 @@ impl Plic {
         ensures { result ≡ word_at self.now reg }
     {
         match reg {
-            PlicReg::Priority(source) => self.priority(source) as u32,
+            PlicReg::Priority(source) => self.priorities[source.number() as usize] as u32,
             PlicReg::Pending => self.pending.word(),
             PlicReg::Enables => self.enabled.word(),
             PlicReg::Threshold => self.threshold as u32,
@@ -154,7 +202,7 @@ impl Plic {
             PlicReg::Priority(source) => self.set_priority(source, (word % 8) as u8),
             PlicReg::Pending => (),
             PlicReg::Enables => self.enabled = SourceSet::from_word(word),
-            PlicReg::Threshold => self.threshold = (word % 8) as u8,
+            PlicReg::Threshold => self.set_threshold((word % 8) as u8),
             PlicReg::Claim => self.complete(word),
         }
     }
@@ -167,6 +215,7 @@ impl Plic {
         match self.best() {
             Some(source) => {
                 self.pending.remove(source);
+                self.ready = self.gateways.requests(self.pending);
                 source.number() as u32
             }
             None => 0,
@@ -178,6 +227,7 @@ impl Plic {
     {
         if let Some(source) = self.enabled.get(word) {
             self.gateways.complete(source);
+            self.ready = self.gateways.requests(self.pending);
         }
     }
 
@@ -191,6 +241,43 @@ impl Plic {
             return None;
         }
         highest(waiting, &self.priorities)
+    }
+}
+
+/// The priority of each source by its number, and the threshold: what tells which sources are above it.
+#[derive(Clone, Copy, PartialEq, Eq, Debug)]
+struct Levels {
+    priorities: [u8; 32],
+    threshold: u8,
+}
+
+impl Levels {
+    fn priority(&self, source: Source) -> u8
+        ensures { result ≡ slice_index self.now.priorities source }
+    {
+        self.priorities[source.number() as usize]
+    }
+
+    fn is_above_threshold(&self, source: Source) -> bool
+        ensures { result ≡ nat_lt self.now.threshold (slice_index self.now.priorities source) }
+    {
+        self.priority(source) > self.threshold
+    }
+
+    /// The sources whose priorities are above the threshold.
+    #[tactic(auto, using(crate::proofs::Above::gathering))]
+    fn above(&self) -> SourceSet
+        ensures { result ≡ sources_above self.now.priorities self.now.threshold }
+    {
+        let mut above = SourceSet::new();
+        for number in 1..32u8 {
+            if let Some(source) = Source::new(number)
+                && self.is_above_threshold(source)
+            {
+                above.insert(source);
+            }
+        }
+        above
     }
 }
 

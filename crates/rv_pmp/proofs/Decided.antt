@@ -5,6 +5,9 @@ use Rattle.std.specs.List.{list_any, list_all}
 use Rattle.std.proofs.lemmas.Bool.{ltb-true}
 use Rattle.std.proofs.lemmas.Bool.Decides.{nat_tests}
 use Rattle.std.proofs.lemmas.Nat.{pow_pos, pow-add}
+use Rattle.rv_isa.specs.Width.{bytes_of}
+use Rattle.rv_isa.specs.declared.op.Width.{Width}
+use Rattle.rv_isa.specs.declared.op.Width.TheVariants.{One, Two, Four}
 use Rattle.rv_pmp.specs.declared.access.Access.{Access}
 use Rattle.rv_pmp.specs.declared.access.Mode.{Mode}
 use Rattle.rv_pmp.specs.declared.access.Mode.TheVariants.{Machine}
@@ -14,7 +17,7 @@ use Rattle.rv_pmp.specs.declared.entry.Matching.TheVariants.{Off, Tor, Na4, Napo
 use Rattle.rv_pmp.specs.declared.span.Span.{Span}
 use Rattle.rv_pmp.specs.Entry.{is_machine, is_between, entry_grants, matched, region, trailing_ones}
 use Rattle.rv_pmp.specs.Kept.{is_matching, meets, holds, answered, decided, some_on, some_locked}
-use Rattle.rv_pmp.specs.Pmp.{PmpState, Guard, guards_from, bytes_from, answer, grants}
+use Rattle.rv_pmp.specs.Pmp.{PmpState, Guard, guards_from, bytes_from, answer, grants, locks}
 use Rattle.rv_pmp.specs.Span.{no_bytes, span, span_of, spans_from}
 
 -- ---- one step of the search
@@ -247,6 +250,13 @@ pub grants-word : (pmp : PmpState) (access : Access) (first count : ℕ) → 0 <
     → some_locked pmp.entries ≡ false → first % 4 + count ≤ 4 → grants pmp Machine access first count ≡ true
 grants-word pmp access first count h free within =
     sym (decided-grants pmp Machine access first count h) ∙ decided-word access first (first + count) 0 pmp.entries free (omega arith) (omega arith)
+
+-- so machine mode may do every aligned access where no entry is locked
+pub grants-aligned : (pmp : PmpState) (access : Access) (first : ℕ) (w : Width)
+    → locks pmp ≡ false → first % bytes_of w ≡ 0 → grants pmp Machine access first (bytes_of w) ≡ true
+grants-aligned pmp access first One free aligned = grants-word pmp access first 1 (omega arith) free (omega arith)
+grants-aligned pmp access first Two free aligned = grants-word pmp access first 2 (omega arith) free (omega arith)
+grants-aligned pmp access first Four free aligned = grants-word pmp access first 4 (omega arith) free (omega arith)
 
 -- ---- bytes that are granted together are granted one by one
 

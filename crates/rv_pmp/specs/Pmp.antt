@@ -59,6 +59,10 @@ grants pmp mode access first count =
     let bytes = bytes_from first count in
     answer mode access bytes (find (λ guard. list_any guard.region bytes) (guards_from 0 pmp.entries))
 
+-- an entry is locked
+abbrev pub locks : PmpState → Bool
+locks pmp = list_any (λ entry. entry.locked) pmp.entries
+
 -- ---- the registers: pmpcfg0 to pmpcfg3, of four entries each from the low byte on, and pmpaddr0 to pmpaddr15
 
 -- the register at an address of the control registers

@@ -2,7 +2,7 @@
 ghost use Rattle.std.specs.Prelude.{◌≡◌, ℕ, ◌+◌, ◌^◌, ◌<◌, true};
 ghost use Rattle.rv_isa.specs.Width.{bytes_of};
 ghost use Rattle.rv_pmp.specs.Kept.{some_on, some_locked, answered, decided};
-ghost use Rattle.rv_pmp.specs.Pmp.{PmpState, reset, grants, load, config_at, with_config, with_address, with_word, AllReadable, WritableIsReadable, Stores};
+ghost use Rattle.rv_pmp.specs.Pmp.{PmpState, reset, grants, locks, load, config_at, with_config, with_address, with_word, AllReadable, WritableIsReadable, Stores};
 ghost use Rattle.rv_pmp.specs.Pmp as spec;
 ghost use Rattle.rv_pmp.specs.Span.{spans_from};
 ghost use Rattle.rv_pmp.specs.declared.access.Access.{Access};
@@ -117,7 +117,15 @@ impl Pmp {
         }
     }
 
+    /// Whether an entry is locked. Where none is, machine mode is granted every access at a multiple of its width.
+    pub fn locks(&self) -> bool
+        ensures { result ≡ locks self.now }
+    {
+        self.any_locked
+    }
+
     /// Whether a mode may access the bytes of this width from an address on, which may be any.
+    #[inline(always)]
     #[tactic(auto, using(crate::proofs::Decided::quick_answers))]
     pub fn allowed(&self, mode: Mode, access: Access, addr: u32, width: Width) -> bool
         ensures { result ≡ grants self.now mode access addr (bytes_of width) }
@@ -125,6 +133,15 @@ impl Pmp {
         if !self.any_on {
             return mode.is_machine();
         }
+        self.granted(mode, access, addr, width)
+    }
+
+    /// What the entries grant. It is apart, so that `allowed` stays short where none is on.
+    #[inline(never)]
+    #[tactic(auto, using(crate::proofs::Decided::quick_answers))]
+    fn granted(&self, mode: Mode, access: Access, addr: u32, width: Width) -> bool
+        ensures { result ≡ grants self.now mode access addr (bytes_of width) }
+    {
         let bytes = width.bytes();
         if mode.is_machine() && !self.any_locked && addr % 4 + bytes <= 4 {
             return true;

@@ -2,10 +2,11 @@
 ghost use Rattle.std.specs.Prelude.{◌≡◌, OnErr};
 ghost use Rattle.rv_isa.specs.Word as spec;
 ghost use Rattle.rv_isa.specs.declared.kind.Kind.{Kind};
-ghost use Rattle.rv_hart.specs.Effect.{csr_effect, return_effect, wait_effect};
+ghost use Rattle.rv_hart.specs.Effect.{reg, csr_effect, return_effect, wait_effect};
 ghost use Rattle.rv_hart.specs.Tries.{Does};
 
 use super::Hart;
+use crate::known::Known;
 use crate::trap::Trap;
 use crate::values::{combine, illegal, is_write};
 use rv_cache::Decoded;
@@ -15,19 +16,70 @@ use rv_ram::ByteMemory;
 
 /// What an instruction on a control register asks for.
 #[derive(Clone, Copy)]
-pub(super) struct Exchange {
-    pub(super) op: CsrOp,
+struct Exchange {
+    op: CsrOp,
     /// The source field: a register's number, or the operand.
-    pub(super) field: u8,
-    pub(super) operand: u32,
-    pub(super) rd: Reg,
-    pub(super) csr: u16,
+    field: u8,
+    operand: u32,
+    rd: Reg,
+    csr: u16,
 }
 
 impl<M: ByteMemory, C: Decoded> Hart<M, C> {
-    /// An instruction on a control register.
+    /// An instruction on a control register that takes its operand from a register.
+    #[inline(always)]
+    pub(super) fn exchange_register(
+        &mut self,
+        instr: Instr,
+        op: CsrOp,
+        rd: Reg,
+        rs1: Reg,
+        csr: u16,
+    ) -> Result<(), Trap>
+        ensures does { Does self.new.machine result (csr_effect instr self.old.machine op rs1 (reg self.old.machine rs1) rd csr) }
+        ensures err { OnErr result (self.new.machine ≡ self.old.machine) }
+        ensures cache { self.new.cache ≡ self.old.cache }
+    {
+        let exchange = Exchange {
+            op,
+            field: rs1.number(),
+            operand: self.reg(rs1),
+            rd,
+            csr,
+        };
+        self.exchange(instr, exchange)?;
+        Ok(())
+    }
+
+    /// An instruction on a control register whose operand is a number.
+    #[inline(always)]
+    pub(super) fn exchange_number(
+        &mut self,
+        instr: Instr,
+        op: CsrOp,
+        rd: Reg,
+        number: u8,
+        csr: u16,
+    ) -> Result<(), Trap>
+        ensures does { Does self.new.machine result (csr_effect instr self.old.machine op number number rd csr) }
+        ensures err { OnErr result (self.new.machine ≡ self.old.machine) }
+        ensures cache { self.new.cache ≡ self.old.cache }
+    {
+        let exchange = Exchange {
+            op,
+            field: number,
+            operand: number as u32,
+            rd,
+            csr,
+        };
+        self.exchange(instr, exchange)?;
+        Ok(())
+    }
+
+    /// An instruction on a control register. It is apart, so that other instructions pay nothing for it.
+    #[inline(never)]
     #[tactic(auto, unfolding(crate::specs::Effect::csr_effect))]
-    pub(super) fn exchange(&mut self, instr: Instr, exchange: Exchange) -> Result<(), Trap>
+    fn exchange(&mut self, instr: Instr, exchange: Exchange) -> Result<(), Trap>
         ensures does { Does self.new.machine result (csr_effect instr self.old.machine exchange.op exchange.field exchange.operand exchange.rd exchange.csr) }
         ensures err { OnErr result (self.new.machine ≡ self.old.machine) }
         ensures cache { self.new.cache ≡ self.old.cache }
@@ -38,7 +90,7 @@ impl<M: ByteMemory, C: Decoded> Hart<M, C> {
         if is_write(exchange.op, exchange.field) {
             let value = combine(exchange.op, old, exchange.operand);
             match self.csrs.write(exchange.csr, self.mode, value) {
-                Some(()) => (),
+                Some(()) => self.known = Known::of(&self.csrs, self.mode),
                 None => return Err(illegal(instr)),
             }
         }
@@ -65,6 +117,7 @@ impl<M: ByteMemory, C: Decoded> Hart<M, C> {
                 let (mode, pc) = self.csrs.leave_trap();
                 self.mode = mode;
                 self.pc = pc;
+                self.known = Known::of(&self.csrs, self.mode);
                 return Ok(());
             }
         }

@@ -1,0 +1,149 @@
+-- The sources above the threshold, as they are kept, and the external line by them.
+use Rattle.std.proofs.Common.{◌≡◌, ◌≢◌, ℕ, ◌+◌, ◌<◌, ◌≤◌, Bool, true, false, List, replicate, inl, inr, refl, sym, ◌∙◌, ap, arith}
+use Rattle.std.specs.Prelude.{◌==◌, ◌&&◌, ◌||◌, not, nat_lt, nat_le, slice_index, slice_set}
+use Rattle.std.specs.FinSet.{contains, insert, remove, intersection, empty, contains-empty, contains-insert, contains-remove, contains-intersection}
+use Rattle.std.specs.Ordering.{nat_cmp}
+use Rattle.std.specs.Cmp.{nat_cmp_total, unsigned_tied}
+use Rattle.std.proofs.lemmas.Bool.{cases_eq, and_parts, and_from, and_left, and_right, ltb-true, leb-true, le-ltb, lt-ltb, le-leb, eq-eqb, ne_eqb, or_left, both_ways, false_from_ne_true}
+use Rattle.std.proofs.lemmas.Bool.Decides.{nat_tests}
+use Rattle.std.proofs.lemmas.List.{get_or-replicate, get_or-set_other}
+use Rattle.rv_plic.specs.Sources.{sources, Sources}
+use Rattle.rv_plic.specs.Words.{any-range, contains-filtered}
+use Rattle.rv_plic.specs.Plic.{PlicState, is_waiting, is_notified}
+use Rattle.rv_plic.specs.Kept.{is_above, sources_above}
+use Rattle.rv_plic.proofs.Best.{and_unless, none-range}
+use Rattle.rv_plic.proofs.Words.{same_sources}
+
+in_range : (ps : List ℕ) (t q : ℕ) → is_above ps t q ≡ true → (1 ≤ q) × (q < 1 + 31)
+in_range ps t q is =
+    let low = (and_parts _ _ is).0 in
+    let high = (and_parts _ _ (and_parts _ _ is).1).0 in
+    (leb-true 1 q low, ltb-true q 32 high)
+
+pub contains-above : (ps : List ℕ) (t q : ℕ) → contains (sources_above ps t) q ≡ is_above ps t q
+unfolding sources_above sources
+contains-above ps t q = contains-filtered (is_above ps t) 1 31 q (in_range ps t q)
+
+-- at reset no source is above the threshold
+none_at : (q : ℕ) → is_above (replicate 32 0) 0 q ≡ false
+none_at q =
+    and_right (nat_le 1 q) _ (and_unless (nat_lt q 32) _ (λ high. ap (λ n. nat_lt 0 n) (get_or-replicate 32 q 0 0 (ltb-true q 32 high))))
+
+pub none_above : (s : Sources) → s ≡ empty → sources_above (replicate 32 0) 0 ≡ s
+none_above s none = same_sources _ _ (λ q. contains-above (replicate 32 0) 0 q ∙ none_at q ∙ sym (ap (λ u. contains u q) none ∙ contains-empty nat_cmp q))
+
+-- a priority is written
+other_above : (ps : List ℕ) (t s v q : ℕ) → (q ≡ s → ⊥) → is_above (slice_set ps s v) t q ≡ is_above ps t q
+other_above ps t s v q other = ap (λ n. nat_le 1 q && (nat_lt q 32 && nat_lt t n)) (get_or-set_other ps s q v 0 other)
+
+this_above : (ps : List ℕ) (t s v q : ℕ) (b : Bool) → 0 < s → s < 32 → q ≡ s → nat_lt t (slice_index (slice_set ps s v) s) ≡ b → is_above (slice_set ps s v) t q ≡ b
+this_above ps t s v q b low high e is =
+    ap (λ k. is_above (slice_set ps s v) t k) e
+    ∙ ap (λ c. c && (nat_lt s 32 && nat_lt t (slice_index (slice_set ps s v) s))) (le-leb 1 s low)
+    ∙ ap (λ c. c && nat_lt t (slice_index (slice_set ps s v) s)) (lt-ltb s 32 high)
+    ∙ is
+
+pub above_raised : (ps : List ℕ) (t s v : ℕ) (kept : Sources) → sources_above ps t ≡ kept → 0 < s → s < 32 → nat_lt t (slice_index (slice_set ps s v) s) ≡ true → sources_above (slice_set ps s v) t ≡ insert kept s
+above_raised ps t s v kept is low high over =
+    same_sources _ _ (λ q.
+    contains-above (slice_set ps s v) t q
+    ∙ elim (cases_eq q s) [
+      | inl e ↦ this_above ps t s v q true low high e over ∙ sym (or_left (q == s) _ (eq-eqb q s e))
+      | inr other ↦ other_above ps t s v q other ∙ sym (ap (λ b. b || is_above ps t q) (ne_eqb q s other))
+    ]
+    ∙ sym (contains-insert nat_cmp_total kept s q ∙ (λ i. unsigned_tied q s i || (ap (λ u. contains u q) (sym is) ∙ contains-above ps t q) i)))
+
+pub above_lowered : (ps : List ℕ) (t s v : ℕ) (kept : Sources) → sources_above ps t ≡ kept → 0 < s → s < 32 → nat_lt t (slice_index (slice_set ps s v) s) ≡ false → sources_above (slice_set ps s v) t ≡ remove kept s
+above_lowered ps t s v kept is low high under =
+    same_sources _ _ (λ q.
+    contains-above (slice_set ps s v) t q
+    ∙ elim (cases_eq q s) [
+      | inl e ↦ this_above ps t s v q false low high e under ∙ sym (ap (λ b. not b && is_above ps t q) (eq-eqb q s e))
+      | inr other ↦ other_above ps t s v q other ∙ sym (ap (λ b. not b && is_above ps t q) (ne_eqb q s other))
+    ]
+    ∙ sym (contains-remove nat_cmp_total kept s q ∙ (λ i. not (unsigned_tied q s i) && (ap (λ u. contains u q) (sym is) ∙ contains-above ps t q) i)))
+
+-- ---- the external line
+in_notified : (plic : PlicState) (kept : Sources) (q : ℕ) → sources_above plic.priorities plic.threshold ≡ kept → contains (intersection (intersection plic.pending plic.enabled) kept) q ≡ (is_waiting plic q && is_above plic.priorities plic.threshold q)
+in_notified plic kept q is =
+    contains-intersection nat_cmp_total (intersection plic.pending plic.enabled) kept q
+    ∙ (λ i. contains-intersection nat_cmp_total plic.pending plic.enabled q i && (ap (λ u. contains u q) (sym is) ∙ contains-above plic.priorities plic.threshold q) i)
+
+with_range : (w : Bool) (ps : List ℕ) (t q : ℕ) → 1 ≤ q → q < 32 → (w && nat_lt t (slice_index ps q)) ≡ (w && is_above ps t q)
+with_range w ps t q low high =
+    ap (λ b. w && b) (sym (ap (λ c. c && (nat_lt q 32 && nat_lt t (slice_index ps q))) (le-leb 1 q low) ∙ ap (λ c. c && nat_lt t (slice_index ps q)) (lt-ltb q 32 high)))
+
+pub none_notified : (plic : PlicState) (kept : Sources) → sources_above plic.priorities plic.threshold ≡ kept → intersection (intersection plic.pending plic.enabled) kept ≡ empty → is_notified plic ≡ false
+unfolding is_notified sources
+none_notified plic kept is none =
+    none-range (λ s. is_waiting plic s && nat_lt plic.threshold (slice_index plic.priorities s)) 1 31 (λ q low high.
+    with_range (is_waiting plic q) plic.priorities plic.threshold q low high
+    ∙ sym (in_notified plic kept q is) ∙ ap (λ u. contains u q) none ∙ contains-empty nat_cmp q)
+
+some_other : (plic : PlicState) (kept : Sources) → sources_above plic.priorities plic.threshold ≡ kept → is_notified plic ≡ false → intersection (intersection plic.pending plic.enabled) kept ≡ empty
+unfolding is_notified sources
+some_other plic kept is quiet =
+    same_sources _ _ (λ q. in_notified plic kept q is ∙ not_one q ∙ sym (contains-empty nat_cmp q))
+  where
+    not_one : (q : ℕ) → (is_waiting plic q && is_above plic.priorities plic.threshold q) ≡ false
+    not_one q = false_from_ne_true _ (λ one.
+        let range = in_range plic.priorities plic.threshold q (and_parts _ _ one).1 in
+        both_ways _ quiet (any-range (λ s. is_waiting plic s && nat_lt plic.threshold (slice_index plic.priorities s)) 1 31 q range.0 range.1 (with_range (is_waiting plic q) plic.priorities plic.threshold q range.0 range.1 ∙ one)))
+
+pub some_notified : (plic : PlicState) (kept : Sources) → sources_above plic.priorities plic.threshold ≡ kept → intersection (intersection plic.pending plic.enabled) kept ≢ empty → is_notified plic ≡ true
+some_notified plic kept is some = by_level (is_notified plic) refl
+  where
+    by_level : (b : Bool) → is_notified plic ≡ b → is_notified plic ≡ true
+    by_level true e = e
+    by_level false e = absurd (some (some_other plic kept is e))
+
+-- ---- the sources above the threshold, gathered one by one
+abbrev pub GathersBelow : ℕ → List ℕ → ℕ → Sources → Type 0
+GathersBelow number ps t s = (q : ℕ) → contains s q ≡ (nat_lt q number && is_above ps t q)
+
+pub none_gathered : (ps : List ℕ) (t : ℕ) (s : Sources) → s ≡ empty → GathersBelow 1 ps t s
+none_gathered ps t s none q = ap (λ u. contains u q) none ∙ contains-empty nat_cmp q ∙ sym (nothing q)
+  where
+    below : (q : ℕ) → q < 1 → nat_le 1 q ≡ false
+    below q low = grind (arith, nat_tests)
+
+    nothing : (q : ℕ) → (nat_lt q 1 && is_above ps t q) ≡ false
+    nothing q = and_unless (nat_lt q 1) _ (λ low. and_left (nat_le 1 q) _ (below q (ltb-true q 1 low)))
+
+at_number : (ps : List ℕ) (t n : ℕ) (b : Bool) → 0 < n → n < 32 → nat_lt t (slice_index ps n) ≡ b → is_above ps t n ≡ b
+at_number ps t n b low high is =
+    ap (λ c. c && (nat_lt n 32 && nat_lt t (slice_index ps n))) (le-leb 1 n low) ∙ ap (λ c. c && nat_lt t (slice_index ps n)) (lt-ltb n 32 high) ∙ is
+
+next_number : (q n : ℕ) → (q ≡ n → ⊥) → nat_lt q n ≡ nat_lt q (n + 1)
+next_number q n other = grind (arith, nat_tests)
+
+its_number : (q n : ℕ) → q ≡ n → nat_lt q (n + 1) ≡ true
+its_number q n e = lt-ltb q (n + 1) (omega arith)
+
+no_number : (q n : ℕ) → q ≡ n → nat_lt q n ≡ false
+no_number q n e = le-ltb q n (omega arith)
+
+pub one_gathered : (ps : List ℕ) (t n : ℕ) (s : Sources) → GathersBelow n ps t s → 0 < n → n < 32 → nat_lt t (slice_index ps n) ≡ true → GathersBelow (n + 1) ps t (insert s n)
+one_gathered ps t n s so_far low high over q =
+    (contains-insert nat_cmp_total s n q ∙ (λ i. unsigned_tied q n i || so_far q i))
+    ∙ elim (cases_eq q n) [
+      | inl e ↦ or_left (q == n) _ (eq-eqb q n e) ∙ sym (and_from _ _ (its_number q n e) (ap (is_above ps t) e ∙ at_number ps t n true low high over))
+      | inr other ↦ ap (λ b. b || (nat_lt q n && is_above ps t q)) (ne_eqb q n other) ∙ ap (λ b. b && is_above ps t q) (next_number q n other)
+    ]
+
+pub none_more : (ps : List ℕ) (t n : ℕ) (s : Sources) → GathersBelow n ps t s → 0 < n → n < 32 → nat_lt t (slice_index ps n) ≡ false → GathersBelow (n + 1) ps t s
+none_more ps t n s so_far low high under q =
+    so_far q
+    ∙ elim (cases_eq q n) [
+      | inl e ↦ and_left (nat_lt q n) _ (no_number q n e) ∙ sym (and_right (nat_lt q (n + 1)) _ (ap (is_above ps t) e ∙ at_number ps t n false low high under))
+      | inr other ↦ ap (λ b. b && is_above ps t q) (next_number q n other)
+    ]
+
+pub all_gathered : (ps : List ℕ) (t n : ℕ) (s : Sources) → 32 ≤ n → GathersBelow n ps t s → s ≡ sources_above ps t
+all_gathered ps t n s past all = same_sources _ _ (λ q. all q ∙ limit q (is_above ps t q) refl ∙ sym (contains-above ps t q))
+  where
+    limit : (q : ℕ) (b : Bool) → is_above ps t q ≡ b → (nat_lt q n && is_above ps t q) ≡ is_above ps t q
+    limit q true e = let high : q < 1 + 31 = (in_range ps t q e).1 in and_from _ _ (lt-ltb q n (omega arith)) e ∙ sym e
+    limit q false e = and_right (nat_lt q n) _ e ∙ sym e
+
+pub ruleset gathering = (none_gathered, one_gathered, none_more, all_gathered)
