@@ -39,6 +39,49 @@ fn reads_the_words(rt: HostRuntime) -> Result<(), Fail> {
 }
 
 #[test]
+fn reads_the_files(rt: HostRuntime) -> Result<(), Fail> {
+    let both = ["rvboard", "--commands=c.txt", "a.s", "--input", "i.txt"];
+    let rows: [(&[&str], Option<&str>, Option<&str>); 7] = [
+        (&["rvboard", "a.s"], None, None),
+        (&both, Some("i.txt"), Some("c.txt")),
+        (&["rvboard", "--input", "i.txt"], Some("i.txt"), None),
+        (&["rvboard", "--commands", "-"], None, Some("-")),
+        (&["rvboard", "--input=-x"], Some("-x"), None),
+        (&["rvboard", "--input="], Some(""), None),
+        (&["rvboard", "--commands", ""], None, Some("")),
+    ];
+    for (words, input, commands) in rows {
+        let read = read_words(rt.alloc(), words)?;
+        assert!(rt; read.input == input);
+        assert!(rt; read.commands == commands);
+    }
+    Ok(())
+}
+
+#[test]
+fn refuses_files_by_kind(rt: HostRuntime) {
+    let twice = ["rvboard", "--input=a", "--input=b"];
+    let cases: [(&[&str], ErrorKind); 7] = [
+        (&twice, ErrorKind::ArgumentConflict),
+        (
+            &["rvboard", "--commands", "a", "--commands", "a"],
+            ErrorKind::ArgumentConflict,
+        ),
+        (&["rvboard", "--input"], ErrorKind::InvalidValue),
+        (&["rvboard", "--commands"], ErrorKind::InvalidValue),
+        (
+            &["rvboard", "--input", "--commands", "a"],
+            ErrorKind::InvalidValue,
+        ),
+        (&["rvboard", "--input", "-x"], ErrorKind::UnknownArgument),
+        (&["rvboard", "--commands", "-x"], ErrorKind::UnknownArgument),
+    ];
+    for (words, kind) in cases {
+        assert!(rt; read_words(rt.alloc(), words).is_err_and(|e| e.kind() == kind));
+    }
+}
+
+#[test]
 fn refuses_by_kind(rt: HostRuntime) {
     let cases: [(&[&str], ErrorKind); 9] = [
         (&["rvboard", "--pages", "0"], ErrorKind::ValueValidation),
@@ -110,8 +153,10 @@ Arguments:
   [SOURCE]  the assembly source, or - for the standard input [default: -]
 
 Options:
-      --steps <N>  the most steps, 0 to 1000000000 [default: 1000000]
-      --pages <P>  the pages of RAM of 4096 bytes each, 1 to 4096 [default: 256]
-      --slots <S>  the slots of the instruction cache, a power of two from 64 to 4096 [default: 1024]
-  -h, --help       Print help
+      --input <F>     the timed serial bytes and interrupt lines, a file
+      --commands <F>  the monitor's commands, a file
+      --steps <N>     the most steps, 0 to 1000000000 [default: 1000000]
+      --pages <P>     the pages of RAM of 4096 bytes each, 1 to 4096 [default: 256]
+      --slots <S>     the slots of the instruction cache, a power of two from 64 to 4096 [default: 1024]
+  -h, --help          Print help
 ";

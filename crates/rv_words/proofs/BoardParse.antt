@@ -46,7 +46,7 @@ source_at = record {
   no_version = refl;
 }
 
-steps_at : HasDefaultAt board_app.top.rules 1 steps_rule
+steps_at : HasDefaultAt board_app.top.rules 3 steps_rule
 unfolding board_app
 steps_at = record {
   within = omega arith;
@@ -60,7 +60,7 @@ steps_at = record {
   no_version = refl;
 }
 
-pages_at : HasDefaultAt board_app.top.rules 2 pages_rule
+pages_at : HasDefaultAt board_app.top.rules 4 pages_rule
 unfolding board_app
 pages_at = record {
   within = omega arith;
@@ -74,7 +74,7 @@ pages_at = record {
   no_version = refl;
 }
 
-slots_at : HasDefaultAt board_app.top.rules 3 slots_rule
+slots_at : HasDefaultAt board_app.top.rules 5 slots_rule
 unfolding board_app
 slots_at = record {
   within = omega arith;
@@ -112,9 +112,9 @@ board_parse c m words is parsed matches =
     record {
       rows = (matches (ap is_simple is ∙ board_simple)).0 ∙ ap (λ a. matches_of a words) is;
       source = has_value board_app.top.rules c m p 0 source_rule source_at;
-      steps = number c m 1 (codes "steps") (codes "1000000") 0 1000000000 p steps_at;
-      pages = number c m 2 (codes "pages") (codes "256") 1 4096 p pages_at;
-      slots = number c m 3 (codes "slots") (codes "1024") 64 4096 p slots_at;
+      steps = number c m 3 (codes "steps") (codes "1000000") 0 1000000000 p steps_at;
+      pages = number c m 4 (codes "pages") (codes "256") 1 4096 p pages_at;
+      slots = number c m 5 (codes "slots") (codes "1024") 64 4096 p slots_at;
     }
 
 -- and of which clap says the errors

@@ -1,4 +1,5 @@
--- The command `rvboard [SOURCE] [--steps N] [--pages P] [--slots S]`, as what a parse by `clap` reads of it.
+-- The command `rvboard [SOURCE] [--input F] [--commands F] [--steps N] [--pages P] [--slots S]`, as what a parse by `clap`
+-- reads of it.
 -- To audit: public contracts cite this.
 use Rattle.std.specs.Prelude.{ℕ, pos, List, [], ◌∷◌, Some, codes, map}
 use Rattle.std.specs.Borrow.{Bor}
@@ -17,6 +18,22 @@ source_rule = record (new_rule (codes "source")) {
   value_names = 1;
   defaults = codes "-" ∷ [];
 }
+
+-- an option that takes the path of a file, and has no value where it is left out
+abbrev pub file_rule : Text → Rule
+file_rule name = record (new_rule name) {
+  long = Some name;
+  action = Some Set;
+  value_names = 1;
+}
+
+-- `--input F`
+abbrev pub input_rule : Rule
+input_rule = file_rule (codes "input")
+
+-- `--commands F`
+abbrev pub commands_rule : Rule
+commands_rule = file_rule (codes "commands")
 
 -- an option that takes a decimal number from `low` to `high`, and where it is left out `default`
 abbrev pub number_rule : Text → Text → ℕ → ℕ → Rule
@@ -42,5 +59,5 @@ slots_rule = number_rule (codes "slots") (codes "1024") 64 4096
 
 -- the command
 unfoldable pub board_app : App
-board_app = with_rule (with_rule (with_rule (with_rule (new_app (codes "rvboard"))
-    source_rule) steps_rule) pages_rule) slots_rule
+board_app = with_rule (with_rule (with_rule (with_rule (with_rule (with_rule (new_app (codes "rvboard"))
+    source_rule) input_rule) commands_rule) steps_rule) pages_rule) slots_rule

@@ -1,7 +1,8 @@
 -- What the fields of `Words` are, by the matches of the command.
 -- To audit: public contracts cite this.
-use Rattle.std.specs.Prelude.{◌≡◌, ◌≤◌, ℕ, List, Some, codes}
+use Rattle.std.specs.Prelude.{◌≡◌, ◌≤◌, ℕ, List, Option, Some, codes, option_map}
 use Rattle.std.specs.Option.{option_map_or}
+use Rattle.std.specs.Borrow.{Bor}
 use Rattle.std.specs.Str.Parse.{digits_value, without_leading_plus}
 use Rattle.clap.specs.Words.{Row, Text, first_of, one_of}
 use Rattle.rv_words.specs.declared.Words.{Words}
@@ -10,9 +11,15 @@ use Rattle.rv_words.specs.declared.Words.{Words}
 abbrev pub number_of : Text → List Row → ℕ
 number_of id rows = option_map_or (λ t. digits_value 10 (without_leading_plus t)) (one_of id rows) 0
 
--- the fields say what the words say, and the numbers lie in their ranges
+-- the text that a field holds, if it holds one
+abbrev pub text_in : Option (Bor Text) → Option Text
+text_in held = option_map (λ t. t.now) held
+
+-- the fields say what the words say: a file that no word gives is absent, and the numbers lie in their ranges
 pub record IsReadFrom (rows : List Row) (w : Words) : Type 0 where
   pub source : first_of (codes "source") rows ≡ Some w.source.now
+  pub input : first_of (codes "input") rows ≡ text_in w.input
+  pub commands : first_of (codes "commands") rows ≡ text_in w.commands
   pub steps : w.options.steps ≡ number_of (codes "steps") rows
   pub pages : w.options.pages ≡ number_of (codes "pages") rows
   pub slots : w.options.slots ≡ number_of (codes "slots") rows

@@ -1,9 +1,10 @@
-//! The words of the program `rvboard [SOURCE] [--steps N] [--pages P] [--slots S]`, read with `clap`.
+//! The words of the program, read with `clap`:
+//! `rvboard [SOURCE] [--input F] [--commands F] [--steps N] [--pages P] [--slots S]`.
 #![tactic(auto)]
 
 ghost use Rattle.std.specs.Prelude.{◌≡◌, codes, IfErr, IfOk, false, true};
 ghost use Rattle.clap.specs.Words.{FailsBy, app_of, fault_of, kind_of, matches_of, rule_of, takes};
-ghost use Rattle.rv_words.specs.Board.{board_app, number_rule, source_rule, texts_of};
+ghost use Rattle.rv_words.specs.Board.{board_app, file_rule, number_rule, source_rule, texts_of};
 ghost use Rattle.rv_words.specs.Parse.{IsBoardParse};
 ghost use Rattle.rv_words.specs.Read.{IsReadFrom};
 
@@ -30,6 +31,10 @@ pub struct Options {
 pub struct Words<'a> {
     /// The path of the source, or `-` for the standard input.
     pub source: &'a str,
+    /// The path of the timed serial bytes and interrupt lines, where one is given.
+    pub input: Option<&'a str>,
+    /// The path of the monitor's commands, where one is given.
+    pub commands: Option<&'a str>,
     /// The numbers.
     pub options: Options,
 }
@@ -43,6 +48,28 @@ fn source_arg<'a>(alloc: Global) -> Arg<'a>
         .help("the assembly source, or - for the standard input")
         .action(ArgAction::Set)
         .default_value("-")
+}
+
+fn input_arg<'a>(alloc: Global) -> Arg<'a>
+    ensures rule { rule_of result ≡ file_rule (codes "input") }
+    ensures local { result.global ≡ false }
+{
+    Arg::new(alloc, "input")
+        .long("input")
+        .value_name("F")
+        .help("the timed serial bytes and interrupt lines, a file")
+        .action(ArgAction::Set)
+}
+
+fn commands_arg<'a>(alloc: Global) -> Arg<'a>
+    ensures rule { rule_of result ≡ file_rule (codes "commands") }
+    ensures local { result.global ≡ false }
+{
+    Arg::new(alloc, "commands")
+        .long("commands")
+        .value_name("F")
+        .help("the monitor's commands, a file")
+        .action(ArgAction::Set)
 }
 
 fn steps_arg<'a>(alloc: Global) -> Arg<'a>
@@ -91,6 +118,8 @@ fn board_command<'a>(alloc: Global) -> Result<Command<'a>, AllocError>
     let command = Command::new(alloc, "rvboard")
         .about("assembles a program and runs it on a small RISC-V board")
         .arg(source_arg(alloc))?
+        .arg(input_arg(alloc))?
+        .arg(commands_arg(alloc))?
         .arg(steps_arg(alloc))?
         .arg(pages_arg(alloc))?
         .arg(slots_arg(alloc))?;
@@ -125,6 +154,8 @@ pub fn read_words<'a>(alloc: Global, words: &'a [&'a str]) -> Result<Words<'a>, 
 {
     let matches = parse(alloc, words)?;
     let source = matches.get_str("source").unwrap();
+    let input = matches.get_str("input");
+    let commands = matches.get_str("commands");
     let steps = matches.get_one::<u32>("steps").unwrap();
     let pages = matches.get_one::<u16>("pages").unwrap();
     let slots = matches.get_one::<u16>("slots").unwrap();
@@ -133,5 +164,10 @@ pub fn read_words<'a>(alloc: Global, words: &'a [&'a str]) -> Result<Words<'a>, 
         pages,
         slots,
     };
-    Ok(Words { source, options })
+    Ok(Words {
+        source,
+        input,
+        commands,
+        options,
+    })
 }

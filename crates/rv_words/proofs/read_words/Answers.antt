@@ -44,6 +44,8 @@ returns-clause-read c =
     let slots : c.unwrap-slots.result ≡ j.value = cc in
     record {
       source = text_got words m (codes "source") c.get_str.result p c.get_str.ensures ∙ ap (option_map (λ (s : Bor (List ℕ)). s.now)) found;
+      input = text_got words m (codes "input") c.get_str-input.result p c.get_str-input.ensures;
+      commands = text_got words m (codes "commands") c.get_str-commands.result p c.get_str-commands.ensures;
       steps = steps ∙ n.said;
       pages = pages ∙ k.said;
       slots = slots ∙ j.said;
