@@ -1,4 +1,4 @@
 pub mod AsmFaults
+pub mod Obeyed
 pub mod Digits
 pub mod RunLemmas
-pub mod StepLemmas

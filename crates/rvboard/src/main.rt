@@ -1,12 +1,15 @@
-//! The program: `rvboard [SOURCE] [--steps N] [--pages P] [--slots S]`.
+//! The program: `rvboard [SOURCE] [--input F] [--commands F] [--steps N] [--pages P] [--slots S]`.
 //!
-//! It reads its words, opens the source, runs it, and exits with the status of the run. Fault lines
-//! go to the standard error.
+//! It reads its words, opens the source, the timed list and the commands in this order, runs them, and exits with the
+//! status of the run. Fault lines go to the standard error.
 #![tactic(auto)]
 
+ghost use Rattle.std.specs.Prelude.{◌≡◌, IfOk, false};
+ghost use Rattle.rv_cli.specs.Run.{IsSoundIf};
+
 use rv_cli::{
-    CliFault, Ending, FileIn, FileOut, NoRun, Place, TextName, Words, exit_status, fault_line,
-    opened, read_words, run_text,
+    CliFault, Ending, FileIn, FileOut, MemoryIn, NoRun, Place, TextIn, TextName, Words,
+    exit_status, fault_line, opened, read_words, run_text,
 };
 use std::alloc::AllocError;
 use std::env;
@@ -22,17 +25,63 @@ fn report(rt: &HostRuntime, fault: &CliFault) {
     }
 }
 
-/// Runs the source that the words name.
-fn run(rt: &HostRuntime, words: &Words<'_>) -> Result<Ending, CliFault> {
+/// Opens the file of a text, where one is named.
+fn open_named(
+    rt: &HostRuntime,
+    text: TextName,
+    path: Option<&str>,
+) -> Result<Option<FileIn<File>>, CliFault>
+    ensures { IfOk result (IsSoundIf (λ f. f.has_failed)) }
+{
+    let Some(path) = path else {
+        return Ok(None);
+    };
+    let file = opened(text, File::open(rt, path))?;
+    Ok(Some(FileIn::new(file)))
+}
+
+/// Runs a source with the timed list and the commands that the words name, whose files it opens first.
+fn run_source<S: TextIn>(
+    rt: &HostRuntime,
+    words: &Words<'_>,
+    source: &mut S,
+) -> Result<Ending, CliFault>
+    requires { S.has_failed source.old ≡ false }
+{
+    let input = open_named(rt, TextName::Input, words.input)?;
+    let mut commands = open_named(rt, TextName::Commands, words.commands)?;
+    let options = words.options;
     let mut out = FileOut::new(rt.stdout());
-    match words.source_place() {
-        Place::StandardInput => {
-            let mut source = FileIn::new(rt.stdin());
-            run_text(rt.alloc(), &mut source, words.options, &mut out)
+    match input {
+        Some(mut inputs) => run_text(
+            rt.alloc(),
+            source,
+            &mut inputs,
+            &mut commands,
+            options,
+            &mut out,
+        ),
+        None => {
+            let mut inputs = MemoryIn::new(b"");
+            run_text(
+                rt.alloc(),
+                source,
+                &mut inputs,
+                &mut commands,
+                options,
+                &mut out,
+            )
         }
+    }
+}
+
+/// Runs what the words name.
+fn run(rt: &HostRuntime, words: &Words<'_>) -> Result<Ending, CliFault> {
+    match words.source_place() {
+        Place::StandardInput => run_source(rt, words, &mut FileIn::new(rt.stdin())),
         Place::File(path) => {
-            let mut source = FileIn::new(opened(TextName::Source, File::open(rt, path))?);
-            run_text(rt.alloc(), &mut source, words.options, &mut out)
+            let file = opened(TextName::Source, File::open(rt, path))?;
+            run_source(rt, words, &mut FileIn::new(file))
         }
     }
 }
