@@ -1,21 +1,30 @@
 -- What a run of a source text prints and how it ends (this project's own: docs/BOARD.md).
 -- To audit: public contracts cite this.
-use Rattle.std.specs.Prelude.{ℕ, ◌-◌, ◌==◌, ◌||◌, false, List, [], ◌∷◌, ◌++◌, Option, Some, None, Result, Ok, Err, codes, if◌then◌else◌, length, nat_eq, replicate}
+use Rattle.std.specs.Prelude.{◌≡◌, ℕ, ◌-◌, ◌==◌, ◌||◌, false, List, [], ◌∷◌, ◌++◌, Option, Some, None, Result, Ok, Err, codes, if◌then◌else◌, length, nat_eq, replicate}
+use Rattle.std.specs.FinSet as set
 use Rattle.std.specs.Fmt.{decimal, digits}
 use Rattle.std.specs.List.{ends_with}
 use Rattle.rv_asm.specs.Assembly.{Assembly, assembled}
 use Rattle.rv_asm.specs.declared.fault.AsmFault.{AsmFault}
-use Rattle.rv_board.specs.Boot.{boot_fault, start}
-use Rattle.rv_board.specs.Move.{run}
+use Rattle.rv_board.specs.Boot as boot
 use Rattle.rv_board.specs.State.{BoardState, console_of, halted_of, pc_of, steps_of}
 use Rattle.rv_board.specs.declared.event.BootFault.{BootFault}
-use Rattle.rv_board.specs.declared.event.BootFault.TheVariants as boot
-use Rattle.rv_board.specs.declared.event.Event.{Event}
-use Rattle.rv_board.specs.declared.event.Event.TheVariants.{Step}
+use Rattle.rv_board.specs.declared.event.BootFault.TheVariants as boot_fault
+use Rattle.rv_commands.specs.Commands.{command_of}
+use Rattle.rv_commands.specs.declared.command.Command.{Command}
+use Rattle.rv_lists.specs.Timed.{IsRead}
+use Rattle.rv_lists.specs.declared.fault.TimelineFault.{TimelineFault}
+use Rattle.rv_lists.specs.declared.fault.TimelineFault.TheVariants as list_fault
+use Rattle.rv_lists.specs.declared.input.TimedInput.{TimedInput}
+use Rattle.rv_monitor.specs.Commands.{Leaves, Took, answer, next_of}
+use Rattle.rv_monitor.specs.State.{SessionState, start}
+use Rattle.rv_monitor.specs.declared.command.Next.{Next}
+use Rattle.rv_monitor.specs.declared.command.Next.TheVariants.{More, Quit}
+use Rattle.rv_tokens.specs.Lines.{lines}
 use Rattle.rv_words.specs.declared.Options.{Options}
 use Rattle.rv_cli.specs.Faults.{ended}
 use Rattle.rv_cli.specs.declared.fault.CliFault.{CliFault}
-use Rattle.rv_cli.specs.declared.fault.CliFault.TheVariants.{Source, BadPages, BadSlots, ImageTooLarge}
+use Rattle.rv_cli.specs.declared.fault.CliFault.TheVariants.{Source, Input, BadPages, BadSlots, ImageTooLarge}
 use Rattle.rv_cli.specs.declared.fault.Ending.{Ending}
 use Rattle.rv_cli.specs.declared.fault.Ending.TheVariants.{Halted, Running}
 
@@ -49,30 +58,81 @@ abbrev pub ending_of : Option ℕ → Ending
 ending_of (Some code) = Halted code
 ending_of None = Running
 
+-- ---- commands
+
+-- a command was done: the session and the text behind it are as the rest says
+pub record IsDone (command : Option Command) (Rest : SessionState → List ℕ → Type 0) (old : SessionState) (text : List ℕ) : Type 0 where
+  pub next : SessionState
+  pub behind : List ℕ
+  pub left : Leaves command old next
+  pub rest : Rest next behind
+  pub is : text ≡ answer command old next ++ behind
+
+-- a command was done, and no other
+pub record IsLast (command : Option Command) (old new : SessionState) (text : List ℕ) : Type 0 where
+  pub left : Leaves command old new
+  pub is : text ≡ answer command old new
+
+-- nothing is done behind a command that quits
+abbrev pub DoesThen : Next → Option Command → (SessionState → List ℕ → Type 0) → SessionState → SessionState → List ℕ → Type 0
+DoesThen More command Rest old new text = IsDone command Rest old text
+DoesThen Quit command Rest old new text = IsLast command old new text
+
+-- the lines are done in order, up to one that quits: from a session to another, with the texts of their answers
+unfoldable pub Obeys : List (List ℕ) → SessionState → SessionState → List ℕ → Type 0
+Obeys [] old new text = (new ≡ old) × (text ≡ [])
+Obeys (line ∷ more) old new text =
+    DoesThen (next_of (command_of line old.program.symbols)) (command_of line old.program.symbols)
+    (λ next behind. Obeys more next new behind) old new text
+
 -- ---- the run
 
--- steps one after the other
-unfoldable pub steps_of_count : ℕ → List Event
-steps_of_count n = replicate n Step
+-- the texts of a run: its source, its timed list, and its commands, if it has any
+pub record Texts : Type 0 where
+  pub source : List ℕ
+  pub inputs : List ℕ
+  pub commands : Option (List ℕ)
 
--- the board after all steps, from the start of an image
-abbrev pub board_after : List ℕ → Options → BoardState
-board_after bytes options = run (start bytes options.pages) (steps_of_count options.steps)
+-- without commands all steps are taken, with no breakpoint, and nothing is answered
+abbrev pub Does : Option (List ℕ) → SessionState → SessionState → List ℕ → Type 0
+Does None old new text = (Took set.empty old.limit old new) × (text ≡ [])
+Does (Some commands) old new text = Obeys (lines commands) old new text
 
--- a board that can't be had, or what it prints and how it ends
-abbrev pub output_of_board : Option BootFault → BoardState → Result (List ℕ × Ending) CliFault
-output_of_board (Some boot.BadPages) b = Err BadPages
-output_of_board (Some boot.BadSlots) b = Err BadSlots
-output_of_board (Some boot.ImageTooLarge) b = Err ImageTooLarge
-output_of_board _ b = Ok (printed b, ending_of (halted_of b))
+-- what a session prints, and how it ends
+pub record IsRunOf (commands : Option (List ℕ)) (first : SessionState) (result : Result (List ℕ × Ending) CliFault) : Type 0 where
+  pub last : SessionState
+  pub answers : List ℕ
+  pub done : Does commands first last answers
+  pub is : result ≡ Ok (answers ++ printed last.timed.board, ending_of (halted_of last.timed.board))
 
-abbrev pub output_of_assembly : Options → Result Assembly AsmFault → Result (List ℕ × Ending) CliFault
-output_of_assembly options (Err fault) = Err (Source fault)
-output_of_assembly options (Ok assembly) = output_of_board
-    (boot_fault (length assembly.bytes) options.pages options.slots)
-    (board_after assembly.bytes options)
+-- a board that can't be had, or the run of a session that may take the steps of the options
+abbrev pub IsOutputByBoard : Option BootFault → Texts → Options → Assembly → List TimedInput → Result (List ℕ × Ending) CliFault → Type 0
+IsOutputByBoard (Some boot_fault.BadPages) texts options assembly inputs result = result ≡ Err BadPages
+IsOutputByBoard (Some boot_fault.BadSlots) texts options assembly inputs result = result ≡ Err BadSlots
+IsOutputByBoard (Some boot_fault.ImageTooLarge) texts options assembly inputs result = result ≡ Err ImageTooLarge
+IsOutputByBoard (Some boot_fault.OutOfMemory) texts options assembly inputs result = ⊥
+IsOutputByBoard None texts options assembly inputs result =
+    IsRunOf texts.commands (start (boot.start assembly.bytes options.pages) inputs assembly options.steps) result
 
--- what the run of a source prints and how it ends, or why there is none: the source is refused, then
--- the number of pages, then that of slots, then the image
-unfoldable pub output : List ℕ → Options → Result (List ℕ × Ending) CliFault
-output source options = output_of_assembly options (assembled source)
+-- a timed list's first refused line, or a run with its inputs
+abbrev pub IsOutputByList : Result (List TimedInput) TimelineFault → Texts → Options → Assembly → Result (List ℕ × Ending) CliFault → Type 0
+IsOutputByList (Err (list_fault.BadLine n)) texts options assembly result = result ≡ Err (Input n)
+IsOutputByList (Err list_fault.OutOfMemory) texts options assembly result = ⊥
+IsOutputByList (Ok inputs) texts options assembly result =
+    IsOutputByBoard (boot.boot_fault (length assembly.bytes) options.pages options.slots) texts options assembly inputs result
+
+-- by what the timed list says
+pub record IsOutputOf (texts : Texts) (options : Options) (assembly : Assembly) (result : Result (List ℕ × Ending) CliFault) : Type 0 where
+  pub list : Result (List TimedInput) TimelineFault
+  pub read : IsRead texts.inputs list
+  pub is : IsOutputByList list texts options assembly result
+
+-- a source that is refused, or the run of its assembly
+abbrev pub IsOutputByAssembly : Result Assembly AsmFault → Texts → Options → Result (List ℕ × Ending) CliFault → Type 0
+IsOutputByAssembly (Err fault) texts options result = result ≡ Err (Source fault)
+IsOutputByAssembly (Ok assembly) texts options result = IsOutputOf texts options assembly result
+
+-- what the run of the texts prints and how it ends, or why there is none: the source is refused, then a line of the
+-- timed list, then the number of pages, then that of slots, then the image
+unfoldable pub IsOutput : Texts → Options → Result (List ℕ × Ending) CliFault → Type 0
+IsOutput texts options result = IsOutputByAssembly (assembled texts.source) texts options result

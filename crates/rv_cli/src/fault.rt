@@ -1,6 +1,6 @@
 //! How a run ends, why one gives no text, the line that says so, and what the program exits with.
 ghost use Rattle.std.specs.Prelude.{◌≡◌, ◌++◌, Err, IfErr, IfOk, Ok, OnErr, OnOk, Some};
-ghost use Rattle.rv_cli.specs.Faults.{line_of, read_fault_of, source_line_of, status_of};
+ghost use Rattle.rv_cli.specs.Faults.{input_line_of, line_of, read_fault_of, source_line_of, status_of};
 
 use rv_asm::AsmFault;
 use rv_isa::NoMemory;
@@ -23,9 +23,18 @@ pub enum CliFault {
     /// The source's reader failed, or gave more than 16,777,216 bytes.
     #[error("ReadSource")]
     ReadSource,
+    /// The reader of the timed list failed, or gave more than 16,777,216 bytes.
+    #[error("ReadInput")]
+    ReadInput,
+    /// The commands' reader failed, or gave more than 16,777,216 bytes.
+    #[error("ReadCommands")]
+    ReadCommands,
     /// The source can't be assembled.
     #[error("Source")]
     Source(AsmFault),
+    /// A line of the timed list is refused: the first such line, counted from 1.
+    #[error("Input")]
+    Input(usize),
     /// There are not 1 to 4096 pages of RAM.
     #[error("BadPages")]
     BadPages,
@@ -48,6 +57,10 @@ pub enum CliFault {
 pub enum TextName {
     /// The source.
     Source,
+    /// The timed list.
+    Input,
+    /// The commands.
+    Commands,
 }
 
 impl TextName {
@@ -57,6 +70,8 @@ impl TextName {
     {
         match self {
             TextName::Source => CliFault::ReadSource,
+            TextName::Input => CliFault::ReadInput,
+            TextName::Commands => CliFault::ReadCommands,
         }
     }
 }
@@ -87,6 +102,19 @@ impl fmt::Display for SourceLine {
     }
 }
 
+/// The refused line of a timed list, without its line end.
+#[derive(Clone, Copy)]
+struct InputLine(usize);
+
+impl fmt::Display for InputLine {
+    ghost output = { λ s. Some (input_line_of s.0) };
+
+    fn fmt<W: fmt::Write>(&self, f: &mut fmt::Formatter<W>) -> fmt::Result {
+        let number = self.0;
+        write!(f, "input line {number}: refused")
+    }
+}
+
 /// Appends the line that says the fault, with its line end. Refused, it leaves the text as it was.
 pub fn fault_line(fault: &CliFault, line: &mut Vec<u8>) -> Result<(), NoMemory>
     ensures ok { OnOk result (line.new.items ≡ line.old.items ++ line_of fault.now) }
@@ -94,8 +122,14 @@ pub fn fault_line(fault: &CliFault, line: &mut Vec<u8>) -> Result<(), NoMemory>
 {
     match *fault {
         CliFault::ReadSource => line.extend_from_slice(b"cannot read source\n")?,
+        CliFault::ReadInput => line.extend_from_slice(b"cannot read input\n")?,
+        CliFault::ReadCommands => line.extend_from_slice(b"cannot read commands\n")?,
         CliFault::Source(fault) => {
             let text = format!(in *line.allocator(); "{}\n", SourceLine(fault))?;
+            line.extend_from_slice(text.as_bytes())?
+        }
+        CliFault::Input(number) => {
+            let text = format!(in *line.allocator(); "{}\n", InputLine(number))?;
             line.extend_from_slice(text.as_bytes())?
         }
         CliFault::BadPages => line.extend_from_slice(b"bad pages\n")?,
@@ -108,7 +142,7 @@ pub fn fault_line(fault: &CliFault, line: &mut Vec<u8>) -> Result<(), NoMemory>
 }
 
 /// What the program exits with: 0 halted with 0, 1 halted otherwise, 2 running, 3 where the source,
-/// the pages, the slots or the image are refused, and 4 where a text, the memory or the writer failed.
+/// the timed list, the pages, the slots or the image are refused, and 4 where a text, the memory or the writer failed.
 pub fn exit_status(outcome: &Result<Ending, CliFault>) -> u8
     ensures { result ≡ status_of outcome.now }
 {
@@ -116,8 +150,9 @@ pub fn exit_status(outcome: &Result<Ending, CliFault>) -> u8
         Ok(Ending::Halted(0)) => 0,
         Ok(Ending::Halted(_)) => 1,
         Ok(Ending::Running) => 2,
-        Err(CliFault::Source(_)) => 3,
+        Err(CliFault::Source(_) | CliFault::Input(_)) => 3,
         Err(CliFault::BadPages | CliFault::BadSlots | CliFault::ImageTooLarge) => 3,
-        Err(CliFault::ReadSource | CliFault::OutOfMemory | CliFault::Write) => 4,
+        Err(CliFault::ReadSource | CliFault::ReadInput | CliFault::ReadCommands) => 4,
+        Err(CliFault::OutOfMemory | CliFault::Write) => 4,
     }
 }

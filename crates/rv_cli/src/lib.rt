@@ -6,8 +6,9 @@ mod file;
 mod memory;
 mod print;
 mod run;
-mod steps;
+mod session;
 mod text;
+mod texts;
 
 pub use fault::{CliFault, Ending, TextName, exit_status, fault_line, opened};
 pub use file::{FileIn, FileOut};

@@ -1,5 +1,5 @@
 //! What is printed of a board.
-ghost use Rattle.std.specs.Prelude.{◌≡◌, IfOk, Some};
+ghost use Rattle.std.specs.Prelude.{◌≡◌, ◌++◌, OnOk, Some};
 ghost use Rattle.rv_board.specs.State.{halted_of};
 ghost use Rattle.rv_cli.specs.Output.{eight_digits, ending_of, printed, status_text, with_line_end};
 
@@ -8,7 +8,6 @@ use rv_board::Board;
 use rv_cache::Decoded;
 use rv_isa::NoMemory;
 use rv_ram::ByteMemory;
-use std::alloc::{AllocError, Global};
 use std::fmt;
 
 /// A pc, as eight hexadecimal digits.
@@ -48,33 +47,33 @@ impl fmt::Display for Status {
     }
 }
 
-/// The text, with a line end unless it is empty or has one at its end.
-fn whole_lines(alloc: Global, text: &[u8]) -> Result<Vec<u8>, AllocError>
-    ensures { IfOk result (λ lines. lines.items ≡ with_line_end text.now) }
+/// Appends the piece, with a line end unless it is empty or has one at its end.
+fn append_lines(text: &mut Vec<u8>, piece: &[u8]) -> Result<(), NoMemory>
+    ensures { OnOk result (text.new.items ≡ text.old.items ++ with_line_end piece.now) }
 {
-    let mut lines = Vec::from_slice(alloc, text)?;
-    if !(text.is_empty() || text.ends_with(b"\n")) {
-        lines.push(b'\n')?;
+    text.extend_from_slice(piece)?;
+    if !(piece.is_empty() || piece.ends_with(b"\n")) {
+        text.extend_from_slice(b"\n")?;
     }
-    Ok(lines)
+    Ok(())
 }
 
-/// The console and the status line.
+/// Appends the console and the status line.
 pub(crate) fn print_board<M: ByteMemory, C: Decoded>(
-    alloc: Global,
     board: &Board<M, C>,
-) -> Result<Vec<u8>, NoMemory>
-    ensures { IfOk result (λ text. text.items ≡ printed board.now) }
+    text: &mut Vec<u8>,
+) -> Result<(), NoMemory>
+    ensures { OnOk result (text.new.items ≡ text.old.items ++ printed board.now) }
 {
     let status = Status {
         halted: board.halted(),
         pc: board.pc(),
         steps: board.steps(),
     };
-    let mut text = whole_lines(alloc, board.console())?;
-    let line = format!(in alloc; "{status}\n")?;
+    append_lines(text, board.console())?;
+    let line = format!(in *text.allocator(); "{status}\n")?;
     text.extend_from_slice(line.as_bytes())?;
-    Ok(text)
+    Ok(())
 }
 
 /// How the board's run ended.

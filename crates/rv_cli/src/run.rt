@@ -1,18 +1,22 @@
-//! A run from a source text to the text that is printed.
-ghost use Rattle.std.specs.Prelude.{◌≡◌, ◌≢◌, ◌⊎◌, IfErr, IfOk, Ok, false};
-ghost use Rattle.rv_cli.specs.Output.{output, output_of_assembly};
+//! A run from its texts to the text that is printed.
+ghost use Rattle.std.specs.Prelude.{◌≡◌, ◌≢◌, IfErr, IfOk, Ok, false, is_some};
+ghost use Rattle.rv_cli.specs.Output.{IsOutput, IsOutputByAssembly, IsOutputByList, IsRunOf};
 ghost use Rattle.rv_cli.specs.Meanings.{RefusedBy};
-ghost use Rattle.rv_cli.specs.Run.{Ended, Gave, IsInOrder, Refused, side};
-ghost use Rattle.rv_cli.specs.Texts.{IsUnreadable};
-ghost use Rattle.rv_cli.specs.declared.fault.CliFault.TheVariants.{OutOfMemory, ReadSource, Write};
+ghost use Rattle.rv_cli.specs.Run.{Ended, IsSoundIf, Refused, readers, side, side_if};
+ghost use Rattle.rv_cli.specs.declared.fault.CliFault.TheVariants.{Write};
 
-use crate::fault::{CliFault, Ending, TextName};
+use crate::fault::{CliFault, Ending};
 use crate::print::{ending, print_board};
-use crate::steps::run_steps;
-use crate::text::{ReadFault, TextIn, TextOut, read_whole, write_whole};
+use crate::session::run_session;
+use crate::text::{TextIn, TextOut, write_whole};
+use crate::texts::{Texts, read_texts};
 use rv_asm::{FaultKind, Program, assemble};
 use rv_board::{BootFault, BootedBoard};
+use rv_cache::Decoded;
 use rv_isa::NoMemory;
+use rv_lists::{Timeline, TimelineFault};
+use rv_monitor::Session;
+use rv_ram::ByteMemory;
 use rv_words::Options;
 use std::alloc::Global;
 
@@ -34,51 +38,73 @@ impl From<NoMemory> for CliFault {
     }
 }
 
-/// Reads the source to its end.
-fn read_source<S: TextIn>(alloc: Global, source: &mut S) -> Result<Vec<u8>, CliFault>
-    requires { S.has_failed source.old ≡ false }
-    ensures ok { IfOk result (λ text. Gave
-        (side (S.left source.old) (S.left source.new) (S.has_failed source.new)) text.items) }
-    ensures err { IfErr result (λ fault.
-        ((fault ≡ ReadSource) × IsUnreadable (S.has_failed source.new) (S.left source.old) (S.left source.new))
-        ⊎ ((fault ≡ OutOfMemory) × IsInOrder
-        (side (S.left source.old) (S.left source.new) (S.has_failed source.new)))) }
+/// Runs a session, and answers what is to be printed.
+fn print_session<M: ByteMemory, C: Decoded>(
+    alloc: Global,
+    session: &mut Session<M, C>,
+    texts: &Texts,
+) -> Result<Printed, NoMemory>
+    ensures { IfOk result (λ p. IsRunOf texts.now.commands session.old (Ok (p.text.items, p.ending))) }
 {
-    match read_whole(alloc, source) {
-        Ok(text) => Ok(text),
-        Err(ReadFault::Unreadable) => Err(TextName::Source.read_fault()),
-        Err(ReadFault::NoMemory) => Err(CliFault::OutOfMemory),
-    }
+    let mut text = run_session(alloc, session, texts)?;
+    print_board(session.board(), &mut text)?;
+    let ending = ending(session.board());
+    Ok(Printed { text, ending })
 }
 
-/// Boots the program's image, gives it the steps, and answers what is to be printed.
-fn run_program(alloc: Global, program: &Program, options: Options) -> Result<Printed, CliFault>
-    ensures ok { IfOk result (λ p. output_of_assembly options (Ok program.now) ≡ Ok (p.text.items, p.ending)) }
-    ensures err { IfErr result (RefusedBy (output_of_assembly options (Ok program.now))) }
+/// Boots the program's image and runs it with its timed inputs.
+fn run_timed(
+    alloc: Global,
+    program: Program,
+    timeline: Timeline,
+    texts: &Texts,
+    options: Options,
+) -> Result<Printed, CliFault>
+    ensures ok { IfOk result (λ p. IsOutputByList (Ok timeline) texts.now options program (Ok (p.text.items, p.ending))) }
+    ensures err { IfErr result (RefusedBy (IsOutputByList (Ok timeline) texts.now options program)) }
 {
     let pages = u32::from(options.pages);
     let slots = u32::from(options.slots);
-    let mut board = match BootedBoard::boot(alloc, program, pages, slots) {
+    let board = match BootedBoard::boot(alloc, &program, pages, slots) {
         Ok(board) => board,
         Err(BootFault::BadPages) => return Err(CliFault::BadPages),
         Err(BootFault::BadSlots) => return Err(CliFault::BadSlots),
         Err(BootFault::ImageTooLarge) => return Err(CliFault::ImageTooLarge),
         Err(BootFault::OutOfMemory) => return Err(CliFault::OutOfMemory),
     };
-    run_steps(&mut board, options.steps)?;
-    let text = print_board(alloc, &board)?;
-    let ending = ending(&board);
-    Ok(Printed { text, ending })
+    let limit = u64::from(options.steps);
+    let mut session = Session::new(alloc, board, timeline, program, limit);
+    match print_session(alloc, &mut session, texts) {
+        Ok(printed) => Ok(printed),
+        Err(NoMemory) => Err(CliFault::OutOfMemory),
+    }
+}
+
+/// Reads the timed list, and runs the program with it.
+fn run_program(
+    alloc: Global,
+    program: Program,
+    texts: &Texts,
+    options: Options,
+) -> Result<Printed, CliFault>
+    ensures ok { IfOk result (λ p. IsOutputByAssembly (Ok program) texts.now options (Ok (p.text.items, p.ending))) }
+    ensures err { IfErr result (RefusedBy (IsOutputByAssembly (Ok program) texts.now options)) }
+{
+    match Timeline::read(alloc, texts.inputs.as_slice()) {
+        Ok(timeline) => run_timed(alloc, program, timeline, texts, options),
+        Err(TimelineFault::BadLine(number)) => Err(CliFault::Input(number)),
+        Err(TimelineFault::OutOfMemory) => Err(CliFault::OutOfMemory),
+    }
 }
 
 /// Assembles the source, runs it, and answers what is to be printed.
-#[tactic(auto, using(crate::proofs::AsmFaults::fails_as_meant), unfolding(crate::specs::Output::output))]
-fn run_source(alloc: Global, source: &[u8], options: Options) -> Result<Printed, CliFault>
-    ensures ok { IfOk result (λ p. output source.now options ≡ Ok (p.text.items, p.ending)) }
-    ensures err { IfErr result (RefusedBy (output source.now options)) }
+#[tactic(auto, using(crate::proofs::AsmFaults::fails_as_meant), unfolding(crate::specs::Output::IsOutput))]
+fn run_source(alloc: Global, texts: &Texts, options: Options) -> Result<Printed, CliFault>
+    ensures ok { IfOk result (λ p. IsOutput texts.now options (Ok (p.text.items, p.ending))) }
+    ensures err { IfErr result (RefusedBy (IsOutput texts.now options)) }
 {
-    match assemble(alloc, source) {
-        Ok(program) => run_program(alloc, &program, options),
+    match assemble(alloc, texts.source.as_slice()) {
+        Ok(program) => run_program(alloc, program, texts, options),
         Err(fault) => match fault.kind {
             FaultKind::OutOfMemory => Err(CliFault::OutOfMemory),
             _ => Err(CliFault::Source(fault)),
@@ -86,30 +112,40 @@ fn run_source(alloc: Global, source: &[u8], options: Options) -> Result<Printed,
     }
 }
 
-/// Reads the source to its end, assembles it, boots its image, runs all steps, and then writes what
-/// is printed: the console, a line end where it has none, and the status line.
+/// Reads the source, the timed list and the commands to their ends, assembles the source, reads the timed list, boots
+/// the image, does the commands, or all steps where there are none, and then writes what is printed: the answers of
+/// the commands, the console, a line end where it has none, and the status line.
 ///
-/// The faults come in the order `ReadSource`, `Source`, `BadPages`, `BadSlots`, `ImageTooLarge`, and before
-/// `Write` nothing was written. Want of memory may stand in place of any answer but a fault of the
-/// reader or the writer that occurred.
-pub fn run_text<S: TextIn, W: TextOut>(
+/// The faults come in the order `ReadSource`, `ReadInput`, `ReadCommands`, `Source`, `Input`, `BadPages`, `BadSlots`,
+/// `ImageTooLarge`, and before `Write` nothing was written. Want of memory may stand in place of any answer but a
+/// fault of a reader or the writer that occurred.
+pub fn run_text<S: TextIn, I: TextIn, C: TextIn, W: TextOut>(
     alloc: Global,
     source: &mut S,
+    inputs: &mut I,
+    commands: &mut Option<C>,
     options: Options,
     out: &mut W,
 ) -> Result<Ending, CliFault>
     requires source { S.has_failed source.old ≡ false }
+    requires inputs { I.has_failed inputs.old ≡ false }
+    requires commands { IsSoundIf C.has_failed commands.old }
     requires out { W.has_failed out.old ≡ false }
-    ensures ended { IfOk result (Ended
+    ensures ended { IfOk result (Ended (readers
         (side (S.left source.old) (S.left source.new) (S.has_failed source.new))
+        (side (I.left inputs.old) (I.left inputs.new) (I.has_failed inputs.new))
+        (side_if C.left C.has_failed commands.old commands.new))
         (side (W.taken out.old) (W.taken out.new) (W.has_failed out.new)) options) }
-    ensures refused { IfErr result (Refused
+    ensures refused { IfErr result (Refused (readers
         (side (S.left source.old) (S.left source.new) (S.has_failed source.new))
+        (side (I.left inputs.old) (I.left inputs.new) (I.has_failed inputs.new))
+        (side_if C.left C.has_failed commands.old commands.new))
         (side (W.taken out.old) (W.taken out.new) (W.has_failed out.new)) options) }
+    ensures there { is_some commands.new ≡ is_some commands.old }
     ensures unwritten { IfErr result (λ fault. fault ≢ Write → out.new ≡ out.old) }
 {
-    let text = read_source(alloc, source)?;
-    let printed = run_source(alloc, text.as_slice(), options)?;
+    let texts = read_texts(alloc, source, inputs, commands)?;
+    let printed = run_source(alloc, &texts, options)?;
     match write_whole(out, printed.text.as_slice()) {
         Ok(()) => Ok(printed.ending),
         Err(_) => Err(CliFault::Write),

@@ -25,6 +25,14 @@ fn names_each_fault(rt: HostRuntime) -> Result<(), Fail> {
             "cannot read source\n",
             4,
         ),
+        (CliFault::ReadInput, "ReadInput", "cannot read input\n", 4),
+        (
+            CliFault::ReadCommands,
+            "ReadCommands",
+            "cannot read commands\n",
+            4,
+        ),
+        (CliFault::Input(3), "Input", "input line 3: refused\n", 3),
         (source, "Source", "source line 3: E6 DuplicateSymbol\n", 3),
         (CliFault::BadPages, "BadPages", "bad pages\n", 3),
         (CliFault::BadSlots, "BadSlots", "bad slots\n", 3),
@@ -50,5 +58,9 @@ fn names_each_fault(rt: HostRuntime) -> Result<(), Fail> {
 fn an_unopened_file_is_its_reader_s_fault(rt: HostRuntime) {
     let refused: io::Result<u8> = Err(io::Error::from(io::ErrorKind::PermissionDenied));
     assert!(rt; opened(TextName::Source, refused) == Err(CliFault::ReadSource));
+    let refused: io::Result<u8> = Err(io::Error::from(io::ErrorKind::NotFound));
+    assert!(rt; opened(TextName::Input, refused) == Err(CliFault::ReadInput));
+    let refused: io::Result<u8> = Err(io::Error::from(io::ErrorKind::NotFound));
+    assert!(rt; opened(TextName::Commands, refused) == Err(CliFault::ReadCommands));
     assert!(rt; opened(TextName::Source, Ok(7u8)) == Ok(7));
 }

@@ -6,6 +6,8 @@ mod ends;
 #[cfg(test)]
 mod faults;
 #[cfg(test)]
+mod inputs;
+#[cfg(test)]
 mod large;
 #[cfg(test)]
 mod runs;

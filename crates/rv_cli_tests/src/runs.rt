@@ -1,4 +1,6 @@
 //! Runs of whole sources over memory.
+ghost use Rattle.rv_cli.specs.Run.{IsSoundIf};
+
 use rv_cli::{CliFault, Ending, MemoryIn, MemoryOut, Options, TextOut, exit_status, run_text};
 use std::alloc::Global;
 use std::process::Abort;
@@ -14,15 +16,46 @@ pub const DEFAULTS: Options = Options {
     slots: 1024,
 };
 
-/// What a run of a text over memory ended with and wrote.
+/// A reader of commands over memory, where there are any.
+fn commands_in(commands: Option<&[u8]>) -> Option<MemoryIn<'_>>
+    ensures { IsSoundIf (λ m. m.has_failed) result }
+{
+    match commands {
+        Some(text) => Some(MemoryIn::new(text)),
+        None => None,
+    }
+}
+
+/// What a run of texts over memory ended with and wrote.
+pub fn run_texts(
+    alloc: Global,
+    source: &[u8],
+    inputs: &[u8],
+    commands: Option<&[u8]>,
+    options: Options,
+) -> (Result<Ending, CliFault>, MemoryOut) {
+    let mut out = MemoryOut::new(alloc);
+    let mut source = MemoryIn::new(source);
+    let mut inputs = MemoryIn::new(inputs);
+    let mut commands = commands_in(commands);
+    let outcome = run_text(
+        alloc,
+        &mut source,
+        &mut inputs,
+        &mut commands,
+        options,
+        &mut out,
+    );
+    (outcome, out)
+}
+
+/// What a run of a source over memory ended with and wrote, with no input and without commands.
 pub fn run_over_memory(
     alloc: Global,
     source: &[u8],
     options: Options,
 ) -> (Result<Ending, CliFault>, MemoryOut) {
-    let mut out = MemoryOut::new(alloc);
-    let outcome = run_text(alloc, &mut MemoryIn::new(source), options, &mut out);
-    (outcome, out)
+    run_texts(alloc, source, b"", None, options)
 }
 
 /// Holds a run's end, what it wrote and its status to what is wanted.

@@ -1,16 +1,34 @@
 //! Readers and writers that give little, fail, or are interrupted.
+ghost use Rattle.std.specs.Prelude.{◌≡◌, false};
+
 use crate::runs::{DEFAULTS, HELLO};
 use rv_cli::{
     CliFault, Ending, FileIn, FileOut, InFailed, MemoryIn, MemoryOut, Options, TextIn, TextOut,
     exit_status, run_text,
 };
+use std::alloc::Global;
 use std::io::{self, ErrorKind, Read, Write};
+
+/// Runs a source with no input and without commands.
+fn run_source<S: TextIn, W: TextOut>(
+    alloc: Global,
+    source: &mut S,
+    options: Options,
+    out: &mut W,
+) -> Result<Ending, CliFault>
+    requires source { S.has_failed source.old ≡ false }
+    requires out { W.has_failed out.old ≡ false }
+{
+    let mut inputs = MemoryIn::new(b"");
+    let mut commands: Option<MemoryIn<'_>> = None;
+    run_text(alloc, source, &mut inputs, &mut commands, options, out)
+}
 
 #[test]
 fn reads_and_writes_a_byte_a_call(rt: HostRuntime) {
     let mut source = MemoryIn::new(HELLO).with_most(1);
     let mut out = MemoryOut::new(rt.alloc()).with_most(1);
-    let outcome = run_text(rt.alloc(), &mut source, DEFAULTS, &mut out);
+    let outcome = run_source(rt.alloc(), &mut source, DEFAULTS, &mut out);
     assert!(rt; outcome == Ok(Ending::Halted(0)));
     assert!(rt; out.bytes() == b"H\nhalted 0 after 7 steps\n".as_slice());
     assert!(rt; !source.failed() && !out.failed());
@@ -23,7 +41,7 @@ fn stops_at_a_failed_write(rt: HostRuntime) {
         .with_failure_after(1);
     let taking_none = MemoryOut::new(rt.alloc()).with_most(0);
     for (mut out, taken) in [(failing, "H\nh"), (taking_none, "")] {
-        let outcome = run_text(rt.alloc(), &mut MemoryIn::new(HELLO), DEFAULTS, &mut out);
+        let outcome = run_source(rt.alloc(), &mut MemoryIn::new(HELLO), DEFAULTS, &mut out);
         assert!(rt; outcome == Err(CliFault::Write));
         assert!(rt; out.bytes() == taken.as_bytes());
         assert!(rt; out.failed());
@@ -56,7 +74,7 @@ impl TextIn for Endless {
 fn stops_at_a_failed_read(rt: HostRuntime) {
     let mut failing = MemoryIn::new(HELLO).with_most(4).with_failure_after(1);
     let mut out = MemoryOut::new(rt.alloc());
-    let outcome = run_text(rt.alloc(), &mut failing, DEFAULTS, &mut out);
+    let outcome = run_source(rt.alloc(), &mut failing, DEFAULTS, &mut out);
     assert!(rt; outcome == Err(CliFault::ReadSource));
     assert!(rt; failing.failed());
     assert_eq!(rt; exit_status(&outcome), 4);
@@ -66,8 +84,26 @@ fn stops_at_a_failed_read(rt: HostRuntime) {
 #[test]
 fn leaves_a_reader_without_an_end(rt: HostRuntime) {
     let mut out = MemoryOut::new(rt.alloc());
-    let outcome = run_text(rt.alloc(), &mut Endless, DEFAULTS, &mut out);
+    let outcome = run_source(rt.alloc(), &mut Endless, DEFAULTS, &mut out);
     assert!(rt; outcome == Err(CliFault::ReadSource));
+    assert!(rt; out.bytes().is_empty());
+}
+
+#[test]
+fn leaves_commands_without_an_end(rt: HostRuntime) {
+    let mut source = MemoryIn::new(HELLO);
+    let mut inputs = MemoryIn::new(b"");
+    let mut commands = Some(Endless);
+    let mut out = MemoryOut::new(rt.alloc());
+    let outcome = run_text(
+        rt.alloc(),
+        &mut source,
+        &mut inputs,
+        &mut commands,
+        DEFAULTS,
+        &mut out,
+    );
+    assert!(rt; outcome == Err(CliFault::ReadCommands));
     assert!(rt; out.bytes().is_empty());
 }
 
@@ -141,7 +177,7 @@ const WRITTEN: &[u8] = b"H\nhalted 0 after 7 steps\n";
 fn goes_on_after_an_interrupted_read(rt: HostRuntime) {
     let mut source = FileIn::new(Interrupted::new(HELLO, None));
     let mut out = MemoryOut::new(rt.alloc());
-    let outcome = run_text(rt.alloc(), &mut source, DEFAULTS, &mut out);
+    let outcome = run_source(rt.alloc(), &mut source, DEFAULTS, &mut out);
     assert!(rt; outcome == Ok(Ending::Halted(0)));
     assert!(rt; out.bytes() == WRITTEN);
     assert!(rt; !source.failed());
@@ -151,7 +187,7 @@ fn goes_on_after_an_interrupted_read(rt: HostRuntime) {
 fn goes_on_after_an_interrupted_write(rt: HostRuntime) {
     let mut writer = Interrupted::new(b"", None);
     let mut out = FileOut::new(&mut writer);
-    let outcome = run_text(rt.alloc(), &mut MemoryIn::new(HELLO), DEFAULTS, &mut out);
+    let outcome = run_source(rt.alloc(), &mut MemoryIn::new(HELLO), DEFAULTS, &mut out);
     assert!(rt; outcome == Ok(Ending::Halted(0)));
     assert!(rt; !out.failed());
     assert!(rt; writer.taken.starts_with(WRITTEN));
@@ -162,7 +198,7 @@ fn goes_on_after_an_interrupted_write(rt: HostRuntime) {
 fn stops_at_a_read_of_std_that_fails(rt: HostRuntime) {
     let mut source = FileIn::new(Interrupted::new(HELLO, Some(5)));
     let mut out = MemoryOut::new(rt.alloc());
-    let outcome = run_text(rt.alloc(), &mut source, DEFAULTS, &mut out);
+    let outcome = run_source(rt.alloc(), &mut source, DEFAULTS, &mut out);
     assert!(rt; outcome == Err(CliFault::ReadSource));
     assert!(rt; source.failed());
     assert!(rt; out.bytes().is_empty());
@@ -172,7 +208,7 @@ fn stops_at_a_read_of_std_that_fails(rt: HostRuntime) {
 fn stops_at_a_write_of_std_that_fails(rt: HostRuntime) {
     let mut writer = Interrupted::new(b"", Some(5));
     let mut out = FileOut::new(&mut writer);
-    let outcome = run_text(rt.alloc(), &mut MemoryIn::new(HELLO), DEFAULTS, &mut out);
+    let outcome = run_source(rt.alloc(), &mut MemoryIn::new(HELLO), DEFAULTS, &mut out);
     assert!(rt; outcome == Err(CliFault::Write));
     assert!(rt; out.failed());
     assert_eq!(rt; writer.count, 2);
@@ -187,7 +223,7 @@ fn reads_and_writes_by_std(rt: HostRuntime) {
         steps: 0,
         ..DEFAULTS
     };
-    let outcome = run_text(rt.alloc(), &mut source, options, &mut out);
+    let outcome = run_source(rt.alloc(), &mut source, options, &mut out);
     assert!(rt; outcome == Ok(Ending::Running));
     assert!(rt; printed.as_slice() == b"running at 80000000 after 0 steps\n".as_slice());
 }

@@ -1,4 +1,4 @@
-//! A whole run, from its text to what is printed.
+//! A whole run, from its texts to what is printed.
 use rv_cli::{
     CliFault, Ending, MemoryIn, MemoryOut, Options, TextIn, TextOut, exit_status, run_text,
 };
@@ -8,7 +8,14 @@ use std::alloc::Global;
 const HELLO: &[u8] =
     b"lui t0,0x10000\nli a0,72\nsw a0,0(t0)\nlui t1,0x100\nli t2,0x5555\nsw t2,0(t1)\n";
 
-const WRITTEN: &[u8] = b"H\nhalted 0 after 7 steps\n";
+/// A byte that comes in and that nobody takes.
+const INPUTS: &[u8] = b"1 rx 5a\n";
+
+/// A breakpoint, steps up to it, and the rest of the steps.
+const COMMANDS: &[u8] = b"b 0x8000000c\nc\nc\nq\n";
+
+const WRITTEN: &[u8] =
+    b"break 8000000c\nstop break pc=8000000c mode=M steps=3\nstop halted pc=8000001c mode=M steps=7\nH\nhalted 0 after 7 steps\n";
 
 /// Whether the run prints all, or nothing and wants memory, or its writer, which wants memory too,
 /// takes a beginning.
@@ -19,9 +26,18 @@ pub fn answers_right(alloc: Global) -> bool {
         slots: 64,
     };
     let mut source = MemoryIn::new(HELLO);
+    let mut inputs = MemoryIn::new(INPUTS);
+    let mut commands = Some(MemoryIn::new(COMMANDS));
     let mut out = MemoryOut::new(alloc);
-    let outcome = run_text(alloc, &mut source, options, &mut out);
-    if source.failed() {
+    let outcome = run_text(
+        alloc,
+        &mut source,
+        &mut inputs,
+        &mut commands,
+        options,
+        &mut out,
+    );
+    if source.failed() || inputs.failed() {
         return false;
     }
     match outcome {

@@ -1,0 +1,98 @@
+//! The texts of a run, read from their readers.
+ghost use Rattle.std.specs.Prelude.{◌≡◌, ◌⊎◌, IfErr, IfOk, false, is_some};
+ghost use Rattle.std.specs.Option.{option_map};
+ghost use Rattle.rv_cli.specs.Faults.{read_fault_of};
+ghost use Rattle.rv_cli.specs.Meanings.{Unread};
+ghost use Rattle.rv_cli.specs.Run.{AllGave, Gave, GaveIf, IsInOrder, IsInOrderIf, IsUnreadableIf, readers, side, side_if, IsSoundIf};
+ghost use Rattle.rv_cli.specs.Texts.{IsUnreadable};
+ghost use Rattle.rv_cli.specs.declared.fault.CliFault.TheVariants.{OutOfMemory, ReadCommands};
+
+use crate::fault::{CliFault, TextName};
+use crate::text::{ReadFault, TextIn, read_whole};
+use std::alloc::Global;
+use std::marker::Model;
+
+/// The texts of a run.
+#[derive(Drop)]
+pub(crate) struct Texts {
+    pub(crate) source: Vec<u8>,
+    pub(crate) inputs: Vec<u8>,
+    pub(crate) commands: Option<Vec<u8>>,
+}
+
+impl Model for Texts {
+    ghost use Rattle.std.specs.Option.{option_map};
+    ghost use Rattle.rv_cli.specs.Output as output;
+
+    ghost Value = { output.Texts };
+
+    ghost view = { λ t. record { source = t.source.items; inputs = t.inputs.items; commands = option_map (λ text. text.items) t.commands } };
+}
+
+/// Reads a text to its end.
+fn read_text<R: TextIn>(alloc: Global, name: TextName, reader: &mut R) -> Result<Vec<u8>, CliFault>
+    requires { R.has_failed reader.old ≡ false }
+    ensures ok { IfOk result (λ text. Gave
+        (side (R.left reader.old) (R.left reader.new) (R.has_failed reader.new)) text.items) }
+    ensures err { IfErr result (λ fault.
+        ((fault ≡ read_fault_of name) × IsUnreadable (R.has_failed reader.new) (R.left reader.old) (R.left reader.new))
+        ⊎ ((fault ≡ OutOfMemory) × IsInOrder
+        (side (R.left reader.old) (R.left reader.new) (R.has_failed reader.new)))) }
+{
+    match read_whole(alloc, reader) {
+        Ok(text) => Ok(text),
+        Err(ReadFault::Unreadable) => Err(name.read_fault()),
+        Err(ReadFault::NoMemory) => Err(CliFault::OutOfMemory),
+    }
+}
+
+/// Reads the commands to their end, where they have a reader.
+fn read_commands<C: TextIn>(
+    alloc: Global,
+    commands: &mut Option<C>,
+) -> Result<Option<Vec<u8>>, CliFault>
+    requires { IsSoundIf C.has_failed commands.old }
+    ensures ok { IfOk result (λ text. GaveIf (side_if C.left C.has_failed commands.old commands.new) (option_map (λ t. t.items) text)) }
+    ensures err { IfErr result (λ fault.
+        ((fault ≡ ReadCommands) × IsUnreadableIf (side_if C.left C.has_failed commands.old commands.new))
+        ⊎ ((fault ≡ OutOfMemory) × IsInOrderIf (side_if C.left C.has_failed commands.old commands.new))) }
+    ensures there { is_some commands.new ≡ is_some commands.old }
+{
+    let Some(reader) = commands else {
+        return Ok(None);
+    };
+    match read_text(alloc, TextName::Commands, reader) {
+        Ok(text) => Ok(Some(text)),
+        Err(fault) => Err(fault),
+    }
+}
+
+/// Reads all texts to their ends: the source, the timed list, the commands.
+pub(crate) fn read_texts<S: TextIn, I: TextIn, C: TextIn>(
+    alloc: Global,
+    source: &mut S,
+    inputs: &mut I,
+    commands: &mut Option<C>,
+) -> Result<Texts, CliFault>
+    requires source { S.has_failed source.old ≡ false }
+    requires inputs { I.has_failed inputs.old ≡ false }
+    requires commands { IsSoundIf C.has_failed commands.old }
+    ensures ok { IfOk result (AllGave (readers
+        (side (S.left source.old) (S.left source.new) (S.has_failed source.new))
+        (side (I.left inputs.old) (I.left inputs.new) (I.has_failed inputs.new))
+        (side_if C.left C.has_failed commands.old commands.new))) }
+    ensures err { IfErr result (Unread (readers
+        (side (S.left source.old) (S.left source.new) (S.has_failed source.new))
+        (side (I.left inputs.old) (I.left inputs.new) (I.has_failed inputs.new))
+        (side_if C.left C.has_failed commands.old commands.new))) }
+    ensures there { is_some commands.new ≡ is_some commands.old }
+{
+    let source = read_text(alloc, TextName::Source, source)?;
+    let inputs = read_text(alloc, TextName::Input, inputs)?;
+    let commands = read_commands(alloc, commands)?;
+    Ok(Texts {
+        source,
+        inputs,
+        commands,
+    })
+}
