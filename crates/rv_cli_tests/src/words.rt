@@ -1,6 +1,8 @@
 //! Words that are taken, words that are refused, and the help.
 use clap::error::ErrorKind;
 use rv_cli::{NoRun, Place, read_words};
+use std::alloc::Global;
+use std::process::Abort;
 use std::test::Fail;
 
 #[test]
@@ -38,47 +40,58 @@ fn reads_the_words(rt: HostRuntime) -> Result<(), Fail> {
     Ok(())
 }
 
-#[test]
-fn reads_the_files(rt: HostRuntime) -> Result<(), Fail> {
-    let both = ["rvboard", "--commands=c.txt", "a.s", "--input", "i.txt"];
-    let rows: [(&[&str], Option<&str>, Option<&str>); 7] = [
-        (&["rvboard", "a.s"], None, None),
-        (&both, Some("i.txt"), Some("c.txt")),
-        (&["rvboard", "--input", "i.txt"], Some("i.txt"), None),
-        (&["rvboard", "--commands", "-"], None, Some("-")),
-        (&["rvboard", "--input=-x"], Some("-x"), None),
-        (&["rvboard", "--input="], Some(""), None),
-        (&["rvboard", "--commands", ""], None, Some("")),
-    ];
-    for (words, input, commands) in rows {
-        let read = read_words(rt.alloc(), words)?;
-        assert!(rt; read.input == input);
-        assert!(rt; read.commands == commands);
-    }
+/// Holds the files that words name to what is wanted.
+fn names(
+    rt: &impl Abort,
+    alloc: Global,
+    words: &[&str],
+    input: Option<&str>,
+    commands: Option<&str>,
+) -> Result<(), Fail> {
+    let read = read_words(alloc, words)?;
+    assert!(rt; read.input == input);
+    assert!(rt; read.commands == commands);
     Ok(())
 }
 
 #[test]
+fn reads_the_files(rt: HostRuntime) -> Result<(), Fail> {
+    let alloc = rt.alloc();
+    names(&rt, alloc, &["rvboard", "a.s"], None, None)?;
+    let both = ["rvboard", "--commands=c.txt", "a.s", "--input", "i.txt"];
+    names(&rt, alloc, &both, Some("i.txt"), Some("c.txt"))?;
+    let input = ["rvboard", "--input", "i.txt"];
+    names(&rt, alloc, &input, Some("i.txt"), None)?;
+    let commands = ["rvboard", "--commands", "-"];
+    names(&rt, alloc, &commands, None, Some("-"))?;
+    names(&rt, alloc, &["rvboard", "--input=-x"], Some("-x"), None)?;
+    names(&rt, alloc, &["rvboard", "--input="], Some(""), None)?;
+    let empty = ["rvboard", "--commands", ""];
+    names(&rt, alloc, &empty, None, Some(""))
+}
+
+/// Whether words are refused with an error of this kind.
+fn are_refused(alloc: Global, words: &[&str], kind: ErrorKind) -> bool {
+    read_words(alloc, words).is_err_and(|e| e.kind() == kind)
+}
+
+#[test]
 fn refuses_files_by_kind(rt: HostRuntime) {
+    let alloc = rt.alloc();
     let twice = ["rvboard", "--input=a", "--input=b"];
-    let cases: [(&[&str], ErrorKind); 7] = [
-        (&twice, ErrorKind::ArgumentConflict),
-        (
-            &["rvboard", "--commands", "a", "--commands", "a"],
-            ErrorKind::ArgumentConflict,
-        ),
-        (&["rvboard", "--input"], ErrorKind::InvalidValue),
-        (&["rvboard", "--commands"], ErrorKind::InvalidValue),
-        (
-            &["rvboard", "--input", "--commands", "a"],
-            ErrorKind::InvalidValue,
-        ),
-        (&["rvboard", "--input", "-x"], ErrorKind::UnknownArgument),
-        (&["rvboard", "--commands", "-x"], ErrorKind::UnknownArgument),
-    ];
-    for (words, kind) in cases {
-        assert!(rt; read_words(rt.alloc(), words).is_err_and(|e| e.kind() == kind));
-    }
+    assert!(&rt; are_refused(alloc, &twice, ErrorKind::ArgumentConflict));
+    let twice = ["rvboard", "--commands", "a", "--commands", "a"];
+    assert!(&rt; are_refused(alloc, &twice, ErrorKind::ArgumentConflict));
+    let no_value = ["rvboard", "--input"];
+    assert!(&rt; are_refused(alloc, &no_value, ErrorKind::InvalidValue));
+    let no_value = ["rvboard", "--commands"];
+    assert!(&rt; are_refused(alloc, &no_value, ErrorKind::InvalidValue));
+    let no_value = ["rvboard", "--input", "--commands", "a"];
+    assert!(&rt; are_refused(alloc, &no_value, ErrorKind::InvalidValue));
+    let unknown = ["rvboard", "--input", "-x"];
+    assert!(&rt; are_refused(alloc, &unknown, ErrorKind::UnknownArgument));
+    let unknown = ["rvboard", "--commands", "-x"];
+    assert!(rt; are_refused(alloc, &unknown, ErrorKind::UnknownArgument));
 }
 
 #[test]

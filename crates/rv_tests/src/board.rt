@@ -25,16 +25,6 @@ fn booted(alloc: Global, program: &Program, pages: u32) -> Result<BootedBoard, &
         .ok_or("the board doesn't boot")
 }
 
-fn flat(
-    alloc: Global,
-    program: &Program,
-    memory: FlatMemory,
-) -> Result<Board<FlatMemory, NoCache>, &'static str> {
-    Board::with_parts(alloc, program, memory, NoCache)
-        .ok()
-        .ok_or("the board doesn't boot")
-}
-
 #[test]
 fn hello_prints_and_halts(rt: HostRuntime) -> Result<(), Fail> {
     let program = program(rt.alloc(), HELLO)?;
@@ -135,7 +125,8 @@ fn a_run_stops_at_a_refused_step(rt: HostRuntime) -> Result<(), Fail> {
 fn the_largest_image_fits_the_largest_memory(rt: HostRuntime) -> Result<(), Fail> {
     let program = program(rt.alloc(), b".space 16777215\n.byte 1")?;
     let memory = FlatMemory::new(rt.alloc(), 4096)?;
-    let board = flat(rt.alloc(), &program, memory)?;
+    let board = Board::with_parts(rt.alloc(), &program, memory, NoCache);
+    let board = board.ok().ok_or("the board doesn't boot")?;
     assert_eq!(rt; board.ram(0x80ff_ffff), Some(1));
     assert_eq!(rt; board.ram(0x8100_0000), None);
     Ok(())
