@@ -1,4 +1,6 @@
 pub mod Above
+pub mod Asking
 pub mod Best
+pub mod Counts
 pub mod Forwarded
 pub mod Words

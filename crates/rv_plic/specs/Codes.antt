@@ -12,7 +12,10 @@ sources_code = set.code coded_ℕ
 
 abbrev pub gateway_code : Coded GatewayState
 gateway_code =
-    code_by (Sources × Sources) (coded× sources_code sources_code) (λ g. (g.high, g.outstanding)) (λ p. record { high = p.0; outstanding = p.1 }) (λ _. refl)
+    code_by ((Sources × Sources) × List ℕ) (coded× (coded× sources_code sources_code) (coded_list coded_ℕ))
+    (λ g. ((g.high, g.outstanding), g.edges))
+    (λ p. record { high = p.0.0; outstanding = p.0.1; edges = p.1 })
+    (λ _. refl)
 
 abbrev pub plic_code : Coded PlicState
 plic_code =

@@ -1,4 +1,5 @@
 pub mod Codes
+pub mod Edges
 pub mod Gateways
 pub mod Leads
 pub mod Plic

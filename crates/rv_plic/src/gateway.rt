@@ -1,49 +1,69 @@
-//! Interrupt gateways, which turn the levels of lines into requests.
-ghost use Rattle.std.specs.Prelude.{◌≡◌};
+//! Interrupt gateways, which turn the lines of sources into requests.
+ghost use Rattle.std.specs.Prelude.{◌≡◌, ◌-◌, ◌≤◌, true, false, slice_set};
+ghost use Rattle.rv_plic.specs.Edges.{edges_of, taken, given_back, one_more, one_less};
 ghost use Rattle.rv_plic.specs.Gateways.{all_low, with_line, requests, after_requests, withdrawn, after_completion};
 
 use crate::Source;
+use crate::edges::{Edges, is_by_edge};
 use crate::set::SourceSet;
 use std::marker::Model;
 
-/// The gateways of all sources: whose line is high, and whose request is not completed.
+/// The gateways of all sources: whose line is high, whose request is not completed, and the edges that wait.
 #[derive(Clone, Copy, PartialEq, Eq, Debug)]
 pub struct Gateways {
     high: SourceSet,
     outstanding: SourceSet,
+    edges: Edges,
+    /// The sources that ask, by an edge that waits or by their level, so that a tick goes over no counts.
+    asking: SourceSet,
 }
 
 impl Model for Gateways {
+    ghost use Rattle.std.specs.Prelude.{◌≡◌};
     ghost use Rattle.rv_plic.specs.Codes.{gateway_code};
-    ghost use Rattle.rv_plic.specs.Gateways.{GatewayState};
+    ghost use Rattle.rv_plic.specs.Gateways.{GatewayState, asking_sources};
 
     ghost Value = { GatewayState };
 
     ghost coded = { gateway_code };
 
-    ghost view = { λ g. record { high = g.high; outstanding = g.outstanding } };
+    ghost view = { λ g. record { high = g.high; outstanding = g.outstanding; edges = g.edges } };
 
-    ghost inverse = { λ g. record { high = g.high; outstanding = g.outstanding } };
+    ghost invariant = { λ g. asking_sources g.high g.edges ≡ g.asking };
+
+    ghost inverse = { λ g. record { high = g.high; outstanding = g.outstanding; edges = g.edges; asking = asking_sources g.high g.edges } };
+
+    ghost inverse_ok = { λ g h i. record { high = g.high; outstanding = g.outstanding; edges = g.edges; asking = h i } };
 }
 
 impl Gateways {
     /// All lines are low, and no request was made.
+    #[tactic(auto, using(crate::proofs::Asking::none_asks))]
     pub fn new() -> Gateways
         ensures { result ≡ all_low }
     {
         Gateways {
             high: SourceSet::new(),
             outstanding: SourceSet::new(),
+            edges: Edges::new(),
+            asking: SourceSet::new(),
         }
+    }
+
+    /// How many edges of a source wait.
+    pub fn edges(&self, source: Source) -> u32
+        ensures { result ≡ edges_of self.now.edges source }
+    {
+        self.edges.count(source)
     }
 
     pub fn set_line(&mut self, source: Source, high: bool)
         ensures { self.new ≡ with_line self.old source high }
     {
         if high {
-            self.high.insert(source);
+            self.raise(source);
         } else {
-            self.high.remove(source);
+            self.lower(source);
         }
     }
 
@@ -51,7 +71,7 @@ impl Gateways {
     pub fn requests(&self, pending: SourceSet) -> SourceSet
         ensures { result ≡ requests self.now pending }
     {
-        self.high.difference(self.outstanding).difference(pending)
+        self.asking.difference(self.outstanding).difference(pending)
     }
 
     /// The sources whose gateways forward a request now, where those of `pending` wait already.
@@ -61,6 +81,7 @@ impl Gateways {
     {
         let requests = self.requests(pending);
         self.outstanding = self.outstanding.union(requests);
+        self.take(requests);
         requests
     }
 
@@ -69,6 +90,7 @@ impl Gateways {
         ensures { self.new ≡ withdrawn self.old requests }
     {
         self.outstanding = self.outstanding.difference(requests);
+        self.give_back(requests);
     }
 
     pub fn complete(&mut self, source: Source)
@@ -76,4 +98,89 @@ impl Gateways {
     {
         self.outstanding.remove(source);
     }
+
+    /// The line of a source is high. If it was low, that is an edge.
+    #[tactic(auto, using(crate::proofs::Asking::lines))]
+    fn raise(&mut self, source: Source)
+        ensures { self.new ≡ with_line self.old source true }
+    {
+        let rises = !self.high.contains(source.number() as u32);
+        self.high.insert(source);
+        if !is_by_edge(source) {
+            self.asking.insert(source);
+        } else if rises {
+            let count = self.edges.count(source);
+            self.set_count(source, more(count));
+        }
+    }
+
+    #[tactic(auto, using(crate::proofs::Asking::lines))]
+    fn lower(&mut self, source: Source)
+        ensures { self.new ≡ with_line self.old source false }
+    {
+        self.high.remove(source);
+        if !is_by_edge(source) {
+            self.asking.remove(source);
+        }
+    }
+
+    /// So many edges of a source wait.
+    #[tactic(auto, using(crate::proofs::Asking::some_counted, crate::proofs::Asking::none_counted))]
+    fn set_count(&mut self, source: Source, count: u32)
+        requires by_edge { 24 ≤ source }
+        ensures { self.new ≡ record self.old { edges = slice_set self.old.edges (source - 24) count } }
+    {
+        self.edges.set(source, count);
+        if count > 0 {
+            self.asking.insert(source);
+        } else {
+            self.asking.remove(source);
+        }
+    }
+
+    /// An edge of each of these sources is taken.
+    #[tactic(auto, using(crate::proofs::Counts::changing, crate::proofs::Counts::nothing_changed))]
+    fn take(&mut self, sources: SourceSet)
+        ensures { self.new ≡ record self.old { edges = taken sources self.old.edges } }
+    {
+        if !self.edges.counts_any(sources) {
+            return;
+        }
+        for number in 24..32u8 {
+            if let Some(source) = sources.get(number as u32) {
+                let count = self.edges.count(source);
+                self.set_count(source, less(count));
+            }
+        }
+    }
+
+    /// An edge of each of these sources is given back.
+    #[tactic(auto, using(crate::proofs::Counts::changing, crate::proofs::Counts::nothing_changed))]
+    fn give_back(&mut self, sources: SourceSet)
+        ensures { self.new ≡ record self.old { edges = given_back sources self.old.edges } }
+    {
+        if !self.edges.counts_any(sources) {
+            return;
+        }
+        for number in 24..32u8 {
+            if let Some(source) = sources.get(number as u32) {
+                let count = self.edges.count(source);
+                self.set_count(source, more(count));
+            }
+        }
+    }
+}
+
+/// An edge more, unless the count is full.
+fn more(count: u32) -> u32
+    ensures { result ≡ one_more count }
+{
+    count.saturating_add(1)
+}
+
+/// An edge less, if there is one.
+fn less(count: u32) -> u32
+    ensures { result ≡ one_less count }
+{
+    count.saturating_sub(1)
 }

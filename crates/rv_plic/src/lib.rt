@@ -1,6 +1,7 @@
 //! The platform-level interrupt controller (RISC-V PLIC Specification 1.0).
 #![tactic(auto)]
 
+mod edges;
 mod gateway;
 mod plic;
 mod register;

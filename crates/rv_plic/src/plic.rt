@@ -1,6 +1,7 @@
 //! The interrupt controller.
 ghost use Rattle.std.specs.Prelude.{◌≡◌, ◌%◌, ◌<◌, ◌&&◌, nat_lt, slice_index, slice_set, unwrap_or};
 ghost use Rattle.std.specs.FinSet as set;
+ghost use Rattle.rv_plic.specs.Edges.{edges_of};
 ghost use Rattle.rv_plic.specs.Kept.{sources_above};
 ghost use Rattle.rv_plic.specs.Leads.{Leads, LeadsBelow};
 ghost use Rattle.rv_plic.specs.Plic.{PlicState, reset, with_line, ready, forwarded, withdrawn, best, is_notified, claimed, completed, word_at, with_word, load_value, after_load, stored};
@@ -63,12 +64,20 @@ impl Plic {
         }
     }
 
-    /// Sets the level of a source's line, and nothing else.
+    /// Sets the level of a source's line, and nothing else but that a rise of one of the sources 24 to 31 waits as an edge.
     pub fn set_line(&mut self, source: Source, high: bool)
         ensures { self.new ≡ with_line self.old source high }
     {
         self.gateways.set_line(source, high);
         self.ready = self.gateways.requests(self.pending);
+    }
+
+    /// How many edges of a source's line wait: those that were not forwarded yet of one of the sources 24 to 31, which
+    /// are triggered by edges, and 0 of the others.
+    pub fn edges(&self, source: Source) -> u32
+        ensures { result ≡ edges_of self.now.gateways.edges source }
+    {
+        self.gateways.edges(source)
     }
 
     /// The sources whose gateways have a request to forward.

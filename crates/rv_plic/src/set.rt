@@ -1,5 +1,5 @@
 //! Sets of sources.
-ghost use Rattle.std.specs.Prelude.{◌≡◌, ◌<◌, ◌↔◌, IsTrue, if◌then◌else◌};
+ghost use Rattle.std.specs.Prelude.{◌≡◌, ◌<◌, ◌≤◌, ◌↔◌, ℕ, false, IsTrue, IsFalse, if◌then◌else◌};
 ghost use Rattle.std.specs.FinSet as set;
 ghost use Rattle.rv_plic.specs.Sources.{sources_of, word_of};
 
@@ -67,6 +67,14 @@ impl SourceSet {
         ensures range { IsTrue result → (0 < number) × (number < 32) }
     {
         number < 32 && (self.word >> number) & 1 == 1
+    }
+
+    /// Whether any source that is triggered by edges is in the set.
+    #[tactic(auto, using(crate::proofs::Asking::none_from))]
+    pub fn has_by_edge(&self) -> bool
+        ensures { IsFalse result → (q : ℕ) → 24 ≤ q → set.contains self.now q ≡ false }
+    {
+        self.word >> 24 != 0
     }
 
     /// The source of a number, if it is in the set.

@@ -1,0 +1,12 @@
+use Rattle.std.specs.Prelude.{◌≡◌}
+use Rattle.rv_plic.specs.Edges.{one_more}
+use Rattle.rv_plic.proofs.Counts.{IsChangedBelow}
+use Rattle.rv_plic.proofs.gateway.Gateways.give_back.Given as goal
+
+-- the counts of the sources so far are changed, and nothing else
+abbrev pub invariant-loop-number : goal.invariant-loop-number
+invariant-loop-number l = record {
+  counts : IsChangedBelow one_more l.number l.sources l.fn.self.edges l.self.edges;
+  high : l.self.high ≡ l.fn.self.high;
+  outstanding : l.self.outstanding ≡ l.fn.self.outstanding;
+}

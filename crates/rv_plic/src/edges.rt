@@ -1,0 +1,72 @@
+//! Edges that wait.
+ghost use Rattle.std.specs.Prelude.{◌≡◌, ◌-◌, ◌≤◌, ℕ, false, IsFalse, slice_set};
+ghost use Rattle.std.specs.FinSet as set;
+ghost use Rattle.rv_plic.specs.Edges.{none_waits, is_by_edge, edges_of};
+
+use crate::Source;
+use crate::set::SourceSet;
+use std::marker::Model;
+
+/// The first source that is triggered by edges.
+const FIRST: u8 = 24;
+
+/// How many edges of each source wait that is triggered by edges.
+#[derive(Clone, Copy, PartialEq, Eq, Debug)]
+pub struct Edges {
+    counts: [u32; 8],
+}
+
+impl Model for Edges {
+    ghost use Rattle.std.specs.Prelude.{◌≡◌, length};
+    ghost use Rattle.rv_plic.specs.Edges.{Edges};
+
+    ghost Value = { Edges };
+
+    ghost view = { λ e. e.counts };
+
+    ghost invariant = { λ e. length e.counts ≡ 8 };
+
+    ghost inverse = { λ counts. record { counts = counts } };
+}
+
+/// Whether a source is triggered by edges, and not by its level.
+pub fn is_by_edge(source: Source) -> bool
+    ensures { result ≡ is_by_edge source }
+{
+    source.number() >= FIRST
+}
+
+impl Edges {
+    /// No edge waits.
+    pub fn new() -> Edges
+        ensures { result ≡ none_waits }
+    {
+        Edges { counts: [0; 8] }
+    }
+
+    /// How many edges of a source wait.
+    pub fn count(&self, source: Source) -> u32
+        ensures { result ≡ edges_of self.now source }
+    {
+        if is_by_edge(source) {
+            self.counts[(source.number() - FIRST) as usize]
+        } else {
+            0
+        }
+    }
+
+    /// Whether edges of any of these sources are counted.
+    pub fn counts_any(&self, sources: SourceSet) -> bool
+        ensures { IsFalse result → (q : ℕ) → 24 ≤ q → set.contains sources q ≡ false }
+    {
+        sources.has_by_edge()
+    }
+
+    /// So many edges of a source wait.
+    pub fn set(&mut self, source: Source, count: u32)
+        requires by_edge { 24 ≤ source }
+        ensures { self.new ≡ slice_set self.old (source - 24) count }
+    {
+        self.counts[(source.number() - FIRST) as usize] = count;
+    }
+}
