@@ -16,7 +16,7 @@ other : (bs : List ℕ) (i x j : ℕ) → j ≢ i → slice_index (slice_set bs 
 other bs i x j n = grind (arith, elements)
 
 -- a store leaves the bytes that it does not write
-byte-put : (bs : List ℕ) (off v j : ℕ) (w : Width) → ((i : ℕ) → i < bytes_of w → j ≢ off + i) → slice_index (put bs off w v) j ≡ slice_index bs j
+pub byte-put : (bs : List ℕ) (off v j : ℕ) (w : Width) → ((i : ℕ) → i < bytes_of w → j ≢ off + i) → slice_index (put bs off w v) j ≡ slice_index bs j
 byte-put bs off v j One n = other bs off _ j (λ e. n 0 (omega arith) (omega arith))
 byte-put bs off v j Two n = other _ (off + 1) _ j (n 1 (omega arith)) ∙ other bs off _ j (λ e. n 0 (omega arith) (omega arith))
 byte-put bs off v j Four n =

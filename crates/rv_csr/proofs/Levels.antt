@@ -1,14 +1,16 @@
 -- User mode reaches no register.
-use Rattle.std.proofs.Common.{◌≡◌, ℕ, ◌+◌, ◌*◌, ◌/◌, ◌%◌, ◌^◌, ◌<◌, ◌≤◌, ◌==◌, Bool, true, false, Option, Some, None, refl, ◌∙◌, arith}
-use Rattle.std.specs.Prelude.{◌&&◌, not}
+use Rattle.std.proofs.Common.{◌≡◌, ℕ, ◌+◌, ◌*◌, ◌/◌, ◌%◌, ◌^◌, ◌<◌, ◌≤◌, ◌==◌, Bool, true, false, Option, Some, None, refl, ap, ◌∙◌, arith}
+use Rattle.std.specs.Prelude.{◌&&◌, not, if◌then◌else◌}
 use Rattle.std.specs.Option.{option_map}
 use Rattle.std.proofs.lemmas.Bool.{leb-true}
 use Rattle.std.proofs.lemmas.Bool.Decides.{nat_tests}
+use Rattle.rv_isa.specs.declared.Lines.{Lines}
 use Rattle.rv_pmp.specs.Pmp.{PmpState}
 use Rattle.rv_pmp.specs.Pmp as protection
 use Rattle.rv_pmp.specs.declared.access.Mode.{Mode}
 use Rattle.rv_pmp.specs.declared.access.Mode.TheVariants.{User}
-use Rattle.rv_csr.specs.Registers.{is_from_to, register_at, may_read, may_write}
+use Rattle.rv_csr.specs.Registers.{is_from_to, register_at, may_read, may_write, read, loaded}
+use Rattle.rv_csr.specs.State.{CsrState}
 use Rattle.rv_csr.specs.declared.register.Register.{Register}
 
 -- an address of user level isn't one of machine level
@@ -80,3 +82,14 @@ no_store old addr word new mode (Some done) may user stores = let none = protect
   gone : protection.register_at addr ≡ None → option_map (λ register. record { entries = protection.with_word old.entries register word }) (protection.register_at addr) ≡ Some new → ⊥
   gone none e = let q = rw none at e in cc
 no_store old addr word new mode None may user stores = refl
+
+-- as the definition has it
+pub nothing_read : (state : CsrState) (addr : ℕ) (lines : Lines) → read state addr User lines ≡ None
+unfolding read protection.load
+nothing_read state addr lines = by_level (may_read addr User) refl
+  where
+    by_level : (b : Bool) → may_read addr User ≡ b → (if b then loaded state lines addr (register_at addr) else None) ≡ None
+    by_level true may =
+        ap (loaded state lines addr) (register_at-user addr (level_0 addr may))
+        ∙ ap (option_map (protection.word_of state.pmp)) (protection-user addr (level_0 addr may))
+    by_level false may = refl

@@ -1,0 +1,223 @@
+-- What loads, stores and fetches read and write of the memory: their own bytes alone. Each law compares a bus with the same
+-- bus over another memory of the same size.
+use Rattle.std.proofs.Common.{◌≡◌, ◌≢◌, ℕ, ◌+◌, ◌-◌, ◌/◌, ◌%◌, ◌≤◌, ◌<◌, List, slice_index, slice_set, length, Option, Some, None, Bool, true, false, nat_le, nat_lt, ◌&&◌, ◌==◌, if◌then◌else◌, arith, inl, inr, add-zero, refl, sym, ap, subst, ◌∙◌}
+use Rattle.std.specs.Option.{option_map}
+use Rattle.std.proofs.lemmas.Bool.{leb-true, ltb-false, cases_eq, cases_lt}
+use Rattle.std.proofs.lemmas.Bool.Decides.{nat_tests}
+use Rattle.std.proofs.lemmas.Grind.{common_steps, get_or-set_at}
+use Rattle.std.proofs.lemmas.List.{set_past, get_or_past, get_or-set_other}
+use Rattle.rv_isa.specs.declared.op.Width.{Width}
+use Rattle.rv_isa.specs.declared.op.Width.TheVariants.{One, Two, Four}
+use Rattle.rv_isa.specs.Width.{bytes_of}
+use Rattle.rv_ram.specs.Bytes.{value_at, put}
+use Rattle.rv_mmio.specs.Timer.{TimerState}
+use Rattle.rv_mmio.specs.Timer as timer
+use Rattle.rv_mmio.specs.declared.serial.SerialReg.{SerialReg}
+use Rattle.rv_mmio.specs.declared.serial.SerialReg.TheVariants.{Tx, Rx, Status}
+use Rattle.rv_bus.specs.State.{BusState}
+use Rattle.rv_bus.specs.Places.{place_of, device_of, of_width}
+use Rattle.rv_bus.specs.declared.places.Place.{Place}
+use Rattle.rv_bus.specs.declared.places.Place.TheVariants.{Ram, Halt, Timer, Plic, Serial, Nowhere}
+use Rattle.rv_bus.specs.Access.{word_of, fetch, load, load_at, after_load, after_load_at, store, store_at, ram_byte}
+use Rattle.rv_bus.proofs.Others.{byte-put, length-put}
+
+-- the bus over another memory
+abbrev pub with_ram : BusState → List ℕ → BusState
+with_ram b ram = record b { ram = ram }
+
+-- ---- what holds of each place holds of the place of an address
+
+word_devices : (P : Place → Type 0) (a : ℕ) (x y z : Bool) → P Halt → P (Timer (a - 0x02000000)) → P (Plic (a - 0x0c000000)) → P Nowhere
+    → P (if x then Halt else (if y then Timer (a - 0x02000000) else (if z then Plic (a - 0x0c000000) else Nowhere)))
+word_devices P a true y z halt timer plic nowhere = halt
+word_devices P a false true z halt timer plic nowhere = timer
+word_devices P a false false true halt timer plic nowhere = plic
+word_devices P a false false false halt timer plic nowhere = nowhere
+
+serial_or : (P : Place → Type 0) (x y z : Bool) (rest : Place) → ((reg : SerialReg) → P (Serial reg)) → P rest
+    → P (if x then Serial Tx else (if y then Serial Rx else (if z then Serial Status else rest)))
+serial_or P true y z rest serial other = serial Tx
+serial_or P false true z rest serial other = serial Rx
+serial_or P false false true rest serial other = serial Status
+serial_or P false false false rest serial other = other
+
+memory_or : (P : Place → Type 0) (x y : Bool) (off : ℕ) (rest : Place) → (x ≡ true → P (Ram off)) → P Nowhere → P rest
+    → P (if x then (if y then Ram off else Nowhere) else rest)
+memory_or P true true off rest ram nowhere other = ram refl
+memory_or P true false off rest ram nowhere other = nowhere
+memory_or P false y off rest ram nowhere other = other
+
+pub each_place : (P : Place → Type 0) (size a : ℕ) (w : Width) → (0x80000000 ≤ a → P (Ram (a - 0x80000000))) → P Halt → ((off : ℕ) → P (Timer off)) → ((off : ℕ) → P (Plic off)) → ((reg : SerialReg) → P (Serial reg)) → P Nowhere
+    → P (place_of size a w)
+unfolding place_of
+each_place P size a w ram halt timer plic serial nowhere =
+    memory_or P (nat_le 0x80000000 a) (nat_lt (a - 0x80000000) size) (a - 0x80000000) (device_of a w) (λ t. ram (leb-true 0x80000000 a t)) nowhere
+    (serial_or P (a == 0x10000000) (a == 0x10000004) (a == 0x10000008) (of_width a w) serial (by_width w))
+  where
+    by_width : (v : Width) → P (of_width a v)
+    by_width One = nowhere
+    by_width Two = nowhere
+    by_width Four = word_devices P a (a == 0x00100000) (nat_le 0x02000000 a && nat_lt a 0x0200c000) (nat_le 0x0c000000 a && nat_lt a 0x10000000) halt (timer (a - 0x02000000)) (plic (a - 0x0c000000)) nowhere
+
+-- ---- the bytes of an access
+
+-- they are the same in both memories
+abbrev pub SameBytes : List ℕ → List ℕ → ℕ → ℕ → Type 0
+SameBytes one other off count = (i : ℕ) → i < count → slice_index other (off + i) ≡ slice_index one (off + i)
+
+first_byte : (one other : List ℕ) (off count : ℕ) → 0 < count → SameBytes one other off count → slice_index other off ≡ slice_index one off
+first_byte one other off count some same = subst (λ k. slice_index other k ≡ slice_index one k) (add-zero off) (same 0 some)
+
+pub same_value : (one other : List ℕ) (off : ℕ) (w : Width) → SameBytes one other off (bytes_of w) → value_at other off w ≡ value_at one off w
+same_value one other off One same = first_byte one other off 1 (omega arith) same
+same_value one other off Two same =
+    let e0 = first_byte one other off 2 (omega arith) same in
+    let e1 = same 1 (omega arith) in
+    cc
+same_value one other off Four same =
+    let e0 = first_byte one other off 4 (omega arith) same in
+    let e1 = same 1 (omega arith) in
+    let e2 = same 2 (omega arith) in
+    let e3 = same 3 (omega arith) in
+    cc
+
+-- ---- loads and fetches
+
+-- a load of the same bytes gives the same
+pub same_load : (b : BusState) (ram : List ℕ) (a : ℕ) (w : Width) → length ram ≡ length b.ram → (0x80000000 ≤ a → SameBytes b.ram ram (a - 0x80000000) (bytes_of w)) → load (with_ram b ram) a w ≡ load b a w
+unfolding load
+same_load b ram a w size same =
+    ap (λ n. load_at (with_ram b ram) (place_of n a w) w) size
+    ∙ each_place (λ p. load_at (with_ram b ram) p w ≡ load_at b p w) (length b.ram) a w
+    (λ above. ap Some (same_value b.ram ram (a - 0x80000000) w (same above))) refl (λ off. refl) (λ off. refl) (λ reg. refl) refl
+
+-- what it leaves has nothing to do with the memory
+pub same_after_load : (b : BusState) (ram : List ℕ) (a : ℕ) (w : Width) → length ram ≡ length b.ram → after_load (with_ram b ram) a w ≡ with_ram (after_load b a w) ram
+unfolding after_load
+same_after_load b ram a w size =
+    ap (λ n. after_load_at (with_ram b ram) (place_of n a w)) size
+    ∙ each_place (λ p. after_load_at (with_ram b ram) p ≡ with_ram (after_load_at b p) ram) (length b.ram) a w
+    (λ above. refl) refl (λ off. refl) (λ off. refl) (λ reg. refl) refl
+
+pub memory_after_load : (b : BusState) (a : ℕ) (w : Width) → (after_load b a w).ram ≡ b.ram
+unfolding after_load
+memory_after_load b a w =
+    each_place (λ p. (after_load_at b p).ram ≡ b.ram) (length b.ram) a w (λ above. refl) refl (λ off. refl) (λ off. refl) (λ reg. refl) refl
+
+pub same_fetch : (one other : List ℕ) (a : ℕ) → length other ≡ length one → (0x80000000 ≤ a → SameBytes one other (a - 0x80000000) 4) → fetch other a ≡ fetch one a
+unfolding fetch
+same_fetch one other a size same =
+    ap (λ n. word_of other (place_of n a Four)) size
+    ∙ each_place (λ p. word_of other p ≡ word_of one p) (length one) a Four
+    (λ above. ap Some (same_value one other (a - 0x80000000) Four (same above))) refl (λ off. refl) (λ off. refl) (λ reg. refl) refl
+
+-- ---- stores
+
+same_set : (one other : List ℕ) (i v k : ℕ) → length other ≡ length one → slice_index other k ≡ slice_index one k → slice_index (slice_set other i v) k ≡ slice_index (slice_set one i v) k
+same_set one other i v k size same =
+    elim (cases_eq k i) [
+      | inl here ↦ elim (cases_lt i (length one)) [
+        | inl within ↦ get_or-set_at other i k v 0 here (omega arith) ∙ sym (get_or-set_at one i k v 0 here within)
+        | inr beyond ↦ ap (λ (bs : List ℕ). slice_index bs k) (set_past other i v (omega arith)) ∙ (same ∙ sym (ap (λ (bs : List ℕ). slice_index bs k) (set_past one i v beyond)))
+      ]
+      | inr away ↦ get_or-set_other other i k v 0 away ∙ (same ∙ sym (get_or-set_other one i k v 0 away))
+    ]
+
+length_set : (bs : List ℕ) (i v : ℕ) → length (slice_set bs i v) ≡ length bs
+length_set bs i v = grind (arith, common_steps)
+
+-- a byte that is the same in both memories is so after the same store
+same_put : (one other : List ℕ) (off v k : ℕ) (w : Width) → length other ≡ length one → slice_index other k ≡ slice_index one k → slice_index (put other off w v) k ≡ slice_index (put one off w v) k
+same_put one other off v k One size same = same_set one other off (v % 256) k size same
+same_put one other off v k Two size same =
+    let size1 = length_set other off (v % 256) ∙ (size ∙ sym (length_set one off (v % 256))) in
+    same_set _ _ (off + 1) (v / 256 % 256) k size1 (same_set one other off (v % 256) k size same)
+same_put one other off v k Four size same =
+    let size1 = length_set other off (v % 256) ∙ (size ∙ sym (length_set one off (v % 256))) in
+    let size2 = length_set (slice_set other off (v % 256)) (off + 1) (v / 256 % 256) ∙ (size1 ∙ sym (length_set (slice_set one off (v % 256)) (off + 1) (v / 256 % 256))) in
+    let size3 = length_set (slice_set (slice_set other off (v % 256)) (off + 1) (v / 256 % 256)) (off + 2) (v / 65536 % 256) ∙ (size2 ∙ sym (length_set (slice_set (slice_set one off (v % 256)) (off + 1) (v / 256 % 256)) (off + 2) (v / 65536 % 256))) in
+    same_set _ _ (off + 3) (v / 16777216) k size3
+    (same_set _ _ (off + 2) (v / 65536 % 256) k size2
+    (same_set _ _ (off + 1) (v / 256 % 256) k size1 (same_set one other off (v % 256) k size same)))
+
+-- what a store at an address leaves of a bus b, and of the same bus over another memory: only the memories differ, only the
+-- store's own bytes are written, and what was the same stays so
+pub record StoresAlike (b : BusState) (ram : List ℕ) (a : ℕ) (w : Width) (one other : BusState) : Type 0 where
+  pub rest : other ≡ with_ram one other.ram
+  pub size : length one.ram ≡ length b.ram
+  pub other_size : length other.ram ≡ length one.ram
+  pub kept : (k : ℕ) → ((i : ℕ) → i < bytes_of w → a + i ≢ 0x80000000 + k) → slice_index one.ram k ≡ slice_index b.ram k
+  pub same : (k : ℕ) → slice_index ram k ≡ slice_index b.ram k → slice_index other.ram k ≡ slice_index one.ram k
+
+abbrev pub BothStore : BusState → List ℕ → ℕ → Width → Option BusState → Option BusState → Type 0
+BothStore b ram a w None None = Unit {0}
+BothStore b ram a w None (Some other) = ⊥
+BothStore b ram a w (Some one) None = ⊥
+BothStore b ram a w (Some one) (Some other) = StoresAlike b ram a w one other
+
+-- a store to a device
+device_store : (b : BusState) (ram : List ℕ) (a : ℕ) (w : Width) (one : BusState) → length ram ≡ length b.ram → one.ram ≡ b.ram → StoresAlike b ram a w one (with_ram one ram)
+device_store b ram a w one size still = record {
+  rest = refl;
+  size = ap length still;
+  other_size = size ∙ sym (ap length still);
+  kept = λ k others. ap (λ (bs : List ℕ). slice_index bs k) still;
+  same = λ k e. e ∙ sym (ap (λ (bs : List ℕ). slice_index bs k) still);
+}
+
+memory_store : (b : BusState) (ram : List ℕ) (a v : ℕ) (w : Width) → length ram ≡ length b.ram → 0x80000000 ≤ a
+    → StoresAlike b ram a w (record b { ram = put b.ram (a - 0x80000000) w v }) (record b { ram = put ram (a - 0x80000000) w v })
+memory_store b ram a v w size above = record {
+  rest = refl;
+  size = length-put b.ram (a - 0x80000000) v w;
+  other_size = length-put ram (a - 0x80000000) v w ∙ (size ∙ sym (length-put b.ram (a - 0x80000000) v w));
+  kept = λ k others. byte-put b.ram (a - 0x80000000) v k w (λ i less e. others i less (omega arith));
+  same = λ k e. same_put b.ram ram (a - 0x80000000) v k w size e;
+}
+
+timer_store : (b : BusState) (ram : List ℕ) (a : ℕ) (w : Width) (t : Option TimerState) → length ram ≡ length b.ram
+    → BothStore b ram a w (option_map (λ t. record b { timer = t }) t) (option_map (λ t. record (with_ram b ram) { timer = t }) t)
+timer_store b ram a w None size = tt
+timer_store b ram a w (Some t) size = device_store b ram a w (record b { timer = t }) size refl
+
+pub same_store : (b : BusState) (ram : List ℕ) (a v : ℕ) (w : Width) → length ram ≡ length b.ram → BothStore b ram a w (store b a w v) (store (with_ram b ram) a w v)
+unfolding store
+same_store b ram a v w size =
+    subst (λ n. BothStore b ram a w (store_at b (place_of (length b.ram) a w) w v) (store_at (with_ram b ram) (place_of n a w) w v)) (sym size)
+    (each_place (λ p. BothStore b ram a w (store_at b p w v) (store_at (with_ram b ram) p w v)) (length b.ram) a w
+    (λ above. memory_store b ram a v w size above)
+    (device_store b ram a w _ size refl)
+    (λ off. timer_store b ram a w (timer.store b.timer off v) size)
+    (λ off. device_store b ram a w _ size refl)
+    (λ reg. device_store b ram a w _ size refl)
+    tt)
+
+-- ---- a byte at an address
+
+pub same_byte : (one other : List ℕ) (a : ℕ) → length other ≡ length one → (0x80000000 ≤ a → slice_index other (a - 0x80000000) ≡ slice_index one (a - 0x80000000)) → ram_byte other a ≡ ram_byte one a
+same_byte one other a size same =
+    ap (λ n. if nat_le 0x80000000 a && nat_lt (a - 0x80000000) n then Some (slice_index other (a - 0x80000000)) else None) size
+    ∙ by_place (nat_le 0x80000000 a) (nat_lt (a - 0x80000000) (length one)) (λ t. same (leb-true 0x80000000 a t))
+  where
+    by_place : (x y : Bool) → (x ≡ true → slice_index other (a - 0x80000000) ≡ slice_index one (a - 0x80000000))
+        → (if x && y then Some (slice_index other (a - 0x80000000)) else None) ≡ (if x && y then Some (slice_index one (a - 0x80000000)) else None)
+    by_place true true e = ap Some (e refl)
+    by_place true false e = refl
+    by_place false y e = refl
+
+pub byte_same : (one other : List ℕ) (k : ℕ) → length other ≡ length one → ram_byte other (0x80000000 + k) ≡ ram_byte one (0x80000000 + k) → slice_index other k ≡ slice_index one k
+byte_same one other k size same = by_place (nat_lt k (length one)) refl
+  where
+    at_byte : (bs : List ℕ) → nat_lt k (length bs) ≡ true → ram_byte bs (0x80000000 + k) ≡ Some (slice_index bs k)
+    at_byte bs t =
+        let le : nat_le 0x80000000 (0x80000000 + k) ≡ true = grind (arith, nat_tests) in
+        let off : 0x80000000 + k - 0x80000000 ≡ k = omega arith in
+        rw (le, off, t) refl
+
+    by_place : (x : Bool) → nat_lt k (length one) ≡ x → slice_index other k ≡ slice_index one k
+    by_place true t =
+        let is : Some (slice_index other k) ≡ Some (slice_index one k) = sym (at_byte other (ap (nat_lt k) size ∙ t)) ∙ (same ∙ at_byte one t) in
+        cc
+    by_place false t =
+        let high : length one ≤ k = ltb-false k (length one) t in
+        get_or_past other k 0 (omega arith) ∙ sym (get_or_past one k 0 high)
