@@ -38,7 +38,8 @@ writes_by None b Step = hart.writes b.machine
 writes_by None b (Line source high) = false
 writes_by None b (Rx byte) = false
 
--- the event is a step that retires a store to the memory or the console
+-- the event is a step that retires a store for which room has to be made: in a page of the memory that has only zeros, or
+-- in a console that may have none left
 unfoldable pub writes : BoardState → Event → Bool
 writes b e = writes_by b.machine.bus.halt b e
 

@@ -6,6 +6,7 @@ use Rattle.rv_isa.specs.declared.op.Width.{Width}
 use Rattle.rv_isa.specs.declared.op.Width.TheVariants.{One, Two, Four}
 use Rattle.rv_isa.specs.declared.Lines.{Lines}
 use Rattle.rv_ram.specs.Bytes.{word_at, put, value_at}
+use Rattle.rv_ram.specs.Pages.{wants_page}
 use Rattle.rv_plic.specs.Plic as plic
 use Rattle.rv_mmio.specs.Timer as timer
 use Rattle.rv_mmio.specs.Serial as serial
@@ -50,19 +51,14 @@ store_at b (Plic off) w v = Some (record b { plic = plic.stored b.plic off v })
 store_at b (Serial reg) w v = Some (record b { serial = serial.stored b.serial reg v })
 store_at b Nowhere w v = None
 
-abbrev pub is_transmit : SerialReg → Bool
-is_transmit Tx = true
-is_transmit Rx = false
-is_transmit Status = false
-
--- a store there may have to grow something: the memory or the console
-abbrev pub grows_at : Place → Bool
-grows_at (Ram off) = true
-grows_at Halt = false
-grows_at (Timer off) = false
-grows_at (Plic off) = false
-grows_at (Serial reg) = is_transmit reg
-grows_at Nowhere = false
+-- a store there may have to make room: for a page of the memory, or in the console
+abbrev pub grows_at : BusState → Place → Width → ℕ → Bool
+grows_at b (Ram off) w v = wants_page b.ram off w v
+grows_at b Halt w v = false
+grows_at b (Timer off) w v = false
+grows_at b (Plic off) w v = false
+grows_at b (Serial reg) w v = serial.wants_room b.serial reg
+grows_at b Nowhere w v = false
 
 abbrev pub place : BusState → ℕ → Width → Place
 place b a w = place_of (length b.ram) a w
@@ -76,8 +72,8 @@ after_load b a w = after_load_at b (place b a w)
 unfoldable pub store : BusState → ℕ → Width → ℕ → Option BusState
 store b a w v = store_at b (place b a w) w v
 
-unfoldable pub grows : BusState → ℕ → Width → Bool
-grows b a w = grows_at (place b a w)
+unfoldable pub grows : BusState → ℕ → Width → ℕ → Bool
+grows b a w v = grows_at b (place b a w) w v
 
 abbrev pub word_of : List ℕ → Place → Option ℕ
 word_of ram (Ram off) = Some (word_at ram off)

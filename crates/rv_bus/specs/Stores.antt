@@ -9,11 +9,11 @@ use Rattle.rv_bus.specs.declared.bus.StoreRefusal.{StoreRefusal}
 use Rattle.rv_bus.specs.declared.bus.StoreRefusal.TheVariants.{Fault, NoMemory}
 
 -- a store that is done leaves what the table says; a fault is where the table has nothing; memory is wanted only where
--- something grows; a refused store leaves all as it was
+-- room has to be made; a refused store leaves all as it was
 abbrev pub Stores : BusState → ℕ → Width → ℕ → BusState → Result Unit StoreRefusal → Type 0
 Stores old a w v new (Ok u) = store old a w v ≡ Some new
 Stores old a w v new (Err Fault) = (store old a w v ≡ None) × (new ≡ old)
-Stores old a w v new (Err NoMemory) = (grows old a w ≡ true) × (new ≡ old)
+Stores old a w v new (Err NoMemory) = (grows old a w v ≡ true) × (new ≡ old)
 
 -- an access that answers a value answers what the table has there, and else a fault
 abbrev pub Answers : Result ℕ BusFault → Option ℕ → Type 0

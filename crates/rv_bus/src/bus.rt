@@ -184,7 +184,8 @@ impl<M: ByteMemory> Bus<M> {
     }
 
     /// Stores the low bytes of a value at an address that is a multiple of their number. A refused store changes
-    /// nothing.
+    /// nothing. Memory is wanted only where room has to be made: for a page of the memory that has only zeros, where
+    /// something else is stored, or in the console where it has none, which is at most once in 4096 bytes.
     #[tactic(auto, using(crate::proofs::Others::fetch_put), unfolding(crate::specs::Access::store, crate::specs::Access::grows))]
     pub fn store(&mut self, addr: u32, width: Width, value: u32) -> Result<(), StoreRefusal>
         requires { addr % bytes_of width ≡ 0 }

@@ -1,3 +1,4 @@
+pub mod Room
 pub mod Halt
 pub mod Serial
 pub mod Timer

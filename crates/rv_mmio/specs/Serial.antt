@@ -1,6 +1,6 @@
 -- To audit: public contracts cite this.
 -- The serial port: a queue of received bytes, and a console of sent ones.
-use Rattle.std.specs.Prelude.{ℕ, Bool, true, false, ◌+◌, ◌%◌, nat_lt, if◌then◌else◌, List, [], ◌∷◌, ◌++◌, length, drop, slice_get, Option, Some, None}
+use Rattle.std.specs.Prelude.{ℕ, Bool, true, false, ◌+◌, ◌%◌, ◌==◌, nat_lt, if◌then◌else◌, List, [], ◌∷◌, ◌++◌, length, drop, slice_get, Option, Some, None}
 use Rattle.rv_mmio.specs.declared.serial.SerialReg.{SerialReg}
 use Rattle.rv_mmio.specs.declared.serial.SerialReg.TheVariants.{Tx, Rx, Status}
 
@@ -39,6 +39,16 @@ abbrev pub stored : SerialState → SerialReg → ℕ → SerialState
 stored serial Tx word = record serial { sent = serial.sent ++ (word % 256) ∷ [] }
 stored serial Rx word = serial
 stored serial Status word = serial
+
+-- the console may have no room left: it is made for 4096 bytes at a time
+unfoldable pub is_full : SerialState → Bool
+is_full serial = length serial.sent % 4096 == 0
+
+-- a store there has to make room where the console has none
+abbrev pub wants_room : SerialState → SerialReg → Bool
+wants_room serial Tx = is_full serial
+wants_room serial Rx = false
+wants_room serial Status = false
 
 -- a byte comes. The queue holds 16, and a byte beyond them is lost
 abbrev pub received : SerialState → ℕ → SerialState

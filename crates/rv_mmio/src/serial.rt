@@ -1,7 +1,7 @@
 //! The serial port.
-ghost use Rattle.std.specs.Prelude.{◌≡◌, ◌≤◌, [], ◌∷◌, ◌++◌, length, IfOk, OnOk, OnErr};
-ghost use Rattle.rv_mmio.specs.declared.serial.SerialReg.TheVariants.{Tx, Rx, Status};
-ghost use Rattle.rv_mmio.specs.Serial.{reset, status_word, load_value, after_load, stored, received};
+ghost use Rattle.std.specs.Prelude.{◌≡◌, ◌+◌, ◌≤◌, [], ◌∷◌, ◌++◌, true, length, vec_len, vec_capacity, IfOk, OnOk, OnErr};
+ghost use Rattle.rv_mmio.specs.declared.serial.SerialReg.TheVariants.{Rx, Status};
+ghost use Rattle.rv_mmio.specs.Serial.{reset, status_word, load_value, after_load, stored, received, is_full, wants_room};
 
 use circular_buffer::HeapCircularBuffer;
 use rv_isa::NoMemory;
@@ -10,6 +10,9 @@ use std::marker::Model;
 
 /// How many received bytes wait at most.
 const QUEUE: usize = 16;
+
+/// For how many bytes at least the console makes room when it has none.
+const ROOM: usize = 4096;
 
 /// A register of the serial port.
 #[derive(Clone, Copy, PartialEq, Eq, Debug)]
@@ -31,14 +34,15 @@ pub struct Serial {
 }
 
 impl Model for Serial {
-    ghost use Rattle.std.specs.Prelude.{◌≡◌};
+    ghost use Rattle.std.specs.Prelude.{◌≡◌, vec_len, vec_capacity};
     ghost use Rattle.rv_mmio.specs.Serial.{SerialState};
+    ghost use Rattle.rv_mmio.specs.Room.{HasRoom};
 
     ghost Value = { SerialState };
 
     ghost view = { λ s. record { waiting = s.waiting.items; sent = s.sent.items; overrun = s.overrun } };
 
-    ghost invariant = { λ s. s.waiting.capacity ≡ 16 };
+    ghost invariant = { λ s. (s.waiting.capacity ≡ 16) × HasRoom (vec_len s.sent) (vec_capacity s.sent) };
 }
 
 impl Serial {
@@ -77,11 +81,11 @@ impl Serial {
     }
 
     /// A store to a register. One to the transmit register appends the low byte to the console; the others change
-    /// nothing.
+    /// nothing. It is refused only where the console has to make room, which it does for 4096 bytes at a time.
     pub fn store(&mut self, reg: SerialReg, word: u32) -> Result<(), NoMemory>
         ensures ok { OnOk result (self.new ≡ stored self.old reg word) }
         ensures err { OnErr result (self.new ≡ self.old) }
-        ensures only_sending { OnErr result (reg ≡ Tx) }
+        ensures room { OnErr result (wants_room self.old reg ≡ true) }
     {
         match reg {
             SerialReg::Tx => self.send((word % 256) as u8),
@@ -111,10 +115,15 @@ impl Serial {
         self.overrun
     }
 
+    #[tactic(auto, unfolding(crate::specs::Serial::is_full))]
     fn send(&mut self, byte: u8) -> Result<(), NoMemory>
         ensures ok { OnOk result (self.new ≡ record self.old { sent = self.old.sent ++ byte ∷ [] }) }
         ensures err { OnErr result (self.new ≡ self.old) }
+        ensures room { OnErr result (is_full self.old ≡ true) }
     {
+        if self.sent.len() % ROOM == 0 {
+            make_room(&mut self.sent)?;
+        }
         match self.sent.push(byte) {
             Ok(()) => Ok(()),
             Err(_) => Err(NoMemory),
@@ -140,4 +149,15 @@ impl Serial {
         self.overrun = false;
         waits + 2 + lost
     }
+}
+
+/// Makes room in a console that may have none.
+fn make_room(sent: &mut Vec<u8>) -> Result<(), NoMemory>
+    ensures ok { OnOk result (vec_len sent.old + ROOM ≤ vec_capacity sent.new) }
+    ensures items { sent.new.items ≡ sent.old.items }
+    ensures len { vec_len sent.new ≡ vec_len sent.old }
+    ensures capacity { vec_capacity sent.old ≤ vec_capacity sent.new }
+{
+    sent.reserve(ROOM)?;
+    Ok(())
 }

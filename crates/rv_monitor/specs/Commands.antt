@@ -1,7 +1,7 @@
 -- To audit: public contracts cite this.
 -- What each command does, and what it answers. None is a line that is no command.
 -- This project's own language.
-use Rattle.std.specs.Prelude.{◌≡◌, ◌⊎◌, ℕ, ◌-◌, List, [], ◌++◌, if◌then◌else◌, Option, Some, None, codes, unwrap_or}
+use Rattle.std.specs.Prelude.{◌≡◌, ◌⊎◌, ◌<◌, false, ℕ, ◌-◌, List, [], ◌++◌, if◌then◌else◌, Option, Some, None, codes, unwrap_or}
 use Rattle.std.specs.FinSet as set
 use Rattle.rv_commands.specs.declared.command.Command.{Command}
 use Rattle.rv_commands.specs.declared.command.Command.TheVariants.{Step, Go, SetBreak, ClearBreak, Registers, ControlRegister, Memory, Instruction, Traps, Quit, Nothing}
@@ -44,13 +44,28 @@ Leaves (Some (SetBreak addr)) old new = new ≡ record old { breakpoints = set.i
 Leaves (Some (ClearBreak addr)) old new = new ≡ record old { breakpoints = set.remove old.breakpoints addr }
 Leaves _ old new = new ≡ old
 
--- what a command leaves where memory ran out: only steps may have been taken; a line that answers nothing takes no memory
-abbrev pub LeavesRefused : Option Command → SessionState → SessionState → Type 0
-LeavesRefused (Some (Step n)) old new = (new ≡ old) ⊎ WasRefused set.empty n old new
-LeavesRefused (Some (Go n)) old new = (new ≡ old) ⊎ WasRefused old.breakpoints (going_for old n) old new
-LeavesRefused (Some Quit) old new = ⊥
-LeavesRefused (Some Nothing) old new = ⊥
-LeavesRefused _ old new = new ≡ old
+-- the text had room for fewer bytes than are asked for, and nothing was done
+pub record HadNoRoom (asked room : ℕ) (old new : SessionState) : Type 0 where
+  pub full : room < asked
+  pub state : new ≡ old
+
+-- a breakpoint was not set: the text had no room, or the address would have been a new one
+pub record WasNotSet (addr room : ℕ) (old new : SessionState) : Type 0 where
+  pub full : (room < 15) ⊎ (set.contains old.breakpoints addr ≡ false)
+  pub state : new ≡ old
+
+-- what a command leaves where memory ran out, by how many bytes more the text had room for: room is asked for the longest
+-- line of its kind before anything is done, and only steps may have been taken, up to one for which room had to be made; what
+-- looks at the board makes its lines apart first; a line that answers nothing takes no memory
+abbrev pub LeavesRefused : Option Command → ℕ → SessionState → SessionState → Type 0
+LeavesRefused None room old new = HadNoRoom 2 room old new
+LeavesRefused (Some (Step n)) room old new = HadNoRoom 58 room old new ⊎ WasRefused set.empty n old new
+LeavesRefused (Some (Go n)) room old new = HadNoRoom 58 room old new ⊎ WasRefused old.breakpoints (going_for old n) old new
+LeavesRefused (Some (SetBreak addr)) room old new = WasNotSet addr room old new
+LeavesRefused (Some (ClearBreak addr)) room old new = HadNoRoom 15 room old new
+LeavesRefused (Some Quit) room old new = ⊥
+LeavesRefused (Some Nothing) room old new = ⊥
+LeavesRefused _ room old new = new ≡ old
 
 -- ---- what it answers
 

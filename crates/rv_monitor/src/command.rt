@@ -4,7 +4,7 @@ ghost use Rattle.std.specs.FinSet as set;
 ghost use Rattle.rv_views.specs.Numbers.{hex};
 ghost use Rattle.rv_views.specs.Views.{line, stop_text};
 ghost use Rattle.rv_commands.specs.Commands.{command_of, IsNamed};
-ghost use Rattle.rv_monitor.specs.Commands.{Took, WasRefused, Leaves, LeavesRefused, going_for, steps_text, cleared_text, answer, next_of, word_of};
+ghost use Rattle.rv_monitor.specs.Commands.{Took, WasRefused, HadNoRoom, WasNotSet, Leaves, LeavesRefused, going_for, steps_text, cleared_text, answer, next_of, word_of};
 
 use crate::session::Session;
 use crate::stop::Stop;
@@ -69,7 +69,7 @@ impl<M: ByteMemory, C: Decoded> Session<M, C> {
     fn answer_step(&mut self, count: u64, text: &mut Vec<u8>) -> Result<(), NoMemory>
         ensures ok { OnOk result (Took set.empty count self.old self.new) }
         ensures text { OnOk result (text.new.items ≡ text.old.items ++ steps_text set.empty self.old self.new) }
-        ensures err { OnErr result ((self.new ≡ self.old) ⊎ WasRefused set.empty count self.old self.new) }
+        ensures err { OnErr result (HadNoRoom 58 (vec_capacity text.old - vec_len text.old) self.old self.new ⊎ WasRefused set.empty count self.old self.new) }
         ensures unwritten { OnErr result (text.new.items ≡ text.old.items) }
     {
         text.reserve(WORD_BYTES + STOP_BYTES)?;
@@ -81,7 +81,7 @@ impl<M: ByteMemory, C: Decoded> Session<M, C> {
     fn answer_go(&mut self, count: Option<u64>, text: &mut Vec<u8>) -> Result<(), NoMemory>
         ensures ok { OnOk result (Took self.old.breakpoints (going_for self.old count) self.old self.new) }
         ensures text { OnOk result (text.new.items ≡ text.old.items ++ steps_text self.old.breakpoints self.old self.new) }
-        ensures err { OnErr result ((self.new ≡ self.old) ⊎ WasRefused self.old.breakpoints (going_for self.old count) self.old self.new) }
+        ensures err { OnErr result (HadNoRoom 58 (vec_capacity text.old - vec_len text.old) self.old self.new ⊎ WasRefused self.old.breakpoints (going_for self.old count) self.old self.new) }
         ensures unwritten { OnErr result (text.new.items ≡ text.old.items) }
     {
         text.reserve(WORD_BYTES + STOP_BYTES)?;
@@ -94,7 +94,7 @@ impl<M: ByteMemory, C: Decoded> Session<M, C> {
     fn answer_set(&mut self, addr: u32, text: &mut Vec<u8>) -> Result<(), NoMemory>
         ensures ok { OnOk result (self.new ≡ record self.old { breakpoints = set.insert self.old.breakpoints addr }) }
         ensures text { OnOk result (text.new.items ≡ text.old.items ++ line (codes "break " ++ hex 8 addr)) }
-        ensures err { OnErr result (self.new ≡ self.old) }
+        ensures err { OnErr result (WasNotSet addr (vec_capacity text.old - vec_len text.old) self.old self.new) }
         ensures unwritten { OnErr result (text.new.items ≡ text.old.items) }
     {
         text.reserve(BREAK_BYTES)?;
@@ -107,7 +107,7 @@ impl<M: ByteMemory, C: Decoded> Session<M, C> {
     fn answer_clear(&mut self, addr: u32, text: &mut Vec<u8>) -> Result<(), NoMemory>
         ensures ok { OnOk result (self.new ≡ record self.old { breakpoints = set.remove self.old.breakpoints addr }) }
         ensures text { OnOk result (text.new.items ≡ text.old.items ++ cleared_text self.old.breakpoints addr) }
-        ensures err { OnErr result (self.new ≡ self.old) }
+        ensures err { OnErr result (HadNoRoom 15 (vec_capacity text.old - vec_len text.old) self.old self.new) }
         ensures unwritten { OnErr result (text.new.items ≡ text.old.items) }
     {
         text.reserve(BREAK_BYTES)?;
@@ -125,7 +125,7 @@ impl<M: ByteMemory, C: Decoded> Session<M, C> {
         ensures next { IfOk result (λ next. next ≡ next_of (Some command.entry)) }
         ensures ok { OnOk result (Leaves (Some command.entry) self.old self.new) }
         ensures text { OnOk result (text.new.items ≡ text.old.items ++ answer (Some command.entry) self.old self.new) }
-        ensures err { OnErr result (LeavesRefused (Some command.entry) self.old self.new) }
+        ensures err { OnErr result (LeavesRefused (Some command.entry) (vec_capacity text.old - vec_len text.old) self.old self.new) }
         ensures unwritten { OnErr result (text.new.items ≡ text.old.items) }
     {
         match command {
@@ -149,12 +149,13 @@ impl<M: ByteMemory, C: Decoded> Session<M, C> {
     /// Does what a command line says, and appends its answer to a text.
     ///
     /// Room for the answer is made first. Where memory is refused, the text is as it was, and only steps that were taken
-    /// stand.
+    /// stand: none where the text had no room. `r`, `p`, `m`, `i` and `t` make their lines apart, and so may also be
+    /// refused where the text has room.
     pub fn command(&mut self, line: &[u8], text: &mut Vec<u8>) -> Result<Next, NoMemory>
         ensures next { IfOk result (λ next. next ≡ next_of (command_of line.now self.old.program.symbols)) }
         ensures ok { OnOk result (Leaves (command_of line.now self.old.program.symbols) self.old self.new) }
         ensures text { OnOk result (text.new.items ≡ text.old.items ++ answer (command_of line.now self.old.program.symbols) self.old self.new) }
-        ensures err { OnErr result (LeavesRefused (command_of line.now self.old.program.symbols) self.old self.new) }
+        ensures err { OnErr result (LeavesRefused (command_of line.now self.old.program.symbols) (vec_capacity text.old - vec_len text.old) self.old self.new) }
         ensures unwritten { OnErr result (text.new.items ≡ text.old.items) }
     {
         let Some(command) = read_command(line, self.program()) else {

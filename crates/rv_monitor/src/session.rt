@@ -1,5 +1,5 @@
 //! Sessions.
-ghost use Rattle.std.specs.Prelude.{◌≡◌, ◌+◌, ◌-◌, ◌≤◌, ◌<◌, min, OnOk, OnErr, IfOk};
+ghost use Rattle.std.specs.Prelude.{◌≡◌, ◌+◌, ◌-◌, ◌≤◌, ◌<◌, min, false, OnOk, OnErr, IfOk};
 ghost use Rattle.std.specs.FinSet as set;
 ghost use Rattle.rv_monitor.specs.Laws.{RunsJoin, CallsJoin};
 ghost use Rattle.rv_monitor.specs.State.{TimedState, IsInTime, start, most_of};
@@ -104,10 +104,12 @@ impl<M: ByteMemory, C: Decoded> Session<M, C> {
         self.breakpoints.contains(address)
     }
 
-    /// Makes an address a breakpoint. A refused call changes nothing.
+    /// Makes an address a breakpoint. A refused call changes nothing, and only one for an address that is none can be
+    /// refused.
     pub fn set_break(&mut self, address: u32) -> Result<(), NoMemory>
         ensures ok { OnOk result (self.new ≡ record self.old { breakpoints = set.insert self.old.breakpoints address }) }
         ensures err { OnErr result (self.new ≡ self.old) }
+        ensures absent { OnErr result (set.contains self.old.breakpoints address ≡ false) }
     {
         self.breakpoints.insert(address)
     }

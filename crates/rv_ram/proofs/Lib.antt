@@ -1,3 +1,4 @@
+pub mod Blank
 pub mod Put
 pub mod Table
 pub mod Zeros

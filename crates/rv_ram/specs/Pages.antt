@@ -1,6 +1,7 @@
 -- To audit: public contracts cite this.
--- What the contract of `PagedRam` says of its pages (own definition; docs/ARCHITECTURE.md).
-use Rattle.std.specs.Prelude.{ℕ, ◌/◌, ◌%◌, ◌==◌, ◌&&◌, ◌||◌, not, Bool, false, List, replicate, slice_index_or, slice_set}
+-- What contracts say of the pages of a memory, each of 4096 bytes (own definition; docs/ARCHITECTURE.md).
+use Rattle.std.specs.Prelude.{ℕ, ◌*◌, ◌/◌, ◌%◌, ◌==◌, ◌&&◌, ◌||◌, not, Bool, false, List, take, drop, replicate, slice_index_or, slice_set}
+use Rattle.std.specs.List.{list_all}
 use Rattle.rv_isa.specs.declared.op.Width.{Width}
 use Rattle.rv_isa.specs.declared.op.Width.TheVariants.{One, Two, Four}
 
@@ -22,6 +23,14 @@ abbrev pub is_zero : Width → ℕ → Bool
 is_zero One v = v % 256 == 0
 is_zero Two v = v % 65536 == 0
 is_zero Four v = v == 0
+
+-- all bytes of the page at an offset are zero
+unfoldable pub is_blank : List ℕ → ℕ → Bool
+is_blank bs off = list_all (λ byte. byte == 0) (take 4096 (drop (4096 * (off / 4096)) bs))
+
+-- a write for which room may have to be made: it stores something other than zeros in a page that has only zeros
+abbrev pub wants_page : List ℕ → ℕ → Width → ℕ → Bool
+wants_page bs off w v = not (is_zero w v) && is_blank bs off
 
 -- a write has to make its page: it is the first to store something other than zeros there
 abbrev pub makes_page : List Bool → ℕ → Width → ℕ → Bool

@@ -9,9 +9,10 @@ mod page;
 mod paged;
 mod values;
 
-ghost use Rattle.std.specs.Prelude.{◌≡◌, ◌+◌, ◌*◌, ◌%◌, ◌^◌, ◌<◌, ◌≤◌, length, slice_index, OnOk, OnErr};
+ghost use Rattle.std.specs.Prelude.{◌≡◌, ◌+◌, ◌*◌, ◌%◌, ◌^◌, ◌<◌, ◌≤◌, true, length, slice_index, OnOk, OnErr};
 ghost use Rattle.rv_isa.specs.Width.{bytes_of};
 ghost use Rattle.rv_ram.specs.Bytes.{word_at, put};
+ghost use Rattle.rv_ram.specs.Pages.{wants_page};
 
 pub use flat::FlatMemory;
 pub use paged::PagedRam;
@@ -23,7 +24,8 @@ pub const PAGE_BYTES: u32 = 4096;
 /// A memory that is seen as its bytes, by their offsets from the memory's first byte.
 ///
 /// Words stand low byte first (RISC-V Unprivileged ISA 20191213, section 1.4). A write may have to
-/// make room; a refused one leaves every byte as it was.
+/// make room for its page of 4096 bytes; a refused one leaves every byte as it was. Only one that stores something
+/// other than zeros in a page that has only zeros may be refused.
 pub trait ByteMemory: Drop {
     ghost use Rattle.std.specs.Prelude.{List, ℕ};
 
@@ -53,5 +55,6 @@ pub trait ByteMemory: Drop {
         requires in_range { off + bytes_of width ≤ length (bytes self.old) }
         requires aligned { off % bytes_of width ≡ 0 }
         ensures ok { OnOk result (bytes self.new ≡ put (bytes self.old) off width value) }
-        ensures err { OnErr result (bytes self.new ≡ bytes self.old) };
+        ensures err { OnErr result (bytes self.new ≡ bytes self.old) }
+        ensures room { OnErr result (wants_page (bytes self.old) off width value ≡ true) };
 }

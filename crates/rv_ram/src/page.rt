@@ -76,6 +76,7 @@ impl Page {
         ensures made { OnOk result (self.new.made ≡ (self.old.made || not (is_zero width value))) }
         ensures err { OnErr result (self.new ≡ self.old) }
         ensures unmade { OnErr result (self.old.made ≡ false) }
+        ensures blank { OnErr result (self.old.bytes ≡ zeros 4096) }
         ensures nonzero { OnErr result (is_zero width value ≡ false) }
     {
         if self.bytes.is_empty() {

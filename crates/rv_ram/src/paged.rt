@@ -1,8 +1,8 @@
 //! A memory whose pages come as they are written.
-ghost use Rattle.std.specs.Prelude.{◌≡◌, ◌+◌, ◌*◌, ◌/◌, ◌%◌, ◌^◌, ◌<◌, ◌≤◌, false, length, slice_index, IfOk, IsOk, OnOk, OnErr};
+ghost use Rattle.std.specs.Prelude.{◌≡◌, ◌+◌, ◌*◌, ◌/◌, ◌%◌, ◌^◌, ◌<◌, ◌≤◌, true, false, length, slice_index, IfOk, IsOk, OnOk, OnErr};
 ghost use Rattle.rv_isa.specs.Width.{bytes_of};
 ghost use Rattle.rv_ram.specs.Bytes.{word_at, put, zeros};
-ghost use Rattle.rv_ram.specs.Pages.{none_made, makes_page, made_after};
+ghost use Rattle.rv_ram.specs.Pages.{none_made, wants_page, makes_page, made_after};
 
 use crate::page::Page;
 use crate::{ByteMemory, PAGE_BYTES};
@@ -70,7 +70,7 @@ impl ByteMemory for PagedRam {
         page.read_word((off % PAGE_BYTES) as usize)
     }
 
-    #[tactic(auto, using(crate::proofs::Table::index_in, crate::proofs::Table::in_page, crate::proofs::Table::joined_put, crate::proofs::Table::made_of_set, crate::proofs::Table::made_of_get))]
+    #[tactic(auto, using(crate::proofs::Table::index_in, crate::proofs::Table::in_page, crate::proofs::Table::joined_put, crate::proofs::Table::made_of_set, crate::proofs::Table::made_of_get, crate::proofs::Blank::blank_page))]
     fn write(&mut self, off: u32, width: Width, value: u32) -> Result<(), NoMemory>
         requires in_range { off + bytes_of width ≤ length self.old.bytes }
         requires aligned { off % bytes_of width ≡ 0 }
@@ -79,6 +79,7 @@ impl ByteMemory for PagedRam {
         ensures pages { OnOk result (self.new.made ≡ made_after self.old.made off width value) }
         ensures same_pages { OnErr result (self.new.made ≡ self.old.made) }
         ensures succeeds { makes_page self.old.made off width value ≡ false → IsOk result }
+        ensures room { OnErr result (wants_page self.old.bytes off width value ≡ true) }
     {
         let page = &mut self.pages[(off / PAGE_BYTES) as usize];
         page.write((off % PAGE_BYTES) as usize, width, value)

@@ -1,0 +1,47 @@
+-- Pages that have only zeros.
+use Rattle.std.proofs.Common.{◌≡◌, ℕ, zero, suc, ◌+◌, ◌*◌, ◌/◌, ◌<◌, Bool, true, List, [], ◌∷◌, ◌++◌, length, get_or, slice_index, take, drop, arith, refl, ap, ◌∙◌}
+use Rattle.std.specs.Prelude.{◌==◌, ◌&&◌}
+use Rattle.std.specs.List.{list_all}
+use Rattle.std.proofs.lemmas.List.{take_at, length-drop, get_or-drop}
+use Rattle.std.proofs.lemmas.List.Folds.{list_all_more}
+use Rattle.rv_ram.specs.Bytes.{zeros}
+use Rattle.rv_ram.specs.Pages.{is_blank}
+use Rattle.rv_ram.specs.Table.{PageState, joined, Whole}
+
+drop_behind : (xs ys : List ℕ) (k j : ℕ) → j ≡ length xs + k → drop j (xs ++ ys) ≡ drop k ys
+drop_behind [] ys k j e = ap (λ i. drop i ys) (omega arith)
+drop_behind (x ∷ xs) ys k zero e = absurd (omega arith)
+drop_behind (x ∷ xs) ys k (suc j) e = drop_behind xs ys k j (omega arith)
+
+-- the bytes of a page stand together
+page_joined : (ps : List PageState) (d : PageState) (i : ℕ) → Whole ps → i < length ps → take 4096 (drop (4096 * i) (joined ps)) ≡ (get_or ps i d).bytes
+page_joined [] d i w l = absurd (omega arith)
+page_joined (p ∷ ps) d zero w l = take_at p.bytes (joined ps) 4096 w.0
+page_joined (p ∷ ps) d (suc i) w l =
+    ap (take 4096) (drop_behind p.bytes (joined ps) (4096 * i) (4096 * suc i) (omega (arith, w.0))) ∙ page_joined ps d i w.1 (omega arith)
+
+all_zeros : (n : ℕ) → list_all (λ byte. byte == 0) (zeros n) ≡ true
+unfolding zeros
+all_zeros zero = refl
+all_zeros (suc n) = all_zeros n
+
+pub blank_page : (ps : List PageState) (off : ℕ) (d : PageState) → Whole ps → off / 4096 < length ps → (get_or ps (off / 4096) d).bytes ≡ zeros 4096 → is_blank (joined ps) off ≡ true
+unfolding is_blank
+blank_page ps off d w l e =
+    ap (list_all (λ byte. byte == 0)) (page_joined ps d (off / 4096) w l ∙ e) ∙ all_zeros 4096
+
+-- so many bytes from a place on are zero
+abbrev pub has_zeros : List ℕ → ℕ → ℕ → Bool
+has_zeros bs first count = list_all (λ byte. byte == 0) (take count (drop first bs))
+
+pub one_more_zero : (bs : List ℕ) (first count : ℕ) → first + count < length bs → has_zeros bs first count ≡ true → slice_index bs (first + count) ≡ 0 → has_zeros bs first (count + 1) ≡ true
+one_more_zero bs first count l z e =
+    list_all_more (λ byte. byte == 0) (drop first bs) count 0 (omega (arith, length-drop first bs))
+    ∙ (ap (λ b. b && (get_or (drop first bs) count 0 == 0)) z ∙ ap (λ byte. byte == 0) (get_or-drop first bs count 0 ∙ e))
+
+-- a page of which each byte is zero
+pub is_blank_page : (bs : List ℕ) (off first : ℕ) → first ≡ off / 4096 * 4096 → has_zeros bs first 4096 ≡ true → is_blank bs off ≡ true
+unfolding is_blank
+is_blank_page bs off first e z =
+    let k : 4096 * (off / 4096) ≡ first = omega arith in
+    ap (λ i. has_zeros bs i 4096) k ∙ z
