@@ -14,74 +14,66 @@ use Rattle.rv_pmp.specs.declared.access.Mode.TheVariants.{Machine}
 use Rattle.rv_pmp.specs.declared.entry.Entry.{Entry}
 use Rattle.rv_pmp.specs.declared.entry.Matching.{Matching}
 use Rattle.rv_pmp.specs.declared.entry.Matching.TheVariants.{Off, Tor, Na4, Napot}
+use Rattle.rv_pmp.specs.declared.active.Active.{Active}
 use Rattle.rv_pmp.specs.declared.span.Span.{Span}
 use Rattle.rv_pmp.specs.Entry.{is_machine, is_between, entry_grants, matched, region, trailing_ones}
-use Rattle.rv_pmp.specs.Kept.{is_matching, meets, holds, answered, decided, some_on, some_locked}
+use Rattle.rv_pmp.specs.Kept.{is_matching, meets, holds, answered, decided, some_on, some_locked, active_of, actives_from}
 use Rattle.rv_pmp.specs.Pmp.{PmpState, Guard, guards_from, bytes_from, answer, grants, locks}
-use Rattle.rv_pmp.specs.Span.{no_bytes, span, span_of, spans_from}
+use Rattle.rv_pmp.specs.Span.{no_bytes, span, span_of}
 
 -- ---- one step of the search
 
 -- what the entry at a place answers, or the rest
-step : Mode → Access → ℕ → ℕ → Entry → Span → Option Bool → Option Bool
-step mode access first last e s rest = if meets s first last then Some (holds s first last && entry_grants e mode access) else rest
+step : Mode → Access → ℕ → ℕ → Active → Option Bool → Option Bool
+step mode access first last a rest = if meets a.span first last then Some (holds a.span first last && entry_grants a.entry mode access) else rest
 
-step-some : (mode : Mode) (access : Access) (first last : ℕ) (e : Entry) (s : Span) (rest : Option Bool) (granted : Bool)
-    → answered mode access first last e s ≡ Some granted → step mode access first last e s rest ≡ Some granted
+step-some : (mode : Mode) (access : Access) (first last : ℕ) (a : Active) (rest : Option Bool) (granted : Bool)
+    → answered mode access first last a ≡ Some granted → step mode access first last a rest ≡ Some granted
 unfolding step
-step-some mode access first last e s rest granted h = go (meets s first last) h where
-  go : (b : Bool) → (if b then Some (holds s first last && entry_grants e mode access) else None) ≡ Some granted
-      → (if b then Some (holds s first last && entry_grants e mode access) else rest) ≡ Some granted
+step-some mode access first last a rest granted h = go (meets a.span first last) h where
+  go : (b : Bool) → (if b then Some (holds a.span first last && entry_grants a.entry mode access) else None) ≡ Some granted
+      → (if b then Some (holds a.span first last && entry_grants a.entry mode access) else rest) ≡ Some granted
   go true h = h
   go false h = cc
 
-step-none : (mode : Mode) (access : Access) (first last : ℕ) (e : Entry) (s : Span) (rest : Option Bool)
-    → answered mode access first last e s ≡ None → step mode access first last e s rest ≡ rest
+step-none : (mode : Mode) (access : Access) (first last : ℕ) (a : Active) (rest : Option Bool)
+    → answered mode access first last a ≡ None → step mode access first last a rest ≡ rest
 unfolding step
-step-none mode access first last e s rest h = go (meets s first last) h where
-  go : (b : Bool) → (if b then Some (holds s first last && entry_grants e mode access) else None) ≡ None
-      → (if b then Some (holds s first last && entry_grants e mode access) else rest) ≡ rest
+step-none mode access first last a rest h = go (meets a.span first last) h where
+  go : (b : Bool) → (if b then Some (holds a.span first last && entry_grants a.entry mode access) else None) ≡ None
+      → (if b then Some (holds a.span first last && entry_grants a.entry mode access) else rest) ≡ rest
   go true h = cc
   go false h = refl
 
-decided-drop : (mode : Mode) (access : Access) (first last : ℕ) (es : List Entry) (ss : List Span) (i : ℕ) (e : Entry) (s : Span)
-    → i < length es → i < length ss
-    → decided mode access first last (drop i es) (drop i ss)
-    ≡ step mode access first last (get_or es i e) (get_or ss i s) (decided mode access first last (drop (suc i) es) (drop (suc i) ss))
+decided-drop : (mode : Mode) (access : Access) (first last : ℕ) (xs : List Active) (i : ℕ) (a : Active) → i < length xs
+    → decided mode access first last (drop i xs)
+    ≡ step mode access first last (get_or xs i a) (decided mode access first last (drop (suc i) xs))
 unfolding decided step
-decided-drop mode access first last [] ss i e s h k = absurd (omega arith)
-decided-drop mode access first last (x ∷ es) [] i e s h k = absurd (omega arith)
-decided-drop mode access first last (x ∷ es) (y ∷ ss) zero e s h k = refl
-decided-drop mode access first last (x ∷ es) (y ∷ ss) (suc i) e s h k = decided-drop mode access first last es ss i e s (omega arith) (omega arith)
+decided-drop mode access first last [] i a h = absurd (omega arith)
+decided-drop mode access first last (x ∷ xs) zero a h = refl
+decided-drop mode access first last (x ∷ xs) (suc i) a h = decided-drop mode access first last xs i a (omega arith)
 
-pub decided-answered : (mode : Mode) (access : Access) (first last : ℕ) (es : List Entry) (ss : List Span) (i : ℕ) (e : Entry) (s : Span) (granted : Bool)
-    → i < length es → i < length ss → answered mode access first last (get_or es i e) (get_or ss i s) ≡ Some granted
-    → decided mode access first last (drop i es) (drop i ss) ≡ Some granted
-decided-answered mode access first last es ss i e s granted h k a =
-    decided-drop mode access first last es ss i e s h k
-    ∙ step-some mode access first last (get_or es i e) (get_or ss i s) (decided mode access first last (drop (suc i) es) (drop (suc i) ss)) granted a
+pub decided-answered : (mode : Mode) (access : Access) (first last : ℕ) (xs : List Active) (i : ℕ) (a : Active) (granted : Bool)
+    → i < length xs → answered mode access first last (get_or xs i a) ≡ Some granted
+    → decided mode access first last (drop i xs) ≡ Some granted
+decided-answered mode access first last xs i a granted h e =
+    decided-drop mode access first last xs i a h
+    ∙ step-some mode access first last (get_or xs i a) (decided mode access first last (drop (suc i) xs)) granted e
 
-pub decided-passed : (mode : Mode) (access : Access) (first last : ℕ) (es : List Entry) (ss : List Span) (i : ℕ) (e : Entry) (s : Span)
-    → i < length es → i < length ss → answered mode access first last (get_or es i e) (get_or ss i s) ≡ None
-    → decided mode access first last (drop (i + 1) es) (drop (i + 1) ss) ≡ decided mode access first last (drop i es) (drop i ss)
-decided-passed mode access first last es ss i e s h k a =
-    rw add-one (sym (decided-drop mode access first last es ss i e s h k
-    ∙ step-none mode access first last (get_or es i e) (get_or ss i s) (decided mode access first last (drop (suc i) es) (drop (suc i) ss)) a))
+pub decided-passed : (mode : Mode) (access : Access) (first last : ℕ) (xs : List Active) (i : ℕ) (a : Active)
+    → i < length xs → answered mode access first last (get_or xs i a) ≡ None
+    → decided mode access first last (drop (i + 1) xs) ≡ decided mode access first last (drop i xs)
+decided-passed mode access first last xs i a h e =
+    rw add-one (sym (decided-drop mode access first last xs i a h
+    ∙ step-none mode access first last (get_or xs i a) (decided mode access first last (drop (suc i) xs)) e))
 
-decided-none : (mode : Mode) (access : Access) (first last : ℕ) (es : List Entry) → decided mode access first last es [] ≡ None
+pub decided-end : (mode : Mode) (access : Access) (first last : ℕ) (xs : List Active) (i : ℕ)
+    → length xs ≤ i → decided mode access first last (drop i xs) ≡ None
 unfolding decided
-decided-none mode access first last [] = refl
-decided-none mode access first last (e ∷ es) = refl
-
-pub decided-end : (mode : Mode) (access : Access) (first last : ℕ) (es : List Entry) (ss : List Span) (i : ℕ)
-    → length es ≤ i → decided mode access first last (drop i es) (drop i ss) ≡ None
-unfolding decided
-decided-end mode access first last [] ss zero h = refl
-decided-end mode access first last [] [] (suc i) h = refl
-decided-end mode access first last [] (s ∷ ss) (suc i) h = refl
-decided-end mode access first last (x ∷ es) ss zero h = absurd (omega arith)
-decided-end mode access first last (x ∷ es) [] (suc i) h = decided-none mode access first last (drop i es)
-decided-end mode access first last (x ∷ es) (s ∷ ss) (suc i) h = decided-end mode access first last es ss i (omega arith)
+decided-end mode access first last [] zero h = refl
+decided-end mode access first last [] (suc i) h = refl
+decided-end mode access first last (x ∷ xs) zero h = absurd (omega arith)
+decided-end mode access first last (x ∷ xs) (suc i) h = decided-end mode access first last xs i (omega arith)
 
 -- ---- a region is its span
 
@@ -160,17 +152,39 @@ list_all-region lower e a n = list_all-same (region lower e) (is_between (span_o
 
 -- ---- the decision by spans is that by regions
 
+-- an entry that matches no address meets no byte
+off_meets : (m : Matching) (lower address first last : ℕ) → is_matching m ≡ false → meets (span m lower address) first last ≡ false
+off_meets Off lower address first last h = grind (arith, nat_tests)
+off_meets Tor lower address first last h = cc
+off_meets Na4 lower address first last h = cc
+off_meets Napot lower address first last h = cc
+
+-- what the entries from one on decide: that one, whether it matches addresses or not, or the rest
+decided-more : (mode : Mode) (access : Access) (first last lower : ℕ) (e : Entry) (es : List Entry)
+    → decided mode access first last (actives_from lower (e ∷ es))
+    ≡ step mode access first last (active_of lower e) (decided mode access first last (actives_from e.address es))
+unfolding decided actives_from step span_of
+decided-more mode access first last lower e es = go (is_matching e.matching) refl where
+  rest : Option Bool
+  rest = decided mode access first last (actives_from e.address es)
+
+  go : (b : Bool) → is_matching e.matching ≡ b
+      → decided mode access first last (cond b (active_of lower e ∷ actives_from e.address es) (actives_from e.address es))
+      ≡ step mode access first last (active_of lower e) rest
+  go true m = refl
+  go false m = rw (off_meets e.matching lower e.address first last m) refl
+
 pub decided-spans : (mode : Mode) (access : Access) (a n lower : ℕ) (es : List Entry)
-    → unwrap_or (decided mode access a (a + suc n) es (spans_from lower es)) (is_machine mode)
+    → unwrap_or (decided mode access a (a + suc n) (actives_from lower es)) (is_machine mode)
     ≡ answer mode access (bytes_from a (suc n)) (find (λ g. list_any g.region (bytes_from a (suc n))) (guards_from lower es))
-unfolding decided spans_from guards_from
+unfolding decided actives_from guards_from step
 decided-spans mode access a n lower [] = refl
 decided-spans mode access a n lower (e ∷ es) =
-    rw (list_any-region lower e a n)
+    rw (decided-more mode access a (a + suc n) lower e es, list_any-region lower e a n)
     (go (meets (span_of lower e) a (a + suc n)) (decided-spans mode access a n e.address es))
   where
     rest : Option Bool
-    rest = decided mode access a (a + suc n) es (spans_from e.address es)
+    rest = decided mode access a (a + suc n) (actives_from e.address es)
 
     go : (b : Bool) → unwrap_or rest (is_machine mode) ≡ answer mode access (bytes_from a (suc n)) (find (λ g. list_any g.region (bytes_from a (suc n))) (guards_from e.address es))
         → unwrap_or (if b then Some (holds (span_of lower e) a (a + suc n) && entry_grants e mode access) else rest) (is_machine mode)
@@ -188,20 +202,14 @@ both : (a b : Bool) → (a && b) ≡ true → (a ≡ true) × (b ≡ true)
 both true b h = (refl, h)
 both false b h = cc
 
-off_meets : (m : Matching) (lower address first last : ℕ) → is_matching m ≡ false → meets (span m lower address) first last ≡ false
-off_meets Off lower address first last h = grind (arith, nat_tests)
-off_meets Tor lower address first last h = cc
-off_meets Na4 lower address first last h = cc
-off_meets Napot lower address first last h = cc
-
--- where no entry matches addresses, none meets a byte
+-- where no entry matches addresses, none decides
 pub decided-off : (mode : Mode) (access : Access) (first last lower : ℕ) (es : List Entry)
-    → some_on es ≡ false → decided mode access first last es (spans_from lower es) ≡ None
-unfolding decided spans_from span_of
+    → some_on es ≡ false → decided mode access first last (actives_from lower es) ≡ None
+unfolding decided actives_from
 decided-off mode access first last lower [] off = refl
 decided-off mode access first last lower (e ∷ es) off =
     let parts = neither (is_matching e.matching) (some_on es) off in
-    rw (off_meets e.matching lower e.address first last parts.0) (decided-off mode access first last e.address es parts.1)
+    rw parts.0 (decided-off mode access first last e.address es parts.1)
 
 -- a span that meets a part of a word holds it
 word_held : (s : Span) (first last : ℕ) → IsWhole s → first < last → first % 4 + (last - first) ≤ 4 → meets s first last ≡ true → holds s first last ≡ true
@@ -218,15 +226,15 @@ word_held s first last w some within m =
 -- so machine mode may access a part of a word where no entry is locked
 pub decided-word : (access : Access) (first last lower : ℕ) (es : List Entry)
     → some_locked es ≡ false → first < last → first % 4 + (last - first) ≤ 4
-    → unwrap_or (decided Machine access first last es (spans_from lower es)) true ≡ true
-unfolding decided spans_from
+    → unwrap_or (decided Machine access first last (actives_from lower es)) true ≡ true
+unfolding decided actives_from step
 decided-word access first last lower [] free some within = refl
 decided-word access first last lower (e ∷ es) free some within =
     let parts = neither e.locked (some_locked es) free in
-    go (meets (span_of lower e) first last) refl parts.0 (decided-word access first last e.address es parts.1 some within)
+    rw (decided-more Machine access first last lower e es) (go (meets (span_of lower e) first last) refl parts.0 (decided-word access first last e.address es parts.1 some within))
   where
     rest : Option Bool
-    rest = decided Machine access first last es (spans_from e.address es)
+    rest = decided Machine access first last (actives_from e.address es)
 
     go : (b : Bool) → meets (span_of lower e) first last ≡ b → e.locked ≡ false → unwrap_or rest true ≡ true
         → unwrap_or (if b then Some (holds (span_of lower e) first last && entry_grants e Machine access) else rest) true ≡ true
@@ -236,7 +244,7 @@ decided-word access first last lower (e ∷ es) free some within =
 -- ---- an answer of the registers
 
 pub decided-grants : (pmp : PmpState) (mode : Mode) (access : Access) (first count : ℕ) → 0 < count
-    → unwrap_or (decided mode access first (first + count) pmp.entries (spans_from 0 pmp.entries)) (is_machine mode) ≡ grants pmp mode access first count
+    → unwrap_or (decided mode access first (first + count) (actives_from 0 pmp.entries)) (is_machine mode) ≡ grants pmp mode access first count
 unfolding grants
 decided-grants pmp mode access first zero h = absurd (omega arith)
 decided-grants pmp mode access first (suc n) h = decided-spans mode access first n 0 pmp.entries
@@ -298,13 +306,13 @@ pub grants_each : (pmp : PmpState) (mode : Mode) (access : Access) (first count 
 unfolding grants answer_of
 grants_each pmp mode access first count i h granted = answer_each mode access first count i 0 pmp.entries h granted
 
--- as `allowed` asks: the answer of the entry that decides, or that of the mode
+-- xs `allowed` asks: the answer of the entry that decides, or that of the mode
 pub grants-some : (pmp : PmpState) (mode : Mode) (access : Access) (first count : ℕ) (granted : Bool) → 0 < count
-    → decided mode access first (first + count) pmp.entries (spans_from 0 pmp.entries) ≡ Some granted → grants pmp mode access first count ≡ granted
+    → decided mode access first (first + count) (actives_from 0 pmp.entries) ≡ Some granted → grants pmp mode access first count ≡ granted
 grants-some pmp mode access first count granted h d = sym (decided-grants pmp mode access first count h) ∙ ap (λ o. unwrap_or o (is_machine mode)) d
 
 pub grants-none : (pmp : PmpState) (mode : Mode) (access : Access) (first count : ℕ) → 0 < count
-    → decided mode access first (first + count) pmp.entries (spans_from 0 pmp.entries) ≡ None → grants pmp mode access first count ≡ is_machine mode
+    → decided mode access first (first + count) (actives_from 0 pmp.entries) ≡ None → grants pmp mode access first count ≡ is_machine mode
 grants-none pmp mode access first count h d = sym (decided-grants pmp mode access first count h) ∙ ap (λ o. unwrap_or o (is_machine mode)) d
 
 pub ruleset quick_answers = (grants-off, grants-word, grants-some, grants-none)

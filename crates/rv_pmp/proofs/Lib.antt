@@ -1,4 +1,4 @@
+pub mod Actives
 pub mod Decided
 pub mod Ones
-pub mod Spans
 pub mod Writes

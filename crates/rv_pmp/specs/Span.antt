@@ -1,6 +1,6 @@
 -- The span of bytes that the code keeps beside an entry, computed when a register is written: its region.
 -- Not to audit: private contracts alone cite this.
-use Rattle.std.specs.Prelude.{ℕ, ◌+◌, ◌-◌, ◌*◌, ◌^◌, nat_lt, if◌then◌else◌, List, [], ◌∷◌}
+use Rattle.std.specs.Prelude.{ℕ, ◌+◌, ◌-◌, ◌*◌, ◌^◌, nat_lt, if◌then◌else◌}
 use Rattle.rv_pmp.specs.declared.entry.Entry.{Entry}
 use Rattle.rv_pmp.specs.declared.entry.Matching.{Matching}
 use Rattle.rv_pmp.specs.declared.entry.Matching.TheVariants.{Off, Tor, Na4, Napot}
@@ -21,8 +21,3 @@ span Napot lower address =
 
 unfoldable pub span_of : ℕ → Entry → Span
 span_of lower entry = span entry.matching lower entry.address
-
--- the span of each entry
-unfoldable pub spans_from : ℕ → List Entry → List Span
-spans_from lower [] = []
-spans_from lower (entry ∷ entries) = span_of lower entry ∷ spans_from entry.address entries

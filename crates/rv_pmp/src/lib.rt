@@ -3,6 +3,7 @@
 #![tactic(auto)]
 
 mod access;
+mod active;
 mod entry;
 mod pmp;
 mod register;

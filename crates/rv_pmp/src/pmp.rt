@@ -1,29 +1,28 @@
 //! The entries, and what they grant.
 ghost use Rattle.std.specs.Prelude.{◌≡◌, ℕ, ◌+◌, ◌^◌, ◌<◌, true};
 ghost use Rattle.rv_isa.specs.Width.{bytes_of};
-ghost use Rattle.rv_pmp.specs.Kept.{some_on, some_locked, answered, decided};
+ghost use Rattle.rv_pmp.specs.Kept.{some_on, some_locked, decided};
 ghost use Rattle.rv_pmp.specs.Pmp.{PmpState, reset, grants, locks, load, config_at, with_config, with_address, with_word, AllReadable, WritableIsReadable, Stores};
 ghost use Rattle.rv_pmp.specs.Pmp as spec;
-ghost use Rattle.rv_pmp.specs.Span.{spans_from};
 ghost use Rattle.rv_pmp.specs.declared.access.Access.{Access};
 ghost use Rattle.rv_pmp.specs.declared.access.Mode.{Mode};
 
+use crate::active::{Active, Actives};
 use crate::entry::Entry;
 use crate::register::PmpRegister;
-use crate::span::Span;
 use crate::{Access, Mode};
 use rv_isa::Width;
 use std::marker::Model;
 
 /// How many entries there are.
-const ENTRIES: usize = 8;
+pub(crate) const ENTRIES: usize = 8;
 
-/// The registers of physical memory protection, with the span of each entry's region beside them, so that an access
-/// computes none.
+/// The registers of physical memory protection. Beside them stand the entries that match addresses, with the spans of
+/// their regions, so that an access computes none and asks no other entry.
 #[derive(Drop, Debug)]
 pub struct Pmp {
     entries: [Entry; ENTRIES],
-    spans: [Span; ENTRIES],
+    actives: Actives,
     any_on: bool,
     any_locked: bool,
 }
@@ -36,7 +35,7 @@ impl Model for Pmp {
 
     ghost view = { λ p. record { entries = p.entries } };
 
-    ghost invariant = { λ p. IsKept p.entries p.spans p.any_on p.any_locked };
+    ghost invariant = { λ p. IsKept p.entries p.actives p.any_on p.any_locked };
 }
 
 impl Pmp {
@@ -55,7 +54,7 @@ impl Pmp {
     {
         Pmp {
             entries,
-            spans: spans(&entries),
+            actives: Actives::of(&entries),
             any_on: any_on(&entries),
             any_locked: any_locked(&entries),
         }
@@ -148,8 +147,7 @@ impl Pmp {
         }
         let first = addr as u64;
         match decide(
-            &self.entries,
-            &self.spans,
+            self.actives.as_slice(),
             mode,
             access,
             first,
@@ -229,54 +227,22 @@ pub fn bytes_are_granted_alone()
     ensures { (pmp : PmpState) (mode : Mode) (access : Access) (first count i : ℕ) → i < count → grants pmp mode access first count ≡ true → grants pmp mode access (first + i) 1 ≡ true }
 {}
 
-/// What an entry with its span answers for the bytes from `first` up to but not including `end`: None where it has none
-/// of them.
-fn answer(
-    entry: &Entry,
-    span: &Span,
-    mode: Mode,
-    access: Access,
-    first: u64,
-    end: u64,
-) -> Option<bool>
-    ensures { result ≡ answered mode access first end entry.now span.now }
-{
-    if !span.meets(first, end) {
-        return None;
-    }
-    Some(span.holds(first, end) && entry.grants(mode, access))
-}
-
 /// What the first entry answers that has some of the bytes.
 fn decide(
-    entries: &[Entry; ENTRIES],
-    spans: &[Span; ENTRIES],
+    actives: &[Active],
     mode: Mode,
     access: Access,
     first: u64,
     end: u64,
 ) -> Option<bool>
-    ensures { result ≡ decided mode access first end entries.now spans.now }
+    ensures { result ≡ decided mode access first end actives.now }
 {
-    for place in 0..ENTRIES {
-        if let Some(granted) = answer(&entries[place], &spans[place], mode, access, first, end) {
+    for active in actives {
+        if let Some(granted) = active.answer(mode, access, first, end) {
             return Some(granted);
         }
     }
     None
-}
-
-/// The span of each entry's region.
-fn spans(entries: &[Entry; ENTRIES]) -> [Span; ENTRIES]
-    ensures { result ≡ spans_from 0 entries.now }
-{
-    let mut spans = [Span::NO_BYTES; ENTRIES];
-    let mut lower = 0;
-    for place in 0..ENTRIES {
-        spans[place] = Span::of(lower, entries[place]);
-        lower = entries[place].address;
-    }
-    spans
 }
 
 /// Whether some entry matches addresses.

@@ -2,6 +2,7 @@
 ghost use Rattle.std.specs.Prelude.{◌≡◌, OnErr};
 ghost use Rattle.rv_isa.specs.Word as spec;
 ghost use Rattle.rv_isa.specs.declared.kind.Kind.{Kind};
+ghost use Rattle.rv_csr.specs.Registers.{Writes};
 ghost use Rattle.rv_hart.specs.Effect.{reg, csr_effect, return_effect, wait_effect};
 ghost use Rattle.rv_hart.specs.Tries.{Does};
 
@@ -89,13 +90,26 @@ impl<M: ByteMemory, C: Decoded> Hart<M, C> {
         };
         if is_write(exchange.op, exchange.field) {
             let value = combine(exchange.op, old, exchange.operand);
-            match self.csrs.write(exchange.csr, self.mode, value) {
-                Some(()) => self.known = Known::of(&self.csrs, self.mode),
+            match self.write_csr(exchange.csr, value) {
+                Some(()) => (),
                 None => return Err(illegal(instr)),
             }
         }
         self.retire(exchange.rd, old);
         Ok(())
+    }
+
+    /// Writes a control register, and works out again what follows from them. None where the mode may not: nothing has
+    /// changed.
+    fn write_csr(&mut self, addr: u16, value: u32) -> Option<()>
+        ensures written { Writes self.old.machine.csrs addr self.old.machine.mode value self.new.machine.csrs result }
+        ensures machine { self.new.machine ≡ record self.old.machine { csrs = self.new.machine.csrs } }
+        ensures cache { self.new.cache ≡ self.old.cache }
+    {
+        let mode = self.mode;
+        let written = self.csrs.write(addr, mode, value);
+        self.known = Known::of(&self.csrs, mode);
+        written
     }
 
     /// The return from a trap. The word is that of MRET.
