@@ -6,9 +6,9 @@ use Rattle.std.specs.Str.{bytes_eq}
 use Rattle.rv_isa.specs.Names.{lookup, csr_names}
 use Rattle.rv_lists.specs.Words.{words, begins_comment}
 use Rattle.rv_commands.specs.Addresses.{address_of}
-use Rattle.rv_commands.specs.Commands.{IsNamed, byte_count, only, number_alone, address_alone, alone, steps, going, control_register, memory, row, said_by, command_of}
+use Rattle.rv_commands.specs.Commands.{IsNamed, byte_count, only, number_alone, address_alone, alone, steps, going, control_register, memory, edge_source, edges, row, said_by, command_of}
 use Rattle.rv_commands.specs.declared.command.Command.{Command}
-use Rattle.rv_commands.specs.declared.command.Command.TheVariants.{Step, Go, SetBreak, ClearBreak, Registers, ControlRegister, Memory, Instruction, Traps, Quit, Nothing}
+use Rattle.rv_commands.specs.declared.command.Command.TheVariants.{Step, Go, SetBreak, ClearBreak, Registers, ControlRegister, Memory, Instruction, Traps, Edges, Quit, Nothing}
 
 -- of two commands one
 either : (b : Bool) (x y : Option Command) → IfSome x IsNamed → IfSome y IsNamed → IfSome (cond b x y) IsNamed
@@ -57,6 +57,10 @@ control_register_named : (ws : List (List ℕ)) → IfSome (control_register ws)
 unfolding control_register
 control_register_named ws = register_named (only ws)
 
+edges_named : (ws : List (List ℕ)) → IfSome (edges ws) IsNamed
+unfolding edges
+edges_named ws = with_one (λ source. Edges source) (option_and_then edge_source (only ws)) (λ n. tt)
+
 row_named : (symbols : List (List ℕ × ℤ)) (w : List ℕ) (ws : List (List ℕ)) → IfSome (row symbols w ws) IsNamed
 unfolding row
 row_named symbols w ws =
@@ -69,7 +73,8 @@ row_named symbols w ws =
     (either (bytes_eq w (codes "m")) _ _ (memory_by symbols ws)
     (either (bytes_eq w (codes "i")) _ _ (with_one (λ addr. Instruction addr) (address_alone symbols ws) (λ n. tt))
     (either (bytes_eq w (codes "t")) _ _ (alone_named Traps ws tt)
-    (either (bytes_eq w (codes "q")) _ _ (alone_named Quit ws tt) tt)))))))))
+    (either (bytes_eq w (codes "e")) _ _ (edges_named ws)
+    (either (bytes_eq w (codes "q")) _ _ (alone_named Quit ws tt) tt))))))))))
 
 said_named : (symbols : List (List ℕ × ℤ)) (ws : List (List ℕ)) → IfSome (said_by symbols ws) IsNamed
 said_named symbols [] = tt

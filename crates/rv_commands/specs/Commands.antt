@@ -9,7 +9,7 @@ use Rattle.rv_lists.specs.Numbers.{decimal}
 use Rattle.rv_lists.specs.Words.{words, begins_comment}
 use Rattle.rv_commands.specs.Addresses.{address_of}
 use Rattle.rv_commands.specs.declared.command.Command.{Command}
-use Rattle.rv_commands.specs.declared.command.Command.TheVariants.{Step, Go, SetBreak, ClearBreak, Registers, ControlRegister, Memory, Instruction, Traps, Quit, Nothing}
+use Rattle.rv_commands.specs.declared.command.Command.TheVariants.{Step, Go, SetBreak, ClearBreak, Registers, ControlRegister, Memory, Instruction, Traps, Edges, Quit, Nothing}
 
 -- ---- the words behind the first
 
@@ -20,6 +20,10 @@ number_of word = decimal 1000000000 word
 -- the N of `m`: from 1 to 256
 unfoldable pub byte_count : List ℕ → Option ℕ
 byte_count word = option_and_then (λ n. if nat_le 1 n && nat_le n 256 then Some n else None) (number_of word)
+
+-- the N of `e`: a source that is triggered by edges, 24 to 31
+unfoldable pub edge_source : List ℕ → Option ℕ
+edge_source word = option_and_then (λ n. if nat_le 24 n && nat_le n 31 then Some n else None) (number_of word)
 
 -- the only word
 abbrev pub only : List (List ℕ) → Option (List ℕ)
@@ -59,6 +63,10 @@ memory symbols (address ∷ n ∷ []) =
     option_and_then (λ addr. option_map (λ count. Memory addr count) (byte_count n)) (address_of symbols address)
 memory symbols _ = None
 
+-- `e N`
+unfoldable pub edges : List (List ℕ) → Option Command
+edges more = option_map (λ source. Edges source) (option_and_then edge_source (only more))
+
 -- ---- a command by its first word and those behind it: one row a command
 
 unfoldable pub row : List (List ℕ × ℤ) → List ℕ → List (List ℕ) → Option Command
@@ -72,8 +80,9 @@ row symbols word more =
     else (if bytes_eq word (codes "m") then memory symbols more
     else (if bytes_eq word (codes "i") then option_map (λ addr. Instruction addr) (address_alone symbols more)
     else (if bytes_eq word (codes "t") then alone Traps more
+    else (if bytes_eq word (codes "e") then edges more
     else (if bytes_eq word (codes "q") then alone Quit more
-    else None)))))))))
+    else None))))))))))
 
 -- a line by its words: nothing where it is blank or a comment
 abbrev pub said_by : List (List ℕ × ℤ) → List (List ℕ) → Option Command

@@ -1,4 +1,5 @@
 //! What a command line says.
+use rv_plic::Source;
 use rv_tokens::Name;
 
 /// What a command line says.
@@ -47,6 +48,11 @@ pub enum Command<'a> {
     },
     /// The kept traps are shown.
     Traps,
+    /// The waiting edges of a source are shown.
+    Edges {
+        /// The source: one of those that are triggered by edges, 24 to 31.
+        source: Source,
+    },
     /// The commands end.
     Quit,
     /// The line is blank or a comment.

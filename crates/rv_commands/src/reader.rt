@@ -2,13 +2,14 @@
 ghost use Rattle.std.specs.Prelude.{◌≡◌, ◌≤◌, IfSome};
 ghost use Rattle.std.specs.Option.{option_copied};
 ghost use Rattle.rv_lists.specs.Words.{words};
-ghost use Rattle.rv_commands.specs.Commands.{number_of, byte_count, only, number_alone, address_alone, alone, steps, going, control_register, memory, row, command_of, IsNamed};
+ghost use Rattle.rv_commands.specs.Commands.{number_of, byte_count, edge_source, only, number_alone, address_alone, alone, steps, going, control_register, memory, edges, row, command_of, IsNamed};
 
 use crate::Command;
 use crate::address::address;
 use rv_asm::Program;
 use rv_isa::csr_named;
 use rv_lists::{begins_comment, decimal, first_word, has_word};
+use rv_plic::Source;
 use rv_tokens::Name;
 
 /// The longest line that is looked at.
@@ -31,6 +32,17 @@ fn byte_count(word: &[u8]) -> Option<u32>
 {
     match number(word)? {
         count @ 1..=256 => Some(count as u32),
+        _ => None,
+    }
+}
+
+/// The source that is triggered by edges and that a word stands for: 24 to 31.
+#[tactic(auto, unfolding(crate::specs::Commands::edge_source))]
+fn edge_source(word: &[u8]) -> Option<Source>
+    ensures { result ≡ edge_source word.now }
+{
+    match number(word)? {
+        source @ 24..=31 => Source::new(source as u8),
         _ => None,
     }
 }
@@ -106,6 +118,15 @@ fn memory<'a>(text: &[u8], program: &Program) -> Option<Command<'a>>
     Some(Command::Memory { addr, count })
 }
 
+/// Behind `e`: the number of a source that is triggered by edges.
+#[tactic(auto, unfolding(crate::specs::Commands::edges))]
+fn edges<'a>(text: &[u8]) -> Option<Command<'a>>
+    ensures { result ≡ edges (words text.now) }
+{
+    let source = edge_source(only_word(text)?)?;
+    Some(Command::Edges { source })
+}
+
 /// A command with no word behind its first.
 fn alone<'a>(command: Command<'a>, text: &[u8]) -> Option<Command<'a>>
     ensures { result ≡ alone command.entry (words text.now) }
@@ -137,6 +158,7 @@ fn row<'a>(word: &[u8], rest: &'a [u8], program: &Program) -> Option<Command<'a>
             Some(Command::Instruction { addr })
         }
         b"t" => alone(Command::Traps, rest),
+        b"e" => edges(rest),
         b"q" => alone(Command::Quit, rest),
         _ => None,
     }

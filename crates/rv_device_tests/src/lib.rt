@@ -6,6 +6,8 @@ mod bus;
 #[cfg(test)]
 mod cache;
 #[cfg(test)]
+mod edges;
+#[cfg(test)]
 mod memory;
 #[cfg(test)]
 mod mmio;

@@ -4,9 +4,9 @@
 use Rattle.std.specs.Prelude.{◌≡◌, ◌⊎◌, ◌<◌, false, ℕ, ◌-◌, List, [], ◌++◌, if◌then◌else◌, Option, Some, None, codes, unwrap_or}
 use Rattle.std.specs.FinSet as set
 use Rattle.rv_commands.specs.declared.command.Command.{Command}
-use Rattle.rv_commands.specs.declared.command.Command.TheVariants.{Step, Go, SetBreak, ClearBreak, Registers, ControlRegister, Memory, Instruction, Traps, Quit, Nothing}
+use Rattle.rv_commands.specs.declared.command.Command.TheVariants.{Step, Go, SetBreak, ClearBreak, Registers, ControlRegister, Memory, Instruction, Traps, Edges, Quit, Nothing}
 use Rattle.rv_views.specs.Numbers.{hex}
-use Rattle.rv_views.specs.Views.{line, registers_text, control_register_text, memory_text, instruction_text, traps_text, stop_text}
+use Rattle.rv_views.specs.Views.{line, registers_text, control_register_text, memory_text, instruction_text, traps_text, edges_text, stop_text}
 use Rattle.rv_monitor.specs.declared.stop.Stop.{Stop}
 use Rattle.rv_monitor.specs.declared.stop.Stop.TheVariants.{Halted, Breakpoint, Limit}
 use Rattle.rv_monitor.specs.declared.command.Next.{Next}
@@ -94,6 +94,7 @@ answer (Some (ControlRegister name csr)) old new = control_register_text old.tim
 answer (Some (Memory addr count)) old new = memory_text old.timed.board addr count
 answer (Some (Instruction addr)) old new = instruction_text old.timed.board addr
 answer (Some Traps) old new = traps_text old.timed.board
+answer (Some (Edges source)) old new = edges_text old.timed.board source
 answer (Some Quit) old new = []
 answer (Some Nothing) old new = []
 

@@ -13,7 +13,7 @@ use rv_commands::{Command, read_command};
 use rv_isa::NoMemory;
 use rv_ram::ByteMemory;
 use rv_views::{
-    STOP_BYTES, eight_digits, write_control_register, write_instruction, write_memory,
+    STOP_BYTES, eight_digits, write_control_register, write_edges, write_instruction, write_memory,
     write_registers, write_stop, write_traps,
 };
 
@@ -140,6 +140,7 @@ impl<M: ByteMemory, C: Decoded> Session<M, C> {
             Command::Memory { addr, count } => write_memory(self.board(), addr, count, text)?,
             Command::Instruction { addr } => write_instruction(self.board(), addr, text)?,
             Command::Traps => write_traps(self.board(), text)?,
+            Command::Edges { source } => write_edges(self.board(), source, text)?,
             Command::Quit => return Ok(Next::Quit),
             Command::Nothing => (),
         }

@@ -10,7 +10,8 @@ use Rattle.rv_isa.specs.Text.{text}
 use Rattle.rv_isa.specs.declared.kind.Kind.{Kind}
 use Rattle.rv_pmp.specs.declared.access.Mode.{Mode}
 use Rattle.rv_pmp.specs.declared.access.Mode.TheVariants.{User, Machine}
-use Rattle.rv_board.specs.State.{BoardState, reg_of, pc_of, mode_of, csr_of, byte_of, steps_of}
+use Rattle.rv_plic.specs.Edges.{edges_of}
+use Rattle.rv_board.specs.State.{BoardState, reg_of, pc_of, mode_of, csr_of, byte_of, steps_of, plic_of}
 use Rattle.rv_board.specs.declared.event.TrapRecord.{TrapRecord}
 use Rattle.rv_views.specs.Numbers.{hex, two_decimals}
 
@@ -113,6 +114,13 @@ trap_text t = line (labelled (codes "trap cause=") t.cause ++ labelled (codes " 
 -- `t`: the kept traps, oldest first
 abbrev pub traps_text : BoardState → List ℕ
 traps_text b = flat_map trap_text b.traps
+
+-- ---- waiting edges
+
+-- `e`: how many edges of a source wait
+unfoldable pub edges_text : BoardState → ℕ → List ℕ
+edges_text b source =
+    line (codes "source " ++ decimal source ++ codes " edges=" ++ decimal (edges_of (plic_of b).gateways.edges source))
 
 -- ---- stops
 

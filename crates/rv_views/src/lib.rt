@@ -5,6 +5,7 @@
 //! count something.
 #![tactic(auto)]
 
+mod edges;
 mod memory;
 mod number;
 mod registers;
@@ -12,6 +13,7 @@ mod stop;
 mod text;
 mod trap;
 
+pub use edges::write_edges;
 pub use memory::{write_instruction, write_memory};
 pub use number::{eight_digits, two_digits};
 pub use registers::{mode_letter, write_control_register, write_registers};
