@@ -1,6 +1,6 @@
 -- What a reader gave and a writer took.
 -- To audit: public contracts cite this.
-use Rattle.std.specs.Prelude.{◌≡◌, ◌⊎◌, ◌<◌, ◌≤◌, ℕ, Bool, true, List, Option, length, take}
+use Rattle.std.specs.Prelude.{◌≡◌, ◌⊎◌, ◌+◌, ◌<◌, ◌≤◌, ℕ, Bool, true, List, Option, length, take}
 use Rattle.std.specs.Io.KnownBytes.{Appends, Consumes, IsAtEnd}
 
 -- the most bytes that a text may have
@@ -19,15 +19,25 @@ pub record GavePart (old new : Option (List ℕ)) : Type 0 where
   pub gave : Consumes old new bytes
   pub within : length bytes ≤ most_bytes
 
--- the reader gave more bytes than a text may have
+-- the most bytes that a call of a reader is asked for
+abbrev pub most_a_call : ℕ
+most_a_call = 8192
+
+-- the reader gave more bytes than a text may have, and was left behind the call that did
 pub record GaveTooMuch (old new : Option (List ℕ)) : Type 0 where
   pub bytes : List ℕ
   pub gave : Consumes old new bytes
   pub more : most_bytes < length bytes
+  pub left : length bytes ≤ most_bytes + most_a_call
+
+-- the reader failed, when it had given no more bytes than a text may have
+pub record HasFailed (failed : Bool) (old new : Option (List ℕ)) : Type 0 where
+  pub is : failed ≡ true
+  pub part : GavePart old new
 
 -- the reader failed or gave too much
 abbrev pub IsUnreadable : Bool → Option (List ℕ) → Option (List ℕ) → Type 0
-IsUnreadable failed old new = (failed ≡ true) ⊎ GaveTooMuch old new
+IsUnreadable failed old new = HasFailed failed old new ⊎ GaveTooMuch old new
 
 -- the writer took a beginning of the text
 pub record WroteBeginning (old new : Option (List ℕ)) (text : List ℕ) : Type 0 where

@@ -3,7 +3,7 @@ ghost use Rattle.std.specs.Prelude.{◌≡◌, ◌≢◌, IfErr, IfOk, Ok, false
 ghost use Rattle.rv_cli.specs.Output.{IsOutput, IsOutputByAssembly, IsOutputByList, IsRunOf};
 ghost use Rattle.rv_cli.specs.Meanings.{RefusedBy};
 ghost use Rattle.rv_cli.specs.Run.{Ended, IsSoundIf, Refused, readers, side, side_if};
-ghost use Rattle.rv_cli.specs.declared.fault.CliFault.TheVariants.{Write};
+ghost use Rattle.rv_cli.specs.declared.fault.CliFault.TheVariants.{ReadInput, ReadSource, Write};
 
 use crate::fault::{CliFault, Ending};
 use crate::print::{ending, print_board};
@@ -117,7 +117,8 @@ fn run_source(alloc: Global, texts: &Texts, options: Options) -> Result<Printed,
 /// the commands, the console, a line end where it has none, and the status line.
 ///
 /// The faults come in the order `ReadSource`, `ReadInput`, `ReadCommands`, `Source`, `Input`, `BadPages`, `BadSlots`,
-/// `ImageTooLarge`, and before `Write` nothing was written. Want of memory may stand in place of any answer but a
+/// `ImageTooLarge`, and before `Write` nothing was written. A reader that gives more than a text may have is left
+/// there, and behind a reader's fault no other reader is touched. Want of memory may stand in place of any answer but a
 /// fault of a reader or the writer that occurred.
 pub fn run_text<S: TextIn, I: TextIn, C: TextIn, W: TextOut>(
     alloc: Global,
@@ -143,6 +144,10 @@ pub fn run_text<S: TextIn, I: TextIn, C: TextIn, W: TextOut>(
         (side (W.taken out.old) (W.taken out.new) (W.has_failed out.new)) options) }
     ensures there { is_some commands.new ≡ is_some commands.old }
     ensures unwritten { IfErr result (λ fault. fault ≢ Write → out.new ≡ out.old) }
+
+    // Behind a reader's fault no other is touched.
+    ensures behind_source { IfErr result (λ fault. fault ≡ ReadSource → (inputs.new ≡ inputs.old) × (commands.new ≡ commands.old)) }
+    ensures behind_inputs { IfErr result (λ fault. fault ≡ ReadInput → commands.new ≡ commands.old) }
 {
     let texts = read_texts(alloc, source, inputs, commands)?;
     let printed = run_source(alloc, &texts, options)?;

@@ -5,7 +5,7 @@ ghost use Rattle.rv_cli.specs.Faults.{read_fault_of};
 ghost use Rattle.rv_cli.specs.Meanings.{Unread};
 ghost use Rattle.rv_cli.specs.Run.{AllGave, Gave, GaveIf, IsInOrder, IsInOrderIf, IsUnreadableIf, readers, side, side_if, IsSoundIf};
 ghost use Rattle.rv_cli.specs.Texts.{IsUnreadable};
-ghost use Rattle.rv_cli.specs.declared.fault.CliFault.TheVariants.{OutOfMemory, ReadCommands};
+ghost use Rattle.rv_cli.specs.declared.fault.CliFault.TheVariants.{OutOfMemory, ReadCommands, ReadInput, ReadSource};
 
 use crate::fault::{CliFault, TextName};
 use crate::text::{ReadFault, TextIn, read_whole};
@@ -86,6 +86,10 @@ pub(crate) fn read_texts<S: TextIn, I: TextIn, C: TextIn>(
         (side (I.left inputs.old) (I.left inputs.new) (I.has_failed inputs.new))
         (side_if C.left C.has_failed commands.old commands.new))) }
     ensures there { is_some commands.new ≡ is_some commands.old }
+
+    // Behind a reader's fault no other is touched.
+    ensures behind_source { IfErr result (λ fault. fault ≡ ReadSource → (inputs.new ≡ inputs.old) × (commands.new ≡ commands.old)) }
+    ensures behind_inputs { IfErr result (λ fault. fault ≡ ReadInput → commands.new ≡ commands.old) }
 {
     let source = read_text(alloc, TextName::Source, source)?;
     let inputs = read_text(alloc, TextName::Input, inputs)?;

@@ -1,10 +1,14 @@
 //! The bus over a memory.
+ghost use Rattle.std.specs.Prelude.{◌≡◌, ◌%◌};
+ghost use Rattle.rv_isa.specs.Width.{bytes_of};
+
 use rv_bus::{Bus, BusFault, StoreRefusal};
 use rv_isa::{Lines, Width};
 use rv_mmio::Serial;
 use rv_plic::Source;
 use rv_ram::FlatMemory;
 use std::alloc::Global;
+use std::process::Abort;
 use std::test::Fail;
 
 /// A bus over one page.
@@ -12,16 +16,61 @@ fn bus(alloc: Global) -> Result<Bus<FlatMemory>, Fail> {
     Ok(Bus::new(FlatMemory::new(alloc, 1)?, Serial::new(alloc)?))
 }
 
+// Each of these says nothing of the bus that it leaves, so that a test's proof carries no state from call to call.
+
+/// A load answers so.
+fn loads(
+    rt: &impl Abort,
+    bus: &mut Bus<FlatMemory>,
+    addr: u32,
+    width: Width,
+    answer: Result<u32, BusFault>,
+)
+    requires { addr % bytes_of width ≡ 0 }
+{
+    assert_eq!(rt; bus.load(addr, width), answer, "load at {addr}");
+}
+
+/// A store answers so.
+fn stores(
+    rt: &impl Abort,
+    bus: &mut Bus<FlatMemory>,
+    addr: u32,
+    width: Width,
+    value: u32,
+    answer: Result<(), StoreRefusal>,
+)
+    requires { addr % bytes_of width ≡ 0 }
+{
+    assert_eq!(rt; bus.store(addr, width, value), answer, "store at {addr}");
+}
+
+/// A fetch answers so.
+fn fetches(rt: &impl Abort, bus: &Bus<FlatMemory>, addr: u32, answer: Result<u32, BusFault>)
+    requires { addr % 4 ≡ 0 }
+{
+    assert_eq!(rt; bus.fetch(addr), answer, "fetch at {addr}");
+}
+
+/// A look at a byte of the memory answers so.
+fn peeks(rt: &impl Abort, bus: &Bus<FlatMemory>, addr: u32, answer: Option<u8>) {
+    assert_eq!(rt; bus.peek(addr), answer, "peek at {addr}");
+}
+
+/// A tick.
+fn tick(bus: &mut Bus<FlatMemory>) {
+    bus.tick();
+}
+
 #[test]
 fn each_word_of_64_pages(rt: HostRuntime) -> Result<(), Fail> {
     let memory = FlatMemory::new(rt.alloc(), 64)?;
     let mut bus = Bus::new(memory, Serial::new(rt.alloc())?);
     for word in 0..65536u32 {
-        let stored = bus.store(0x8000_0000 + 4 * word, Width::Four, word);
-        assert_eq!(rt; stored, Ok(()), "{word}");
+        stores(&rt, &mut bus, 0x8000_0000 + 4 * word, Width::Four, word, Ok(()));
     }
     for word in 0..65536u32 {
-        assert_eq!(rt; bus.fetch(0x8000_0000 + 4 * word), Ok(word));
+        fetches(&rt, &bus, 0x8000_0000 + 4 * word, Ok(word));
     }
     Ok(())
 }
@@ -29,52 +78,52 @@ fn each_word_of_64_pages(rt: HostRuntime) -> Result<(), Fail> {
 #[test]
 fn memory_is_bytes_low_one_first(rt: HostRuntime) -> Result<(), Fail> {
     let mut bus = bus(rt.alloc())?;
-    assert_eq!(rt; bus.store(0x8000_0ffc, Width::Four, 0x0403_0201), Ok(()));
-    assert_eq!(rt; bus.load(0x8000_0ffe, Width::Two), Ok(0x0403));
-    assert_eq!(rt; bus.load(0x8000_0ffc, Width::One), Ok(1));
-    assert_eq!(rt; bus.fetch(0x8000_0ffc), Ok(0x0403_0201));
-    assert_eq!(rt; bus.fetch(0x8000_1000), Err(BusFault));
-    assert_eq!(rt; bus.peek(0x8000_0fff), Some(4));
-    assert_eq!(rt; bus.peek(0x8000_1000), None);
+    stores(&rt, &mut bus, 0x8000_0ffc, Width::Four, 0x0403_0201, Ok(()));
+    loads(&rt, &mut bus, 0x8000_0ffe, Width::Two, Ok(0x0403));
+    loads(&rt, &mut bus, 0x8000_0ffc, Width::One, Ok(1));
+    fetches(&rt, &bus, 0x8000_0ffc, Ok(0x0403_0201));
+    fetches(&rt, &bus, 0x8000_1000, Err(BusFault));
+    peeks(&rt, &bus, 0x8000_0fff, Some(4));
+    peeks(&rt, &bus, 0x8000_1000, None);
     Ok(())
 }
 
 #[test]
 fn what_is_not_in_the_table_is_a_fault(rt: HostRuntime) -> Result<(), Fail> {
     let mut bus = bus(rt.alloc())?;
-    assert_eq!(rt; bus.load(0x1000_0008, Width::One), Ok(2));
-    assert_eq!(rt; bus.load(0x1000_0009, Width::One), Err(BusFault));
-    assert_eq!(rt;
-        bus.store(0x0200_0000, Width::Two, 1),
-        Err(StoreRefusal::Fault)
-    );
-    assert_eq!(rt;
-        bus.store(0x0200_0004, Width::Four, 1),
-        Err(StoreRefusal::Fault)
-    );
-    assert_eq!(rt; bus.fetch(0x1000_0000), Err(BusFault));
-    assert_eq!(rt; bus.peek(0x1000_0004), None);
+    let refused = Err(StoreRefusal::Fault);
+    loads(&rt, &mut bus, 0x1000_0008, Width::One, Ok(2));
+    loads(&rt, &mut bus, 0x1000_0009, Width::One, Err(BusFault));
+    stores(&rt, &mut bus, 0x0200_0000, Width::Two, 1, refused);
+    stores(&rt, &mut bus, 0x0200_0004, Width::Four, 1, refused);
+    fetches(&rt, &bus, 0x1000_0000, Err(BusFault));
+    peeks(&rt, &bus, 0x1000_0004, None);
     Ok(())
+}
+
+/// A received byte waits, and is taken by a load of its whole word alone.
+fn serial_answers(rt: &impl Abort, bus: &mut Bus<FlatMemory>) {
+    bus.receive(0x5a);
+    loads(rt, bus, 0x1000_0008, Width::Two, Ok(3));
+    loads(rt, bus, 0x1000_0004, Width::Four, Ok(0x5a));
+    assert_eq!(rt; bus.serial().waiting(), 0);
+    loads(rt, bus, 0x1000_0004, Width::Two, Ok(0));
+    stores(rt, bus, 0x1000_0000, Width::One, 0x48, Ok(()));
+    assert_eq!(rt; bus.serial().console(), b"H".as_slice());
 }
 
 #[test]
 fn devices_answer_at_their_addresses(rt: HostRuntime) -> Result<(), Fail> {
     let mut bus = bus(rt.alloc())?;
-    bus.receive(0x5a);
-    assert_eq!(rt; bus.load(0x1000_0008, Width::Two), Ok(3));
-    assert_eq!(rt; bus.load(0x1000_0004, Width::Four), Ok(0x5a));
-    assert_eq!(rt; bus.serial().waiting(), 0);
-    assert_eq!(rt; bus.load(0x1000_0004, Width::Two), Ok(0));
-    assert_eq!(rt; bus.store(0x1000_0000, Width::One, 0x48), Ok(()));
-    assert_eq!(rt; bus.serial().console(), b"H".as_slice());
-    assert_eq!(rt; bus.store(0x0200_0000, Width::Four, 3), Ok(()));
+    serial_answers(&rt, &mut bus);
+    stores(&rt, &mut bus, 0x0200_0000, Width::Four, 3, Ok(()));
     let lines = Lines {
         software: true,
         timer: false,
         external: false,
     };
     assert_eq!(rt; bus.lines(), lines);
-    assert_eq!(rt; bus.store(0x0010_0000, Width::Four, 0x0007_3333), Ok(()));
+    stores(&rt, &mut bus, 0x0010_0000, Width::Four, 0x0007_3333, Ok(()));
     assert_eq!(rt; bus.halted(), Some(7));
     Ok(())
 }
@@ -82,35 +131,50 @@ fn devices_answer_at_their_addresses(rt: HostRuntime) -> Result<(), Fail> {
 #[test]
 fn a_mark_puts_the_time_back(rt: HostRuntime) -> Result<(), Fail> {
     let mut bus = bus(rt.alloc())?;
-    bus.tick();
+    tick(&mut bus);
     let mark = bus.mark();
-    bus.tick();
+    tick(&mut bus);
     assert_eq!(rt; bus.timer().load(0xbff8), Some(2));
     bus.put_back(mark);
-    assert_eq!(rt; bus.load(0x0200_bff8, Width::Four), Ok(1));
+    loads(&rt, &mut bus, 0x0200_bff8, Width::Four, Ok(1));
+    Ok(())
+}
+
+/// A bus whose source 3 may interrupt, and asks for it from the next tick on.
+fn with_request(rt: &impl Abort, bus: &mut Bus<FlatMemory>) -> Result<(), Fail> {
+    let source = Source::new(3).ok_or("no source")?;
+    loads(rt, bus, 0x0c00_1000, Width::One, Err(BusFault));
+    stores(rt, bus, 0x0c00_000c, Width::Four, 1, Ok(()));
+    stores(rt, bus, 0x0c00_2000, Width::Four, 8, Ok(()));
+    bus.set_line(source, true);
     Ok(())
 }
 
 #[test]
 fn the_interrupt_controller_takes_words(rt: HostRuntime) -> Result<(), Fail> {
     let mut bus = bus(rt.alloc())?;
-    let source = Source::new(3).ok_or("no source")?;
-    assert_eq!(rt; bus.load(0x0c00_1000, Width::One), Err(BusFault));
-    assert_eq!(rt; bus.store(0x0c00_000c, Width::Four, 1), Ok(()));
-    assert_eq!(rt; bus.store(0x0c00_2000, Width::Four, 8), Ok(()));
-    bus.set_line(source, true);
+    with_request(&rt, &mut bus)?;
     let mark = bus.mark();
-    bus.tick();
-    assert_eq!(rt; bus.load(0x0c00_1000, Width::Four), Ok(8));
+    tick(&mut bus);
+    loads(&rt, &mut bus, 0x0c00_1000, Width::Four, Ok(8));
     assert!(rt; bus.lines().external);
     bus.put_back(mark);
-    assert_eq!(rt; bus.load(0x0c00_1000, Width::Four), Ok(0));
+    loads(&rt, &mut bus, 0x0c00_1000, Width::Four, Ok(0));
     assert_eq!(rt; bus.timer().load(0xbff8), Some(0));
-    bus.tick();
+    tick(&mut bus);
     assert_eq!(rt; bus.plic().peek(0x20_0004), 3);
-    assert_eq!(rt; bus.load(0x0c20_0004, Width::Four), Ok(3));
+    loads(&rt, &mut bus, 0x0c20_0004, Width::Four, Ok(3));
     assert!(rt; !bus.lines().external);
     Ok(())
+}
+
+/// A byte is sent, where memory was refused by asking again.
+fn sends(rt: &impl Abort, bus: &mut Bus<FlatMemory>) {
+    if bus.store(0x1000_0000, Width::Four, 0x48) == Err(StoreRefusal::NoMemory) {
+        assert_eq!(rt; bus.serial().console(), b"".as_slice());
+        assert_eq!(rt; bus.store(0x1000_0000, Width::Four, 0x48), Ok(()));
+    }
+    assert_eq!(rt; bus.serial().console(), b"H".as_slice());
 }
 
 /// With any one allocation refused, the store that needed it leaves the console, and the same store then succeeds.
@@ -125,10 +189,6 @@ fn a_refused_store_can_be_asked_again(rt: HostRuntime) -> Result<(), Fail> {
         Err(_) => FlatMemory::new(rt.alloc(), 1)?,
     };
     let mut bus = Bus::new(memory, serial);
-    if bus.store(0x1000_0000, Width::Four, 0x48) == Err(StoreRefusal::NoMemory) {
-        assert_eq!(rt; bus.serial().console(), b"".as_slice());
-        assert_eq!(rt; bus.store(0x1000_0000, Width::Four, 0x48), Ok(()));
-    }
-    assert_eq!(rt; bus.serial().console(), b"H".as_slice());
+    sends(&rt, &mut bus);
     Ok(())
 }

@@ -13,6 +13,11 @@ const MTIME_LOW: u32 = 0xBFF8;
 
 const MTIME_HIGH: u32 = 0xBFFC;
 
+/// A store, which says nothing of the port that it leaves, so that a test's proof carries no state from call to call.
+fn store(serial: &mut Serial, register: SerialReg, word: u32) -> Result<(), NoMemory> {
+    serial.store(register, word)
+}
+
 #[test]
 fn queue_of_sixteen(rt: HostRuntime) -> Result<(), Fail> {
     let mut serial = Serial::new(rt.alloc())?;
@@ -35,10 +40,10 @@ fn queue_of_sixteen(rt: HostRuntime) -> Result<(), Fail> {
 #[test]
 fn console(rt: HostRuntime) -> Result<(), Fail> {
     let mut serial = Serial::new(rt.alloc())?;
-    serial.store(SerialReg::Tx, 0xFFFF_FF48)?;
-    serial.store(SerialReg::Rx, 0x58)?;
-    serial.store(SerialReg::Status, 0x58)?;
-    serial.store(SerialReg::Tx, 0x69)?;
+    store(&mut serial, SerialReg::Tx, 0xFFFF_FF48)?;
+    store(&mut serial, SerialReg::Rx, 0x58)?;
+    store(&mut serial, SerialReg::Status, 0x58)?;
+    store(&mut serial, SerialReg::Tx, 0x69)?;
     assert_eq!(rt; serial.console(), b"Hi".as_slice());
     assert_eq!(rt; serial.load(SerialReg::Tx), 0);
     Ok(())

@@ -17,7 +17,7 @@ use Rattle.rv_lists.specs.Timed.{never_falls}
 use Rattle.rv_monitor.specs.Events.{event_of, inputs_at, events_of}
 use Rattle.rv_monitor.specs.State.{TimedState, IsInTime, rest, count_before, after, with_due}
 use Rattle.rv_monitor.specs.Laws.{RunsJoin, CallsJoin}
-use Rattle.rv_monitor.proofs.Times.{from, late_from, late_of, late_count, drop_rises, drop_from, none_before, due_step, later_of, later_count, none_of, count_most}
+use Rattle.rv_monitor.proofs.Times.{from, from_earlier, late_from, late_of, late_count, drop_rises, drop_from, none_before, due_step, later_of, later_count, none_of, count_most}
 
 -- ---- no input is refused
 
@@ -161,6 +161,25 @@ in_time_due s h = record {
   rising = h.rising;
   ahead = ap (from s.taken) (rest_late s (s.taken + 1)) ∙ drop_from s.taken (count_before (s.taken + 1) (rest s)) (rest s) h.ahead;
 }
+
+-- the fields of a state without an input before a later time
+module _ (b : BoardState) (xs : List TimedInput) (place t later : ℕ) (quiet : from later (drop place xs) ≡ true) (before : t < later) where
+  abbrev quiet_state : TimedState
+  quiet_state = record { board = b; inputs = xs; place = place; taken = t }
+
+  pub all_later : from (t + 1) (drop place xs) ≡ true
+  all_later = from_earlier (t + 1) later (drop place xs) quiet (omega arith)
+
+  none_now : inputs_at (drop place xs) t ≡ []
+  unfolding inputs_at
+  none_now = ap (map (λ x. event_of x.input)) (none_of t (drop place xs) all_later)
+
+  pub none_is_due : quiet_state ≡ with_due quiet_state
+  unfolding with_due
+  none_is_due =
+      let none : count_before (t + 1) (drop place xs) ≡ 0 = none_before (t + 1) (drop place xs) all_later in
+      same b (run b (inputs_at (drop place xs) t)) xs place (place + count_before (t + 1) (drop place xs)) t t
+      (ap (run b) (sym none_now)) (omega (arith, none)) refl
 
 -- the fields of a state whose next inputs were given, so many
 module _ (b : BoardState) (xs more : List TimedInput) (place t n : ℕ) (is : more ≡ drop place xs) (count : n ≡ count_before (t + 1) more) where

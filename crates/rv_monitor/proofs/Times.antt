@@ -79,6 +79,25 @@ drop_rises zero xs h = h
 drop_rises (suc n) [] h = h
 drop_rises (suc n) (x ∷ xs) h = drop_rises n xs (tail_rises x xs h)
 
+-- the first from a place on has the least time, and behind the last there is none
+pub from_place : (xs : List TimedInput) (n : ℕ) (d : TimedInput) → never_falls xs ≡ true → n < length xs → from (get_or xs n d).step (drop n xs) ≡ true
+from_place [] n d h k = absurd (omega arith)
+from_place (x ∷ xs) zero d h k = all_from x.step x xs h (omega arith)
+from_place (x ∷ xs) (suc n) d h k = from_place xs n d (tail_rises x xs h) (omega arith)
+
+pub from_end : (t n : ℕ) (xs : List TimedInput) → length xs ≤ n → from t (drop n xs) ≡ true
+from_end t zero [] h = refl
+from_end t (suc n) [] h = refl
+from_end t zero (x ∷ xs) h = absurd (omega arith)
+from_end t (suc n) (x ∷ xs) h = from_end t n xs (omega arith)
+
+-- and so every time is at least one that is earlier
+pub from_earlier : (t u : ℕ) (xs : List TimedInput) → from u xs ≡ true → t ≤ u → from t xs ≡ true
+from_earlier t u [] h k = refl
+from_earlier t u (x ∷ xs) h k =
+    let m : u ≤ x.step = le_is u x.step (and_left (nat_le u x.step) (from u xs) h) in
+    rw (le t x.step (omega arith)) (from_earlier t u xs (and_right (nat_le u x.step) (from u xs) h) k)
+
 pub drop_from : (t n : ℕ) (xs : List TimedInput) → from t xs ≡ true → from t (drop n xs) ≡ true
 drop_from t zero xs h = h
 drop_from t (suc n) [] h = h

@@ -4,3 +4,4 @@ pub mod Stops
 pub mod Laws
 pub mod Asked
 pub mod Commands
+pub mod Marks

@@ -4,6 +4,7 @@
 
 mod breakpoints;
 mod command;
+mod marks;
 mod session;
 mod stop;
 mod timed;
