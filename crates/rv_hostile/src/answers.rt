@@ -1,0 +1,83 @@
+//! What may be answered to a source, a timed list and commands, whatever they say.
+use crate::texts::SENDER;
+use rv_asm::FaultKind;
+use rv_cli::{CliFault, Ending, MemoryIn, MemoryOut, Options, run_text};
+use std::alloc::Global;
+
+/// A text that is changed, and the others that go with it.
+#[derive(Clone, Copy, PartialEq, Eq)]
+pub enum Text {
+    Source,
+    Inputs,
+    Commands,
+}
+
+/// A run of a thousand steps.
+const OPTIONS: Options = Options {
+    steps: 1000,
+    pages: 64,
+    slots: 64,
+};
+
+/// What a run of these texts prints and how it ends.
+fn run(
+    alloc: Global,
+    source: &[u8],
+    inputs: &[u8],
+    commands: Option<&[u8]>,
+) -> (Result<Ending, CliFault>, MemoryOut) {
+    let mut source = MemoryIn::new(source);
+    let mut inputs = MemoryIn::new(inputs);
+    let mut commands = match commands {
+        Some(commands) => Some(MemoryIn::new(commands)),
+        None => None,
+    };
+    let mut out = MemoryOut::new(alloc);
+    let outcome = run_text(
+        alloc,
+        &mut source,
+        &mut inputs,
+        &mut commands,
+        OPTIONS,
+        &mut out,
+    );
+    (outcome, out)
+}
+
+/// Whether a text has a line of this number, from 1.
+fn has_line(text: &[u8], line: usize) -> bool {
+    let mut lines = 1usize;
+    for byte in text.iter() {
+        if *byte == b'\n' {
+            lines = lines.saturating_add(1);
+        }
+    }
+    1 <= line && line <= lines
+}
+
+/// Whether a text of this kind may be refused for this.
+fn may_be_refused(kind: Text, text: &[u8], fault: CliFault) -> bool {
+    match fault {
+        CliFault::Source(fault) => {
+            kind == Text::Source
+                && fault.kind != FaultKind::OutOfMemory
+                && has_line(text, fault.line)
+        }
+        CliFault::ImageTooLarge => kind == Text::Source,
+        CliFault::Input(line) => kind == Text::Inputs && has_line(text, line),
+        _ => false,
+    }
+}
+
+/// Whether the answer to a text is a whole run, or a fault that a text of this kind may have.
+pub fn is_answered(alloc: Global, kind: Text, text: &[u8]) -> bool {
+    let (outcome, out) = match kind {
+        Text::Source => run(alloc, text, b"", None),
+        Text::Inputs => run(alloc, SENDER, text, None),
+        Text::Commands => run(alloc, SENDER, b"", Some(text)),
+    };
+    match outcome {
+        Ok(_) => out.bytes().ends_with(b" steps\n"),
+        Err(fault) => out.bytes().is_empty() && may_be_refused(kind, text, fault),
+    }
+}

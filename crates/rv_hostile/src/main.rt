@@ -1,0 +1,100 @@
+//! Texts that nobody meant: each beginning of a source, a timed list and commands, and a thousand changes of each. And
+//! readers and writers of which each call fails in turn.
+//!
+//! Each text has to give a run of up to a thousand steps, or a fault that its kind may have. What is printed otherwise is
+//! the first text whose answer is wrong.
+#![tactic(auto)]
+
+mod answers;
+mod changes;
+mod streams;
+mod texts;
+
+use answers::{Text, is_answered};
+use changes::{Dice, changed};
+use rv_isa::NoMemory;
+use std::alloc::Global;
+use std::io::Write;
+use std::process::ExitCode;
+use streams::are_answered;
+use texts::{COMMANDS, INPUTS, SOURCE, TIMER};
+
+/// How many changes of each text are tried.
+const CHANGES: usize = 1000;
+
+/// The first beginning of a text that is answered wrongly.
+fn wrong_beginning(alloc: Global, kind: Text, text: &[u8]) -> Result<Option<Vec<u8>>, NoMemory> {
+    for count in 0..text.len() {
+        let Some(beginning) = text.get(..count) else {
+            return Ok(None);
+        };
+        if !is_answered(alloc, kind, beginning) {
+            return Ok(Some(Vec::from_slice(alloc, beginning)?));
+        }
+    }
+    Ok(None)
+}
+
+/// The first of a thousand changes of a text that is answered wrongly.
+fn wrong_change(alloc: Global, kind: Text, text: &[u8]) -> Result<Option<Vec<u8>>, NoMemory> {
+    let mut dice = Dice::new();
+    for _ in 0..CHANGES {
+        let change = changed(alloc, text, &mut dice)?;
+        if !is_answered(alloc, kind, change.as_slice()) {
+            return Ok(Some(change));
+        }
+    }
+    Ok(None)
+}
+
+/// The first text of this kind that is answered wrongly.
+fn wrong_text(alloc: Global, kind: Text, text: &[u8]) -> Result<Option<Vec<u8>>, NoMemory> {
+    if let Some(wrong) = wrong_beginning(alloc, kind, text)? {
+        return Ok(Some(wrong));
+    }
+    wrong_change(alloc, kind, text)
+}
+
+/// The line that says how the texts of a kind were answered, with the first text that was answered wrongly.
+fn print(rt: &HostRuntime, name: &[u8], wrong: Result<Option<Vec<u8>>, NoMemory>) {
+    let _ = rt.stdout().write_all(name);
+    match wrong {
+        Ok(None) => {
+            let _ = rt.stdout().write_all(b" as defined\n");
+        }
+        Ok(Some(text)) => {
+            let _ = rt.stdout().write_all(b" a wrong answer to:\n");
+            let _ = rt.stdout().write_all(text.as_slice());
+        }
+        Err(NoMemory) => {
+            let _ = rt.stdout().write_all(b" no memory\n");
+        }
+    }
+}
+
+fn main(rt: HostRuntime) -> ExitCode {
+    let alloc = rt.alloc();
+    print(&rt, b"sources:", wrong_text(alloc, Text::Source, SOURCE));
+    print(
+        &rt,
+        b"more sources:",
+        wrong_text(alloc, Text::Source, TIMER),
+    );
+    print(
+        &rt,
+        b"timed lists:",
+        wrong_text(alloc, Text::Inputs, INPUTS),
+    );
+    print(
+        &rt,
+        b"commands:",
+        wrong_text(alloc, Text::Commands, COMMANDS),
+    );
+    let line = if are_answered(alloc) {
+        b"readers and writers: as defined\n".as_slice()
+    } else {
+        b"readers and writers: a wrong answer\n".as_slice()
+    };
+    let _ = rt.stdout().write_all(line);
+    ExitCode::SUCCESS
+}
