@@ -7,6 +7,7 @@
 
 mod guarded;
 mod hello;
+mod session;
 
 use std::alloc::Global;
 use std::io::{Read, Write};
@@ -41,6 +42,8 @@ fn main(rt: HostRuntime) -> ExitCode {
         b"a wrong answer of the run of a text\n".as_slice()
     } else if !guarded::answers_right(rt.alloc()) {
         b"a wrong answer of the assembler or the board\n".as_slice()
+    } else if !session::answers_right(rt.alloc()) {
+        b"a wrong answer of a session\n".as_slice()
     } else if kept.iter().all(|one| one.as_slice() == b"1".as_slice()) {
         b"as defined\n".as_slice()
     } else {

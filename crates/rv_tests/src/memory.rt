@@ -1,10 +1,11 @@
 //! A memory that refuses some writes.
-ghost use Rattle.std.specs.Prelude.{◌≡◌, ◌+◌, ◌≤◌, ◌%◌, length, OnOk, OnErr};
+ghost use Rattle.std.specs.Prelude.{◌≡◌, ◌+◌, ◌<◌, ◌≤◌, ◌%◌, true, length, IsTrue, OnOk, OnErr};
+ghost use Rattle.rv_ram.specs.Pages.{is_blank, wants_page};
 
 use rv_isa::{NoMemory, Width};
-use rv_ram::{ByteMemory, FlatMemory};
+use rv_ram::{ByteMemory, FlatMemory, PAGE_BYTES};
 
-/// A memory whose next writes after so many good ones are refused, so many times.
+/// A memory of whose writes behind so many good ones the next that need a page are refused, so many times.
 #[derive(Drop)]
 pub struct Stubborn {
     pub memory: FlatMemory,
@@ -30,10 +31,38 @@ impl ByteMemory for Stubborn {
     fn write(&mut self, off: u32, width: Width, value: u32) -> Result<(), NoMemory> {
         if self.good > 0 {
             self.good -= 1;
-        } else if self.refusals > 0 {
+        } else if self.refusals > 0 && needs_page(&self.memory, off, width, value) {
             self.refusals -= 1;
             return Err(NoMemory);
         }
         self.memory.write(off, width, value)
+    }
+}
+
+/// Whether a page has only zeros.
+#[tactic(auto, using(crate::proofs::Pages::one_more_zero, crate::proofs::Pages::is_blank_page))]
+fn is_blank(memory: &FlatMemory, off: u32) -> bool
+    requires { off < length memory.now }
+    ensures { IsTrue result → is_blank memory.now off ≡ true }
+{
+    // There are whole pages.
+    let _size = memory.size();
+    let first = off / PAGE_BYTES * PAGE_BYTES;
+    for count in 0..PAGE_BYTES {
+        if memory.read(first + count) != 0 {
+            return false;
+        }
+    }
+    true
+}
+
+/// Whether a write stores a word other than 0 in a page that has only zeros.
+fn needs_page(memory: &FlatMemory, off: u32, width: Width, value: u32) -> bool
+    requires { off < length memory.now }
+    ensures { IsTrue result → wants_page memory.now off width value ≡ true }
+{
+    match width {
+        Width::Four => value != 0 && is_blank(memory, off),
+        Width::One | Width::Two => false,
     }
 }

@@ -1,0 +1,161 @@
+//! Sessions: their lists, steps, breakpoints and commands.
+use rv_asm::{FaultKind, Program, assemble};
+use rv_board::{BootFault, BootedBoard};
+use rv_cache::DecodeCache;
+use rv_isa::NoMemory;
+use rv_lists::{Timeline, TimelineFault};
+use rv_monitor::{Next, Session, Stop};
+use rv_ram::PagedRam;
+use std::alloc::Global;
+
+type BootedSession = Session<PagedRam, DecodeCache>;
+
+/// Why there is no session: memory was wanted, or something was answered that may not be.
+pub enum NoSession {
+    Refused,
+    Wrong,
+}
+
+/// A session of so many steps over a source with a timed list.
+fn session(
+    alloc: Global,
+    source: &[u8],
+    inputs: &[u8],
+    limit: u64,
+) -> Result<BootedSession, NoSession> {
+    let program = program(alloc, source)?;
+    let timeline = match Timeline::read(alloc, inputs) {
+        Ok(timeline) => timeline,
+        Err(TimelineFault::OutOfMemory) => return Err(NoSession::Refused),
+        Err(_) => return Err(NoSession::Wrong),
+    };
+    let board = match BootedBoard::boot(alloc, &program, 2, 64) {
+        Ok(board) => board,
+        Err(BootFault::OutOfMemory) => return Err(NoSession::Refused),
+        Err(_) => return Err(NoSession::Wrong),
+    };
+    Ok(Session::new(alloc, board, timeline, program, limit))
+}
+
+/// A source that is assembled, or memory is wanted, at no line.
+fn program(alloc: Global, source: &[u8]) -> Result<Program, NoSession> {
+    match assemble(alloc, source) {
+        Ok(program) => Ok(program),
+        Err(fault) if fault.line == 0 && fault.kind == FaultKind::OutOfMemory => {
+            Err(NoSession::Refused)
+        }
+        Err(_) => Err(NoSession::Wrong),
+    }
+}
+
+/// Sends a byte that comes in.
+const ECHO: &[u8] = b"lui t0,0x10000\nlw a0,4(t0)\nsw a0,0(t0)\n";
+
+/// Whether a refused send leaves the steps and inputs before it, and is asked again with no input given twice.
+fn sends_right(session: &mut BootedSession) -> bool {
+    match session.step(3) {
+        Ok(stop) => stop == Stop::Limit && sent_right(session),
+        Err(NoMemory) => {
+            let board = session.board();
+            board.steps() == 2
+                && board.serial().waiting() == 1
+                && board.console().is_empty()
+                && session.step(1) == Ok(Stop::Limit)
+                && sent_right(session)
+        }
+    }
+}
+
+/// Whether the byte was sent, and the next one waits.
+fn sent_right(session: &BootedSession) -> bool {
+    let board = session.board();
+    board.steps() == 3 && board.serial().waiting() == 1 && board.console() == b"Z".as_slice()
+}
+
+/// A timer interrupt comes into a loop, whose handler writes to a page of its own.
+const TIMER: &[u8] =
+    b"la t0,handler\ncsrw mtvec,t0\nlui t1,0x2004\nli t2,14\nsw t2,0(t1)\nsw zero,4(t1)\nli t0,128\ncsrw mie,t0\ncsrwi mstatus,8\nloop: addi s0,s0,1\nj loop\nhandler: lui s1,0x80001\nsw s1,0(s1)\nj .\n";
+
+/// Whether a refused breakpoint leaves none, and is set when it is asked for again.
+fn sets_right(session: &mut BootedSession, address: u32) -> bool {
+    if let Err(NoMemory) = session.set_break(address) {
+        if session.has_break(address) || session.set_break(address).is_err() {
+            return false;
+        }
+    }
+    session.has_break(address)
+}
+
+/// Whether a call goes on with a refused step, up to a breakpoint.
+fn goes_right(session: &mut BootedSession) -> bool {
+    let stop = match session.go(100) {
+        Ok(stop) => stop,
+        Err(NoMemory) => {
+            if session.board().ram(0x8000_1003) != Some(0) {
+                return false;
+            }
+            match session.go(100) {
+                Ok(stop) => stop,
+                Err(NoMemory) => return false,
+            }
+        }
+    };
+    stop == Stop::Breakpoint
+        && session.board().pc() == 0x8000_0038
+        && session.board().ram(0x8000_1003) == Some(0x80)
+}
+
+/// Commands of each kind, with their answers behind `goes_right`.
+const COMMANDS: [(&[u8], &[u8]); 9] = [
+    (b"b 0x1", b"break 00000001\n"),
+    (b"d 0x1", b"clear 00000001\n"),
+    (b"x", b"?\n"),
+    (b"p mcause", b"mcause=80000007\n"),
+    (b"m 0x80001000 4", b"80001000: 00 10 00 80\n"),
+    (b"i 0x80000038", b"80000038: 0000006f jal x0,.+0\n"),
+    (b"t", b"trap cause=80000007 epc=8000002c tval=00000000\n"),
+    (b"s 2", b"stop limit pc=80000038 mode=M steps=18\n"),
+    (b"c", b"stop break pc=80000038 mode=M steps=19\n"),
+];
+
+/// Whether a refused command leaves the text, the board and the breakpoints, and is done when it is asked again.
+fn obeys_right(
+    session: &mut BootedSession,
+    command: &[u8],
+    answer: &[u8],
+    text: &mut Vec<u8>,
+) -> bool {
+    let before = (text.len(), session.taken(), session.has_break(1));
+    if let Err(NoMemory) = session.command(command, text) {
+        if (text.len(), session.taken(), session.has_break(1)) != before {
+            return false;
+        }
+        if session.command(command, text) != Ok(Next::More) {
+            return false;
+        }
+    }
+    text.as_slice().ends_with(answer)
+}
+
+/// Whether the session stops at its breakpoint and does its commands.
+fn stops_right(alloc: Global, session: &mut BootedSession) -> bool {
+    let mut text = Vec::new(alloc);
+    sets_right(session, 0x8000_0038)
+        && goes_right(session)
+        && COMMANDS.iter().all(|(command, answer)| obeys_right(session, command, answer, &mut text))
+}
+
+/// Whether both sessions end where they have to.
+pub fn answers_right(alloc: Global) -> bool {
+    let sends = match session(alloc, ECHO, b"0 rx 5a\n2 rx 41\n", 9) {
+        Ok(mut session) => sends_right(&mut session),
+        Err(NoSession::Refused) => true,
+        Err(NoSession::Wrong) => false,
+    };
+    let stops = match session(alloc, TIMER, b"0 rx 00\n1 line 3 1\n", 100) {
+        Ok(mut session) => stops_right(alloc, &mut session),
+        Err(NoSession::Refused) => true,
+        Err(NoSession::Wrong) => false,
+    };
+    sends && stops
+}
