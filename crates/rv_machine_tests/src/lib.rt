@@ -18,6 +18,8 @@ mod machine;
 mod pmp;
 #[cfg(test)]
 mod protection;
+#[cfg(test)]
+mod sixteen;
 mod slot;
 
 pub use slot::Kept;

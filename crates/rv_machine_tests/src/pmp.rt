@@ -77,10 +77,10 @@ fn an_access_across_a_border_is_refused(rt: HostRuntime) -> Result<(), Fail> {
 
 #[test]
 fn a_register_keeps_what_it_can(rt: HostRuntime) -> Result<(), Fail> {
-    let pmp = after(&rt, &[(CONFIG_0, 0x62), (0x3A2, 7), (0x3BF, 7)]);
+    let pmp = after(&rt, &[(CONFIG_0, 0x62), (0x3A2, 0x62), (0x3BF, 7)]);
     assert_eq!(rt; pmp.read_csr(CONFIG_0), Some(0));
     assert_eq!(rt; pmp.read_csr(0x3A2), Some(0));
-    assert_eq!(rt; pmp.read_csr(0x3BF), Some(0));
+    assert_eq!(rt; pmp.read_csr(0x3BF), Some(7));
     assert_eq!(rt; pmp.read_csr(0x3A4), None);
     Ok(())
 }

@@ -19,9 +19,9 @@ pub record PmpState : Type 0 where
 abbrev pub off_entry : Entry
 off_entry = record { address = 0; readable = false; writable = false; executable = false; locked = false; matching = Off }
 
--- there are eight
+-- there are sixteen
 abbrev pub reset : PmpState
-reset = record { entries = replicate 8 off_entry }
+reset = record { entries = replicate 16 off_entry }
 
 -- no entry lets write what it doesn't let read
 abbrev pub AllReadable : List Entry → Type 0

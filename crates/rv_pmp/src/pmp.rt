@@ -15,7 +15,7 @@ use rv_isa::Width;
 use std::marker::Model;
 
 /// How many entries there are.
-pub(crate) const ENTRIES: usize = 8;
+pub(crate) const ENTRIES: usize = 16;
 
 /// The registers of physical memory protection. Beside them stand the entries that match addresses, with the spans of
 /// their regions, so that an access computes none and asks no other entry.
