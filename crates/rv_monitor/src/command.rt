@@ -150,8 +150,8 @@ impl<M: ByteMemory, C: Decoded> Session<M, C> {
     /// Does what a command line says, and appends its answer to a text.
     ///
     /// Room for the answer is made first. Where memory is refused, the text is as it was, and only steps that were taken
-    /// stand: none where the text had no room. `r`, `p`, `m`, `i` and `t` make their lines apart, and so may also be
-    /// refused where the text has room.
+    /// stand: none where the text had no room. A command that looks at the board makes its lines apart, and so may also
+    /// be refused where the text has room.
     pub fn command(&mut self, line: &[u8], text: &mut Vec<u8>) -> Result<Next, NoMemory>
         ensures next { IfOk result (λ next. next ≡ next_of (command_of line.now self.old.program.symbols)) }
         ensures ok { OnOk result (Leaves (command_of line.now self.old.program.symbols) self.old self.new) }
