@@ -5,6 +5,7 @@
 //! refused one in turn. What it prints is the same whichever it is, unless an answer is wrong.
 #![tactic(auto)]
 
+mod empty;
 mod guarded;
 mod hello;
 
@@ -41,6 +42,8 @@ fn main(rt: HostRuntime) -> ExitCode {
         b"a wrong answer of the run of a text\n".as_slice()
     } else if !guarded::answers_right(rt.alloc()) {
         b"a wrong answer of the assembler or the board\n".as_slice()
+    } else if !empty::answers_right(rt.alloc()) {
+        b"a wrong answer of a board with an empty source\n".as_slice()
     } else if kept.iter().all(|one| one.as_slice() == b"1".as_slice()) {
         b"as defined\n".as_slice()
     } else {
