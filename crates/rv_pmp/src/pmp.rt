@@ -228,13 +228,7 @@ pub fn bytes_are_granted_alone()
 {}
 
 /// What the first entry answers that has some of the bytes.
-fn decide(
-    actives: &[Active],
-    mode: Mode,
-    access: Access,
-    first: u64,
-    end: u64,
-) -> Option<bool>
+fn decide(actives: &[Active], mode: Mode, access: Access, first: u64, end: u64) -> Option<bool>
     ensures { result ≡ decided mode access first end actives.now }
 {
     for active in actives {
