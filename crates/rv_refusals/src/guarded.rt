@@ -1,4 +1,5 @@
 //! A user program that the protection of memory stops, assembled, booted and run.
+use crate::readers::same_everywhere;
 use rv_asm::{FaultKind, Program, assemble};
 use rv_board::{BootFault, BootedBoard, Event, TrapRecord};
 use std::alloc::Global;
@@ -21,7 +22,16 @@ fn stands_right(board: &BootedBoard) -> bool {
         && board.trap_count() == 1
 }
 
-/// Whether the board runs its 16 steps: where it wants memory, those that are left are asked again.
+/// Whether a board that was refused its next step stands as one that did so many and was never asked for more.
+fn stands_behind(alloc: Global, program: &Program, board: &BootedBoard, steps: &[Event]) -> bool {
+    match BootedBoard::boot(alloc, program, 1, 64) {
+        Ok(mut other) => other.run(steps).is_ok() && same_everywhere(board, &other),
+        Err(_) => false,
+    }
+}
+
+/// Whether the board runs its 16 steps: where it wants memory, it is in all that it can be read by as before the refused
+/// step, and those that are left are asked again.
 fn runs_right(alloc: Global, program: &Program) -> bool {
     let mut board = match BootedBoard::boot(alloc, program, 1, 64) {
         Ok(board) => board,
@@ -29,10 +39,11 @@ fn runs_right(alloc: Global, program: &Program) -> bool {
     };
     let steps = [Event::Step; 16];
     if let Err(stopped) = board.run(&steps) {
-        let Some(rest) = steps.get(stopped.done..) else {
+        let (done, rest) = (steps.get(..stopped.done), steps.get(stopped.done..));
+        let (Some(done), Some(rest)) = (done, rest) else {
             return false;
         };
-        if board.steps() != stopped.done as u64 || board.run(rest).is_err() {
+        if !stands_behind(alloc, program, &board, done) || board.run(rest).is_err() {
             return false;
         }
     }

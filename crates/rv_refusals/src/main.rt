@@ -8,6 +8,7 @@
 mod empty;
 mod guarded;
 mod hello;
+mod readers;
 mod session;
 
 use std::alloc::Global;
