@@ -6,7 +6,7 @@ use std::io;
 use std::test::Fail;
 
 /// The line of the fault.
-pub fn line_of(alloc: Global, fault: &CliFault) -> Result<Vec<u8>, Fail> {
+fn line_of(alloc: Global, fault: &CliFault) -> Result<Vec<u8>, Fail> {
     let mut line = Vec::new(alloc);
     fault_line(fault, &mut line)?;
     Ok(line)

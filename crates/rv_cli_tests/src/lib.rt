@@ -1,14 +1,10 @@
-//! Tests of the command line: words, texts in and out, runs of whole sources, and their ends.
+//! Tests of the command line: words, texts in and out, readers that fail, and the lines and statuses of faults.
 #![tactic(auto)]
 
 #[cfg(test)]
 mod ends;
 #[cfg(test)]
-mod faults;
-#[cfg(test)]
-mod inputs;
-#[cfg(test)]
-mod large;
+mod readers;
 #[cfg(test)]
 mod runs;
 #[cfg(test)]

@@ -67,7 +67,14 @@ fn each_word_of_64_pages(rt: HostRuntime) -> Result<(), Fail> {
     let memory = FlatMemory::new(rt.alloc(), 64)?;
     let mut bus = Bus::new(memory, Serial::new(rt.alloc())?);
     for word in 0..65536u32 {
-        stores(&rt, &mut bus, 0x8000_0000 + 4 * word, Width::Four, word, Ok(()));
+        stores(
+            &rt,
+            &mut bus,
+            0x8000_0000 + 4 * word,
+            Width::Four,
+            word,
+            Ok(()),
+        );
     }
     for word in 0..65536u32 {
         fetches(&rt, &bus, 0x8000_0000 + 4 * word, Ok(word));

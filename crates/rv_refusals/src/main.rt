@@ -5,6 +5,7 @@
 //! refused one in turn. What it prints is the same whichever it is, unless an answer is wrong.
 #![tactic(auto)]
 
+mod empty;
 mod guarded;
 mod hello;
 mod session;
@@ -44,6 +45,8 @@ fn main(rt: HostRuntime) -> ExitCode {
         b"a wrong answer of the assembler or the board\n".as_slice()
     } else if !session::answers_right(rt.alloc()) {
         b"a wrong answer of a session\n".as_slice()
+    } else if !empty::answers_right(rt.alloc()) {
+        b"a wrong answer of a board with an empty source\n".as_slice()
     } else if kept.iter().all(|one| one.as_slice() == b"1".as_slice()) {
         b"as defined\n".as_slice()
     } else {

@@ -1,12 +1,14 @@
 //! Sources on a board.
 use crate::everywhere::same;
+use crate::machine::program;
 use crate::memory::Stubborn;
-use rv_asm::{Program, assemble};
+use rv_asm::Program;
 use rv_board::{Board, BootFault, BootedBoard, Event, Stopped};
-use rv_cache::NoCache;
+use rv_cache::{Decoded, NoCache};
 use rv_isa::NoMemory;
-use rv_ram::FlatMemory;
+use rv_ram::{ByteMemory, FlatMemory};
 use std::alloc::Global;
+use std::process::Abort;
 use std::test::Fail;
 
 const SLOTS: u32 = 1024;
@@ -14,15 +16,32 @@ const SLOTS: u32 = 1024;
 const HELLO: &[u8] =
     b"lui t0,0x10000\nli a0,72\nsw a0,0(t0)\nlui t1,0x100\nli t2,0x5555\nsw t2,0(t1)";
 
-// What is refused is a text here: a fault of many kinds, turned into a test's failure, costs minutes of proof.
-fn program(alloc: Global, source: &[u8]) -> Result<Program, &'static str> {
-    assemble(alloc, source).ok().ok_or("the source is refused")
-}
-
 fn booted(alloc: Global, program: &Program, pages: u32) -> Result<BootedBoard, &'static str> {
     Board::boot(alloc, program, pages, SLOTS)
         .ok()
         .ok_or("the board doesn't boot")
+}
+
+// Each of these says nothing of the board that it leaves, so that a test's proof carries no state from call to call.
+
+/// An event is answered so.
+fn applies<M: ByteMemory, C: Decoded>(
+    rt: &impl Abort,
+    board: &mut Board<M, C>,
+    event: Event,
+    answer: Result<(), NoMemory>,
+) {
+    assert_eq!(rt; board.apply(event), answer);
+}
+
+/// A run of events is answered so.
+fn runs<M: ByteMemory, C: Decoded>(
+    rt: &impl Abort,
+    board: &mut Board<M, C>,
+    events: &[Event],
+    answer: Result<(), Stopped>,
+) {
+    assert_eq!(rt; board.run(events), answer);
 }
 
 #[test]
@@ -30,9 +49,9 @@ fn hello_prints_and_halts(rt: HostRuntime) -> Result<(), Fail> {
     let program = program(rt.alloc(), HELLO)?;
     let mut board = booted(rt.alloc(), &program, 256)?;
     assert_eq!(rt; board.ram(0x8000_0000), Some(0xb7));
-    assert_eq!(rt; board.run(&[Event::Step; 7]), Ok(()));
+    runs(&rt, &mut board, &[Event::Step; 7], Ok(()));
     // A halted board is changed by no event.
-    assert_eq!(rt; board.run(&[Event::Rx(1), Event::Step]), Ok(()));
+    runs(&rt, &mut board, &[Event::Rx(1), Event::Step], Ok(()));
     assert_eq!(rt; board.serial().waiting(), 0);
     assert_eq!(rt; board.console(), b"H".as_slice());
     assert_eq!(rt; board.halted(), Some(0));
@@ -63,6 +82,17 @@ fn boot_faults_come_in_their_order(rt: HostRuntime) -> Result<(), Fail> {
     Ok(())
 }
 
+#[test]
+fn an_image_may_be_too_large_for_its_memory(rt: HostRuntime) -> Result<(), Fail> {
+    let program = program(rt.alloc(), b".space 4097")?;
+    let memory = FlatMemory::new(rt.alloc(), 1)?;
+    assert_eq!(rt;
+        Board::with_parts(rt.alloc(), &program, memory, NoCache).err(),
+        Some(BootFault::ImageTooLarge)
+    );
+    Ok(())
+}
+
 /// A store into the second page, whose memory refuses so many writes behind the image's.
 fn stubborn(alloc: Global, refusals: u32) -> Result<Board<Stubborn, NoCache>, Fail> {
     let memory = Stubborn {
@@ -82,9 +112,9 @@ fn a_refused_step_can_be_asked_again(rt: HostRuntime) -> Result<(), Fail> {
     let mut board = stubborn(rt.alloc(), 1)?;
     let program = program(rt.alloc(), STORES)?;
     let mut other = booted(rt.alloc(), &program, 2)?;
-    assert_eq!(rt; board.apply(Event::Step), Ok(()));
-    assert_eq!(rt; other.apply(Event::Step), Ok(()));
-    assert_eq!(rt; board.apply(Event::Step), Err(NoMemory));
+    applies(&rt, &mut board, Event::Step, Ok(()));
+    applies(&rt, &mut other, Event::Step, Ok(()));
+    applies(&rt, &mut board, Event::Step, Err(NoMemory));
     // Whatever it is read by, the board is as before the refused step.
     same(&rt, &board, &other);
     assert_eq!(rt; board.steps(), 1);
@@ -92,8 +122,8 @@ fn a_refused_step_can_be_asked_again(rt: HostRuntime) -> Result<(), Fail> {
     assert_eq!(rt; board.pc(), 0x8000_0004);
     assert_eq!(rt; board.ram(0x8000_1003), Some(0));
     // The same event again succeeds.
-    assert_eq!(rt; board.apply(Event::Step), Ok(()));
-    assert_eq!(rt; other.apply(Event::Step), Ok(()));
+    applies(&rt, &mut board, Event::Step, Ok(()));
+    applies(&rt, &mut other, Event::Step, Ok(()));
     same(&rt, &board, &other);
     for (addr, byte) in [
         (0x8000_1000, 0),
@@ -111,16 +141,29 @@ fn a_refused_step_can_be_asked_again(rt: HostRuntime) -> Result<(), Fail> {
 fn a_run_stops_at_a_refused_step(rt: HostRuntime) -> Result<(), Fail> {
     let mut board = stubborn(rt.alloc(), 1)?;
     let events = [Event::Step, Event::Rx(1), Event::Step];
-    assert_eq!(rt; board.run(&events), Err(Stopped { done: 2 }));
+    runs(&rt, &mut board, &events, Err(Stopped { done: 2 }));
     assert_eq!(rt; board.steps(), 1);
     assert_eq!(rt; board.serial().waiting(), 1);
-    assert_eq!(rt; board.apply(Event::Step), Ok(()));
+    applies(&rt, &mut board, Event::Step, Ok(()));
     assert_eq!(rt; board.steps(), 2);
     assert_eq!(rt; board.ram(0x8000_1003), Some(0x80));
     Ok(())
 }
 
-// `boot` with an image of this size is a test of the command line.
+/// Sends the byte back that it has received, or 0.
+const ECHO: &[u8] = b"lui t0,0x10000\nlw a0,4(t0)\nsw a0,0(t0)";
+
+#[test]
+fn a_run_keeps_the_order_of_its_events(rt: HostRuntime) -> Result<(), Fail> {
+    let program = program(rt.alloc(), ECHO)?;
+    let mut board = booted(rt.alloc(), &program, 1)?;
+    let early = [Event::Rx(0x5a), Event::Step, Event::Step, Event::Step];
+    runs(&rt, &mut board, &early, Ok(()));
+    assert_eq!(rt; board.console(), b"Z".as_slice());
+    Ok(())
+}
+
+// `boot` with an image of this size is a row of rv_rows.
 #[test]
 fn the_largest_image_fits_the_largest_memory(rt: HostRuntime) -> Result<(), Fail> {
     let program = program(rt.alloc(), b".space 16777215\n.byte 1")?;

@@ -1,0 +1,55 @@
+//! The readers of the source, the timed list and the commands, which fail.
+ghost use Rattle.std.specs.Prelude.{◌≡◌, false};
+
+use crate::runs::{DEFAULTS, HELLO};
+use rv_cli::{CliFault, Ending, MemoryIn, MemoryOut, TextOut, run_text};
+use std::alloc::Global;
+
+/// A reader over memory, whose first call fails if it is to.
+fn reader(text: &[u8], fails: bool) -> MemoryIn<'_>
+    ensures { result.has_failed ≡ false }
+{
+    if fails {
+        MemoryIn::new(text).with_failure_after(0)
+    } else {
+        MemoryIn::new(text)
+    }
+}
+
+/// What a run ends with, of a source, an input and commands of whose readers these fail.
+fn ends_with(
+    alloc: Global,
+    source: &[u8],
+    fails: (bool, bool, bool),
+) -> (Result<Ending, CliFault>, MemoryOut) {
+    let mut source = reader(source, fails.0);
+    let mut inputs = reader(b"x", fails.1);
+    let mut commands = Some(reader(b"s", fails.2));
+    let mut out = MemoryOut::new(alloc);
+    let outcome = run_text(
+        alloc,
+        &mut source,
+        &mut inputs,
+        &mut commands,
+        DEFAULTS,
+        &mut out,
+    );
+    (outcome, out)
+}
+
+// The texts are read in order, and all of them before the first is judged.
+#[test]
+fn stops_at_the_first_reader_that_fails(rt: HostRuntime) {
+    let rows: [(&[u8], (bool, bool, bool), CliFault); 5] = [
+        (HELLO, (true, true, true), CliFault::ReadSource),
+        (HELLO, (false, true, true), CliFault::ReadInput),
+        (b"foo", (false, true, false), CliFault::ReadInput),
+        (b"foo", (false, false, true), CliFault::ReadCommands),
+        (HELLO, (false, false, false), CliFault::Input(1)),
+    ];
+    for (source, fails, fault) in rows {
+        let (outcome, out) = ends_with(rt.alloc(), source, fails);
+        assert!(rt; outcome == Err(fault));
+        assert!(rt; out.bytes().is_empty());
+    }
+}
