@@ -1,5 +1,5 @@
 //! A user program that the protection of memory stops, assembled, booted and run.
-use crate::readers::same_everywhere;
+use rv_alike::same_everywhere;
 use rv_asm::{FaultKind, Program, assemble};
 use rv_board::{BootFault, BootedBoard, Event, TrapRecord};
 use std::alloc::Global;

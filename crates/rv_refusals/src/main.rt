@@ -8,7 +8,6 @@
 mod empty;
 mod guarded;
 mod hello;
-mod readers;
 mod session;
 
 use std::alloc::Global;

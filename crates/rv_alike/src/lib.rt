@@ -1,11 +1,16 @@
-//! Whether two boards are the same in all that they can be read by.
-use rv_board::BootedBoard;
+//! Whether two boards are the same in all that they can be read by. The programs that try boards compare them by this.
+#![tactic(auto)]
+
+use rv_board::Board;
+use rv_cache::Decoded;
 use rv_isa::Reg;
+use rv_ram::ByteMemory;
 
 /// The control registers that hold something.
-const CSRS: [u16; 15] = [
-    0x300, 0x304, 0x305, 0x340, 0x341, 0x342, 0x343, 0x344, 0x3a0, 0x3b0, 0x3b1, 0xb00, 0xb02,
-    0xb80, 0xb82,
+const CSRS: [u16; 32] = [
+    0x300, 0x304, 0x305, 0x340, 0x341, 0x342, 0x343, 0x344, 0x3a0, 0x3a1, 0x3a2, 0x3a3, 0x3b0,
+    0x3b1, 0x3b2, 0x3b3, 0x3b4, 0x3b5, 0x3b6, 0x3b7, 0x3b8, 0x3b9, 0x3ba, 0x3bb, 0x3bc, 0x3bd,
+    0x3be, 0x3bf, 0xb00, 0xb02, 0xb80, 0xb82,
 ];
 
 /// Registers of the interrupt controller that a look doesn't change: what is pending, and what a claim would get.
@@ -21,7 +26,7 @@ const MEMORY: u32 = 0x8000_0000;
 
 const PAGE_BYTES: u32 = 4096;
 
-fn same_registers(one: &BootedBoard, other: &BootedBoard) -> bool {
+fn same_registers<M: ByteMemory, C: Decoded>(one: &Board<M, C>, other: &Board<M, C>) -> bool {
     for number in 0..32u8 {
         if let Some(register) = Reg::new(number)
             && one.reg(register) != other.reg(register)
@@ -37,7 +42,7 @@ fn same_registers(one: &BootedBoard, other: &BootedBoard) -> bool {
     one.pc() == other.pc() && one.mode() == other.mode()
 }
 
-fn same_memory(one: &BootedBoard, other: &BootedBoard) -> bool {
+fn same_memory<M: ByteMemory, C: Decoded>(one: &Board<M, C>, other: &Board<M, C>) -> bool {
     for offset in 0..PAGE_BYTES {
         if one.ram(MEMORY + offset) != other.ram(MEMORY + offset) {
             return false;
@@ -46,7 +51,7 @@ fn same_memory(one: &BootedBoard, other: &BootedBoard) -> bool {
     true
 }
 
-fn same_traps(one: &BootedBoard, other: &BootedBoard) -> bool {
+fn same_traps<M: ByteMemory, C: Decoded>(one: &Board<M, C>, other: &Board<M, C>) -> bool {
     for index in 0..one.trap_count() {
         if one.trap(index) != other.trap(index) {
             return false;
@@ -55,7 +60,7 @@ fn same_traps(one: &BootedBoard, other: &BootedBoard) -> bool {
     one.trap_count() == other.trap_count()
 }
 
-fn same_devices(one: &BootedBoard, other: &BootedBoard) -> bool {
+fn same_devices<M: ByteMemory, C: Decoded>(one: &Board<M, C>, other: &Board<M, C>) -> bool {
     one.plic().peek(PENDING) == other.plic().peek(PENDING)
         && one.plic().peek(CLAIM) == other.plic().peek(CLAIM)
         && one.timer().load(TIME) == other.timer().load(TIME)
@@ -64,12 +69,19 @@ fn same_devices(one: &BootedBoard, other: &BootedBoard) -> bool {
         && one.console() == other.console()
 }
 
-/// Whether two boards of a page are the same.
-pub fn same_everywhere(one: &BootedBoard, other: &BootedBoard) -> bool {
+/// Whether two boards are the same in all that they can be read by but the bytes of their memory.
+pub fn same_but_for_memory<M: ByteMemory, C: Decoded>(
+    one: &Board<M, C>,
+    other: &Board<M, C>,
+) -> bool {
     same_registers(one, other)
-        && same_memory(one, other)
         && same_traps(one, other)
         && same_devices(one, other)
         && one.steps() == other.steps()
         && one.halted() == other.halted()
+}
+
+/// Whether two boards of a page are the same in all that they can be read by.
+pub fn same_everywhere<M: ByteMemory, C: Decoded>(one: &Board<M, C>, other: &Board<M, C>) -> bool {
+    same_but_for_memory(one, other) && same_memory(one, other)
 }

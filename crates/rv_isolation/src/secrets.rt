@@ -1,0 +1,144 @@
+//! User code on two boards that differ in what it may not see.
+use crate::boards::{Checked, holds, in_user_mode, last_cause_is, last_trap_is, run_user};
+use rv_alike::same_but_for_memory;
+use rv_board::{BootedBoard, Event};
+use rv_isa::NoMemory;
+use std::alloc::Global;
+
+/// The word after `user` is one that user code may neither read nor execute: entry 0 is NA4 there, without a bit.
+const WORD: &[u8] =
+    b"la t0,secret\nsrli t0,t0,2\ncsrw pmpaddr0,t0\nli t0,-1\ncsrw pmpaddr1,t0\nli t0,0x1F10\ncsrw pmpcfg0,t0\nla t0,user\ncsrw mepc,t0\nla t1,secret\nmret\nuser: lw a0,0(t1)\nsecret: .word ";
+
+/// The same by the entries 8 and 9.
+const WORD_BY_HIGH_ENTRIES: &[u8] =
+    b"la t0,secret\nsrli t0,t0,2\ncsrw pmpaddr8,t0\nli t0,-1\ncsrw pmpaddr9,t0\nli t0,0x1F10\ncsrw pmpcfg2,t0\nla t0,user\ncsrw mepc,t0\nla t1,secret\nmret\nuser: lw a0,0(t1)\nsecret: .word ";
+
+/// The same without their configuration, so that none matches.
+const NO_ENTRY: &[u8] =
+    b"la t0,secret\nsrli t0,t0,2\ncsrw pmpaddr8,t0\nli t0,-1\ncsrw pmpaddr9,t0\nli t0,0x1F10\nla t0,user\ncsrw mepc,t0\nla t1,secret\nmret\nuser: lw a0,0(t1)\nsecret: .word 1";
+
+/// From `user` to `end` user code may read and execute (TOR); it may read and write the word `word` (NA4) and the 16
+/// bytes of `area` (NAPOT), and nothing else. It begins with its own address in t0.
+const BORDERS: &[u8] =
+    b"\nla t0,user\nsrli t0,t0,2\ncsrw pmpaddr0,t0\nla t0,end\nsrli t0,t0,2\ncsrw pmpaddr1,t0\nla t0,word\nsrli t0,t0,2\ncsrw pmpaddr2,t0\nla t0,area\nsrli t0,t0,2\nori t0,t0,1\ncsrw pmpaddr3,t0\nli t0,0x1B130D00\ncsrw pmpcfg0,t0\nla t0,user\ncsrw mepc,t0\nmret\n.space 64,FILL\nuser:\n";
+
+/// What is around the word and the area differs between the boards.
+const BEHIND: &[u8] =
+    b"\n.align 4\nend: .space 32,FILL\nword: .word 5\n.space 12,FILL\narea: .space 16,7\n.space 64,FILL";
+
+/// Code of user mode, behind how many of its events are done and the cause of its trap, a digit each.
+static ROWS: [&[u8]; 13] = [
+    b"45la t1,word\nlw a0,0(t1)\nlw a1,4(t1)",
+    b"47la t1,word\nsb t1,3(t1)\nsb t1,-1(t1)",
+    b"45la t1,area\nlh a0,14(t1)\nlbu a1,16(t1)",
+    b"45la t1,area\nsw t1,12(t1)\nlw a0,-4(t1)",
+    b"25lw a0,0(t0)\nlw a0,-4(t0)",
+    b"27lw a0,0(t0)\nsw a0,0(t0)",
+    b"41la t1,end\njr t1",
+    b"41la t1,area\njr t1",
+    b"31addi t1,t0,-4\njr t1",
+    b"18ecall",
+    b"22wfi\nmret",
+    b"12csrr a0,mstatus",
+    b"12.word 0",
+];
+
+/// Pieces of a source, one behind the other.
+fn joined(alloc: Global, pieces: &[&[u8]]) -> Result<Vec<u8>, NoMemory> {
+    let mut source = Vec::new(alloc);
+    for piece in pieces {
+        source.extend_from_slice(piece)?;
+    }
+    Ok(source)
+}
+
+/// The board of such a source in the first step of its user code.
+fn made_of(alloc: Global, pieces: &[&[u8]]) -> Checked<BootedBoard> {
+    let source = joined(alloc, pieces).ok().ok_or("memory is refused")?;
+    in_user_mode(alloc, source.as_slice())
+}
+
+/// Two boards that differ in a word which user code tries to load are the same behind that.
+fn hides_its_word(alloc: Global, front: &[u8]) -> Checked<()> {
+    let mut one = made_of(alloc, &[front, b"1"])?;
+    let mut other = made_of(alloc, &[front, b"2"])?;
+    holds(
+        one.steps() == 15 && one.pc() == 0x8000_003c,
+        "where user code begins",
+    )?;
+    holds(
+        same_but_for_memory(&one, &other),
+        "two boards before user code",
+    )?;
+    let first = run_user(&mut one, &[Event::Step; 2])?;
+    let second = run_user(&mut other, &[Event::Step; 2])?;
+    holds(
+        first == 1 && second == 1,
+        "the steps up to the refused load",
+    )?;
+    holds(
+        last_trap_is(&one, 5, 0x8000_003c, 0x8000_0040),
+        "the refused load",
+    )?;
+    holds(
+        same_but_for_memory(&one, &other),
+        "two boards behind a refused load",
+    )?;
+    let words = one.ram(0x8000_0040) == Some(1) && other.ram(0x8000_0040) == Some(2);
+    holds(words, "the words that were not loaded")
+}
+
+/// A word that user code may neither read nor execute is not loaded, whichever entries say so.
+pub fn a_secret_word_is_not_loaded(alloc: Global) -> Checked<()> {
+    hides_its_word(alloc, WORD)?;
+    hides_its_word(alloc, WORD_BY_HIGH_ENTRIES)
+}
+
+/// User code without an entry that matches isn't even fetched.
+pub fn without_an_entry_nothing_is_run(alloc: Global) -> Checked<()> {
+    let mut board = in_user_mode(alloc, NO_ENTRY)?;
+    holds(
+        board.steps() == 14 && board.pc() == 0x8000_0038,
+        "where user code begins",
+    )?;
+    let done = run_user(&mut board, &[Event::Step; 2])?;
+    let refused = last_trap_is(&board, 1, 0x8000_0038, 0x8000_0038);
+    holds(done == 1 && refused, "the refused fetch")
+}
+
+/// A row's board with this byte in all places that user code may not see.
+fn bordered(alloc: Global, fill: &[u8], code: &[u8]) -> Checked<BootedBoard> {
+    made_of(alloc, &[b".equ FILL,", fill, BORDERS, code, BEHIND])
+}
+
+/// A row's two boards do their events, end with their cause, and are the same but for what user code may not see.
+fn row_holds(alloc: Global, row: &[u8]) -> Checked<()> {
+    let [done, cause, code @ ..] = row else {
+        return Err("no row");
+    };
+    let mut one = bordered(alloc, b"0x5a", code)?;
+    let mut other = bordered(alloc, b"0xa5", code)?;
+    let first = run_user(&mut one, &[Event::Step; 8])?;
+    let second = run_user(&mut other, &[Event::Step; 8])?;
+    let wanted = (*done % 16) as usize;
+    holds(
+        first == wanted && second == wanted,
+        "the steps up to a border",
+    )?;
+    holds(
+        last_cause_is(&one, (*cause % 16) as u32),
+        "what happens at a border",
+    )?;
+    holds(
+        same_but_for_memory(&one, &other),
+        "two boards behind a border",
+    )
+}
+
+/// What is beside a region can't be told by any access at its borders.
+pub fn borders_tell_nothing(alloc: Global) -> Checked<()> {
+    for row in ROWS.iter() {
+        row_holds(alloc, row)?;
+    }
+    Ok(())
+}
