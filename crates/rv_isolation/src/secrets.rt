@@ -22,9 +22,9 @@ const NO_ENTRY: &[u8] =
 const BORDERS: &[u8] =
     b"\nla t0,user\nsrli t0,t0,2\ncsrw pmpaddr0,t0\nla t0,end\nsrli t0,t0,2\ncsrw pmpaddr1,t0\nla t0,word\nsrli t0,t0,2\ncsrw pmpaddr2,t0\nla t0,area\nsrli t0,t0,2\nori t0,t0,1\ncsrw pmpaddr3,t0\nli t0,0x1B130D00\ncsrw pmpcfg0,t0\nla t0,user\ncsrw mepc,t0\nmret\n.space 64,FILL\nuser:\n";
 
-/// What is around the word and the area differs between the boards.
+/// What is around the word and the area, up to the memory's end, differs between the boards.
 const BEHIND: &[u8] =
-    b"\n.align 4\nend: .space 32,FILL\nword: .word 5\n.space 12,FILL\narea: .space 16,7\n.space 64,FILL";
+    b"\n.align 4\nend: .space 32,FILL\nword: .word 5\n.space 12,FILL\narea: .space 16,7\n.space 0x80001000-.,FILL";
 
 /// Code of user mode, behind how many of its events are done and the cause of its trap, a digit each.
 static ROWS: [&[u8]; 13] = [
