@@ -22,11 +22,12 @@ use Rattle.rv_monitor.specs.declared.command.Next.{Next}
 use Rattle.rv_monitor.specs.declared.command.Next.TheVariants.{More, Quit}
 use Rattle.rv_tokens.specs.Lines.{lines}
 use Rattle.rv_words.specs.declared.Options.{Options}
-use Rattle.rv_cli.specs.Faults.{ended}
-use Rattle.rv_cli.specs.declared.fault.CliFault.{CliFault}
-use Rattle.rv_cli.specs.declared.fault.CliFault.TheVariants.{Source, Input, BadPages, BadSlots, ImageTooLarge}
-use Rattle.rv_cli.specs.declared.fault.Ending.{Ending}
-use Rattle.rv_cli.specs.declared.fault.Ending.TheVariants.{Halted, Running}
+use Rattle.rv_texts.specs.Faults.{ended}
+use Rattle.rv_texts.specs.Readers.{Texts}
+use Rattle.rv_texts.specs.declared.fault.CliFault.{CliFault}
+use Rattle.rv_texts.specs.declared.fault.CliFault.TheVariants.{Source, Input, BadPages, BadSlots, ImageTooLarge}
+use Rattle.rv_texts.specs.declared.fault.Ending.{Ending}
+use Rattle.rv_texts.specs.declared.fault.Ending.TheVariants.{Halted, Running}
 
 -- ---- the text of a board
 
@@ -86,12 +87,6 @@ Obeys (line ∷ more) old new text =
     (λ next behind. Obeys more next new behind) old new text
 
 -- ---- the run
-
--- the texts of a run: its source, its timed list, and its commands, if it has any
-pub record Texts : Type 0 where
-  pub source : List ℕ
-  pub inputs : List ℕ
-  pub commands : Option (List ℕ)
 
 -- without commands all steps are taken, with no breakpoint, and nothing is answered
 abbrev pub Does : Option (List ℕ) → SessionState → SessionState → List ℕ → Type 0

@@ -1,101 +1,14 @@
 -- What a run does, by what its readers gave and its writer took.
 -- To audit: public contracts cite this.
-use Rattle.std.specs.Prelude.{◌≡◌, ℕ, ⊤, Bool, true, false, List, Option, Some, None, Ok, Err}
+use Rattle.std.specs.Prelude.{◌≡◌, ℕ, true, false, List, Ok, Err}
 use Rattle.std.specs.Io.KnownBytes.{Appends}
 use Rattle.rv_words.specs.declared.Options.{Options}
-use Rattle.rv_cli.specs.Output.{Texts, IsOutput}
-use Rattle.rv_cli.specs.Texts.{GavePart, GaveWhole, IsUnreadable, WroteBeginning}
-use Rattle.rv_cli.specs.declared.fault.CliFault.{CliFault}
-use Rattle.rv_cli.specs.declared.fault.CliFault.TheVariants.{ReadSource, ReadInput, ReadCommands, Source, Input, BadPages, BadSlots, ImageTooLarge, OutOfMemory, Write}
-use Rattle.rv_cli.specs.declared.fault.Ending.{Ending}
-
--- a reader or a writer over a call: its known bytes before and after, and whether it has failed
-pub record Side : Type 0 where
-  pub old : Option (List ℕ)
-  pub new : Option (List ℕ)
-  pub failed : Bool
-
-abbrev pub side : Option (List ℕ) → Option (List ℕ) → Bool → Side
-side old new failed = record { old = old; new = new; failed = failed }
-
--- the side of a reader that may not be there
-abbrev pub side_if : {A : Type 0} → (A → Option (List ℕ)) → (A → Bool) → Option A → Option A → Option Side
-side_if left has_failed (Some old) (Some new) = Some (side (left old) (left new) (has_failed new))
-side_if left has_failed _ _ = None
-
--- the readers of a run's texts
-pub record Readers : Type 0 where
-  pub source : Side
-  pub inputs : Side
-  pub commands : Option Side
-
-abbrev pub readers : Side → Side → Option Side → Readers
-readers source inputs commands = record { source = source; inputs = inputs; commands = commands }
-
--- ---- a reader
-
--- the reader gave the text to its end and did not fail
-pub record Gave (reader : Side) (text : List ℕ) : Type 0 where
-  pub whole : GaveWhole reader.old reader.new text
-  pub sound : reader.failed ≡ false
-
--- the reader gave a text to its end
-pub record WasRead (reader : Side) : Type 0 where
-  pub text : List ℕ
-  pub gave : Gave reader text
-
--- the reader is in order, and gave no more than a text
-pub record IsInOrder (reader : Side) : Type 0 where
-  pub part : GavePart reader.old reader.new
-  pub sound : reader.failed ≡ false
-
--- a reader that is there has not failed
-abbrev pub IsSoundIf : {A : Type 0} → (A → Bool) → Option A → Type 0
-IsSoundIf has_failed None = ⊤
-IsSoundIf has_failed (Some reader) = has_failed reader ≡ false
-
--- a reader that is there gave a text to its end; where there is none, there is no text
-abbrev pub GaveIf : Option Side → Option (List ℕ) → Type 0
-GaveIf None None = ⊤
-GaveIf (Some reader) (Some text) = Gave reader text
-GaveIf _ _ = ⊥
-
--- a reader that is there is in order
-abbrev pub IsInOrderIf : Option Side → Type 0
-IsInOrderIf None = ⊤
-IsInOrderIf (Some reader) = IsInOrder reader
-
--- ---- all readers
-
--- each gave its text
-pub record AllGave (r : Readers) (texts : Texts) : Type 0 where
-  pub source : Gave r.source texts.source
-  pub inputs : Gave r.inputs texts.inputs
-  pub commands : GaveIf r.commands texts.commands
-
--- each is in order
-pub record AreInOrder (r : Readers) : Type 0 where
-  pub source : IsInOrder r.source
-  pub inputs : IsInOrder r.inputs
-  pub commands : IsInOrderIf r.commands
-
--- the timed list's reader failed or gave too much, behind the source's, which gave its text
-pub record IsInputUnread (r : Readers) : Type 0 where
-  pub source : WasRead r.source
-  pub inputs : IsUnreadable r.inputs.failed r.inputs.old r.inputs.new
-
--- the commands' reader failed or gave too much
-abbrev pub IsUnreadableIf : Option Side → Type 0
-IsUnreadableIf None = ⊥
-IsUnreadableIf (Some reader) = IsUnreadable reader.failed reader.old reader.new
-
--- behind the others, which gave their texts
-pub record AreCommandsUnread (r : Readers) : Type 0 where
-  pub source : WasRead r.source
-  pub inputs : WasRead r.inputs
-  pub commands : IsUnreadableIf r.commands
-
--- ---- the run
+use Rattle.rv_texts.specs.Readers.{AllGave, AreCommandsUnread, AreInOrder, IsInputUnread, Readers, Side, Texts}
+use Rattle.rv_cli.specs.Output.{IsOutput}
+use Rattle.rv_texts.specs.Texts.{IsUnreadable, WroteBeginning}
+use Rattle.rv_texts.specs.declared.fault.CliFault.{CliFault}
+use Rattle.rv_texts.specs.declared.fault.CliFault.TheVariants.{ReadSource, ReadInput, ReadCommands, Source, Input, BadPages, BadSlots, ImageTooLarge, OutOfMemory, Write}
+use Rattle.rv_texts.specs.declared.fault.Ending.{Ending}
 
 -- what the run of the texts prints was written, and nothing else
 pub record Ended (r : Readers) (out : Side) (options : Options) (ending : Ending) : Type 0 where

@@ -3,11 +3,11 @@ ghost use Rattle.std.specs.Prelude.{◌≡◌, ◌++◌, OnOk, Some};
 ghost use Rattle.rv_board.specs.State.{halted_of};
 ghost use Rattle.rv_cli.specs.Output.{eight_digits, ending_of, printed, status_text, with_line_end};
 
-use crate::fault::Ending;
 use rv_board::Board;
 use rv_cache::Decoded;
 use rv_isa::NoMemory;
 use rv_ram::ByteMemory;
+use rv_texts::Ending;
 use std::fmt;
 
 /// A pc, as eight hexadecimal digits.

@@ -2,14 +2,12 @@
 ghost use Rattle.std.specs.Prelude.{◌≡◌, ◌≢◌, IfErr, IfOk, Ok, false, is_some};
 ghost use Rattle.rv_cli.specs.Output.{IsOutput, IsOutputByAssembly, IsOutputByList, IsRunOf};
 ghost use Rattle.rv_cli.specs.Meanings.{RefusedBy};
-ghost use Rattle.rv_cli.specs.Run.{Ended, IsSoundIf, Refused, readers, side, side_if};
-ghost use Rattle.rv_cli.specs.declared.fault.CliFault.TheVariants.{ReadInput, ReadSource, Write};
+ghost use Rattle.rv_cli.specs.Run.{Ended, Refused};
+ghost use Rattle.rv_texts.specs.Readers.{IsSoundIf, readers, side, side_if};
+ghost use Rattle.rv_texts.specs.declared.fault.CliFault.TheVariants.{ReadInput, ReadSource, Write};
 
-use crate::fault::{CliFault, Ending};
 use crate::print::{ending, print_board};
 use crate::session::run_session;
-use crate::text::{TextIn, TextOut, write_whole};
-use crate::texts::{Texts, read_texts};
 use rv_asm::{FaultKind, Program, assemble};
 use rv_board::{BootFault, BootedBoard};
 use rv_cache::Decoded;
@@ -17,6 +15,7 @@ use rv_isa::NoMemory;
 use rv_lists::{Timeline, TimelineFault};
 use rv_monitor::Session;
 use rv_ram::ByteMemory;
+use rv_texts::{CliFault, Ending, TextIn, TextOut, Texts, read_texts, write_whole};
 use rv_words::Options;
 use std::alloc::Global;
 
@@ -25,17 +24,6 @@ use std::alloc::Global;
 struct Printed {
     text: Vec<u8>,
     ending: Ending,
-}
-
-impl From<NoMemory> for CliFault {
-    ghost use Rattle.std.specs.Prelude.{◌≡◌};
-    ghost use Rattle.rv_cli.specs.declared.fault.CliFault.TheVariants.{OutOfMemory};
-
-    ghost from_gives = { λ _ fault. fault ≡ OutOfMemory };
-
-    fn from(_: NoMemory) -> Self {
-        CliFault::OutOfMemory
-    }
 }
 
 /// Runs a session, and answers what is to be printed.
@@ -90,7 +78,7 @@ fn run_program(
     ensures ok { IfOk result (λ p. IsOutputByAssembly (Ok program) texts.now options (Ok (p.text.items, p.ending))) }
     ensures err { IfErr result (RefusedBy (IsOutputByAssembly (Ok program) texts.now options)) }
 {
-    match Timeline::read(alloc, texts.inputs.as_slice()) {
+    match Timeline::read(alloc, texts.inputs()) {
         Ok(timeline) => run_timed(alloc, program, timeline, texts, options),
         Err(TimelineFault::BadLine(number)) => Err(CliFault::Input(number)),
         Err(TimelineFault::OutOfMemory) => Err(CliFault::OutOfMemory),
@@ -103,7 +91,7 @@ fn run_source(alloc: Global, texts: &Texts, options: Options) -> Result<Printed,
     ensures ok { IfOk result (λ p. IsOutput texts.now options (Ok (p.text.items, p.ending))) }
     ensures err { IfErr result (RefusedBy (IsOutput texts.now options)) }
 {
-    match assemble(alloc, texts.source.as_slice()) {
+    match assemble(alloc, texts.source()) {
         Ok(program) => run_program(alloc, program, texts, options),
         Err(fault) => match fault.kind {
             FaultKind::OutOfMemory => Err(CliFault::OutOfMemory),

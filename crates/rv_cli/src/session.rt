@@ -5,11 +5,11 @@ ghost use Rattle.rv_monitor.specs.Commands.{Took};
 ghost use Rattle.rv_tokens.specs.Lines.{lines};
 ghost use Rattle.rv_cli.specs.Output.{Does, Obeys};
 
-use crate::texts::Texts;
 use rv_cache::Decoded;
 use rv_isa::NoMemory;
 use rv_monitor::{Next, Session};
 use rv_ram::ByteMemory;
+use rv_texts::Texts;
 use rv_tokens::cut_lines;
 use std::alloc::Global;
 
@@ -51,8 +51,8 @@ pub(crate) fn run_session<M: ByteMemory, C: Decoded>(
 ) -> Result<Vec<u8>, NoMemory>
     ensures { IfOk result (λ text. Does texts.now.commands session.old session.new text.items) }
 {
-    match &texts.commands {
-        Some(commands) => obey(alloc, session, commands.as_slice()),
+    match texts.commands() {
+        Some(commands) => obey(alloc, session, commands),
         None => {
             take_all(session)?;
             Ok(Vec::new(alloc))

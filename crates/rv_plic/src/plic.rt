@@ -95,6 +95,15 @@ impl Plic {
         if self.ready.is_empty() {
             return;
         }
+        self.forward_ready();
+    }
+
+    /// The gateways that have a request forward it. It is apart, since few ticks find one.
+    #[cold]
+    #[inline(never)]
+    fn forward_ready(&mut self)
+        ensures { self.new ≡ forwarded self.old }
+    {
         let requests = self.gateways.forward(self.pending);
         self.pending = self.pending.union(requests);
         self.ready = self.gateways.requests(self.pending);

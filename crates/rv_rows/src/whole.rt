@@ -1,5 +1,5 @@
 //! Whole runs of a row's texts, as the program `rvboard` does them.
-ghost use Rattle.rv_cli.specs.Run.{IsSoundIf};
+ghost use Rattle.rv_texts.specs.Readers.{IsSoundIf};
 
 use crate::row::{Row, behind_mark, number};
 use rv_cli::{

@@ -5,7 +5,7 @@
 #![tactic(auto)]
 
 ghost use Rattle.std.specs.Prelude.{◌≡◌, IfOk, false};
-ghost use Rattle.rv_cli.specs.Run.{IsSoundIf};
+ghost use Rattle.rv_texts.specs.Readers.{IsSoundIf};
 
 use rv_cli::{
     CliFault, Ending, FileIn, FileOut, MemoryIn, NoRun, Place, TextIn, TextName, Words,

@@ -1,32 +1,61 @@
 //! The texts of a run, read from their readers.
 ghost use Rattle.std.specs.Prelude.{◌≡◌, ◌⊎◌, IfErr, IfOk, false, is_some};
 ghost use Rattle.std.specs.Option.{option_map};
-ghost use Rattle.rv_cli.specs.Faults.{read_fault_of};
-ghost use Rattle.rv_cli.specs.Meanings.{Unread};
-ghost use Rattle.rv_cli.specs.Run.{AllGave, Gave, GaveIf, IsInOrder, IsInOrderIf, IsUnreadableIf, readers, side, side_if, IsSoundIf};
-ghost use Rattle.rv_cli.specs.Texts.{IsUnreadable};
-ghost use Rattle.rv_cli.specs.declared.fault.CliFault.TheVariants.{OutOfMemory, ReadCommands, ReadInput, ReadSource};
+ghost use Rattle.rv_texts.specs.Faults.{read_fault_of};
+ghost use Rattle.rv_texts.specs.Unread.{Unread};
+ghost use Rattle.rv_texts.specs.Readers.{AllGave, Gave, GaveIf, IsInOrder, IsInOrderIf, IsUnreadableIf, readers, side, side_if, IsSoundIf};
+ghost use Rattle.rv_texts.specs.Texts.{IsUnreadable};
+ghost use Rattle.rv_texts.specs.declared.fault.CliFault.TheVariants.{OutOfMemory, ReadCommands, ReadInput, ReadSource};
 
 use crate::fault::{CliFault, TextName};
 use crate::text::{ReadFault, TextIn, read_whole};
 use std::alloc::Global;
 use std::marker::Model;
 
-/// The texts of a run.
+/// The texts of a run: its source, its timed list, and its commands, if it has any; seen as their bytes.
 #[derive(Drop)]
-pub(crate) struct Texts {
-    pub(crate) source: Vec<u8>,
-    pub(crate) inputs: Vec<u8>,
-    pub(crate) commands: Option<Vec<u8>>,
+pub struct Texts {
+    source: Vec<u8>,
+    inputs: Vec<u8>,
+    commands: Option<Vec<u8>>,
 }
 
 impl Model for Texts {
     ghost use Rattle.std.specs.Option.{option_map};
-    ghost use Rattle.rv_cli.specs.Output as output;
+    ghost use Rattle.rv_texts.specs.Readers as texts;
 
-    ghost Value = { output.Texts };
+    ghost Value = { texts.Texts };
 
     ghost view = { λ t. record { source = t.source.items; inputs = t.inputs.items; commands = option_map (λ text. text.items) t.commands } };
+}
+
+impl Texts {
+    ghost use Rattle.std.specs.Prelude.{◌≡◌};
+    ghost use Rattle.std.specs.Option.{option_map};
+
+    /// The bytes of the source.
+    pub fn source(&self) -> &[u8]
+        ensures { result.now ≡ self.now.source }
+    {
+        self.source.as_slice()
+    }
+
+    /// The bytes of the timed list: none where there is none.
+    pub fn inputs(&self) -> &[u8]
+        ensures { result.now ≡ self.now.inputs }
+    {
+        self.inputs.as_slice()
+    }
+
+    /// The bytes of the commands, if there are any.
+    pub fn commands(&self) -> Option<&[u8]>
+        ensures { option_map (λ text. text.now) result ≡ self.now.commands }
+    {
+        match &self.commands {
+            Some(commands) => Some(commands.as_slice()),
+            None => None,
+        }
+    }
 }
 
 /// Reads a text to its end.
@@ -67,8 +96,10 @@ fn read_commands<C: TextIn>(
     }
 }
 
-/// Reads all texts to their ends: the source, the timed list, the commands.
-pub(crate) fn read_texts<S: TextIn, I: TextIn, C: TextIn>(
+/// Reads all texts to their ends: the source, the timed list, the commands. A reader that fails, or gives more than
+/// 16,777,216 bytes, is left there, and behind its fault no other reader is touched. Want of memory may stand in place of
+/// the texts, but not of a reader's fault that occurred.
+pub fn read_texts<S: TextIn, I: TextIn, C: TextIn>(
     alloc: Global,
     source: &mut S,
     inputs: &mut I,

@@ -2,7 +2,7 @@ use Rattle.std.proofs.Common.{◌++◌, ◌+◌, ◌-◌, ◌≡◌, ◌<◌, �
 use Rattle.std.proofs.KnownBytes.{Appends-trans}
 use Rattle.std.proofs.Math.Seq.{take-add}
 use Rattle.std.proofs.lemmas.Grind.{common_steps}
-use Rattle.rv_cli.proofs.text.write_whole.Goals as goal
+use Rattle.rv_texts.proofs.text.write_whole.Goals as goal
 
 -- the bytes from d up to n follow the first d
 two_pieces : (d n : ℕ) (bytes : List ℕ) → d < n → take d bytes ++ take (n - d) (drop d bytes) ≡ take n bytes

@@ -13,7 +13,7 @@ pub struct FileIn<R: Read> {
 }
 
 impl<R: Read> Model for FileIn<R> {
-    ghost use Rattle.rv_cli.specs.Memory.{FileText};
+    ghost use Rattle.rv_texts.specs.Memory.{FileText};
 
     ghost Value = { FileText };
 
@@ -67,7 +67,7 @@ pub struct FileOut<W: Write> {
 }
 
 impl<W: Write> Model for FileOut<W> {
-    ghost use Rattle.rv_cli.specs.Memory.{FileText};
+    ghost use Rattle.rv_texts.specs.Memory.{FileText};
 
     ghost Value = { FileText };
 

@@ -1,6 +1,6 @@
 //! How a run ends, why one gives no text, the line that says so, and what the program exits with.
 ghost use Rattle.std.specs.Prelude.{◌≡◌, ◌++◌, Err, IfErr, IfOk, Ok, OnErr, OnOk, Some};
-ghost use Rattle.rv_cli.specs.Faults.{input_line_of, line_of, read_fault_of, source_line_of, status_of};
+ghost use Rattle.rv_texts.specs.Faults.{input_line_of, line_of, read_fault_of, source_line_of, status_of};
 
 use rv_asm::AsmFault;
 use rv_isa::NoMemory;
@@ -50,6 +50,17 @@ pub enum CliFault {
     /// The writer failed, or took none of some bytes.
     #[error("Write")]
     Write,
+}
+
+impl From<NoMemory> for CliFault {
+    ghost use Rattle.std.specs.Prelude.{◌≡◌};
+    ghost use Rattle.rv_texts.specs.declared.fault.CliFault.TheVariants.{OutOfMemory};
+
+    ghost from_gives = { λ _ fault. fault ≡ OutOfMemory };
+
+    fn from(_: NoMemory) -> Self {
+        CliFault::OutOfMemory
+    }
 }
 
 /// A text that the program reads.

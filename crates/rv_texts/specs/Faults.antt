@@ -4,12 +4,12 @@ use Rattle.std.specs.Prelude.{ℕ, List, [], ◌∷◌, ◌++◌, Result, Ok, Er
 use Rattle.std.specs.Fmt.{decimal}
 use Rattle.rv_asm.specs.Faults.{name_of, number_of}
 use Rattle.rv_asm.specs.declared.fault.AsmFault.{AsmFault}
-use Rattle.rv_cli.specs.declared.fault.CliFault.{CliFault}
-use Rattle.rv_cli.specs.declared.fault.CliFault.TheVariants.{ReadSource, ReadInput, ReadCommands, Source, Input, BadPages, BadSlots, ImageTooLarge, OutOfMemory, Write}
-use Rattle.rv_cli.specs.declared.fault.TextName.{TextName}
-use Rattle.rv_cli.specs.declared.fault.TextName.TheVariants as text_name
-use Rattle.rv_cli.specs.declared.fault.Ending.{Ending}
-use Rattle.rv_cli.specs.declared.fault.Ending.TheVariants.{Halted, Running}
+use Rattle.rv_texts.specs.declared.fault.CliFault.{CliFault}
+use Rattle.rv_texts.specs.declared.fault.CliFault.TheVariants.{ReadSource, ReadInput, ReadCommands, Source, Input, BadPages, BadSlots, ImageTooLarge, OutOfMemory, Write}
+use Rattle.rv_texts.specs.declared.fault.TextName.{TextName}
+use Rattle.rv_texts.specs.declared.fault.TextName.TheVariants as text_name
+use Rattle.rv_texts.specs.declared.fault.Ending.{Ending}
+use Rattle.rv_texts.specs.declared.fault.Ending.TheVariants.{Halted, Running}
 
 -- the fault of a text's reader
 abbrev pub read_fault_of : TextName → CliFault

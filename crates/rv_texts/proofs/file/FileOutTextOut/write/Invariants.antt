@@ -1,6 +1,6 @@
 use Rattle.std.proofs.Common.{◌≡◌}
 use Rattle.std.specs.Io.KnownBytes.{Keeps}
-use Rattle.rv_cli.proofs.file.FileOutTextOut.write.Given as goal
+use Rattle.rv_texts.proofs.file.FileOutTextOut.write.Given as goal
 
 abbrev pub invariant-tries : goal.invariant-tries
 invariant-tries g l = record {

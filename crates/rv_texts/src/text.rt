@@ -1,8 +1,8 @@
 //! A text that comes in pieces, and one that goes out in pieces.
 ghost use Rattle.std.specs.Prelude.{◌≡◌, ◌≤◌, ◌<◌, ◌-◌, [], ◌==◌, ◌&&◌, ◌||◌, ℕ, Bool, List, Option, IfErr, IfOk, OnErr, OnOk, false, length, take, drop, nat_lt, true};
 ghost use Rattle.std.specs.Io.KnownBytes.{Appends, ReadConsumes, WriteAppends};
-ghost use Rattle.rv_cli.specs.Texts.{GavePart, GaveWhole, IsUnreadable, WroteBeginning};
-ghost use Rattle.rv_cli.specs.declared.text.ReadFault.TheVariants.{NoMemory, Unreadable};
+ghost use Rattle.rv_texts.specs.Texts.{GavePart, GaveWhole, IsUnreadable, WroteBeginning};
+ghost use Rattle.rv_texts.specs.declared.text.ReadFault.TheVariants.{NoMemory, Unreadable};
 
 use std::alloc::Global;
 
@@ -121,8 +121,8 @@ fn write_more<W: TextOut>(out: &mut W, bytes: &[u8], done: usize) -> Result<usiz
     }
 }
 
-/// Writes all the bytes, or a beginning of them.
-pub(crate) fn write_whole<W: TextOut>(out: &mut W, bytes: &[u8]) -> Result<(), OutFailed>
+/// Writes all the bytes; or a beginning of them, where a write fails or takes none.
+pub fn write_whole<W: TextOut>(out: &mut W, bytes: &[u8]) -> Result<(), OutFailed>
     requires { W.has_failed out.old ≡ false }
     ensures ok { OnOk result (Appends (W.taken out.old) (W.taken out.new) bytes.now) }
     ensures sound { OnOk result (W.has_failed out.new ≡ false) }

@@ -1,6 +1,6 @@
 use Rattle.std.proofs.Common.{◌++◌, arith, inl, inr, take, length-append, length-take}
 use Rattle.std.proofs.KnownBytes.{Consumes-kept, Consumes-trans}
-use Rattle.rv_cli.proofs.text.read_whole.Goals as goal
+use Rattle.rv_texts.proofs.text.read_whole.Goals as goal
 
 pub returns-in-Err-clause-err : goal.returns-in-Err-clause-err
 returns-in-Err-clause-err g c = λ _.

@@ -1,0 +1,5 @@
+pub mod Faults
+pub mod Memory
+pub mod Readers
+pub mod Texts
+pub mod Unread
