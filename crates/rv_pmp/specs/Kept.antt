@@ -1,6 +1,6 @@
 -- What the code keeps beside the registers, so that an access computes nothing of it.
 -- Not to audit: private contracts alone cite this.
-use Rattle.std.specs.Prelude.{◌≡◌, ℕ, ◌&&◌, nat_le, nat_lt, if◌then◌else◌, Bool, true, false, Option, Some, None, List, [], ◌∷◌}
+use Rattle.std.specs.Prelude.{◌≡◌, ℕ, ◌&&◌, nat_lt, if◌then◌else◌, Bool, true, false, Option, Some, None, List, [], ◌∷◌}
 use Rattle.std.specs.List.{list_any}
 use Rattle.rv_pmp.specs.declared.entry.Entry.{Entry}
 use Rattle.rv_pmp.specs.declared.entry.Matching.{Matching}
@@ -12,6 +12,7 @@ use Rattle.rv_pmp.specs.declared.access.Mode.{Mode}
 use Rattle.rv_pmp.specs.Entry.{entry_grants}
 use Rattle.rv_pmp.specs.Pmp.{AllReadable}
 use Rattle.rv_pmp.specs.Span.{span_of}
+use Rattle.rv_pmp.specs.Window.{holds}
 
 -- an entry matches addresses
 abbrev pub is_matching : Matching → Bool
@@ -48,9 +49,6 @@ pub record IsKept (entries : List Entry) (actives : List Active) (any_on any_loc
 
 abbrev pub meets : Span → ℕ → ℕ → Bool
 meets span first end = nat_lt span.first end && nat_lt first span.end
-
-abbrev pub holds : Span → ℕ → ℕ → Bool
-holds span first end = nat_le span.first first && nat_le end span.end
 
 -- what an entry with its span answers for the bytes from a first one up to but not including an end, if it has any of them
 abbrev pub answered : Mode → Access → ℕ → ℕ → Active → Option Bool

@@ -13,3 +13,4 @@ pub use access::{Access, Mode};
 pub use entry::{Entry, Matching};
 pub use pmp::{Pmp, bytes_are_granted_alone};
 pub use register::PmpRegister;
+pub use span::Span;

@@ -1,15 +1,19 @@
 //! The entries, and what they grant.
-ghost use Rattle.std.specs.Prelude.{◌≡◌, ℕ, ◌+◌, ◌^◌, ◌<◌, true};
+ghost use Rattle.std.specs.Prelude.{◌≡◌, ℕ, ◌+◌, ◌-◌, ◌^◌, ◌<◌, true, false};
 ghost use Rattle.rv_isa.specs.Width.{bytes_of};
-ghost use Rattle.rv_pmp.specs.Kept.{some_on, some_locked, decided};
+ghost use Rattle.rv_pmp.specs.Kept.{some_on, some_locked, actives_from, decided};
 ghost use Rattle.rv_pmp.specs.Pmp.{PmpState, reset, grants, locks, load, config_at, with_config, with_address, with_word, AllReadable, WritableIsReadable, Stores};
 ghost use Rattle.rv_pmp.specs.Pmp as spec;
+ghost use Rattle.rv_pmp.specs.Free.{AreForward, IsWindow};
+ghost use Rattle.rv_pmp.specs.Window.{IsGranted, IsWidest, no_bytes};
 ghost use Rattle.rv_pmp.specs.declared.access.Access.{Access};
 ghost use Rattle.rv_pmp.specs.declared.access.Mode.{Mode};
+ghost use Rattle.rv_pmp.specs.declared.access.Mode.TheVariants.{User};
 
 use crate::active::{Active, Actives};
 use crate::entry::Entry;
 use crate::register::PmpRegister;
+use crate::span::Span;
 use crate::{Access, Mode};
 use rv_isa::Width;
 use std::marker::Model;
@@ -157,6 +161,24 @@ impl Pmp {
             None => mode.is_machine(),
         }
     }
+
+    /// The widest span of bytes round an address that user mode may access so, whichever bytes of it an access has. Where
+    /// it may not access the byte at the address, no bytes.
+    #[tactic(auto, using(crate::proofs::Windows::window_clauses))]
+    pub fn user_window(&self, access: Access, addr: u32) -> Span
+        ensures granted { IsGranted self.now access result }
+        ensures widest { IsWidest self.now access addr result }
+        ensures none { grants self.now User access addr 1 ≡ false → result ≡ no_bytes }
+    {
+        window(self.actives(), access, addr as u64)
+    }
+
+    /// The entries that match addresses.
+    fn actives(&self) -> &[Active]
+        ensures { result.now ≡ actives_from 0 self.now.entries }
+    {
+        self.actives.as_slice()
+    }
 }
 
 /// Writes a register.
@@ -237,6 +259,23 @@ fn decide(actives: &[Active], mode: Mode, access: Access, first: u64, end: u64) 
         }
     }
     None
+}
+
+/// The widest span of bytes round an address that user mode may access so: what the first entry that has the address
+/// leaves of the bytes that no entry before it has.
+fn window(actives: &[Active], access: Access, addr: u64) -> Span
+    requires small { addr < 2 ^ 64 - 1 }
+    requires forward { AreForward actives.now }
+    ensures { IsWindow actives.now access addr result }
+{
+    let mut free = Span::ALL_BYTES;
+    for active in actives {
+        if active.has(addr) {
+            return active.leaves(access, free);
+        }
+        free = active.beside(free, addr);
+    }
+    Span::NO_BYTES
 }
 
 /// Whether some entry matches addresses.
