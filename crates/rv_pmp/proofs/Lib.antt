@@ -1,5 +1,5 @@
 pub mod Actives
 pub mod Decided
 pub mod Ones
-pub mod Windows
+pub mod Widest
 pub mod Writes

@@ -7,12 +7,13 @@ use Rattle.rv_pmp.specs.declared.entry.Matching.{Matching}
 use Rattle.rv_pmp.specs.declared.entry.Matching.TheVariants.{Off, Tor, Na4, Napot}
 use Rattle.rv_pmp.specs.declared.active.Active.{Active}
 use Rattle.rv_pmp.specs.declared.span.Span.{Span}
+use Rattle.rv_pmp.specs.declared.windows.Windows.{Windows}
 use Rattle.rv_pmp.specs.declared.access.Access.{Access}
 use Rattle.rv_pmp.specs.declared.access.Mode.{Mode}
 use Rattle.rv_pmp.specs.Entry.{entry_grants}
 use Rattle.rv_pmp.specs.Pmp.{AllReadable}
 use Rattle.rv_pmp.specs.Span.{span_of}
-use Rattle.rv_pmp.specs.Window.{holds}
+use Rattle.rv_pmp.specs.Window.{holds, AreGranted}
 
 -- an entry matches addresses
 abbrev pub is_matching : Matching → Bool
@@ -39,11 +40,12 @@ actives_from lower (entry ∷ entries) =
     if is_matching entry.matching then active_of lower entry ∷ actives_from entry.address entries
     else actives_from entry.address entries
 
-pub record IsKept (entries : List Entry) (actives : List Active) (any_on any_locked : Bool) : Type 0 where
+pub record IsKept (entries : List Entry) (actives : List Active) (any_on any_locked : Bool) (windows : Windows) : Type 0 where
   pub regions : actives ≡ actives_from 0 entries
   pub on : any_on ≡ some_on entries
   pub locked : any_locked ≡ some_locked entries
   pub readable : AllReadable entries
+  pub granted : AreGranted (record { entries = entries }) windows
 
 -- ---- the decision by spans
 

@@ -8,9 +8,9 @@ mod entry;
 mod pmp;
 mod register;
 mod span;
+mod windows;
 
 pub use access::{Access, Mode};
 pub use entry::{Entry, Matching};
 pub use pmp::{Pmp, bytes_are_granted_alone};
 pub use register::PmpRegister;
-pub use span::Span;

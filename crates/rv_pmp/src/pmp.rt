@@ -1,11 +1,11 @@
 //! The entries, and what they grant.
-ghost use Rattle.std.specs.Prelude.{◌≡◌, ℕ, ◌+◌, ◌-◌, ◌^◌, ◌<◌, true, false};
+ghost use Rattle.std.specs.Prelude.{◌≡◌, ℕ, ◌+◌, ◌-◌, ◌^◌, ◌<◌, true};
 ghost use Rattle.rv_isa.specs.Width.{bytes_of};
 ghost use Rattle.rv_pmp.specs.Kept.{some_on, some_locked, actives_from, decided};
 ghost use Rattle.rv_pmp.specs.Pmp.{PmpState, reset, grants, locks, load, config_at, with_config, with_address, with_word, AllReadable, WritableIsReadable, Stores};
 ghost use Rattle.rv_pmp.specs.Pmp as spec;
 ghost use Rattle.rv_pmp.specs.Free.{AreForward, IsWindow};
-ghost use Rattle.rv_pmp.specs.Window.{IsGranted, IsWidest, no_bytes};
+ghost use Rattle.rv_pmp.specs.Window.{IsGranted, IsWidest};
 ghost use Rattle.rv_pmp.specs.declared.access.Access.{Access};
 ghost use Rattle.rv_pmp.specs.declared.access.Mode.{Mode};
 ghost use Rattle.rv_pmp.specs.declared.access.Mode.TheVariants.{User};
@@ -14,6 +14,7 @@ use crate::active::{Active, Actives};
 use crate::entry::Entry;
 use crate::register::PmpRegister;
 use crate::span::Span;
+use crate::windows::Windows;
 use crate::{Access, Mode};
 use rv_isa::Width;
 use std::marker::Model;
@@ -22,13 +23,15 @@ use std::marker::Model;
 pub(crate) const ENTRIES: usize = 16;
 
 /// The registers of physical memory protection. Beside them stand the entries that match addresses, with the spans of
-/// their regions, so that an access computes none and asks no other entry.
+/// their regions, so that an access computes none and asks no other entry; and spans in which user mode is granted
+/// accesses, so that most of its accesses ask none.
 #[derive(Drop, Debug)]
 pub struct Pmp {
     entries: [Entry; ENTRIES],
     actives: Actives,
     any_on: bool,
     any_locked: bool,
+    windows: Windows,
 }
 
 impl Model for Pmp {
@@ -39,7 +42,7 @@ impl Model for Pmp {
 
     ghost view = { λ p. record { entries = p.entries } };
 
-    ghost invariant = { λ p. IsKept p.entries p.actives p.any_on p.any_locked };
+    ghost invariant = { λ p. IsKept p.entries p.actives p.any_on p.any_locked p.windows };
 }
 
 impl Pmp {
@@ -61,6 +64,7 @@ impl Pmp {
             actives: Actives::of(&entries),
             any_on: any_on(&entries),
             any_locked: any_locked(&entries),
+            windows: Windows::new(),
         }
     }
 
@@ -162,13 +166,46 @@ impl Pmp {
         }
     }
 
-    /// The widest span of bytes round an address that user mode may access so, whichever bytes of it an access has. Where
-    /// it may not access the byte at the address, no bytes.
-    #[tactic(auto, using(crate::proofs::Windows::window_clauses))]
-    pub fn user_window(&self, access: Access, addr: u32) -> Span
+    /// What `allowed` answers. Where user mode is granted an access, the span round it in which it is granted all of that
+    /// kind is kept, so that the next ones there ask no entry.
+    #[inline(always)]
+    #[tactic(auto, using(crate::proofs::Widest::within))]
+    pub fn admits(&mut self, mode: Mode, access: Access, addr: u32, width: Width) -> bool
+        ensures value { result ≡ grants self.old mode access addr (bytes_of width) }
+        ensures kept { self.new ≡ self.old }
+    {
+        match mode {
+            Mode::User => {
+                let first = addr as u64;
+                let end = first + width.bytes() as u64;
+                self.windows.of(access).holds(first, end) || self.admits_user(access, addr, width)
+            }
+            Mode::Machine => self.allowed(mode, access, addr, width),
+        }
+    }
+
+    /// What the entries grant user mode, outside of the span that is kept. It is apart, since few accesses are.
+    #[inline(never)]
+    #[tactic(auto, using(crate::proofs::Widest::asked))]
+    fn admits_user(&mut self, access: Access, addr: u32, width: Width) -> bool
+        ensures value { result ≡ grants self.old User access addr (bytes_of width) }
+        ensures kept { self.new ≡ self.old }
+    {
+        let first = addr as u64;
+        let window = self.user_window(access, addr);
+        let granted = window.holds(first, first + width.bytes() as u64);
+        if granted {
+            self.windows.keep(access, window);
+        }
+        granted
+    }
+
+    /// The widest span of bytes round an address in which user mode is granted all accesses of a kind. Where it isn't granted
+    /// the byte there, no bytes.
+    #[tactic(auto, using(crate::proofs::Widest::window_clauses))]
+    fn user_window(&self, access: Access, addr: u32) -> Span
         ensures granted { IsGranted self.now access result }
         ensures widest { IsWidest self.now access addr result }
-        ensures none { grants self.now User access addr 1 ≡ false → result ≡ no_bytes }
     {
         window(self.actives(), access, addr as u64)
     }

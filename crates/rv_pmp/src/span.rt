@@ -11,16 +11,14 @@ use crate::entry::{Entry, Matching};
 
 /// The bytes from a first one up to but not including an end.
 #[derive(Clone, Copy, PartialEq, Eq, Debug)]
-pub struct Span {
-    /// The address of the first byte.
-    pub first: u64,
-    /// The address behind the last byte.
-    pub end: u64,
+pub(crate) struct Span {
+    pub(crate) first: u64,
+    pub(crate) end: u64,
 }
 
 impl Span {
-    /// The span that has none.
-    pub const NO_BYTES: Span = Span { first: 0, end: 0 };
+    /// No bytes.
+    pub(crate) const NO_BYTES: Span = Span { first: 0, end: 0 };
 
     /// The bytes below the greatest end.
     pub(crate) const ALL_BYTES: Span = Span {
@@ -70,7 +68,7 @@ impl Span {
 
     /// Whether all bytes from `first` up to but not including `end` are in the span.
     #[inline(always)]
-    pub fn holds(&self, first: u64, end: u64) -> bool
+    pub(crate) fn holds(&self, first: u64, end: u64) -> bool
         ensures { result ≡ holds self.now first end }
     {
         self.first <= first && end <= self.end

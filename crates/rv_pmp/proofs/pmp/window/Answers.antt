@@ -1,5 +1,5 @@
 use Rattle.std.proofs.Common.{sym, ◌∙◌, arith}
-use Rattle.rv_pmp.proofs.Windows.{beside_free, left_free, none_free}
+use Rattle.rv_pmp.proofs.Widest.{beside_free, left_free, none_free}
 use Rattle.rv_pmp.proofs.pmp.window.Goals as goal
 
 pub loop-active-preserved : goal.loop-active-preserved

@@ -1,5 +1,5 @@
 use Rattle.std.proofs.Common.{drop}
-use Rattle.rv_pmp.proofs.Windows.{IsFree}
+use Rattle.rv_pmp.proofs.Widest.{IsFree}
 use Rattle.rv_pmp.proofs.pmp.window.Given as goal
 
 abbrev pub invariant-loop-active : goal.invariant-loop-active

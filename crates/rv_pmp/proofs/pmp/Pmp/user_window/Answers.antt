@@ -1,4 +1,4 @@
-use Rattle.rv_pmp.proofs.Windows.{window_widest}
+use Rattle.rv_pmp.proofs.Widest.{window_widest}
 use Rattle.rv_pmp.proofs.pmp.Pmp.user_window.Goals as goal
 
 pub returns-clause-widest : goal.returns-clause-widest
