@@ -4,7 +4,9 @@ ghost use Rattle.rv_csr.specs.Registers.{value_of, with_value, Writes};
 ghost use Rattle.rv_csr.specs.Registers as registers;
 ghost use Rattle.rv_csr.specs.State.{reset};
 ghost use Rattle.rv_csr.specs.Traps as traps;
+ghost use Rattle.rv_isa.specs.Width.{bytes_of};
 ghost use Rattle.rv_isa.specs.declared.Lines.{Lines};
+ghost use Rattle.rv_pmp.specs.Pmp.{grants};
 ghost use Rattle.rv_pmp.specs.declared.access.Mode.{Mode};
 ghost use Rattle.rv_pmp.specs.declared.access.Mode.TheVariants.{User};
 
@@ -12,8 +14,8 @@ use crate::counters::{Counters, high_word, low_word, with_high_word, with_low_wo
 use crate::register::{Register, may_read, may_write};
 use crate::status::{Status, lines_of, lines_word};
 use crate::trap::TrapRegisters;
-use rv_isa::Lines;
-use rv_pmp::{Mode, Pmp};
+use rv_isa::{Lines, Width};
+use rv_pmp::{Access, Mode, Pmp};
 use std::marker::Model;
 
 /// The cause of a software interrupt.
@@ -254,6 +256,15 @@ impl Csrs {
         ensures { self.new ≡ record self.old { counters = registers.counted self.old.counters retired wrote } }
     {
         self.counters.count(retired, wrote);
+    }
+
+    /// Whether protection grants a mode an access.
+    #[inline(always)]
+    pub fn admits(&mut self, mode: Mode, access: Access, addr: u32, width: Width) -> bool
+        ensures value { result ≡ grants self.old.pmp mode access addr (bytes_of width) }
+        ensures kept { self.new ≡ self.old }
+    {
+        self.pmp.admits(mode, access, addr, width)
     }
 
     /// Physical memory protection, as these registers set it.

@@ -17,9 +17,10 @@ use Rattle.rv_pmp.specs.declared.entry.Matching.TheVariants.{Off, Tor, Na4, Napo
 use Rattle.rv_pmp.specs.declared.active.Active.{Active}
 use Rattle.rv_pmp.specs.declared.span.Span.{Span}
 use Rattle.rv_pmp.specs.Entry.{is_machine, is_between, entry_grants, matched, region, trailing_ones}
-use Rattle.rv_pmp.specs.Kept.{is_matching, meets, holds, answered, decided, some_on, some_locked, active_of, actives_from}
+use Rattle.rv_pmp.specs.Kept.{is_matching, meets, answered, decided, some_on, some_locked, active_of, actives_from}
 use Rattle.rv_pmp.specs.Pmp.{PmpState, Guard, guards_from, bytes_from, answer, grants, locks}
-use Rattle.rv_pmp.specs.Span.{no_bytes, span, span_of}
+use Rattle.rv_pmp.specs.Span.{span, span_of}
+use Rattle.rv_pmp.specs.Window.{holds, no_bytes}
 
 -- ---- one step of the search
 

@@ -1,17 +1,19 @@
 -- What the code keeps beside the registers, so that an access computes nothing of it.
 -- Not to audit: private contracts alone cite this.
-use Rattle.std.specs.Prelude.{◌≡◌, ℕ, ◌&&◌, nat_le, nat_lt, if◌then◌else◌, Bool, true, false, Option, Some, None, List, [], ◌∷◌}
+use Rattle.std.specs.Prelude.{◌≡◌, ℕ, ◌&&◌, nat_lt, if◌then◌else◌, Bool, true, false, Option, Some, None, List, [], ◌∷◌}
 use Rattle.std.specs.List.{list_any}
 use Rattle.rv_pmp.specs.declared.entry.Entry.{Entry}
 use Rattle.rv_pmp.specs.declared.entry.Matching.{Matching}
 use Rattle.rv_pmp.specs.declared.entry.Matching.TheVariants.{Off, Tor, Na4, Napot}
 use Rattle.rv_pmp.specs.declared.active.Active.{Active}
 use Rattle.rv_pmp.specs.declared.span.Span.{Span}
+use Rattle.rv_pmp.specs.declared.windows.Windows.{Windows}
 use Rattle.rv_pmp.specs.declared.access.Access.{Access}
 use Rattle.rv_pmp.specs.declared.access.Mode.{Mode}
 use Rattle.rv_pmp.specs.Entry.{entry_grants}
 use Rattle.rv_pmp.specs.Pmp.{AllReadable}
 use Rattle.rv_pmp.specs.Span.{span_of}
+use Rattle.rv_pmp.specs.Window.{holds, AreGranted}
 
 -- an entry matches addresses
 abbrev pub is_matching : Matching → Bool
@@ -38,19 +40,17 @@ actives_from lower (entry ∷ entries) =
     if is_matching entry.matching then active_of lower entry ∷ actives_from entry.address entries
     else actives_from entry.address entries
 
-pub record IsKept (entries : List Entry) (actives : List Active) (any_on any_locked : Bool) : Type 0 where
+pub record IsKept (entries : List Entry) (actives : List Active) (any_on any_locked : Bool) (windows : Windows) : Type 0 where
   pub regions : actives ≡ actives_from 0 entries
   pub on : any_on ≡ some_on entries
   pub locked : any_locked ≡ some_locked entries
   pub readable : AllReadable entries
+  pub granted : AreGranted (record { entries = entries }) windows
 
 -- ---- the decision by spans
 
 abbrev pub meets : Span → ℕ → ℕ → Bool
 meets span first end = nat_lt span.first end && nat_lt first span.end
-
-abbrev pub holds : Span → ℕ → ℕ → Bool
-holds span first end = nat_le span.first first && nat_le end span.end
 
 -- what an entry with its span answers for the bytes from a first one up to but not including an end, if it has any of them
 abbrev pub answered : Mode → Access → ℕ → ℕ → Active → Option Bool

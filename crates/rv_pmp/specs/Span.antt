@@ -6,9 +6,7 @@ use Rattle.rv_pmp.specs.declared.entry.Matching.{Matching}
 use Rattle.rv_pmp.specs.declared.entry.Matching.TheVariants.{Off, Tor, Na4, Napot}
 use Rattle.rv_pmp.specs.declared.span.Span.{Span}
 use Rattle.rv_pmp.specs.Entry.{trailing_ones}
-
-abbrev pub no_bytes : Span
-no_bytes = record { first = 0; end = 0 }
+use Rattle.rv_pmp.specs.Window.{no_bytes}
 
 abbrev pub span : Matching → ℕ → ℕ → Span
 span Off lower address = no_bytes

@@ -143,7 +143,7 @@ impl Entry {
     }
 
     /// The bit of a kind of access.
-    fn permits(&self, access: Access) -> bool
+    pub(crate) fn permits(&self, access: Access) -> bool
         ensures { result ≡ spec.permits self.now access }
     {
         match access {

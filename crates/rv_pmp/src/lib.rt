@@ -8,6 +8,7 @@ mod entry;
 mod pmp;
 mod register;
 mod span;
+mod windows;
 
 pub use access::{Access, Mode};
 pub use entry::{Entry, Matching};

@@ -1,15 +1,20 @@
 //! The entries, and what they grant.
-ghost use Rattle.std.specs.Prelude.{◌≡◌, ℕ, ◌+◌, ◌^◌, ◌<◌, true};
+ghost use Rattle.std.specs.Prelude.{◌≡◌, ℕ, ◌+◌, ◌-◌, ◌^◌, ◌<◌, true};
 ghost use Rattle.rv_isa.specs.Width.{bytes_of};
-ghost use Rattle.rv_pmp.specs.Kept.{some_on, some_locked, decided};
+ghost use Rattle.rv_pmp.specs.Kept.{some_on, some_locked, actives_from, decided};
 ghost use Rattle.rv_pmp.specs.Pmp.{PmpState, reset, grants, locks, load, config_at, with_config, with_address, with_word, AllReadable, WritableIsReadable, Stores};
 ghost use Rattle.rv_pmp.specs.Pmp as spec;
+ghost use Rattle.rv_pmp.specs.Free.{AreForward, IsWindow};
+ghost use Rattle.rv_pmp.specs.Window.{IsGranted, IsWidest};
 ghost use Rattle.rv_pmp.specs.declared.access.Access.{Access};
 ghost use Rattle.rv_pmp.specs.declared.access.Mode.{Mode};
+ghost use Rattle.rv_pmp.specs.declared.access.Mode.TheVariants.{User};
 
 use crate::active::{Active, Actives};
 use crate::entry::Entry;
 use crate::register::PmpRegister;
+use crate::span::Span;
+use crate::windows::Windows;
 use crate::{Access, Mode};
 use rv_isa::Width;
 use std::marker::Model;
@@ -18,13 +23,15 @@ use std::marker::Model;
 pub(crate) const ENTRIES: usize = 16;
 
 /// The registers of physical memory protection. Beside them stand the entries that match addresses, with the spans of
-/// their regions, so that an access computes none and asks no other entry.
+/// their regions, so that an access computes none and asks no other entry; and spans in which user mode is granted
+/// accesses, so that most of its accesses ask none.
 #[derive(Drop, Debug)]
 pub struct Pmp {
     entries: [Entry; ENTRIES],
     actives: Actives,
     any_on: bool,
     any_locked: bool,
+    windows: Windows,
 }
 
 impl Model for Pmp {
@@ -35,7 +42,7 @@ impl Model for Pmp {
 
     ghost view = { λ p. record { entries = p.entries } };
 
-    ghost invariant = { λ p. IsKept p.entries p.actives p.any_on p.any_locked };
+    ghost invariant = { λ p. IsKept p.entries p.actives p.any_on p.any_locked p.windows };
 }
 
 impl Pmp {
@@ -57,6 +64,7 @@ impl Pmp {
             actives: Actives::of(&entries),
             any_on: any_on(&entries),
             any_locked: any_locked(&entries),
+            windows: Windows::new(),
         }
     }
 
@@ -157,6 +165,57 @@ impl Pmp {
             None => mode.is_machine(),
         }
     }
+
+    /// What `allowed` answers. Where user mode is granted an access, the span round it in which it is granted all of that
+    /// kind is kept, so that the next ones there ask no entry.
+    #[inline(always)]
+    #[tactic(auto, using(crate::proofs::Widest::within))]
+    pub fn admits(&mut self, mode: Mode, access: Access, addr: u32, width: Width) -> bool
+        ensures value { result ≡ grants self.old mode access addr (bytes_of width) }
+        ensures kept { self.new ≡ self.old }
+    {
+        match mode {
+            Mode::User => {
+                let first = addr as u64;
+                let end = first + width.bytes() as u64;
+                self.windows.of(access).holds(first, end) || self.admits_user(access, addr, width)
+            }
+            Mode::Machine => self.allowed(mode, access, addr, width),
+        }
+    }
+
+    /// What the entries grant user mode, outside of the span that is kept. It is apart, since few accesses are.
+    #[inline(never)]
+    #[tactic(auto, using(crate::proofs::Widest::asked))]
+    fn admits_user(&mut self, access: Access, addr: u32, width: Width) -> bool
+        ensures value { result ≡ grants self.old User access addr (bytes_of width) }
+        ensures kept { self.new ≡ self.old }
+    {
+        let first = addr as u64;
+        let window = self.user_window(access, addr);
+        let granted = window.holds(first, first + width.bytes() as u64);
+        if granted {
+            self.windows.keep(access, window);
+        }
+        granted
+    }
+
+    /// The widest span of bytes round an address in which user mode is granted all accesses of a kind. Where it isn't granted
+    /// the byte there, no bytes.
+    #[tactic(auto, using(crate::proofs::Widest::window_clauses))]
+    fn user_window(&self, access: Access, addr: u32) -> Span
+        ensures granted { IsGranted self.now access result }
+        ensures widest { IsWidest self.now access addr result }
+    {
+        window(self.actives(), access, addr as u64)
+    }
+
+    /// The entries that match addresses.
+    fn actives(&self) -> &[Active]
+        ensures { result.now ≡ actives_from 0 self.now.entries }
+    {
+        self.actives.as_slice()
+    }
 }
 
 /// Writes a register.
@@ -237,6 +296,23 @@ fn decide(actives: &[Active], mode: Mode, access: Access, first: u64, end: u64) 
         }
     }
     None
+}
+
+/// The widest span of bytes round an address that user mode may access so: what the first entry that has the address
+/// leaves of the bytes that no entry before it has.
+fn window(actives: &[Active], access: Access, addr: u64) -> Span
+    requires small { addr < 2 ^ 64 - 1 }
+    requires forward { AreForward actives.now }
+    ensures { IsWindow actives.now access addr result }
+{
+    let mut free = Span::ALL_BYTES;
+    for active in actives {
+        if active.has(addr) {
+            return active.leaves(access, free);
+        }
+        free = active.beside(free, addr);
+    }
+    Span::NO_BYTES
 }
 
 /// Whether some entry matches addresses.

@@ -1,12 +1,15 @@
-//! The span of bytes that an entry protects, computed when one of its registers is written.
-ghost use Rattle.std.specs.Prelude.{◌≡◌, ◌+◌, ◌≤◌, ◌^◌};
+//! Spans of bytes: those that an entry protects, computed when one of its registers is written, and what they leave.
+ghost use Rattle.std.specs.Prelude.{◌≡◌, ◌+◌, ◌<◌, ◌≤◌, ◌^◌};
+ghost use Rattle.rv_pmp.specs.Entry.{is_between};
 ghost use Rattle.rv_pmp.specs.Entry as ones;
-ghost use Rattle.rv_pmp.specs.Kept as spec;
+ghost use Rattle.rv_pmp.specs.Free as spec;
+ghost use Rattle.rv_pmp.specs.Kept.{meets};
 ghost use Rattle.rv_pmp.specs.Span.{span_of};
+ghost use Rattle.rv_pmp.specs.Window.{holds};
 
 use crate::entry::{Entry, Matching};
 
-/// The bytes from `first` up to but not including `end`; where there are none, both are 0.
+/// The bytes from a first one up to but not including an end.
 #[derive(Clone, Copy, PartialEq, Eq, Debug)]
 pub(crate) struct Span {
     pub(crate) first: u64,
@@ -14,7 +17,14 @@ pub(crate) struct Span {
 }
 
 impl Span {
+    /// No bytes.
     pub(crate) const NO_BYTES: Span = Span { first: 0, end: 0 };
+
+    /// The bytes below the greatest end.
+    pub(crate) const ALL_BYTES: Span = Span {
+        first: 0,
+        end: u64::MAX,
+    };
 
     /// The region of an entry, where `lower` is the address register of the entry before.
     #[tactic(auto, unfolding(crate::specs::Span::span_of))]
@@ -51,16 +61,52 @@ impl Span {
 
     /// Whether a byte of the span is among those from `first` up to but not including `end`.
     pub(crate) fn meets(&self, first: u64, end: u64) -> bool
-        ensures { result ≡ spec.meets self.now first end }
+        ensures { result ≡ meets self.now first end }
     {
         self.first < end && first < self.end
     }
 
     /// Whether all bytes from `first` up to but not including `end` are in the span.
+    #[inline(always)]
     pub(crate) fn holds(&self, first: u64, end: u64) -> bool
-        ensures { result ≡ spec.holds self.now first end }
+        ensures { result ≡ holds self.now first end }
     {
         self.first <= first && end <= self.end
+    }
+
+    /// Whether the byte at an address is in the span.
+    pub(crate) fn has(self, addr: u64) -> bool
+        ensures value { result ≡ is_between self.first self.end addr }
+        ensures small { self.end < 2 ^ 64 }
+    {
+        self.first <= addr && addr < self.end
+    }
+
+    /// The bytes that are in both.
+    pub(crate) fn common(self, other: Span) -> Span
+        ensures { result ≡ spec.common self other }
+    {
+        Span {
+            first: self.first.max(other.first),
+            end: self.end.min(other.end),
+        }
+    }
+
+    /// The bytes of this span on the side of an address up to another span, which doesn't have it.
+    pub(crate) fn beside(self, other: Span, addr: u64) -> Span
+        ensures { result ≡ spec.beside self other addr }
+    {
+        if other.end <= addr {
+            Span {
+                first: self.first.max(other.end),
+                end: self.end,
+            }
+        } else {
+            Span {
+                first: self.first,
+                end: self.end.min(other.first),
+            }
+        }
     }
 }
 
