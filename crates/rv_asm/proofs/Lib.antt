@@ -1,6 +1,7 @@
 pub mod Lookups
 pub mod Sums
 pub mod Nops
+pub mod Always
 pub mod Writing
 pub mod Padded
 pub mod Sizes

@@ -3,16 +3,19 @@
 -- Not to audit: private contracts alone cite this.
 use Rattle.std.specs.Prelude.{◌≡◌, ℕ, suc, ◌+◌, List, [], ◌∷◌, ◌++◌, length, ℤ, pos, true, Option, Some, None, is_some, if◌then◌else◌, Result, Ok, Err}
 use Rattle.std.specs.Option.{option_map, unwrap_or}
+use Rattle.rv_isa.specs.declared.kind.Kind.{Kind}
 use Rattle.rv_source.specs.Said.{Said}
+use Rattle.rv_source.specs.Reading.{said}
 use Rattle.rv_source.specs.declared.line.Label.{Label}
 use Rattle.rv_source.specs.declared.line.Label.TheVariants as label
 use Rattle.rv_source.specs.declared.statement.Statement.{Statement}
+use Rattle.rv_source.specs.declared.statement.Statement.TheVariants.{Marker}
 use Rattle.rv_asm.specs.declared.fault.FaultKind.{FaultKind}
 use Rattle.rv_asm.specs.declared.fault.FaultKind.TheVariants.{DuplicateSymbol}
 use Rattle.rv_asm.specs.declared.fault.AsmFault.{AsmFault}
 use Rattle.rv_asm.specs.Symbols.{Definitions, value_of, sum_value}
 use Rattle.rv_asm.specs.Layout.{Known, joined, line_at, start, labelled, stated, known_before, known_at, asked, size_of, name_in, constant_of, statement_fault, phase_two_fault}
-use Rattle.rv_asm.specs.Listing.{◌>>=◌, statement_bytes}
+use Rattle.rv_asm.specs.Listing.{◌>>=◌, bytes, statement_bytes}
 use Rattle.rv_asm.specs.Assembly.{first_fault, phase_one_fault, all_said}
 
 -- ---- statements
@@ -23,6 +26,14 @@ pub record Item : Type 0 where
   pub address : ℕ
   pub constant : ℤ
   pub statement : Statement
+
+-- the statement of a line with this text, if it has one
+abbrev pub statement_in : List ℕ → Option Statement
+statement_in text = elim (said text) as (λ _. Option Statement) [ Ok line ↦ line.statement | Err fault ↦ None ]
+
+-- a line without a statement places what a marker does: nothing
+abbrev pub stated_in : List ℕ → Statement
+stated_in text = unwrap_or (statement_in text) Marker
 
 -- the value is one that the statement takes
 abbrev pub IsTaken : Item → Type 0
@@ -46,6 +57,10 @@ definition_in item = option_map (λ name. (name, item.constant)) (name_in item.s
 -- the bytes of an item, with every name known
 abbrev pub item_bytes : Definitions → Item → Result (List ℕ) FaultKind
 item_bytes ds item = statement_bytes (sum_value ds item.line item.address) item.address item.constant item.statement
+
+-- the item is this instruction, whatever names are defined
+abbrev pub IsAlways : Item → Kind → Type 0
+IsAlways item kind = (ds : Definitions) → item_bytes ds item ≡ Ok (bytes (kind ∷ []))
 
 -- appended to those before
 abbrev pub appended : List ℕ → Result (List ℕ) FaultKind → Result (List ℕ) FaultKind

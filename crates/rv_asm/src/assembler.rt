@@ -1,7 +1,8 @@
 //! From source to image.
-ghost use Rattle.std.specs.Prelude.{◌≡◌, ◌≤◌, ◌<◌, Result, IfOk, length};
+ghost use Rattle.std.specs.Prelude.{◌≡◌, ◌≤◌, ◌<◌, Result, Ok, IfOk, length};
 ghost use Rattle.std.specs.List.{All};
 ghost use Rattle.rv_tokens.specs.Lines.{lines};
+ghost use Rattle.rv_source.specs.Reading.{said};
 ghost use Rattle.rv_asm.specs.declared.fault.AsmFault.{AsmFault};
 ghost use Rattle.rv_asm.specs.Faults.{Gives};
 ghost use Rattle.rv_asm.specs.Assembly.{assembled};
@@ -20,14 +21,16 @@ fn extended<'a>(
     alloc: Global,
     layout: Result<Layout<'a>, AsmFault>,
     number: usize,
-    line: Line<'a>,
+    text: &'a [u8],
+    line: &Line,
 ) -> Result<Layout<'a>, AsmFault>
     requires up_to { IfOk layout (λ l. All (λ d. d.line ≤ number) l.known.definitions.locals) }
     requires counted { number < 0xffffffffffffffff }
-    ensures { (m : Result State AsmFault) → Gives (λ l. l) layout.entry m → Gives (λ l. l) result (extended number line.entry m) }
+    requires read { said text.now ≡ Ok line.now }
+    ensures { (m : Result State AsmFault) → Gives (λ l. l) layout.entry m → Gives (λ l. l) result (extended number line.now m) }
 {
     let mut layout = layout?;
-    match layout.add(alloc, number, line) {
+    match layout.add(alloc, number, text, line) {
         Ok(()) => Ok(layout),
         Err(kind) => Err(AsmFault::at(number + 1, kind)),
     }
@@ -43,7 +46,7 @@ fn lay_out<'a>(alloc: Global, source: &'a [u8]) -> Result<Layout<'a>, AsmFault>
     let mut number: usize = 0;
     for text in cut_lines(source) {
         match read_line(alloc, text) {
-            Ok(line) => layout = extended(alloc, layout, number, line),
+            Ok(line) => layout = extended(alloc, layout, number, text, &line),
             Err(fault) => return Err(AsmFault::at(number + 1, FaultKind::from(fault))),
         }
         number += 1;
@@ -58,7 +61,7 @@ fn image(alloc: Global, items: &[Placed], symbols: &Symbols) -> Result<Vec<u8>, 
 {
     let mut out = Vec::new(alloc);
     for item in items {
-        if let Err(kind) = item.write(symbols, &mut out) {
+        if let Err(kind) = item.write(alloc, symbols, &mut out) {
             return Err(AsmFault::at(item.line() + 1, kind));
         }
     }

@@ -27,7 +27,7 @@ impl Model for Instructions {
 }
 
 impl Instructions {
-    ghost use Rattle.std.specs.Prelude.{◌≡◌, ◌++◌, ◌*◌, length, [], ◌∷◌, OnOk};
+    ghost use Rattle.std.specs.Prelude.{◌≡◌, ◌++◌, ◌*◌, length, [], ◌∷◌, OnOk, IfSome};
     ghost use Rattle.rv_asm.specs.Listing.{bytes};
 
     pub fn none() -> Self
@@ -54,6 +54,16 @@ impl Instructions {
         Instructions {
             first: Some(first),
             second: Some(second),
+        }
+    }
+
+    /// The instruction, where there is only one.
+    pub fn only(&self) -> Option<Instr>
+        ensures { IfSome result (λ kind. self.now ≡ kind ∷ []) }
+    {
+        match self.second {
+            None => self.first,
+            Some(_) => None,
         }
     }
 

@@ -4,6 +4,7 @@ ghost use Rattle.std.specs.List.{All};
 
 use crate::FaultKind;
 use crate::asked::BASE;
+use crate::emission::Scope;
 use crate::locals::LocalLabel;
 use crate::names::Names;
 use crate::placed::Placed;
@@ -28,11 +29,11 @@ impl Model for Known {
 }
 
 impl Known {
-    ghost use Rattle.std.specs.Prelude.{◌≡◌, ◌≤◌};
+    ghost use Rattle.std.specs.Prelude.{◌≡◌, ◌≤◌, Some};
     ghost use Rattle.std.specs.List.{All};
     ghost use Rattle.rv_asm.specs.Kept.{KindBecomes, KindGives};
     ghost use Rattle.rv_asm.specs.Layout.{start};
-    ghost use Rattle.rv_asm.specs.Steps.{newly_labelled, all_labelled, newly_stated};
+    ghost use Rattle.rv_asm.specs.Steps.{newly_labelled, all_labelled, newly_stated, statement_in};
 
     fn new(alloc: Global) -> Self
         ensures { result ≡ start }
@@ -87,19 +88,25 @@ impl Known {
         &self.symbols
     }
 
-    /// Places a statement, and goes on behind it.
+    /// Places the statement of a line, and goes on behind it.
     #[tactic(auto, using(crate::proofs::Placing::definition_new, crate::proofs::Placing::newly_defined, crate::proofs::Placing::newly_passed), unfolding(crate::specs::Steps::newly_stated))]
     fn place<'a>(
         &mut self,
         alloc: Global,
         line: usize,
-        statement: Statement<'a>,
+        text: &'a [u8],
+        statement: &Statement,
     ) -> Result<Placed<'a>, FaultKind>
-        ensures { KindGives (λ item. (self.new, item)) result (newly_stated line self.old statement.entry) }
+        requires { statement_in text.now ≡ Some statement.now }
+        ensures { KindGives (λ item. (self.new, item)) result (newly_stated line self.old statement.now) }
     {
-        let address = self.address;
-        let item = Placed::new(self.symbols(), line, address, statement)?;
-        if let Some((name, value)) = item.definition() {
+        let scope = Scope {
+            symbols: self.symbols(),
+            line,
+            here: self.address,
+        };
+        let item = Placed::new(alloc, scope, text, statement)?;
+        if let Some((name, value)) = item.definition(statement) {
             self.symbols.names.define(alloc, name, value)?;
         }
         self.address = item.end();
@@ -123,8 +130,9 @@ impl<'a> Model for Layout<'a> {
 }
 
 impl<'a> Layout<'a> {
-    ghost use Rattle.std.specs.Prelude.{◌≡◌, ◌≤◌};
+    ghost use Rattle.std.specs.Prelude.{◌≡◌, ◌≤◌, Ok};
     ghost use Rattle.std.specs.List.{All};
+    ghost use Rattle.rv_source.specs.Reading.{said};
     ghost use Rattle.rv_asm.specs.Kept.{KindBecomes};
     ghost use Rattle.rv_asm.specs.Steps.{nothing, after_line};
 
@@ -137,15 +145,22 @@ impl<'a> Layout<'a> {
         }
     }
 
-    /// Takes one more line, whose number counts from 0.
+    /// Takes one more line, as it is written and as it was read. Its number counts from 0.
     #[tactic(auto, unfolding(crate::specs::Steps::after_line))]
-    pub fn add(&mut self, alloc: Global, number: usize, line: Line<'a>) -> Result<(), FaultKind>
-        requires { All (λ d. d.line ≤ number) self.old.known.definitions.locals }
-        ensures { KindBecomes self.new result (after_line number self.old line.entry) }
+    pub fn add(
+        &mut self,
+        alloc: Global,
+        number: usize,
+        text: &'a [u8],
+        line: &Line,
+    ) -> Result<(), FaultKind>
+        requires up_to { All (λ d. d.line ≤ number) self.old.known.definitions.locals }
+        requires read { said text.now ≡ Ok line.now }
+        ensures { KindBecomes self.new result (after_line number self.old line.now) }
     {
         self.known.labels(alloc, number, line.labels())?;
-        if let Some(statement) = line.into_statement() {
-            let item = self.known.place(alloc, number, statement)?;
+        if let Some(statement) = line.statement() {
+            let item = self.known.place(alloc, number, text, statement)?;
             self.items.push(item)?;
         }
         Ok(())

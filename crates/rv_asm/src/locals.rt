@@ -9,12 +9,12 @@ use std::marker::Model;
 /// A definition of a local label, as the definitions speak of it; the program answers none.
 #[derive(Clone, Copy, PartialEq, Eq, Debug)]
 pub struct LocalLabel {
-    /// Its number: 0 to 9999.
-    pub number: u16,
     /// The line on which it stands, counted from 0.
     pub line: usize,
     /// The address of what follows it.
     pub address: u32,
+    /// Its number: 0 to 9999.
+    pub number: u16,
 }
 
 /// How many definitions stand on this line or before it.

@@ -1,19 +1,22 @@
 //! Statements that have their place.
-ghost use Rattle.std.specs.Prelude.{◌≡◌};
-ghost use Rattle.rv_asm.specs.Kept.{KindGives};
+ghost use Rattle.std.specs.Prelude.{◌≡◌, IfSome};
 ghost use Rattle.rv_asm.specs.Layout.{renames};
-ghost use Rattle.rv_asm.specs.Steps.{placed};
+ghost use Rattle.rv_asm.specs.Steps.{IsAlways};
 
 use crate::FaultKind;
 use crate::asked::{constant, end_of, is_instruction};
 use crate::data::{self, pad};
 use crate::emission::Scope;
+use crate::instructions::Instructions;
 use crate::symbols::Symbols;
 use crate::values::{bits, gap};
-use rv_source::Statement;
+use rv_isa::Instr;
+use rv_source::{Statement, read_line};
+use std::alloc::Global;
 use std::marker::Model;
 
-/// A statement, its line, its address and the value that it asked for.
+/// A statement, its line, its address and the value that it asked for. The statement itself isn't kept, for its lists
+/// would take many times the room of its text: where its bytes are written the line is read again.
 #[derive(Drop)]
 pub struct Placed<'a> {
     /// Counted from 0.
@@ -23,20 +26,23 @@ pub struct Placed<'a> {
     end: u32,
     /// 0 where none is asked for.
     constant: i64,
-    statement: Statement<'a>,
+    /// The line as it is written.
+    text: &'a [u8],
+    /// What is placed, where that is one instruction and no name has a part in it: then the line isn't read again.
+    instr: Option<Instr>,
 }
 
 impl<'a> Model for Placed<'a> {
-    ghost use Rattle.std.specs.Prelude.{◌≡◌, ◌≤◌};
-    ghost use Rattle.rv_asm.specs.Steps.{Item, IsTaken, end_of};
+    ghost use Rattle.std.specs.Prelude.{◌≡◌, ◌≤◌, IfSome};
+    ghost use Rattle.rv_asm.specs.Steps.{Item, IsTaken, IsAlways, stated_in, end_of};
 
     ghost Value = { Item };
 
-    ghost view = { λ p. record { line = p.line; address = p.address; constant = p.constant; statement = p.statement } };
+    ghost view = { λ p. record { line = p.line; address = p.address; constant = p.constant; statement = stated_in p.text.now } };
 
     ghost invariant = { λ p.
-        let item : Item = record { line = p.line; address = p.address; constant = p.constant; statement = p.statement } in
-        IsTaken item × (p.end ≡ end_of item) × (p.end ≤ 0x81000000) };
+        let item : Item = record { line = p.line; address = p.address; constant = p.constant; statement = stated_in p.text.now } in
+        IsTaken item × (p.end ≡ end_of item) × (p.end ≤ 0x81000000) × IfSome p.instr (IsAlways item) };
 }
 
 /// Whether `.equ` defines a name that was defined before.
@@ -49,41 +55,72 @@ fn renames(symbols: &Symbols, statement: &Statement) -> bool
     }
 }
 
+/// The one instruction that a statement is, whatever names are defined.
+fn always(
+    alloc: Global,
+    line: usize,
+    here: u32,
+    constant: i64,
+    statement: &Statement,
+) -> Option<Instr>
+    ensures { IfSome result (IsAlways (record { line = line; address = here; constant = constant; statement = statement.now })) }
+{
+    let none = Symbols::new(alloc);
+    let scope = Scope {
+        symbols: &none,
+        line,
+        here,
+    };
+    match scope.instructions(constant, statement) {
+        Ok(instructions) => instructions.only(),
+        Err(_) => None,
+    }
+}
+
 impl<'a> Placed<'a> {
-    ghost use Rattle.std.specs.Prelude.{◌≡◌, ◌≤◌, true, IfSome};
+    ghost use Rattle.std.specs.Prelude.{◌≡◌, ◌≤◌, true, Some, IfSome, IfOk};
     ghost use Rattle.std.specs.Option.{option_map};
     ghost use Rattle.rv_asm.specs.Values.{is_word};
     ghost use Rattle.rv_asm.specs.Kept.{KindGives, KindBecomes};
-    ghost use Rattle.rv_asm.specs.Steps.{placed, end_of, definition_in, item_bytes, appended};
+    ghost use Rattle.rv_asm.specs.Steps.{placed, statement_in, end_of, definition_in, item_bytes, appended};
 
-    /// The place of a statement on a line, where its fault in phase two is none.
+    /// The place of the statement of a line, where its fault in phase two is none.
     #[tactic(auto, unfolding(crate::specs::Steps::placed, crate::specs::Layout::statement_fault))]
     pub fn new(
-        symbols: &Symbols,
-        line: usize,
-        address: u32,
-        statement: Statement<'a>,
+        alloc: Global,
+        scope: Scope,
+        text: &'a [u8],
+        statement: &Statement,
     ) -> Result<Placed<'a>, FaultKind>
-        ensures { KindGives (λ p. p) result (placed line (record { address = address; definitions = symbols.now }) statement.entry) }
+        requires { statement_in text.now ≡ Some statement.now }
+        ensures gives { KindGives (λ p. p) result (placed scope.entry.line (record { address = scope.entry.here; definitions = scope.entry.symbols.now }) statement.now) }
+        ensures same { IfOk result (λ p. p.statement ≡ statement.now) }
     {
-        if renames(symbols, &statement) {
+        let Scope {
+            symbols,
+            line,
+            here: address,
+        } = scope;
+        if renames(symbols, statement) {
             return Err(FaultKind::DuplicateSymbol);
         }
-        let Some(constant) = constant(symbols, line, address, &statement) else {
+        let Some(constant) = constant(symbols, line, address, statement) else {
             return Err(FaultKind::NotConstant);
         };
-        if is_instruction(&statement) && address % 4 != 0 {
+        if is_instruction(statement) && address % 4 != 0 {
             return Err(FaultKind::Misplaced);
         }
-        let Some(end) = end_of(address, constant, &statement) else {
+        let Some(end) = end_of(address, constant, statement) else {
             return Err(FaultKind::TooLarge);
         };
+        let instr = always(alloc, line, address, constant, statement);
         Ok(Placed {
             line,
             address,
             end,
             constant,
-            statement,
+            text,
+            instr,
         })
     }
 
@@ -103,19 +140,48 @@ impl<'a> Placed<'a> {
     }
 
     /// The name that `.equ` defines, and its value.
-    pub fn definition(&self) -> Option<(&'a [u8], i64)>
+    pub fn definition<'s>(&self, statement: &Statement<'s>) -> Option<(&'s [u8], i64)>
+        requires { statement.now ≡ self.now.statement }
         ensures value { option_map (λ d. (d.0.now, d.1)) result ≡ definition_in self.now }
         ensures word { IfSome result (λ d. is_word d.1 ≡ true) }
     {
-        match &self.statement {
+        match statement {
             Statement::Constant { name, .. } => Some((name.bytes(), self.constant)),
             _ => None,
         }
     }
 
     /// Appends the bytes of the statement, with every name known.
+    pub fn write(
+        &self,
+        alloc: Global,
+        symbols: &Symbols,
+        out: &mut Vec<u8>,
+    ) -> Result<(), FaultKind>
+        ensures { KindBecomes out.new.items result (appended out.old.items (item_bytes symbols.now self.now)) }
+    {
+        if let Some(instr) = self.instr {
+            return Ok(Instructions::one(instr).write(out)?);
+        }
+        // The line was read before, so that only memory can be missing.
+        let Ok(line) = read_line(alloc, self.text) else {
+            return Err(FaultKind::OutOfMemory);
+        };
+        match line.statement() {
+            Some(statement) => self.write_statement(symbols, statement, out),
+            None => self.write_statement(symbols, &Statement::Marker, out),
+        }
+    }
+
+    /// Appends the bytes of the statement, as its line says it.
     #[tactic(auto, unfolding(crate::specs::Listing::statement_bytes))]
-    pub fn write(&self, symbols: &Symbols, out: &mut Vec<u8>) -> Result<(), FaultKind>
+    fn write_statement(
+        &self,
+        symbols: &Symbols,
+        statement: &Statement,
+        out: &mut Vec<u8>,
+    ) -> Result<(), FaultKind>
+        requires { statement.now ≡ self.now.statement }
         ensures { KindBecomes out.new.items result (appended out.old.items (item_bytes symbols.now self.now)) }
     {
         let scope = Scope {
@@ -123,7 +189,7 @@ impl<'a> Placed<'a> {
             line: self.line,
             here: self.address,
         };
-        match &self.statement {
+        match statement {
             Statement::Data { width, values } => scope.write_values(*width, values.as_slice(), out),
             Statement::Bytes(bytes) => Ok(out.extend_from_slice(bytes.as_slice())?),
             Statement::Space { fill, .. } => {
