@@ -2,7 +2,7 @@
 use rv_isa::{Instr, Kind, NoMemory, write_instr};
 use std::test::Fail;
 
-/// Run with an allocation that fails (`rt try --test --fail-alloc 1`, then 2 and 3) this sees the bytes as they were.
+/// Run with an allocation that fails (`rt try --test --fail-alloc 1`, then 2) this sees the bytes as they were.
 #[test]
 fn refused_text_leaves_the_bytes(rt: HostRuntime) -> Result<(), Fail> {
     let mut out = Vec::new(rt.alloc());

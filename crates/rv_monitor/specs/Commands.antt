@@ -1,11 +1,12 @@
 -- To audit: public contracts cite this.
 -- What each command does, and what it answers. None is a line that is no command.
 -- This project's own language.
-use Rattle.std.specs.Prelude.{◌≡◌, ◌⊎◌, ◌<◌, false, ℕ, ◌-◌, List, [], ◌++◌, if◌then◌else◌, Option, Some, None, codes, unwrap_or}
+use Rattle.std.specs.Prelude.{◌≡◌, ◌⊎◌, ◌<◌, false, ℕ, ◌-◌, List, [], ◌++◌, length, if◌then◌else◌, Option, Some, None, codes, unwrap_or}
 use Rattle.std.specs.FinSet as set
 use Rattle.rv_commands.specs.declared.command.Command.{Command}
 use Rattle.rv_commands.specs.declared.command.Command.TheVariants.{Step, Go, SetBreak, ClearBreak, Registers, ControlRegister, Memory, Instruction, Traps, Edges, Quit, Nothing}
 use Rattle.rv_views.specs.Numbers.{hex}
+use Rattle.rv_views.specs.Room.{registers_room, control_register_room, memory_room, instruction_room, traps_room, edges_room}
 use Rattle.rv_views.specs.Views.{line, registers_text, control_register_text, memory_text, instruction_text, traps_text, edges_text, stop_text}
 use Rattle.rv_monitor.specs.declared.stop.Stop.{Stop}
 use Rattle.rv_monitor.specs.declared.stop.Stop.TheVariants.{Halted, Breakpoint, Limit}
@@ -55,17 +56,22 @@ pub record WasNotSet (addr room : ℕ) (old new : SessionState) : Type 0 where
   pub state : new ≡ old
 
 -- what a command leaves where memory ran out, by how many bytes more the text had room for: room is asked for the longest
--- line of its kind before anything is done, and only steps may have been taken, up to one for which room had to be made; what
--- looks at the board makes its lines apart first; a line that answers nothing takes no memory
+-- text of its kind before anything is done, and only steps may have been taken, up to one for which room had to be made; what
+-- looks at the board is refused only for want of that room; a line that answers nothing takes no memory
 abbrev pub LeavesRefused : Option Command → ℕ → SessionState → SessionState → Type 0
 LeavesRefused None room old new = HadNoRoom 2 room old new
 LeavesRefused (Some (Step n)) room old new = HadNoRoom 58 room old new ⊎ WasRefused set.empty n old new
 LeavesRefused (Some (Go n)) room old new = HadNoRoom 58 room old new ⊎ WasRefused old.breakpoints (going_for old n) old new
 LeavesRefused (Some (SetBreak addr)) room old new = WasNotSet addr room old new
 LeavesRefused (Some (ClearBreak addr)) room old new = HadNoRoom 15 room old new
+LeavesRefused (Some Registers) room old new = HadNoRoom registers_room room old new
+LeavesRefused (Some (ControlRegister name csr)) room old new = HadNoRoom (control_register_room name) room old new
+LeavesRefused (Some (Memory addr count)) room old new = HadNoRoom (memory_room count) room old new
+LeavesRefused (Some (Instruction addr)) room old new = HadNoRoom instruction_room room old new
+LeavesRefused (Some Traps) room old new = HadNoRoom (traps_room (length old.timed.board.traps)) room old new
+LeavesRefused (Some (Edges source)) room old new = HadNoRoom edges_room room old new
 LeavesRefused (Some Quit) room old new = ⊥
 LeavesRefused (Some Nothing) room old new = ⊥
-LeavesRefused _ room old new = new ≡ old
 
 -- ---- what it answers
 

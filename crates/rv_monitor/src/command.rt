@@ -10,7 +10,7 @@ use crate::session::Session;
 use crate::stop::Stop;
 use rv_cache::Decoded;
 use rv_commands::{Command, read_command};
-use rv_isa::NoMemory;
+use rv_isa::{NoMemory, append_within};
 use rv_ram::ByteMemory;
 use rv_views::{
     STOP_BYTES, eight_digits, write_control_register, write_edges, write_instruction, write_memory,
@@ -42,16 +42,6 @@ fn stop_word(stop: Stop) -> &'static str
         Stop::Breakpoint => "break",
         Stop::Limit => "limit",
     }
-}
-
-/// Appends a piece that the text has room for.
-fn append_within(text: &mut Vec<u8>, piece: &[u8])
-    requires { vec_len text.old + length piece.now ≤ vec_capacity text.old }
-    ensures items { text.new.items ≡ text.old.items ++ piece.now }
-    ensures len { vec_len text.new ≡ vec_len text.old + length piece.now }
-    ensures capacity { vec_capacity text.old ≤ vec_capacity text.new }
-{
-    text.extend_from_slice(piece).unwrap();
 }
 
 /// Appends a line of an address behind a word, to a text that has room for it.
@@ -150,8 +140,8 @@ impl<M: ByteMemory, C: Decoded> Session<M, C> {
     /// Does what a command line says, and appends its answer to a text.
     ///
     /// Room for the answer is made first. Where memory is refused, the text is as it was, and only steps that were taken
-    /// stand: none where the text had no room. A command that looks at the board makes its lines apart, and so may also
-    /// be refused where the text has room.
+    /// stand: none where the text had no room. A command that looks at the board is refused only where the text had no
+    /// room for the longest answer of its kind.
     pub fn command(&mut self, line: &[u8], text: &mut Vec<u8>) -> Result<Next, NoMemory>
         ensures next { IfOk result (λ next. next ≡ next_of (command_of line.now self.old.program.symbols)) }
         ensures ok { OnOk result (Leaves (command_of line.now self.old.program.symbols) self.old self.new) }

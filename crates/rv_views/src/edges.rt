@@ -1,12 +1,12 @@
 //! Waiting edges, as they are printed.
-ghost use Rattle.std.specs.Prelude.{◌≡◌, ◌++◌, ◌+◌, OnOk, OnErr};
+ghost use Rattle.std.specs.Prelude.{◌≡◌, ◌++◌, ◌+◌, ◌<◌, OnOk, OnErr, vec_len, vec_capacity};
+ghost use Rattle.rv_views.specs.Room.{edges_room};
 ghost use Rattle.rv_views.specs.Views.{edges_text};
 
-use crate::text::append_within;
 use itoa::Buffer;
 use rv_board::Board;
 use rv_cache::Decoded;
-use rv_isa::NoMemory;
+use rv_isa::{NoMemory, append_within};
 use rv_plic::Source;
 use rv_ram::ByteMemory;
 
@@ -22,6 +22,7 @@ pub fn write_edges<M: ByteMemory, C: Decoded>(
 ) -> Result<(), NoMemory>
     ensures ok { OnOk result (text.new.items ≡ text.old.items ++ edges_text board.now source) }
     ensures err { OnErr result (text.new.items ≡ text.old.items) }
+    ensures room { OnErr result (vec_capacity text.old < vec_len text.old + edges_room) }
 {
     text.reserve(LINE_BYTES)?;
     let mut buffer = Buffer::new();

@@ -1,8 +1,9 @@
 //! What the monitor prints of a board, as lines of text.
 //!
-//! Each call appends to a text, and leaves it as it was where memory is refused. No call changes the board: none reads
-//! a device, so no received byte is taken and no interrupt is claimed. Numbers are hexadecimal in lower case unless they
-//! count something.
+//! Each call appends to a text. It makes room for all its bytes first, so it is refused only where the text had no room
+//! for the longest text of its kind, and the text is then as it was. No call changes the board: none reads a device, so
+//! no received byte is taken and no interrupt is claimed. Numbers are hexadecimal in lower case unless they count
+//! something.
 #![tactic(auto)]
 
 mod edges;
@@ -10,7 +11,6 @@ mod memory;
 mod number;
 mod registers;
 mod stop;
-mod text;
 mod trap;
 
 pub use edges::write_edges;

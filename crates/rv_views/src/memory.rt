@@ -1,14 +1,13 @@
 //! Memory, as it is printed.
-ghost use Rattle.std.specs.Prelude.{◌≡◌, ◌++◌, ◌+◌, ◌*◌, ◌%◌, ◌^◌, ◌<◌, ◌≤◌, IfOk, OnOk, OnErr};
-ghost use Rattle.rv_views.specs.Views.{byte_behind, byte_text, byte_in_line, bytes_line, memory_line, memory_text, word_of, word_text, instruction_text};
+ghost use Rattle.std.specs.Prelude.{◌≡◌, ◌++◌, ◌+◌, ◌-◌, ◌*◌, ◌%◌, ◌^◌, ◌<◌, ◌≤◌, min, OnOk, OnErr, vec_len, vec_capacity};
+ghost use Rattle.rv_views.specs.Room.{memory_room, instruction_room};
+ghost use Rattle.rv_views.specs.Views.{pieces, byte_behind, byte_text, byte_in_line, bytes_line, memory_line, memory_text, word_of, word_text, instruction_text};
 
 use crate::number::{eight_digits, two_digits};
-use crate::text::append;
 use rv_board::Board;
 use rv_cache::Decoded;
-use rv_isa::{NoMemory, decode, write_instr};
+use rv_isa::{NoMemory, append_within, decode, write_instr};
 use rv_ram::ByteMemory;
-use std::alloc::Global;
 
 /// How many bytes stand in a line.
 const LINE_BYTES: u32 = 16;
@@ -27,33 +26,54 @@ fn append_byte<M: ByteMemory, C: Decoded>(
     addr: u32,
     offset: u32,
     text: &mut Vec<u8>,
-) -> Result<(), NoMemory>
-    ensures { OnOk result (text.new.items ≡ text.old.items ++ byte_in_line board.now addr offset) }
+)
+    requires { vec_len text.old + 3 ≤ vec_capacity text.old }
+    ensures items { text.new.items ≡ text.old.items ++ byte_in_line board.now addr offset }
+    ensures len { vec_len text.new ≡ vec_len text.old + 3 }
+    ensures capacity { vec_capacity text.old ≤ vec_capacity text.new }
 {
-    append(text, b" ")?;
+    append_within(text, b" ");
     match byte_behind(board, addr, offset) {
-        Some(byte) => append(text, &two_digits(byte)),
-        None => append(text, b"--"),
+        Some(byte) => append_within(text, &two_digits(byte)),
+        None => append_within(text, b"--"),
     }
 }
 
-/// A line of so many bytes.
-#[tactic(auto, using(crate::proofs::Pieces::no_piece_behind, crate::proofs::Pieces::one_more_behind), unfolding(crate::specs::Views::bytes_line))]
-fn bytes_line<M: ByteMemory, C: Decoded>(
-    alloc: Global,
+/// Appends so many bytes.
+#[tactic(auto, using(crate::proofs::Pieces::no_piece_behind, crate::proofs::Pieces::one_more_behind))]
+fn append_bytes<M: ByteMemory, C: Decoded>(
     board: &Board<M, C>,
     addr: u32,
     count: u32,
-) -> Result<Vec<u8>, NoMemory>
-    ensures { IfOk result (λ text. text.items ≡ bytes_line board.now addr count) }
+    text: &mut Vec<u8>,
+)
+    requires { vec_len text.old + 3 * count ≤ vec_capacity text.old }
+    ensures items { text.new.items ≡ text.old.items ++ pieces (byte_in_line board.now addr) count }
+    ensures len { vec_len text.new ≡ vec_len text.old + 3 * count }
+    ensures capacity { vec_capacity text.old ≤ vec_capacity text.new }
 {
-    let mut text = Vec::from_slice(alloc, &eight_digits(addr))?;
-    append(&mut text, b":")?;
     for offset in 0..count {
-        append_byte(board, addr, offset, &mut text)?;
+        append_byte(board, addr, offset, text);
     }
-    append(&mut text, b"\n")?;
-    Ok(text)
+}
+
+/// Appends a line of so many bytes.
+#[tactic(auto, unfolding(crate::specs::Views::bytes_line))]
+fn append_bytes_line<M: ByteMemory, C: Decoded>(
+    board: &Board<M, C>,
+    addr: u32,
+    count: u32,
+    text: &mut Vec<u8>,
+)
+    requires { vec_len text.old + 10 + 3 * count ≤ vec_capacity text.old }
+    ensures items { text.new.items ≡ text.old.items ++ bytes_line board.now addr count }
+    ensures len { vec_len text.new ≡ vec_len text.old + 10 + 3 * count }
+    ensures capacity { vec_capacity text.old ≤ vec_capacity text.new }
+{
+    append_within(text, &eight_digits(addr));
+    append_within(text, b":");
+    append_bytes(board, addr, count, text);
+    append_within(text, b"\n");
 }
 
 /// Appends the line of so many bytes in all that begins so far behind an address.
@@ -64,36 +84,39 @@ fn append_line<M: ByteMemory, C: Decoded>(
     count: u32,
     number: u32,
     text: &mut Vec<u8>,
-) -> Result<(), NoMemory>
-    requires { 16 * number < count }
-    ensures { OnOk result (text.new.items ≡ text.old.items ++ memory_line board.now addr count number) }
+)
+    requires begins { 16 * number < count }
+    requires room { vec_len text.old + 10 + 3 * min 16 (count - 16 * number) ≤ vec_capacity text.old }
+    ensures items { text.new.items ≡ text.old.items ++ memory_line board.now addr count number }
+    ensures len { vec_len text.new ≡ vec_len text.old + 10 + 3 * min 16 (count - 16 * number) }
+    ensures capacity { vec_capacity text.old ≤ vec_capacity text.new }
 {
     let offset = LINE_BYTES * number;
     let line_count = LINE_BYTES.min(count - offset);
-    let line = bytes_line(
-        *text.allocator(),
-        board,
-        addr.wrapping_add(offset),
-        line_count,
-    )?;
-    append(text, line.as_slice())
+    append_bytes_line(board, addr.wrapping_add(offset), line_count, text);
 }
 
-/// The lines of so many bytes.
-#[tactic(auto, using(crate::proofs::Pieces::no_pieces, crate::proofs::Pieces::one_more_piece), unfolding(crate::specs::Views::memory_text))]
-fn memory_lines<M: ByteMemory, C: Decoded>(
-    alloc: Global,
+/// Appends the lines of so many bytes.
+#[tactic(auto, using(crate::proofs::Pieces::no_piece_behind, crate::proofs::Pieces::one_more_behind), unfolding(crate::specs::Views::memory_text))]
+fn append_lines<M: ByteMemory, C: Decoded>(
     board: &Board<M, C>,
     addr: u32,
     count: u32,
-) -> Result<Vec<u8>, NoMemory>
-    ensures { IfOk result (λ text. text.items ≡ memory_text board.now addr count) }
+    text: &mut Vec<u8>,
+)
+    requires { vec_len text.old + memory_room count ≤ vec_capacity text.old }
+    ensures { text.new.items ≡ text.old.items ++ memory_text board.now addr count }
 {
-    let mut text = Vec::new(alloc);
     for number in 0..count.div_ceil(LINE_BYTES) {
-        append_line(board, addr, count, number, &mut text)?;
+        append_line(board, addr, count, number, text);
     }
-    Ok(text)
+}
+
+/// How many bytes the lines of so many bytes have.
+fn lines_bytes(count: u32) -> usize
+    ensures { result ≡ memory_room count }
+{
+    10 * count.div_ceil(LINE_BYTES) as usize + 3 * count as usize
 }
 
 /// Appends lines of the bytes from an address on, 16 in a line, and `--` where the memory has none. Addresses go on
@@ -106,9 +129,11 @@ pub fn write_memory<M: ByteMemory, C: Decoded>(
 ) -> Result<(), NoMemory>
     ensures ok { OnOk result (text.new.items ≡ text.old.items ++ memory_text board.now addr count) }
     ensures err { OnErr result (text.new.items ≡ text.old.items) }
+    ensures room { OnErr result (vec_capacity text.old < vec_len text.old + memory_room count) }
 {
-    let lines = memory_lines(*text.allocator(), board, addr, count)?;
-    append(text, lines.as_slice())
+    text.reserve(lines_bytes(count))?;
+    append_lines(board, addr, count, text);
+    Ok(())
 }
 
 /// The word at an address, low byte first, where all its bytes are.
@@ -123,39 +148,34 @@ fn word<M: ByteMemory, C: Decoded>(board: &Board<M, C>, addr: u32) -> Option<u32
     Some(u32::from_le_bytes([low, second, third, high]))
 }
 
+/// How many bytes a word and what it means have at most.
+const WORD_BYTES: usize = 41;
+
 /// Appends a word and what it means, or `--------` where there is none.
-fn append_word(word: Option<u32>, text: &mut Vec<u8>) -> Result<(), NoMemory>
-    ensures { OnOk result (text.new.items ≡ text.old.items ++ word_text word) }
+fn append_word(word: Option<u32>, text: &mut Vec<u8>)
+    requires { vec_len text.old + WORD_BYTES ≤ vec_capacity text.old }
+    ensures items { text.new.items ≡ text.old.items ++ word_text word }
+    ensures len { vec_len text.new ≤ vec_len text.old + WORD_BYTES }
+    ensures capacity { vec_capacity text.old ≤ vec_capacity text.new }
 {
     let Some(word) = word else {
-        return append(text, b"--------");
+        return append_within(text, b"--------");
     };
-    append(text, &eight_digits(word))?;
-    append(text, b" ")?;
+    append_within(text, &eight_digits(word));
+    append_within(text, b" ");
     match decode(word) {
-        Some(instr) => write_instr(instr, text),
-        None => append(text, b"illegal"),
+        // The text has room for the longest that an instruction has.
+        Some(instr) => write_instr(instr, text).unwrap(),
+        None => append_within(text, b"illegal"),
     }
 }
 
-/// The line of an instruction.
-#[tactic(auto, unfolding(crate::specs::Views::instruction_text))]
-fn instruction_line<M: ByteMemory, C: Decoded>(
-    alloc: Global,
-    board: &Board<M, C>,
-    addr: u32,
-) -> Result<Vec<u8>, NoMemory>
-    ensures { IfOk result (λ text. text.items ≡ instruction_text board.now addr) }
-{
-    let mut text = Vec::from_slice(alloc, &eight_digits(addr))?;
-    append(&mut text, b": ")?;
-    append_word(word(board, addr), &mut text)?;
-    append(&mut text, b"\n")?;
-    Ok(text)
-}
+/// How many bytes the line of an instruction has at most.
+const INSTRUCTION_BYTES: usize = WORD_BYTES + 11;
 
 /// Appends a line of the word at an address and its instruction: `illegal` where no instruction has it, and `--------`
 /// where the memory hasn't all its four bytes.
+#[tactic(auto, unfolding(crate::specs::Views::instruction_text))]
 pub fn write_instruction<M: ByteMemory, C: Decoded>(
     board: &Board<M, C>,
     addr: u32,
@@ -163,7 +183,12 @@ pub fn write_instruction<M: ByteMemory, C: Decoded>(
 ) -> Result<(), NoMemory>
     ensures ok { OnOk result (text.new.items ≡ text.old.items ++ instruction_text board.now addr) }
     ensures err { OnErr result (text.new.items ≡ text.old.items) }
+    ensures room { OnErr result (vec_capacity text.old < vec_len text.old + instruction_room) }
 {
-    let line = instruction_line(*text.allocator(), board, addr)?;
-    append(text, line.as_slice())
+    text.reserve(INSTRUCTION_BYTES)?;
+    append_within(text, &eight_digits(addr));
+    append_within(text, b": ");
+    append_word(word(board, addr), text);
+    append_within(text, b"\n");
+    Ok(())
 }

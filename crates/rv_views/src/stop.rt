@@ -1,13 +1,13 @@
 //! Stops, as they are printed.
-ghost use Rattle.std.specs.Prelude.{◌≡◌, ◌++◌, ◌+◌, ◌≤◌, length, IsOk, OnOk, OnErr, vec_len, vec_capacity};
+ghost use Rattle.std.specs.Prelude.{◌≡◌, ◌++◌, ◌+◌, ◌≤◌, IsOk, OnOk, OnErr, vec_len, vec_capacity};
+ghost use Rattle.rv_views.specs.Room.{stop_room};
 ghost use Rattle.rv_views.specs.Views.{stop_text};
 
 use crate::registers::append_place;
-use crate::text::append_within;
 use itoa::Buffer;
 use rv_board::Board;
 use rv_cache::Decoded;
-use rv_isa::NoMemory;
+use rv_isa::{NoMemory, append_within};
 use rv_ram::ByteMemory;
 
 /// How many bytes the line of a stop has at most, beside its word.
@@ -23,7 +23,7 @@ pub fn write_stop<M: ByteMemory, C: Decoded>(
 ) -> Result<(), NoMemory>
     ensures ok { OnOk result (text.new.items ≡ text.old.items ++ stop_text board.now word.now) }
     ensures err { OnErr result (text.new.items ≡ text.old.items) }
-    ensures room { vec_len text.old + length word.now + 52 ≤ vec_capacity text.old → IsOk result }
+    ensures room { vec_len text.old + stop_room word.now ≤ vec_capacity text.old → IsOk result }
 {
     text.reserve(word.len() + STOP_BYTES)?;
     let mut buffer = Buffer::new();

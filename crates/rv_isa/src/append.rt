@@ -1,16 +1,5 @@
 //! Text behind other text.
-ghost use Rattle.std.specs.Prelude.{◌≡◌, ◌++◌, ◌+◌, ◌≤◌, length, OnOk, OnErr, vec_len, vec_capacity};
-
-use rv_isa::NoMemory;
-
-/// Appends a piece.
-pub fn append(text: &mut Vec<u8>, piece: &[u8]) -> Result<(), NoMemory>
-    ensures ok { OnOk result (text.new.items ≡ text.old.items ++ piece.now) }
-    ensures err { OnErr result (text.new.items ≡ text.old.items) }
-{
-    text.extend_from_slice(piece)?;
-    Ok(())
-}
+ghost use Rattle.std.specs.Prelude.{◌≡◌, ◌++◌, ◌+◌, ◌≤◌, length, vec_len, vec_capacity};
 
 /// Appends a piece that the text has room for.
 pub fn append_within(text: &mut Vec<u8>, piece: &[u8])

@@ -1,0 +1,33 @@
+-- To audit: public contracts cite this.
+-- How many bytes what is printed of a board has at most: one row a command. A call is refused only where the text has room for fewer.
+-- This project's own language.
+use Rattle.std.specs.Prelude.{ℕ, ◌+◌, ◌*◌, List, length}
+use Rattle.std.specs.Int.{div_ceil}
+
+-- `r`: 13 for each of 32 registers, and the 19 of the pc's line
+abbrev pub registers_room : ℕ
+registers_room = 435
+
+-- `p`: the name, `=`, eight digits and the line end
+abbrev pub control_register_room : List ℕ → ℕ
+control_register_room name = length name + 10
+
+-- `m`: 10 for each line's address and end, and 3 for each byte
+abbrev pub memory_room : ℕ → ℕ
+memory_room count = 10 * div_ceil count 16 + 3 * count
+
+-- `i`: the address and the word, 8 digits each, what stands between and behind them, and the 32 of an instruction's text
+abbrev pub instruction_room : ℕ
+instruction_room = 52
+
+-- `t`: 47 for each trap that is kept
+abbrev pub traps_room : ℕ → ℕ
+traps_room count = 47 * count
+
+-- `e`: a source of up to 3 digits and a count of up to 10
+abbrev pub edges_room : ℕ
+edges_room = 28
+
+-- `s` and `c`: the word, the 18 of the pc and the mode, a count of up to 20 digits, and what stands around them
+abbrev pub stop_room : List ℕ → ℕ
+stop_room word = length word + 52
