@@ -62,7 +62,7 @@ fn answer_lines<M: ByteMemory, C: Decoded>(
 }
 
 /// The program of the row's source.
-fn program(alloc: Global, row: Row<'_>) -> Result<Program, &'static str> {
+pub fn program(alloc: Global, row: Row<'_>) -> Result<Program, &'static str> {
     let source = row.part(alloc, b' ').ok().ok_or(NO_MEMORY)?;
     assemble(alloc, source.as_slice())
         .ok()
