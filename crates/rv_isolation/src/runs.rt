@@ -40,12 +40,22 @@ pub fn outside_events_are_counted(alloc: Global) -> Checked<()> {
     )
 }
 
-/// No event is done of none, and none where the mode is machine mode.
-pub fn nothing_is_done(alloc: Global) -> Checked<()> {
+/// No event is done of none.
+fn nothing_is_done_of_none(alloc: Global) -> Checked<()> {
     let mut board = in_user_mode(alloc, STORES)?;
     let done = run_user(&mut board, &[])?;
-    holds(done == 0 && board.steps() == 14, "no event")?;
+    holds(done == 0 && board.steps() == 14, "no event")
+}
+
+/// No event is done where the mode is machine mode.
+fn nothing_is_done_in_machine_mode(alloc: Global) -> Checked<()> {
     let mut board = booted(alloc, STORES)?;
     let done = run_user(&mut board, &[Event::Step])?;
     holds(done == 0 && board.pc() == 0x8000_0000, "no user code")
+}
+
+/// No event is done of none, and none where the mode is machine mode.
+pub fn nothing_is_done(alloc: Global) -> Checked<()> {
+    nothing_is_done_of_none(alloc)?;
+    nothing_is_done_in_machine_mode(alloc)
 }

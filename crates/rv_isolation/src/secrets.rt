@@ -2,7 +2,6 @@
 use crate::boards::{Checked, holds, in_user_mode, last_cause_is, last_trap_is, run_user};
 use rv_alike::same_but_for_memory;
 use rv_board::{BootedBoard, Event};
-use rv_isa::NoMemory;
 use std::alloc::Global;
 
 /// The word after `user` is one that user code may neither read nor execute: entry 0 is NA4 there, without a bit.
@@ -43,49 +42,72 @@ static ROWS: [&[u8]; 13] = [
     b"12.word 0",
 ];
 
-/// Pieces of a source, one behind the other.
-fn joined(alloc: Global, pieces: &[&[u8]]) -> Result<Vec<u8>, NoMemory> {
-    let mut source = Vec::new(alloc);
-    for piece in pieces {
-        source.extend_from_slice(piece)?;
-    }
-    Ok(source)
+/// A piece is appended to a source.
+fn append(source: &mut Vec<u8>, piece: &[u8]) -> Checked<()> {
+    source
+        .extend_from_slice(piece)
+        .ok()
+        .ok_or("memory is refused")
 }
 
-/// The board of such a source in the first step of its user code.
-fn made_of(alloc: Global, pieces: &[&[u8]]) -> Checked<BootedBoard> {
-    let source = joined(alloc, pieces).ok().ok_or("memory is refused")?;
+/// The board of a source whose last word is this, in the first step of its user code.
+fn with_word(alloc: Global, front: &[u8], word: &[u8]) -> Checked<BootedBoard> {
+    let mut source = Vec::new(alloc);
+    append(&mut source, front)?;
+    append(&mut source, word)?;
     in_user_mode(alloc, source.as_slice())
 }
 
-/// Two boards that differ in a word which user code tries to load are the same behind that.
-fn hides_its_word(alloc: Global, front: &[u8]) -> Checked<()> {
-    let mut one = made_of(alloc, &[front, b"1"])?;
-    let mut other = made_of(alloc, &[front, b"2"])?;
+// A function that owns two boards costs minutes of proof, for each `?` lets both go: each of these owns one.
+
+/// Two boards begin user code in the same way.
+fn begin_alike(one: &BootedBoard, other: &BootedBoard) -> Checked<()> {
     holds(
         one.steps() == 15 && one.pc() == 0x8000_003c,
         "where user code begins",
     )?;
     holds(
-        same_but_for_memory(&one, &other),
+        same_but_for_memory(one, other),
         "two boards before user code",
-    )?;
-    let first = run_user(&mut one, &[Event::Step; 2])?;
-    let second = run_user(&mut other, &[Event::Step; 2])?;
+    )
+}
+
+/// Both boards do no more than a step, whose load is refused.
+fn are_refused_the_load(one: &mut BootedBoard, other: &mut BootedBoard) -> Checked<()> {
+    let first = run_user(one, &[Event::Step; 2])?;
+    let second = run_user(other, &[Event::Step; 2])?;
     holds(
         first == 1 && second == 1,
         "the steps up to the refused load",
     )?;
     holds(
-        last_trap_is(&one, 5, 0x8000_003c, 0x8000_0040),
+        last_trap_is(one, 5, 0x8000_003c, 0x8000_0040),
         "the refused load",
-    )?;
+    )
+}
+
+/// Two boards are the same but for the word.
+fn end_alike(one: &BootedBoard, other: &BootedBoard) -> Checked<()> {
     holds(
-        same_but_for_memory(&one, &other),
+        same_but_for_memory(one, other),
         "two boards behind a refused load",
     )?;
     let words = one.ram(0x8000_0040) == Some(1) && other.ram(0x8000_0040) == Some(2);
     holds(words, "the words that were not loaded")
+}
+
+/// The board whose word is 2 and another are the same behind the load of their words.
+fn hides_its_word_beside(alloc: Global, front: &[u8], one: &mut BootedBoard) -> Checked<()> {
+    let mut other = with_word(alloc, front, b"2")?;
+    begin_alike(one, &other)?;
+    are_refused_the_load(one, &mut other)?;
+    end_alike(one, &other)
+}
+
+/// Two boards that differ in a word which user code tries to load are the same behind that.
+fn hides_its_word(alloc: Global, front: &[u8]) -> Checked<()> {
+    let mut one = with_word(alloc, front, b"1")?;
+    hides_its_word_beside(alloc, front, &mut one)
 }
 
 /// A word that user code may neither read nor execute is not loaded, whichever entries say so.
@@ -108,7 +130,41 @@ pub fn without_an_entry_nothing_is_run(alloc: Global) -> Checked<()> {
 
 /// A row's board with this byte in all places that user code may not see.
 fn bordered(alloc: Global, fill: &[u8], code: &[u8]) -> Checked<BootedBoard> {
-    made_of(alloc, &[b".equ FILL,", fill, BORDERS, code, BEHIND])
+    let mut source = Vec::new(alloc);
+    append(&mut source, b".equ FILL,")?;
+    append(&mut source, fill)?;
+    append(&mut source, BORDERS)?;
+    append(&mut source, code)?;
+    append(&mut source, BEHIND)?;
+    in_user_mode(alloc, source.as_slice())
+}
+
+/// What a row says: how many events are done, and the cause of the trap that ends them.
+#[derive(Clone, Copy)]
+struct End {
+    done: usize,
+    cause: u32,
+}
+
+/// Both boards do the same and end in the same way.
+fn end_at_the_border(one: &mut BootedBoard, other: &mut BootedBoard, end: End) -> Checked<()> {
+    let first = run_user(one, &[Event::Step; 8])?;
+    let second = run_user(other, &[Event::Step; 8])?;
+    holds(
+        first == end.done && second == end.done,
+        "the steps up to a border",
+    )?;
+    holds(last_cause_is(one, end.cause), "what happens at a border")?;
+    holds(
+        same_but_for_memory(one, other),
+        "two boards behind a border",
+    )
+}
+
+/// A row's board of another byte ends as this one does.
+fn row_holds_beside(alloc: Global, code: &[u8], one: &mut BootedBoard, end: End) -> Checked<()> {
+    let mut other = bordered(alloc, b"0xa5", code)?;
+    end_at_the_border(one, &mut other, end)
 }
 
 /// A row's two boards do their events, end with their cause, and are the same but for what user code may not see.
@@ -116,23 +172,12 @@ fn row_holds(alloc: Global, row: &[u8]) -> Checked<()> {
     let [done, cause, code @ ..] = row else {
         return Err("no row");
     };
+    let end = End {
+        done: (*done % 16) as usize,
+        cause: (*cause % 16) as u32,
+    };
     let mut one = bordered(alloc, b"0x5a", code)?;
-    let mut other = bordered(alloc, b"0xa5", code)?;
-    let first = run_user(&mut one, &[Event::Step; 8])?;
-    let second = run_user(&mut other, &[Event::Step; 8])?;
-    let wanted = (*done % 16) as usize;
-    holds(
-        first == wanted && second == wanted,
-        "the steps up to a border",
-    )?;
-    holds(
-        last_cause_is(&one, (*cause % 16) as u32),
-        "what happens at a border",
-    )?;
-    holds(
-        same_but_for_memory(&one, &other),
-        "two boards behind a border",
-    )
+    row_holds_beside(alloc, code, &mut one, end)
 }
 
 /// What is beside a region can't be told by any access at its borders.
