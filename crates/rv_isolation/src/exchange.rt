@@ -20,16 +20,22 @@ fn leave(alloc: Global, first: Event, second: Event, one: &BootedBoard) -> Check
     holds(same_everywhere(one, &other), "a line and a byte")
 }
 
+/// A board whose line rose before its byte came is that of the other order.
+fn is_as_in_the_other_order(alloc: Global, one: &BootedBoard) -> Checked<()> {
+    holds(one.plic().peek(PENDING) == 0x10, "a line and a byte")?;
+    leave(alloc, Event::Rx(65), line(4, true)?, one)
+}
+
 /// A line and a byte come in either order.
 pub fn a_line_and_a_byte_change_places(alloc: Global) -> Checked<()> {
     let one = after(alloc, line(4, true)?, Event::Rx(65))?;
-    holds(one.plic().peek(PENDING) == 0x10, "a line and a byte")?;
-    leave(alloc, Event::Rx(65), line(4, true)?, &one)
+    is_as_in_the_other_order(alloc, &one)
 }
 
 /// Behind these levels of a line and a step these sources are pending.
 fn levels_leave(alloc: Global, first: bool, second: bool, sources: u32) -> Checked<()> {
-    let board = after(alloc, line(4, first)?, line(4, second)?)?;
+    let (first, second) = (line(4, first)?, line(4, second)?);
+    let board = after(alloc, first, second)?;
     holds(board.plic().peek(PENDING) == sources, "levels of one line")
 }
 

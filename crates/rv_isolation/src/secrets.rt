@@ -58,7 +58,7 @@ fn with_word(alloc: Global, front: &[u8], word: &[u8]) -> Checked<BootedBoard> {
     in_user_mode(alloc, source.as_slice())
 }
 
-// A function that owns two boards costs minutes of proof, for each `?` lets both go: each of these owns one.
+// A function that owns a board lets it go at each `?`, which costs proof: so it only lends it to another.
 
 /// Two boards begin user code in the same way.
 fn begin_alike(one: &BootedBoard, other: &BootedBoard) -> Checked<()> {
@@ -96,12 +96,17 @@ fn end_alike(one: &BootedBoard, other: &BootedBoard) -> Checked<()> {
     holds(words, "the words that were not loaded")
 }
 
+/// Two boards are the same before and behind the refused load of their words.
+fn tell_nothing(one: &mut BootedBoard, other: &mut BootedBoard) -> Checked<()> {
+    begin_alike(one, other)?;
+    are_refused_the_load(one, other)?;
+    end_alike(one, other)
+}
+
 /// The board whose word is 2 and another are the same behind the load of their words.
 fn hides_its_word_beside(alloc: Global, front: &[u8], one: &mut BootedBoard) -> Checked<()> {
     let mut other = with_word(alloc, front, b"2")?;
-    begin_alike(one, &other)?;
-    are_refused_the_load(one, &mut other)?;
-    end_alike(one, &other)
+    tell_nothing(one, &mut other)
 }
 
 /// Two boards that differ in a word which user code tries to load are the same behind that.
@@ -116,16 +121,21 @@ pub fn a_secret_word_is_not_loaded(alloc: Global) -> Checked<()> {
     hides_its_word(alloc, WORD_BY_HIGH_ENTRIES)
 }
 
-/// User code without an entry that matches isn't even fetched.
-pub fn without_an_entry_nothing_is_run(alloc: Global) -> Checked<()> {
-    let mut board = in_user_mode(alloc, NO_ENTRY)?;
+/// The board's user code begins, and its first fetch is refused.
+fn runs_nothing(board: &mut BootedBoard) -> Checked<()> {
     holds(
         board.steps() == 14 && board.pc() == 0x8000_0038,
         "where user code begins",
     )?;
-    let done = run_user(&mut board, &[Event::Step; 2])?;
-    let refused = last_trap_is(&board, 1, 0x8000_0038, 0x8000_0038);
+    let done = run_user(board, &[Event::Step; 2])?;
+    let refused = last_trap_is(board, 1, 0x8000_0038, 0x8000_0038);
     holds(done == 1 && refused, "the refused fetch")
+}
+
+/// User code without an entry that matches isn't even fetched.
+pub fn without_an_entry_nothing_is_run(alloc: Global) -> Checked<()> {
+    let mut board = in_user_mode(alloc, NO_ENTRY)?;
+    runs_nothing(&mut board)
 }
 
 /// A row's board with this byte in all places that user code may not see.
