@@ -1,17 +1,10 @@
-//! Sources by their line ends and bytes, and one of many labels.
-use rv_asm::{AsmFault, FaultKind, Program, assemble};
+//! Sources that can't be rows of rv_rows: their line ends, bytes that no text has, and many labels. The image of each word,
+//! each directive and each fault is a row there.
+use crate::machine::{assembled, program};
+use rv_asm::{AsmFault, FaultKind, Program};
 use std::alloc::Global;
 use std::process::Abort;
 use std::test::Fail;
-
-/// What a source is, of which nothing is said: so the proofs of tests don't carry what `assemble` says.
-fn assembled(alloc: Global, source: &[u8]) -> Result<Program, AsmFault> {
-    assemble(alloc, source)
-}
-
-fn program(alloc: Global, source: &[u8]) -> Result<Program, &'static str> {
-    assembled(alloc, source).ok().ok_or("the source is refused")
-}
 
 /// The source has this image.
 fn check(rt: &impl Abort, alloc: Global, source: &[u8], image: &[u8]) -> Result<(), Fail> {
@@ -58,13 +51,23 @@ fn labels(alloc: Global, count: u32) -> Result<String, Fail> {
     Ok(source)
 }
 
-#[test]
-fn twenty_thousand_labels(rt: HostRuntime) -> Result<(), Fail> {
-    let source = labels(rt.alloc(), 20_000)?;
-    let program = program(rt.alloc(), source.as_bytes())?;
+/// A program of so many labels.
+fn labelled(alloc: Global, count: u32) -> Result<Program, Fail> {
+    let source = labels(alloc, count)?;
+    Ok(program(alloc, source.as_bytes())?)
+}
+
+/// The first and the last of 20,000 labels have their addresses, and there is none behind them.
+fn has_labels(rt: &impl Abort, program: &Program) {
     assert_eq!(rt; program.symbols().len(), 20_000);
     assert_eq!(rt; program.symbol(b"x0"), Some(0x8000_0000));
     assert_eq!(rt; program.symbol(b"x19999"), Some(0x8001_387c));
     assert_eq!(rt; program.symbol(b"x20000"), None);
+}
+
+#[test]
+fn twenty_thousand_labels(rt: HostRuntime) -> Result<(), Fail> {
+    let program = labelled(rt.alloc(), 20_000)?;
+    has_labels(&rt, &program);
     Ok(())
 }
