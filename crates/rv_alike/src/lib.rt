@@ -1,4 +1,5 @@
-//! Whether two boards are the same in all that they can be read by. The programs that try boards compare them by this.
+//! Whether two boards are the same in all that they can be read by, whatever memories and caches they have. The programs
+//! and tests that try boards compare them by this.
 #![tactic(auto)]
 
 use rv_board::Board;
@@ -18,15 +19,20 @@ const PENDING: u32 = 0x1000;
 
 const CLAIM: u32 = 0x20_0004;
 
-/// The timer's low word of the time.
+/// The timer's low words of the time and of what it is compared with.
 const TIME: u32 = 0xbff8;
+
+const COMPARED: u32 = 0x4000;
 
 /// The first byte of the memory, and how many a page has.
 const MEMORY: u32 = 0x8000_0000;
 
 const PAGE_BYTES: u32 = 4096;
 
-fn same_registers<M: ByteMemory, C: Decoded>(one: &Board<M, C>, other: &Board<M, C>) -> bool {
+fn same_registers<M: ByteMemory, C: Decoded, N: ByteMemory, D: Decoded>(
+    one: &Board<M, C>,
+    other: &Board<N, D>,
+) -> bool {
     for number in 0..32u8 {
         if let Some(register) = Reg::new(number)
             && one.reg(register) != other.reg(register)
@@ -42,7 +48,10 @@ fn same_registers<M: ByteMemory, C: Decoded>(one: &Board<M, C>, other: &Board<M,
     one.pc() == other.pc() && one.mode() == other.mode()
 }
 
-fn same_memory<M: ByteMemory, C: Decoded>(one: &Board<M, C>, other: &Board<M, C>) -> bool {
+fn same_memory<M: ByteMemory, C: Decoded, N: ByteMemory, D: Decoded>(
+    one: &Board<M, C>,
+    other: &Board<N, D>,
+) -> bool {
     for offset in 0..PAGE_BYTES {
         if one.ram(MEMORY + offset) != other.ram(MEMORY + offset) {
             return false;
@@ -51,7 +60,10 @@ fn same_memory<M: ByteMemory, C: Decoded>(one: &Board<M, C>, other: &Board<M, C>
     true
 }
 
-fn same_traps<M: ByteMemory, C: Decoded>(one: &Board<M, C>, other: &Board<M, C>) -> bool {
+fn same_traps<M: ByteMemory, C: Decoded, N: ByteMemory, D: Decoded>(
+    one: &Board<M, C>,
+    other: &Board<N, D>,
+) -> bool {
     for index in 0..one.trap_count() {
         if one.trap(index) != other.trap(index) {
             return false;
@@ -60,19 +72,23 @@ fn same_traps<M: ByteMemory, C: Decoded>(one: &Board<M, C>, other: &Board<M, C>)
     one.trap_count() == other.trap_count()
 }
 
-fn same_devices<M: ByteMemory, C: Decoded>(one: &Board<M, C>, other: &Board<M, C>) -> bool {
+fn same_devices<M: ByteMemory, C: Decoded, N: ByteMemory, D: Decoded>(
+    one: &Board<M, C>,
+    other: &Board<N, D>,
+) -> bool {
     one.plic().peek(PENDING) == other.plic().peek(PENDING)
         && one.plic().peek(CLAIM) == other.plic().peek(CLAIM)
         && one.timer().load(TIME) == other.timer().load(TIME)
+        && one.timer().load(COMPARED) == other.timer().load(COMPARED)
         && one.serial().waiting() == other.serial().waiting()
         && one.serial().overrun() == other.serial().overrun()
         && one.console() == other.console()
 }
 
 /// Whether two boards are the same in all that they can be read by but the bytes of their memory.
-pub fn same_but_for_memory<M: ByteMemory, C: Decoded>(
+pub fn same_but_for_memory<M: ByteMemory, C: Decoded, N: ByteMemory, D: Decoded>(
     one: &Board<M, C>,
-    other: &Board<M, C>,
+    other: &Board<N, D>,
 ) -> bool {
     same_registers(one, other)
         && same_traps(one, other)
@@ -82,6 +98,9 @@ pub fn same_but_for_memory<M: ByteMemory, C: Decoded>(
 }
 
 /// Whether two boards of a page are the same in all that they can be read by.
-pub fn same_everywhere<M: ByteMemory, C: Decoded>(one: &Board<M, C>, other: &Board<M, C>) -> bool {
+pub fn same_everywhere<M: ByteMemory, C: Decoded, N: ByteMemory, D: Decoded>(
+    one: &Board<M, C>,
+    other: &Board<N, D>,
+) -> bool {
     same_but_for_memory(one, other) && same_memory(one, other)
 }

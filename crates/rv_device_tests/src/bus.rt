@@ -28,7 +28,7 @@ fn loads(
 )
     requires { addr % bytes_of width ≡ 0 }
 {
-    assert_eq!(rt; bus.load(addr, width), answer, "load at {addr}");
+    assert_eq!(rt; bus.load(addr, width), answer);
 }
 
 /// A store answers so.
@@ -42,19 +42,19 @@ fn stores(
 )
     requires { addr % bytes_of width ≡ 0 }
 {
-    assert_eq!(rt; bus.store(addr, width, value), answer, "store at {addr}");
+    assert_eq!(rt; bus.store(addr, width, value), answer);
 }
 
 /// A fetch answers so.
 fn fetches(rt: &impl Abort, bus: &Bus<FlatMemory>, addr: u32, answer: Result<u32, BusFault>)
     requires { addr % 4 ≡ 0 }
 {
-    assert_eq!(rt; bus.fetch(addr), answer, "fetch at {addr}");
+    assert_eq!(rt; bus.fetch(addr), answer);
 }
 
 /// A look at a byte of the memory answers so.
 fn peeks(rt: &impl Abort, bus: &Bus<FlatMemory>, addr: u32, answer: Option<u8>) {
-    assert_eq!(rt; bus.peek(addr), answer, "peek at {addr}");
+    assert_eq!(rt; bus.peek(addr), answer);
 }
 
 /// A tick.

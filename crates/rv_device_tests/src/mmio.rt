@@ -1,6 +1,7 @@
 //! Timer, serial port and halt register.
 use rv_isa::NoMemory;
 use rv_mmio::{Halt, Serial, SerialReg, Timer};
+use std::process::Abort;
 use std::test::Fail;
 
 const MSIP: u32 = 0;
@@ -13,7 +14,19 @@ const MTIME_LOW: u32 = 0xBFF8;
 
 const MTIME_HIGH: u32 = 0xBFFC;
 
-/// A store, which says nothing of the port that it leaves, so that a test's proof carries no state from call to call.
+// Each of these says nothing of the port that it leaves, so that a test's proof carries no state from call to call.
+
+/// A load answers so.
+fn loads(rt: &impl Abort, serial: &mut Serial, register: SerialReg, word: u32) {
+    assert_eq!(rt; serial.load(register), word);
+}
+
+/// A byte is received.
+fn receive(serial: &mut Serial, byte: u8) {
+    serial.receive(byte);
+}
+
+/// A store.
 fn store(serial: &mut Serial, register: SerialReg, word: u32) -> Result<(), NoMemory> {
     serial.store(register, word)
 }
@@ -22,18 +35,18 @@ fn store(serial: &mut Serial, register: SerialReg, word: u32) -> Result<(), NoMe
 fn queue_of_sixteen(rt: HostRuntime) -> Result<(), Fail> {
     let mut serial = Serial::new(rt.alloc())?;
     for byte in 0x41..0x52u8 {
-        serial.receive(byte);
+        receive(&mut serial, byte);
     }
     assert_eq!(rt; serial.waiting(), 16);
     assert!(rt; serial.overrun());
-    assert_eq!(rt; serial.load(SerialReg::Status), 7);
+    loads(&rt, &mut serial, SerialReg::Status, 7);
     assert!(rt; !serial.overrun());
-    assert_eq!(rt; serial.load(SerialReg::Status), 3);
+    loads(&rt, &mut serial, SerialReg::Status, 3);
     for byte in 0x41..0x51u32 {
-        assert_eq!(rt; serial.load(SerialReg::Rx), byte);
+        loads(&rt, &mut serial, SerialReg::Rx, byte);
     }
-    assert_eq!(rt; serial.load(SerialReg::Rx), 0x8000_0000);
-    assert_eq!(rt; serial.load(SerialReg::Status), 2);
+    loads(&rt, &mut serial, SerialReg::Rx, 0x8000_0000);
+    loads(&rt, &mut serial, SerialReg::Status, 2);
     Ok(())
 }
 
@@ -45,7 +58,7 @@ fn console(rt: HostRuntime) -> Result<(), Fail> {
     store(&mut serial, SerialReg::Status, 0x58)?;
     store(&mut serial, SerialReg::Tx, 0x69)?;
     assert_eq!(rt; serial.console(), b"Hi".as_slice());
-    assert_eq!(rt; serial.load(SerialReg::Tx), 0);
+    loads(&rt, &mut serial, SerialReg::Tx, 0);
     Ok(())
 }
 
@@ -62,6 +75,14 @@ fn console_of_100_000_bytes(rt: HostRuntime) -> Result<(), Fail> {
     Ok(())
 }
 
+/// A byte is sent behind those that were; where memory was refused nothing is, and the same store then succeeds.
+fn sends(rt: &impl Abort, serial: &mut Serial, byte: u8, sent: &[u8]) {
+    if serial.store(SerialReg::Tx, byte as u32) == Err(NoMemory) {
+        assert_eq!(rt; serial.console(), sent);
+        assert_eq!(rt; serial.store(SerialReg::Tx, byte as u32), Ok(()));
+    }
+}
+
 /// With any one allocation refused, the store that needed it leaves the console, and the same store then succeeds.
 #[test]
 fn refused_once(rt: HostRuntime) -> Result<(), Fail> {
@@ -71,55 +92,70 @@ fn refused_once(rt: HostRuntime) -> Result<(), Fail> {
     };
     let text = b"a console that grows more than once";
     for sent in 0..text.len() {
-        let byte = text[sent] as u32;
-        if serial.store(SerialReg::Tx, byte) == Err(NoMemory) {
-            assert_eq!(rt; serial.console(), &text[..sent]);
-            assert_eq!(rt; serial.store(SerialReg::Tx, byte), Ok(()));
-        }
+        sends(&rt, &mut serial, text[sent], &text[..sent]);
     }
     assert_eq!(rt; serial.console(), text.as_slice());
     Ok(())
 }
 
+/// A store at an offset of the timer answers so.
+fn timer_stores(rt: &impl Abort, timer: &mut Timer, off: u32, word: u32, answer: Option<()>) {
+    assert_eq!(rt; timer.store(off, word), answer);
+}
+
+/// A load at an offset of the timer answers so.
+fn timer_loads(rt: &impl Abort, timer: &Timer, off: u32, answer: Option<u32>) {
+    assert_eq!(rt; timer.load(off), answer);
+}
+
+/// A tick.
+fn tick(timer: &mut Timer) {
+    timer.tick();
+}
+
 #[test]
 fn due_from_the_fifth_tick(rt: HostRuntime) {
     let mut timer = Timer::new();
-    assert_eq!(rt; timer.load(MTIMECMP_LOW), Some(0xFFFF_FFFF));
-    assert_eq!(rt; timer.load(MTIMECMP_HIGH), Some(0xFFFF_FFFF));
-    assert_eq!(rt; timer.store(MTIMECMP_LOW, 5), Some(()));
-    assert_eq!(rt; timer.store(MTIMECMP_HIGH, 0), Some(()));
+    timer_loads(&rt, &timer, MTIMECMP_LOW, Some(0xFFFF_FFFF));
+    timer_loads(&rt, &timer, MTIMECMP_HIGH, Some(0xFFFF_FFFF));
+    timer_stores(&rt, &mut timer, MTIMECMP_LOW, 5, Some(()));
+    timer_stores(&rt, &mut timer, MTIMECMP_HIGH, 0, Some(()));
     for _ in 0..4 {
-        timer.tick();
+        tick(&mut timer);
     }
     assert!(rt; !timer.due());
-    timer.tick();
+    tick(&mut timer);
     assert!(rt; timer.due());
-    assert_eq!(rt; timer.load(MTIME_LOW), Some(5));
+    timer_loads(&rt, &timer, MTIME_LOW, Some(5));
+}
+
+/// The time goes from 0xffffffff with this high word to these.
+fn time_goes(rt: &impl Abort, high: u32, after_low: u32, after_high: u32) {
+    let mut timer = Timer::new();
+    timer_stores(rt, &mut timer, MTIME_LOW, 0xFFFF_FFFF, Some(()));
+    timer_stores(rt, &mut timer, MTIME_HIGH, high, Some(()));
+    tick(&mut timer);
+    timer_loads(rt, &timer, MTIME_LOW, Some(after_low));
+    timer_loads(rt, &timer, MTIME_HIGH, Some(after_high));
 }
 
 #[test]
 fn time_carries_and_wraps(rt: HostRuntime) {
-    for (high, after_low, after_high) in [(0, 0, 1), (0xFFFF_FFFF, 0, 0)] {
-        let mut timer = Timer::new();
-        assert_eq!(rt; timer.store(MTIME_LOW, 0xFFFF_FFFF), Some(()));
-        assert_eq!(rt; timer.store(MTIME_HIGH, high), Some(()));
-        timer.tick();
-        assert_eq!(rt; timer.load(MTIME_LOW), Some(after_low));
-        assert_eq!(rt; timer.load(MTIME_HIGH), Some(after_high));
-    }
+    time_goes(&rt, 0, 0, 1);
+    time_goes(&rt, 0xFFFF_FFFF, 0, 0);
 }
 
 #[test]
 fn timer_registers(rt: HostRuntime) {
     let mut timer = Timer::new();
-    assert_eq!(rt; timer.store(MSIP, 0xFFFF_FFFF), Some(()));
+    timer_stores(&rt, &mut timer, MSIP, 0xFFFF_FFFF, Some(()));
     assert!(rt; timer.software());
-    assert_eq!(rt; timer.load(MSIP), Some(1));
+    timer_loads(&rt, &timer, MSIP, Some(1));
     let before = timer;
-    assert_eq!(rt; timer.store(MTIME_LOW + 2, 1), None);
+    timer_stores(&rt, &mut timer, MTIME_LOW + 2, 1, None);
     assert_eq!(rt; timer, before);
-    assert_eq!(rt; timer.load(4), None);
-    assert_eq!(rt; timer.store(MSIP, 2), Some(()));
+    timer_loads(&rt, &timer, 4, None);
+    timer_stores(&rt, &mut timer, MSIP, 2, Some(()));
     assert!(rt; !timer.software());
 }
 

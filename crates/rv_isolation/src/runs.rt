@@ -18,34 +18,73 @@ fn is_stopped_at_the_store(board: &BootedBoard) -> bool {
         && board.steps() == 16
 }
 
+// A function that owns a board lets it go at each `?`, which costs proof: so it only lends it to another.
+
+/// So many of these events are done.
+fn does(
+    board: &mut BootedBoard,
+    events: &[Event],
+    count: usize,
+    what: &'static str,
+) -> Checked<()> {
+    let done = run_user(board, events)?;
+    holds(done == count, what)
+}
+
+/// Five steps end at the trap of the second one, and none is done in machine mode.
+fn ends_at_a_trap(board: &mut BootedBoard) -> Checked<()> {
+    holds(board.steps() == 14, "the first step of user code")?;
+    does(board, &[Event::Step; 5], 2, "the events up to a trap")?;
+    holds(is_stopped_at_the_store(board), "the board behind a trap")?;
+    does(board, &[Event::Step; 5], 0, "events in machine mode")?;
+    holds(is_stopped_at_the_store(board), "machine mode")
+}
+
 /// Five steps of user code end at its second one's trap, and none is done in machine mode.
 pub fn a_trap_ends_it(alloc: Global) -> Checked<()> {
     let mut board = in_user_mode(alloc, STORES)?;
-    holds(board.steps() == 14, "the first step of user code")?;
-    let done = run_user(&mut board, &[Event::Step; 5])?;
-    holds(done == 2, "the events up to a trap")?;
-    holds(is_stopped_at_the_store(&board), "the board behind a trap")?;
-    let done = run_user(&mut board, &[Event::Step; 5])?;
-    holds(done == 0 && is_stopped_at_the_store(&board), "machine mode")
+    ends_at_a_trap(&mut board)
+}
+
+/// A received byte is one of three events that are done.
+fn counts_a_byte(board: &mut BootedBoard) -> Checked<()> {
+    let events = [Event::Rx(1), Event::Step, Event::Step, Event::Step];
+    does(board, &events, 3, "the events with a received byte")?;
+    holds(board.serial().waiting() == 1, "a received byte")
 }
 
 /// A received byte is one of the events.
 pub fn outside_events_are_counted(alloc: Global) -> Checked<()> {
     let mut board = in_user_mode(alloc, STORES)?;
-    let events = [Event::Rx(1), Event::Step, Event::Step, Event::Step];
-    let done = run_user(&mut board, &events)?;
-    holds(
-        done == 3 && board.serial().waiting() == 1,
-        "a received byte",
-    )
+    counts_a_byte(&mut board)
+}
+
+/// No event is done of none.
+fn does_none_of_none(board: &mut BootedBoard) -> Checked<()> {
+    does(board, &[], 0, "no event")?;
+    holds(board.steps() == 14, "the steps behind no event")
+}
+
+/// No event is done in machine mode.
+fn does_none_in_machine_mode(board: &mut BootedBoard) -> Checked<()> {
+    does(board, &[Event::Step], 0, "no user code")?;
+    holds(board.pc() == 0x8000_0000, "the board without user code")
+}
+
+/// A board in user mode does nothing where there is no event.
+fn nothing_is_done_of_none(alloc: Global) -> Checked<()> {
+    let mut board = in_user_mode(alloc, STORES)?;
+    does_none_of_none(&mut board)
+}
+
+/// A board in machine mode does nothing.
+fn nothing_is_done_in_machine_mode(alloc: Global) -> Checked<()> {
+    let mut board = booted(alloc, STORES)?;
+    does_none_in_machine_mode(&mut board)
 }
 
 /// No event is done of none, and none where the mode is machine mode.
 pub fn nothing_is_done(alloc: Global) -> Checked<()> {
-    let mut board = in_user_mode(alloc, STORES)?;
-    let done = run_user(&mut board, &[])?;
-    holds(done == 0 && board.steps() == 14, "no event")?;
-    let mut board = booted(alloc, STORES)?;
-    let done = run_user(&mut board, &[Event::Step])?;
-    holds(done == 0 && board.pc() == 0x8000_0000, "no user code")
+    nothing_is_done_of_none(alloc)?;
+    nothing_is_done_in_machine_mode(alloc)
 }

@@ -2,7 +2,6 @@
 use crate::boards::{Checked, holds, in_user_mode, last_cause_is, last_trap_is, run_user};
 use rv_alike::same_but_for_memory;
 use rv_board::{BootedBoard, Event};
-use rv_isa::NoMemory;
 use std::alloc::Global;
 
 /// The word after `user` is one that user code may neither read nor execute: entry 0 is NA4 there, without a bit.
@@ -43,49 +42,77 @@ static ROWS: [&[u8]; 13] = [
     b"12.word 0",
 ];
 
-/// Pieces of a source, one behind the other.
-fn joined(alloc: Global, pieces: &[&[u8]]) -> Result<Vec<u8>, NoMemory> {
-    let mut source = Vec::new(alloc);
-    for piece in pieces {
-        source.extend_from_slice(piece)?;
-    }
-    Ok(source)
+/// A piece is appended to a source.
+fn append(source: &mut Vec<u8>, piece: &[u8]) -> Checked<()> {
+    source
+        .extend_from_slice(piece)
+        .ok()
+        .ok_or("memory is refused")
 }
 
-/// The board of such a source in the first step of its user code.
-fn made_of(alloc: Global, pieces: &[&[u8]]) -> Checked<BootedBoard> {
-    let source = joined(alloc, pieces).ok().ok_or("memory is refused")?;
+/// The board of a source whose last word is this, in the first step of its user code.
+fn with_word(alloc: Global, front: &[u8], word: &[u8]) -> Checked<BootedBoard> {
+    let mut source = Vec::new(alloc);
+    append(&mut source, front)?;
+    append(&mut source, word)?;
     in_user_mode(alloc, source.as_slice())
 }
 
-/// Two boards that differ in a word which user code tries to load are the same behind that.
-fn hides_its_word(alloc: Global, front: &[u8]) -> Checked<()> {
-    let mut one = made_of(alloc, &[front, b"1"])?;
-    let mut other = made_of(alloc, &[front, b"2"])?;
+// A function that owns a board lets it go at each `?`, which costs proof: so it only lends it to another.
+
+/// Two boards begin user code in the same way.
+fn begin_alike(one: &BootedBoard, other: &BootedBoard) -> Checked<()> {
     holds(
         one.steps() == 15 && one.pc() == 0x8000_003c,
         "where user code begins",
     )?;
     holds(
-        same_but_for_memory(&one, &other),
+        same_but_for_memory(one, other),
         "two boards before user code",
-    )?;
-    let first = run_user(&mut one, &[Event::Step; 2])?;
-    let second = run_user(&mut other, &[Event::Step; 2])?;
+    )
+}
+
+/// Both boards do no more than a step, whose load is refused.
+fn are_refused_the_load(one: &mut BootedBoard, other: &mut BootedBoard) -> Checked<()> {
+    let first = run_user(one, &[Event::Step; 2])?;
+    let second = run_user(other, &[Event::Step; 2])?;
     holds(
         first == 1 && second == 1,
         "the steps up to the refused load",
     )?;
     holds(
-        last_trap_is(&one, 5, 0x8000_003c, 0x8000_0040),
+        last_trap_is(one, 5, 0x8000_003c, 0x8000_0040),
         "the refused load",
-    )?;
+    )
+}
+
+/// Two boards are the same but for the word.
+fn end_alike(one: &BootedBoard, other: &BootedBoard) -> Checked<()> {
     holds(
-        same_but_for_memory(&one, &other),
+        same_but_for_memory(one, other),
         "two boards behind a refused load",
     )?;
     let words = one.ram(0x8000_0040) == Some(1) && other.ram(0x8000_0040) == Some(2);
     holds(words, "the words that were not loaded")
+}
+
+/// Two boards are the same before and behind the refused load of their words.
+fn tell_nothing(one: &mut BootedBoard, other: &mut BootedBoard) -> Checked<()> {
+    begin_alike(one, other)?;
+    are_refused_the_load(one, other)?;
+    end_alike(one, other)
+}
+
+/// The board whose word is 2 and another are the same behind the load of their words.
+fn hides_its_word_beside(alloc: Global, front: &[u8], one: &mut BootedBoard) -> Checked<()> {
+    let mut other = with_word(alloc, front, b"2")?;
+    tell_nothing(one, &mut other)
+}
+
+/// Two boards that differ in a word which user code tries to load are the same behind that.
+fn hides_its_word(alloc: Global, front: &[u8]) -> Checked<()> {
+    let mut one = with_word(alloc, front, b"1")?;
+    hides_its_word_beside(alloc, front, &mut one)
 }
 
 /// A word that user code may neither read nor execute is not loaded, whichever entries say so.
@@ -94,21 +121,60 @@ pub fn a_secret_word_is_not_loaded(alloc: Global) -> Checked<()> {
     hides_its_word(alloc, WORD_BY_HIGH_ENTRIES)
 }
 
-/// User code without an entry that matches isn't even fetched.
-pub fn without_an_entry_nothing_is_run(alloc: Global) -> Checked<()> {
-    let mut board = in_user_mode(alloc, NO_ENTRY)?;
+/// The board's user code begins, and its first fetch is refused.
+fn runs_nothing(board: &mut BootedBoard) -> Checked<()> {
     holds(
         board.steps() == 14 && board.pc() == 0x8000_0038,
         "where user code begins",
     )?;
-    let done = run_user(&mut board, &[Event::Step; 2])?;
-    let refused = last_trap_is(&board, 1, 0x8000_0038, 0x8000_0038);
+    let done = run_user(board, &[Event::Step; 2])?;
+    let refused = last_trap_is(board, 1, 0x8000_0038, 0x8000_0038);
     holds(done == 1 && refused, "the refused fetch")
+}
+
+/// User code without an entry that matches isn't even fetched.
+pub fn without_an_entry_nothing_is_run(alloc: Global) -> Checked<()> {
+    let mut board = in_user_mode(alloc, NO_ENTRY)?;
+    runs_nothing(&mut board)
 }
 
 /// A row's board with this byte in all places that user code may not see.
 fn bordered(alloc: Global, fill: &[u8], code: &[u8]) -> Checked<BootedBoard> {
-    made_of(alloc, &[b".equ FILL,", fill, BORDERS, code, BEHIND])
+    let mut source = Vec::new(alloc);
+    append(&mut source, b".equ FILL,")?;
+    append(&mut source, fill)?;
+    append(&mut source, BORDERS)?;
+    append(&mut source, code)?;
+    append(&mut source, BEHIND)?;
+    in_user_mode(alloc, source.as_slice())
+}
+
+/// What a row says: how many events are done, and the cause of the trap that ends them.
+#[derive(Clone, Copy)]
+struct End {
+    done: usize,
+    cause: u32,
+}
+
+/// Both boards do the same and end in the same way.
+fn end_at_the_border(one: &mut BootedBoard, other: &mut BootedBoard, end: End) -> Checked<()> {
+    let first = run_user(one, &[Event::Step; 8])?;
+    let second = run_user(other, &[Event::Step; 8])?;
+    holds(
+        first == end.done && second == end.done,
+        "the steps up to a border",
+    )?;
+    holds(last_cause_is(one, end.cause), "what happens at a border")?;
+    holds(
+        same_but_for_memory(one, other),
+        "two boards behind a border",
+    )
+}
+
+/// A row's board of another byte ends as this one does.
+fn row_holds_beside(alloc: Global, code: &[u8], one: &mut BootedBoard, end: End) -> Checked<()> {
+    let mut other = bordered(alloc, b"0xa5", code)?;
+    end_at_the_border(one, &mut other, end)
 }
 
 /// A row's two boards do their events, end with their cause, and are the same but for what user code may not see.
@@ -116,23 +182,12 @@ fn row_holds(alloc: Global, row: &[u8]) -> Checked<()> {
     let [done, cause, code @ ..] = row else {
         return Err("no row");
     };
+    let end = End {
+        done: (*done % 16) as usize,
+        cause: (*cause % 16) as u32,
+    };
     let mut one = bordered(alloc, b"0x5a", code)?;
-    let mut other = bordered(alloc, b"0xa5", code)?;
-    let first = run_user(&mut one, &[Event::Step; 8])?;
-    let second = run_user(&mut other, &[Event::Step; 8])?;
-    let wanted = (*done % 16) as usize;
-    holds(
-        first == wanted && second == wanted,
-        "the steps up to a border",
-    )?;
-    holds(
-        last_cause_is(&one, (*cause % 16) as u32),
-        "what happens at a border",
-    )?;
-    holds(
-        same_but_for_memory(&one, &other),
-        "two boards behind a border",
-    )
+    row_holds_beside(alloc, code, &mut one, end)
 }
 
 /// What is beside a region can't be told by any access at its borders.

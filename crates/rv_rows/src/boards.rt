@@ -62,7 +62,7 @@ fn answer_lines<M: ByteMemory, C: Decoded>(
 }
 
 /// The program of the row's source.
-fn program(alloc: Global, row: Row<'_>) -> Result<Program, &'static str> {
+pub fn program(alloc: Global, row: Row<'_>) -> Result<Program, &'static str> {
     let source = row.part(alloc, b' ').ok().ok_or(NO_MEMORY)?;
     assemble(alloc, source.as_slice())
         .ok()
@@ -100,25 +100,50 @@ fn answers<M: ByteMemory, C: Decoded>(
     Ok(Answered { text, end })
 }
 
+// A function that owns a board lets it go at each `?`, which costs proof: so each of these has few of them.
+
+/// A board over a page of flat memory, without a cache.
+fn flat_board(
+    alloc: Global,
+    program: &Program,
+) -> Result<Board<FlatMemory, NoCache>, &'static str> {
+    let memory = FlatMemory::new(alloc, 1).ok().ok_or(NO_MEMORY)?;
+    let board = Board::with_parts(alloc, program, memory, NoCache);
+    board.ok().ok_or("the board doesn't boot\n")
+}
+
+/// A board over a page of paged memory, with a cache of so many slots.
+fn paged_board(alloc: Global, program: &Program, slots: u32) -> Result<BootedBoard, &'static str> {
+    let board = BootedBoard::boot(alloc, program, 1, slots);
+    board.ok().ok_or("the board doesn't boot\n")
+}
+
+/// The answers of a board in a session with these inputs.
+fn answers_of<M: ByteMemory, C: Decoded>(
+    alloc: Global,
+    row: Row<'_>,
+    program: Program,
+    timeline: Timeline,
+    board: Board<M, C>,
+) -> Result<Answered, &'static str> {
+    let mut session = Session::new(alloc, board, timeline, program, limit(row));
+    answers(alloc, &mut session, row)
+}
+
 /// The answers over a page of flat memory, without a cache.
 fn over_flat(alloc: Global, row: Row<'_>) -> Result<Answered, &'static str> {
     let program = program(alloc, row)?;
     let timeline = timeline(alloc, row)?;
-    let memory = FlatMemory::new(alloc, 1).ok().ok_or(NO_MEMORY)?;
-    let board = Board::with_parts(alloc, &program, memory, NoCache);
-    let board = board.ok().ok_or("the board doesn't boot\n")?;
-    let mut session = Session::new(alloc, board, timeline, program, limit(row));
-    answers(alloc, &mut session, row)
+    let board = flat_board(alloc, &program)?;
+    answers_of(alloc, row, program, timeline, board)
 }
 
 /// The answers over a page of paged memory, with a cache of so many slots.
 fn over_pages(alloc: Global, row: Row<'_>, slots: u32) -> Result<Answered, &'static str> {
     let program = program(alloc, row)?;
     let timeline = timeline(alloc, row)?;
-    let board = BootedBoard::boot(alloc, &program, 1, slots);
-    let board = board.ok().ok_or("the board doesn't boot\n")?;
-    let mut session = Session::new(alloc, board, timeline, program, limit(row));
-    answers(alloc, &mut session, row)
+    let board = paged_board(alloc, &program, slots)?;
+    answers_of(alloc, row, program, timeline, board)
 }
 
 /// What a row's boards answer, or why they don't: they are refused, or are not the same.

@@ -12,11 +12,14 @@
 //! - `> `: a command to its boards, which are the same over flat memory without a cache and over pages with 64, 1024 and
 //!   4096 slots: whatever they are asked and read by
 //! - `! devices`: what its boards' devices hold
+//! - `% N`: how many bytes its image has, and all of them, N as one number, or none where N is 0
+//! - `& NAME`: what the name stands for
 //! - `$ STEPS PAGES SLOTS`: a whole run with these options, which is answered with what it prints, its fault's line and
 //!   its status
 #![tactic(auto)]
 
 mod boards;
+mod image;
 mod look;
 mod row;
 mod whole;
@@ -46,6 +49,8 @@ fn all_answers(alloc: Global, rows: &[u8]) -> Result<Vec<u8>, NoMemory> {
 fn answer(alloc: Global, row: Row<'_>, text: &mut Vec<u8>) -> Result<(), NoMemory> {
     if row.has(b'=') {
         boards::answer(alloc, row, text)
+    } else if row.has(b'%') {
+        image::answer(alloc, row, text)
     } else {
         whole::answer(alloc, row, text)
     }

@@ -1,118 +1,169 @@
-//! Lines and what they say, as docs/ASSEMBLER.md has them. What each word assembles to is tested in rv_asm_tests.
+//! Lines and what they say, as docs/ASSEMBLER.md has them. What each word assembles to is a row of rv_rows.
 use rv_source::{Label, Line, LineFault, Statement, read_line};
-use std::alloc::Global;
+use rv_tokens::cut_lines;
+use std::alloc::{AllocError, Global};
 use std::process::Abort;
 use std::test::Fail;
 
-fn line<'a>(alloc: Global, text: &'a [u8]) -> Result<Line<'a>, &'static str> {
-    read_line(alloc, text).ok().ok_or("the line is refused")
+/// What a line says, of which nothing is said: so the proofs of tests don't carry what `read_line` says.
+fn read<'a>(alloc: Global, text: &'a [u8]) -> Result<Line<'a>, LineFault> {
+    read_line(alloc, text)
 }
 
-/// Each line has this fault.
-fn refuse(rt: &impl Abort, alloc: Global, lines: &[&[u8]], fault: LineFault) -> Result<(), Fail> {
-    for text in lines {
-        let found = read_line(alloc, text).err().ok_or("the line is taken")?;
-        assert_eq!(rt; found, fault);
+fn line<'a>(alloc: Global, text: &'a [u8]) -> Result<Line<'a>, &'static str> {
+    read(alloc, text).ok().ok_or("the line is refused")
+}
+
+/// A line has this fault.
+fn refuse(rt: &impl Abort, alloc: Global, line: &[u8], fault: LineFault) {
+    assert_eq!(rt; read(alloc, line).err(), Some(fault));
+}
+
+/// Each line of the text has this fault.
+fn refuse_each(rt: &impl Abort, alloc: Global, text: &[u8], fault: LineFault) {
+    for line in cut_lines(text) {
+        refuse(rt, alloc, line, fault);
     }
+}
+
+/// A label in its letters or digits.
+fn push_label(alloc: Global, out: &mut Vec<u8>, label: &Label) -> Result<(), AllocError> {
+    match label {
+        Label::Name(name) => out.extend_from_slice(name.bytes()),
+        Label::Local(number) => out.extend_from_slice(format!(in alloc; "{number}")?.as_bytes()),
+    }
+}
+
+/// A line's labels, each with a blank before it.
+fn labels_of(alloc: Global, line: &Line<'_>) -> Result<Vec<u8>, AllocError> {
+    let mut out = Vec::new(alloc);
+    for label in line.labels() {
+        out.extend_from_slice(b" ")?;
+        push_label(alloc, &mut out, label)?;
+    }
+    Ok(out)
+}
+
+/// What kind of statement a line says.
+fn statement_of(line: &Line<'_>) -> &'static str {
+    match line.statement() {
+        Some(Statement::Instruction(_)) => "an instruction",
+        Some(_) => "something else",
+        None => "nothing",
+    }
+}
+
+/// The line has these labels and says a statement of this kind.
+fn says(
+    rt: &impl Abort,
+    alloc: Global,
+    line: &Line<'_>,
+    labels: &[u8],
+    kind: &str,
+) -> Result<(), Fail> {
+    let seen = labels_of(alloc, line)?;
+    assert_eq!(rt; seen.as_slice(), labels);
+    assert_eq!(rt; statement_of(line), kind);
     Ok(())
 }
 
-fn is_name(label: &Label, text: &[u8]) -> bool {
-    match label {
-        Label::Name(name) => name.bytes() == text,
-        Label::Local(_) => false,
-    }
-}
-
-fn is_local(label: &Label, number: u16) -> bool {
-    match label {
-        Label::Name(_) => false,
-        Label::Local(n) => *n == number,
-    }
+// Letting a line go costs proof at each place where it may be: so one function owns lines, and lends them.
+fn check(
+    rt: &impl Abort,
+    alloc: Global,
+    text: &[u8],
+    labels: &[u8],
+    kind: &str,
+) -> Result<(), Fail> {
+    let read = line(alloc, text)?;
+    says(rt, alloc, &read, labels, kind)
 }
 
 #[test]
 fn labels(rt: HostRuntime) -> Result<(), Fail> {
-    let alloc = rt.alloc();
-    let read = line(alloc, b"main : 0: .text: 9999: nop")?;
-    let [first, second, third, fourth] = read.labels() else {
-        return Err("four labels are wanted".into());
-    };
-    assert!(&rt; is_name(first, b"main") && is_local(second, 0));
-    assert!(&rt; is_name(third, b".text") && is_local(fourth, 9999));
-    assert!(&rt; matches!(read.statement(), Some(Statement::Instruction(_))));
-    let empty = line(alloc, b" \t# nothing")?;
-    assert!(&rt; empty.labels().is_empty() && empty.statement().is_none());
-    Ok(())
+    let text = b"main : 0: .text: 9999: nop";
+    check(
+        &rt,
+        rt.alloc(),
+        text,
+        b" main 0 .text 9999",
+        "an instruction",
+    )?;
+    check(&rt, rt.alloc(), b" \t# nothing", b"", "nothing")
 }
 
+const SYNTAX: &[u8] = b"\
+00: nop
+0x1: nop
+12345: nop
+1b: nop
+.: nop
+nop ,
+addi a0,a0,
+addi a0,,1
+foo !
+foo ,
+li a0,---1
+li a0,1+
+li a0,1---1
+li a0,1 2
+lui a0,%hi(x)(a0)
+addi a0,a0,%lo(x)+4
+addi a0,a0,4+%lo(x)
+lw a0,4(4)
+.ascii \"a\" \"b\"
+5 nop
+li a0,
+nop 1 2
+";
+
+const UNKNOWN_WORDS: &[u8] = b"\
+foo
+.
+. 5
+NOP
+foo \"a\",%lo(x)
+";
+
+const BAD_OPERANDS: &[u8] = b"\
+lw a0,4(.)
+lw a0,4(x)
+add a0,a1
+add a0,a1,+a2
+add a0,a1,a2+0
+add a0,a1,5
+csrr a0,+0x300
+csrr a0,'a'
+csrr a0,0x300+0
+csrr a0,4096
+csrr a0,foo
+.equ .,5
+.equ 5,5
+.word
+.ascii
+.ascii 5
+fence rw
+fence wr,w
+fence rr,w
+nop 1
+nop 1,2,3,4
+jal a0,x,1
+ret a0
+addi a0,a1,%hi(x)
+.space 1,2,3
+nop nop
+";
+
+const BAD_BYTES: &[u8] = b"\
+addi a0,,1 \x80
+foo \x01
+";
+
 #[test]
-fn faults(rt: HostRuntime) -> Result<(), Fail> {
+fn faults(rt: HostRuntime) {
     let alloc = rt.alloc();
-    let syntax: [&[u8]; 22] = [
-        b"00: nop",
-        b"0x1: nop",
-        b"12345: nop",
-        b"1b: nop",
-        b".: nop",
-        b"nop ,",
-        b"addi a0,a0,",
-        b"addi a0,,1",
-        b"foo !",
-        b"foo ,",
-        b"li a0,---1",
-        b"li a0,1+",
-        b"li a0,1---1",
-        b"li a0,1 2",
-        b"lui a0,%hi(x)(a0)",
-        b"addi a0,a0,%lo(x)+4",
-        b"addi a0,a0,4+%lo(x)",
-        b"lw a0,4(4)",
-        b".ascii \"a\" \"b\"",
-        b"5 nop",
-        b"li a0,",
-        b"nop 1 2",
-    ];
-    refuse(&rt, alloc, &syntax, LineFault::Syntax)?;
-    refuse(
-        &rt,
-        alloc,
-        &[b"foo", b".", b". 5", b"NOP", b"foo \"a\",%lo(x)"],
-        LineFault::UnknownWord,
-    )?;
-    let operands: [&[u8]; 26] = [
-        b"lw a0,4(.)",
-        b"lw a0,4(x)",
-        b"add a0,a1",
-        b"add a0,a1,+a2",
-        b"add a0,a1,a2+0",
-        b"add a0,a1,5",
-        b"csrr a0,+0x300",
-        b"csrr a0,'a'",
-        b"csrr a0,0x300+0",
-        b"csrr a0,4096",
-        b"csrr a0,foo",
-        b".equ .,5",
-        b".equ 5,5",
-        b".word",
-        b".ascii",
-        b".ascii 5",
-        b"fence rw",
-        b"fence wr,w",
-        b"fence rr,w",
-        b"nop 1",
-        b"nop 1,2,3,4",
-        b"jal a0,x,1",
-        b"ret a0",
-        b"addi a0,a1,%hi(x)",
-        b".space 1,2,3",
-        b"nop nop",
-    ];
-    refuse(&rt, alloc, &operands, LineFault::BadOperands)?;
-    refuse(
-        &rt,
-        alloc,
-        &[b"addi a0,,1 \x80", b"foo \x01"],
-        LineFault::BadByte,
-    )
+    refuse_each(&rt, alloc, SYNTAX, LineFault::Syntax);
+    refuse_each(&rt, alloc, UNKNOWN_WORDS, LineFault::UnknownWord);
+    refuse_each(&rt, alloc, BAD_OPERANDS, LineFault::BadOperands);
+    refuse_each(&rt, alloc, BAD_BYTES, LineFault::BadByte);
 }

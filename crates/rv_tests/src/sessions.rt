@@ -1,6 +1,7 @@
 //! Sessions whose steps are refused for want of memory, and what sessions are read by.
 use crate::machine::program;
 use crate::memory::Stubborn;
+use rv_asm::Program;
 use rv_board::Board;
 use rv_cache::{Decoded, NoCache};
 use rv_isa::NoMemory;
@@ -11,18 +12,31 @@ use std::alloc::Global;
 use std::process::Abort;
 use std::test::Fail;
 
-/// A store into the second page and then a jump to itself, over a memory that refuses so many writes behind the image's.
-fn session(alloc: Global, timed: &[u8], refusals: u32) -> Result<Session<Stubborn, NoCache>, Fail> {
-    let program = program(alloc, b"lui t0,0x80001\nsw t0,0(t0)\nj .")?;
-    let timeline = Timeline::read(alloc, timed);
-    let timeline = timeline.ok().ok_or("the timed list is refused")?;
+/// A board over a memory of which so many writes behind the image's are refused.
+fn board(
+    alloc: Global,
+    program: &Program,
+    refusals: u32,
+) -> Result<Board<Stubborn, NoCache>, Fail> {
     let memory = Stubborn {
         memory: FlatMemory::new(alloc, 2)?,
         good: 12,
         refusals,
     };
-    let board = Board::with_parts(alloc, &program, memory, NoCache);
-    let board = board.ok().ok_or("the board doesn't boot")?;
+    let board = Board::with_parts(alloc, program, memory, NoCache);
+    Ok(board.ok().ok_or("the board doesn't boot")?)
+}
+
+fn timeline(alloc: Global, timed: &[u8]) -> Result<Timeline, &'static str> {
+    let timeline = Timeline::read(alloc, timed);
+    timeline.ok().ok_or("the timed list is refused")
+}
+
+/// A store into the second page and then a jump to itself, over a memory that refuses so many writes behind the image's.
+fn session(alloc: Global, timed: &[u8], refusals: u32) -> Result<Session<Stubborn, NoCache>, Fail> {
+    let program = program(alloc, b"lui t0,0x80001\nsw t0,0(t0)\nj .")?;
+    let timeline = timeline(alloc, timed)?;
+    let board = board(alloc, &program, refusals)?;
     Ok(Session::new(alloc, board, timeline, program, 3))
 }
 
