@@ -1,13 +1,12 @@
 -- Steps with their inputs.
 use Rattle.std.proofs.Common.{◌≡◌, ◌∙◌, ℕ, zero, suc, ◌+◌, ◌<◌, ◌≤◌, true, false, List, [], ◌∷◌, ◌++◌, length, get_or, take, drop, refl, sym, ap, arith, append-nil, append_assoc, add_assoc}
-use Rattle.std.specs.Prelude.{nat_eq, nat_lt, map, Option, Some, None, Result, Ok, Err, OnOk}
+use Rattle.std.specs.Prelude.{nat_eq, nat_lt, map, Option, Some, None}
 use Rattle.std.proofs.lemmas.List.{map-append, length-drop, drop-drop}
 use Rattle.std.proofs.lemmas.List.Elements.{filter_more}
 use Rattle.std.proofs.lemmas.List.Filters.{length-filter_more}
 use Rattle.std.proofs.lemmas.Bool.Decides.{nat_tests}
-use Rattle.rv_isa.specs.declared.NoMemory.{NoMemory}
-use Rattle.rv_board.specs.State.{BoardState}
-use Rattle.rv_board.specs.Move.{moved, run, writes, writes_by}
+use Rattle.rv_board.specs.State.{BoardState, halted_of}
+use Rattle.rv_board.specs.Move.{moved, happens, run, writes, writes_by}
 use Rattle.rv_board.specs.declared.event.Event.TheVariants.{Step}
 use Rattle.rv_board.proofs.Runs.{run_append, run_more}
 use Rattle.rv_lists.specs.declared.input.Input.{Input}
@@ -16,8 +15,9 @@ use Rattle.rv_lists.specs.declared.input.TimedInput.{TimedInput}
 use Rattle.rv_lists.specs.Timed.{never_falls}
 use Rattle.rv_monitor.specs.Events.{event_of, inputs_at, events_of}
 use Rattle.rv_monitor.specs.State.{TimedState, IsInTime, rest, count_before, after, with_due}
+use Rattle.rv_monitor.specs.Bare.{bare}
 use Rattle.rv_monitor.specs.Laws.{RunsJoin, CallsJoin}
-use Rattle.rv_monitor.proofs.Times.{from, from_earlier, late_from, late_of, late_count, drop_rises, drop_from, none_before, due_step, later_of, later_count, none_of, count_most}
+use Rattle.rv_monitor.proofs.Times.{from, of, from_earlier, late_from, late_of, late_count, drop_rises, drop_from, none_before, due_step, later_of, later_count, none_of, count_most}
 
 -- ---- no input is refused
 
@@ -141,13 +141,55 @@ pub after_step : (s : TimedState) → after s 1 ≡ record (with_due s) { board 
 unfolding after with_due
 after_step s = same _ _ s.inputs _ _ _ _ (run_step s.board (rest s) s.taken) refl refl
 
-pub step_done : (r : Result Unit NoMemory) (s given new : TimedState) → given ≡ with_due s
-    → OnOk r (new ≡ record given { board = moved given.board Step; taken = given.taken + 1 }) → OnOk r (new ≡ after s 1)
-unfolding with_due
-step_done (Ok u) s given new e h =
-    let stepped : TimedState → TimedState = λ i. record i { board = moved i.board Step; taken = i.taken + 1 } in
-    h ∙ (ap stepped e ∙ sym (after_step s))
-step_done (Err x) s given new e h = tt
+-- a step of a board that no input comes to
+pub bare_in_time : (b : BoardState) → IsInTime (bare b 0)
+unfolding never_falls
+bare_in_time b = record { within = omega arith; rising = refl; ahead = refl }
+
+pub due_of_bare : (b : BoardState) (t : ℕ) → bare b t ≡ with_due (bare b t)
+unfolding with_due inputs_at
+due_of_bare b t = refl
+
+pub step_bare : (b new : BoardState) (t : ℕ) → new ≡ moved b Step → bare new (t + 1) ≡ after (bare b t) 1
+unfolding with_due inputs_at
+step_bare b new t h = ap (λ c. bare c (t + 1)) h ∙ sym (after_step (bare b t))
+
+-- ---- steps that no input comes before
+
+events_quiet : (xs : List TimedInput) (t n : ℕ) → from (t + n) xs ≡ true → events_of xs t n ≡ events_of [] 0 n
+unfolding events_of inputs_at
+events_quiet xs t zero h = refl
+events_quiet xs t (suc n) h =
+    let e : (t + n) + 1 ≡ t + suc n = omega arith in
+    let none : of (t + n) xs ≡ [] = none_of (t + n) xs (ap (λ u. from u xs) e ∙ h) in
+    let before : from (t + n) xs ≡ true = from_earlier (t + n) (t + suc n) xs h (omega arith) in
+    rw (none, events_quiet xs t n before) refl
+
+-- what steps make of a board and its inputs, by what they make of the board alone
+pub after_quiet : (s : TimedState) (n : ℕ) → from (s.taken + n) (rest s) ≡ true → after s n ≡ record s { board = (after (bare s.board 0) n).board; taken = s.taken + n }
+unfolding after
+after_quiet s n h =
+    let none : count_before (s.taken + n) (rest s) ≡ 0 = none_before (s.taken + n) (rest s) h in
+    same _ _ s.inputs _ _ _ _ (ap (run s.board) (events_quiet (rest s) s.taken n h)) (omega (arith, none)) refl
+
+-- ---- inputs halt no board
+
+halted_input : (h : Option ℕ) (b : BoardState) (i : Input) → halted_of b ≡ h → halted_of (happens h b (event_of i)) ≡ h
+halted_input None b (Rx byte) e = e
+halted_input None b (Line source high) e = e
+halted_input (Some code) b i e = e
+
+halted_moved : (b : BoardState) (i : Input) → halted_of (moved b (event_of i)) ≡ halted_of b
+unfolding moved
+halted_moved b i = halted_input (halted_of b) b i refl
+
+halted_run : (b : BoardState) (is : List TimedInput) → halted_of (run b (map (λ x. event_of x.input) is)) ≡ halted_of b
+halted_run b [] = refl
+halted_run b (x ∷ xs) = halted_run (moved b (event_of x.input)) xs ∙ halted_moved b x.input
+
+pub halted_due : (s : TimedState) → halted_of (with_due s).board ≡ halted_of s.board
+unfolding with_due inputs_at
+halted_due s = halted_run s.board (of s.taken (rest s))
 
 -- ---- what is in time stays so
 
@@ -162,12 +204,20 @@ in_time_due s h = record {
   ahead = ap (from s.taken) (rest_late s (s.taken + 1)) ∙ drop_from s.taken (count_before (s.taken + 1) (rest s)) (rest s) h.ahead;
 }
 
+pub in_time_after : (s : TimedState) (n : ℕ) → IsInTime s → IsInTime (after s n)
+unfolding after
+in_time_after s n h = record {
+  within = place_within s (s.taken + n) h;
+  rising = h.rising;
+  ahead = ap (from (s.taken + n)) (rest_late s (s.taken + n)) ∙ late_from (s.taken + n) (rest s) (drop_rises s.place s.inputs h.rising);
+}
+
 -- the fields of a state without an input before a later time
 module _ (b : BoardState) (xs : List TimedInput) (place t later : ℕ) (quiet : from later (drop place xs) ≡ true) (before : t < later) where
   abbrev quiet_state : TimedState
   quiet_state = record { board = b; inputs = xs; place = place; taken = t }
 
-  pub all_later : from (t + 1) (drop place xs) ≡ true
+  all_later : from (t + 1) (drop place xs) ≡ true
   all_later = from_earlier (t + 1) later (drop place xs) quiet (omega arith)
 
   none_now : inputs_at (drop place xs) t ≡ []

@@ -91,6 +91,12 @@ from_end t (suc n) [] h = refl
 from_end t zero (x ∷ xs) h = absurd (omega arith)
 from_end t (suc n) (x ∷ xs) h = from_end t n xs (omega arith)
 
+-- the first is at least what all are
+pub place_from : (xs : List TimedInput) (n : ℕ) (d : TimedInput) (t : ℕ) → n < length xs → from t (drop n xs) ≡ true → t ≤ (get_or xs n d).step
+place_from [] n d t k h = absurd (omega arith)
+place_from (x ∷ xs) zero d t k h = le_is t x.step (and_left (nat_le t x.step) (from t xs) h)
+place_from (x ∷ xs) (suc n) d t k h = place_from xs n d t (omega arith) h
+
 -- and so every time is at least one that is earlier
 pub from_earlier : (t u : ℕ) (xs : List TimedInput) → from u xs ≡ true → t ≤ u → from t xs ≡ true
 from_earlier t u [] h k = refl

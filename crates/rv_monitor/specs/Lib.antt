@@ -5,3 +5,4 @@ pub mod Laws
 pub mod Asked
 pub mod Commands
 pub mod Marks
+pub mod Bare
