@@ -1,54 +1,66 @@
 //! Words that are taken, words that are refused, and the help.
+use crate::runs::DEFAULTS;
 use clap::error::ErrorKind;
-use rv_cli::{NoRun, Place, read_words};
-use std::alloc::Global;
+use rv_cli::{NoRun, Options, Place, read_words};
+use std::alloc::{AllocError, Global};
 use std::process::Abort;
 use std::test::Fail;
 
-#[test]
-fn reads_the_words(rt: HostRuntime) -> Result<(), Fail> {
-    let given = [
-        "rvboard",
-        "a.s",
-        "--steps",
-        "2",
-        "--pages=1",
-        "--slots",
-        "64",
-    ];
-    let after_dashes = ["rvboard", "--steps", "+0005", "--", "--x"];
-    let most = [
-        "rvboard",
-        "--slots=4096",
-        "--pages=4096",
-        "--steps=1000000000",
-        "-",
-    ];
-    let rows: [(&[&str], &str, u32, u16, u16); 4] = [
-        (&["rvboard"], "-", 1_000_000, 256, 1024),
-        (&given, "a.s", 2, 1, 64),
-        (&after_dashes, "--x", 5, 256, 1024),
-        (&most, "-", 1_000_000_000, 4096, 4096),
-    ];
-    for (words, source, steps, pages, slots) in rows {
-        let read = read_words(rt.alloc(), words)?;
-        assert!(rt; read.source == source);
-        assert_eq!(rt; read.options.steps, steps);
-        assert_eq!(rt; read.options.pages, pages);
-        assert_eq!(rt; read.options.slots, slots);
-    }
+/// The words of a line, with a space between two.
+fn words_of<'a>(alloc: Global, line: &'a str) -> Result<Vec<&'a str>, AllocError> {
+    line.split(' ').collect(alloc)
+}
+
+/// Holds the source and the options that a line's words name to what is wanted.
+fn reads(
+    rt: &impl Abort,
+    alloc: Global,
+    line: &str,
+    source: &str,
+    options: Options,
+) -> Result<(), Fail> {
+    let words = words_of(alloc, line)?;
+    let read = read_words(alloc, words.as_slice())?;
+    assert!(rt; read.source == source);
+    assert!(rt; read.options == options);
     Ok(())
 }
 
-/// Holds the files that words name to what is wanted.
+#[test]
+fn reads_the_words(rt: HostRuntime) -> Result<(), Fail> {
+    let alloc = rt.alloc();
+    reads(&rt, alloc, "rvboard", "-", DEFAULTS)?;
+    let line = "rvboard a.s --steps 2 --pages=1 --slots 64";
+    let options = Options {
+        steps: 2,
+        pages: 1,
+        slots: 64,
+    };
+    reads(&rt, alloc, line, "a.s", options)?;
+    let options = Options {
+        steps: 5,
+        ..DEFAULTS
+    };
+    reads(&rt, alloc, "rvboard --steps +0005 -- --x", "--x", options)?;
+    let line = "rvboard --slots=4096 --pages=4096 --steps=1000000000 -";
+    let options = Options {
+        steps: 1_000_000_000,
+        pages: 4096,
+        slots: 4096,
+    };
+    reads(&rt, alloc, line, "-", options)
+}
+
+/// Holds the files that a line's words name to what is wanted.
 fn names(
     rt: &impl Abort,
     alloc: Global,
-    words: &[&str],
+    line: &str,
     input: Option<&str>,
     commands: Option<&str>,
 ) -> Result<(), Fail> {
-    let read = read_words(alloc, words)?;
+    let words = words_of(alloc, line)?;
+    let read = read_words(alloc, words.as_slice())?;
     assert!(rt; read.input == input);
     assert!(rt; read.commands == commands);
     Ok(())
@@ -57,65 +69,62 @@ fn names(
 #[test]
 fn reads_the_files(rt: HostRuntime) -> Result<(), Fail> {
     let alloc = rt.alloc();
-    names(&rt, alloc, &["rvboard", "a.s"], None, None)?;
-    let both = ["rvboard", "--commands=c.txt", "a.s", "--input", "i.txt"];
-    names(&rt, alloc, &both, Some("i.txt"), Some("c.txt"))?;
-    let input = ["rvboard", "--input", "i.txt"];
-    names(&rt, alloc, &input, Some("i.txt"), None)?;
-    let commands = ["rvboard", "--commands", "-"];
-    names(&rt, alloc, &commands, None, Some("-"))?;
-    names(&rt, alloc, &["rvboard", "--input=-x"], Some("-x"), None)?;
-    names(&rt, alloc, &["rvboard", "--input="], Some(""), None)?;
-    let empty = ["rvboard", "--commands", ""];
-    names(&rt, alloc, &empty, None, Some(""))
+    names(&rt, alloc, "rvboard a.s", None, None)?;
+    let both = "rvboard --commands=c.txt a.s --input i.txt";
+    names(&rt, alloc, both, Some("i.txt"), Some("c.txt"))?;
+    names(&rt, alloc, "rvboard --input i.txt", Some("i.txt"), None)?;
+    names(&rt, alloc, "rvboard --commands -", None, Some("-"))?;
+    names(&rt, alloc, "rvboard --input=-x", Some("-x"), None)?;
+    names(&rt, alloc, "rvboard --input=", Some(""), None)?;
+    // The last word is empty.
+    names(&rt, alloc, "rvboard --commands ", None, Some(""))
 }
 
-/// Whether words are refused with an error of this kind.
-fn are_refused(alloc: Global, words: &[&str], kind: ErrorKind) -> bool {
-    read_words(alloc, words).is_err_and(|e| e.kind() == kind)
-}
-
-#[test]
-fn refuses_files_by_kind(rt: HostRuntime) {
-    let alloc = rt.alloc();
-    let twice = ["rvboard", "--input=a", "--input=b"];
-    assert!(&rt; are_refused(alloc, &twice, ErrorKind::ArgumentConflict));
-    let twice = ["rvboard", "--commands", "a", "--commands", "a"];
-    assert!(&rt; are_refused(alloc, &twice, ErrorKind::ArgumentConflict));
-    let no_value = ["rvboard", "--input"];
-    assert!(&rt; are_refused(alloc, &no_value, ErrorKind::InvalidValue));
-    let no_value = ["rvboard", "--commands"];
-    assert!(&rt; are_refused(alloc, &no_value, ErrorKind::InvalidValue));
-    let no_value = ["rvboard", "--input", "--commands", "a"];
-    assert!(&rt; are_refused(alloc, &no_value, ErrorKind::InvalidValue));
-    let unknown = ["rvboard", "--input", "-x"];
-    assert!(&rt; are_refused(alloc, &unknown, ErrorKind::UnknownArgument));
-    let unknown = ["rvboard", "--commands", "-x"];
-    assert!(rt; are_refused(alloc, &unknown, ErrorKind::UnknownArgument));
+/// Holds that a line's words are refused with an error of this kind.
+fn refuses(rt: &impl Abort, alloc: Global, line: &str, kind: ErrorKind) -> Result<(), Fail> {
+    let words = words_of(alloc, line)?;
+    let read = read_words(alloc, words.as_slice());
+    assert!(rt; read.is_err_and(|e| e.kind() == kind));
+    Ok(())
 }
 
 #[test]
-fn refuses_by_kind(rt: HostRuntime) {
-    let cases: [(&[&str], ErrorKind); 9] = [
-        (&["rvboard", "--pages", "0"], ErrorKind::ValueValidation),
-        (&["rvboard", "--pages", "4097"], ErrorKind::ValueValidation),
-        (&["rvboard", "--slots", "63"], ErrorKind::ValueValidation),
-        (&["rvboard", "--slots=4097"], ErrorKind::ValueValidation),
+fn refuses_files_by_kind(rt: HostRuntime) -> Result<(), Fail> {
+    let lines = [
+        ("rvboard --input=a --input=b", ErrorKind::ArgumentConflict),
         (
-            &["rvboard", "--steps", "1000000001"],
-            ErrorKind::ValueValidation,
-        ),
-        (&["rvboard", "--step", "1"], ErrorKind::UnknownArgument),
-        (&["rvboard", "a.s", "b.s"], ErrorKind::UnknownArgument),
-        (
-            &["rvboard", "--steps", "1", "--steps", "1"],
+            "rvboard --commands a --commands a",
             ErrorKind::ArgumentConflict,
         ),
-        (&["rvboard", "--help"], ErrorKind::DisplayHelp),
+        ("rvboard --input", ErrorKind::InvalidValue),
+        ("rvboard --commands", ErrorKind::InvalidValue),
+        ("rvboard --input --commands a", ErrorKind::InvalidValue),
+        ("rvboard --input -x", ErrorKind::UnknownArgument),
+        ("rvboard --commands -x", ErrorKind::UnknownArgument),
     ];
-    for (words, kind) in cases {
-        assert!(rt; read_words(rt.alloc(), words).is_err_and(|e| e.kind() == kind));
+    for (line, kind) in lines {
+        refuses(&rt, rt.alloc(), line, kind)?;
     }
+    Ok(())
+}
+
+#[test]
+fn refuses_by_kind(rt: HostRuntime) -> Result<(), Fail> {
+    let lines = [
+        ("rvboard --pages 0", ErrorKind::ValueValidation),
+        ("rvboard --pages 4097", ErrorKind::ValueValidation),
+        ("rvboard --slots 63", ErrorKind::ValueValidation),
+        ("rvboard --slots=4097", ErrorKind::ValueValidation),
+        ("rvboard --steps 1000000001", ErrorKind::ValueValidation),
+        ("rvboard --step 1", ErrorKind::UnknownArgument),
+        ("rvboard a.s b.s", ErrorKind::UnknownArgument),
+        ("rvboard --steps 1 --steps 1", ErrorKind::ArgumentConflict),
+        ("rvboard --help", ErrorKind::DisplayHelp),
+    ];
+    for (line, kind) in lines {
+        refuses(&rt, rt.alloc(), line, kind)?;
+    }
+    Ok(())
 }
 
 #[test]
@@ -125,27 +134,43 @@ fn refuses_many_words(rt: HostRuntime) {
     assert!(rt; read.is_err_and(|e| e.kind() == ErrorKind::UnknownArgument));
 }
 
-#[test]
-fn a_dash_is_the_standard_input(rt: HostRuntime) -> Result<(), Fail> {
-    let none = ["rvboard"];
-    let file = ["rvboard", "./-"];
-    assert!(rt; read_words(rt.alloc(), &none)?.source_place() == Place::StandardInput);
-    assert!(rt; read_words(rt.alloc(), &file)?.source_place() == Place::File("./-"));
+/// Holds the place that a line's words name for the source to what is wanted.
+fn reads_from(rt: &impl Abort, alloc: Global, line: &str, place: Place<'_>) -> Result<(), Fail> {
+    let words = words_of(alloc, line)?;
+    assert!(rt; read_words(alloc, words.as_slice())?.source_place() == place);
     Ok(())
 }
 
 #[test]
-fn tells_why_there_is_no_run(rt: HostRuntime) {
-    let rows: [(&[&str], NoRun, u8); 3] = [
-        (&["rvboard", "-h"], NoRun::Help, 0),
-        (&["rvboard", "--pages", "x"], NoRun::Refused, 3),
-        (&["rvboard", "-V"], NoRun::Refused, 3),
-    ];
-    for (words, why, status) in rows {
-        assert!(rt; read_words(rt.alloc(), words).is_err_and(|e| NoRun::of(&e) == why));
-        assert_eq!(rt; why.status(), status);
-    }
-    assert_eq!(rt; NoRun::OutOfMemory.status(), 4);
+fn a_dash_is_the_standard_input(rt: HostRuntime) -> Result<(), Fail> {
+    let alloc = rt.alloc();
+    reads_from(&rt, alloc, "rvboard", Place::StandardInput)?;
+    reads_from(&rt, alloc, "rvboard ./-", Place::File("./-"))
+}
+
+/// Holds why a line's words give no run, and the status, to what is wanted.
+fn gives_no_run(
+    rt: &impl Abort,
+    alloc: Global,
+    line: &str,
+    why: NoRun,
+    status: u8,
+) -> Result<(), Fail> {
+    let words = words_of(alloc, line)?;
+    let read = read_words(alloc, words.as_slice());
+    assert!(rt; read.is_err_and(|e| NoRun::of(&e) == why));
+    assert_eq!(rt; why.status(), status);
+    Ok(())
+}
+
+#[test]
+fn tells_why_there_is_no_run(rt: HostRuntime) -> Result<(), Fail> {
+    let alloc = rt.alloc();
+    gives_no_run(&rt, alloc, "rvboard -h", NoRun::Help, 0)?;
+    gives_no_run(&rt, alloc, "rvboard --pages x", NoRun::Refused, 3)?;
+    gives_no_run(&rt, alloc, "rvboard -V", NoRun::Refused, 3)?;
+    assert_eq!(&rt; NoRun::OutOfMemory.status(), 4);
+    Ok(())
 }
 
 #[test]
