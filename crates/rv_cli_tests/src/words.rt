@@ -1,7 +1,7 @@
 //! Words that are taken, words that are refused, and the help.
 use crate::runs::DEFAULTS;
 use clap::error::ErrorKind;
-use rv_cli::{NoRun, Options, Place, read_words};
+use rv_cli::{NoRun, Options, Place, Words, read_words};
 use std::alloc::{AllocError, Global};
 use std::process::Abort;
 use std::test::Fail;
@@ -11,67 +11,91 @@ fn words_of<'a>(alloc: Global, line: &'a str) -> Result<Vec<&'a str>, AllocError
     line.split(' ').collect(alloc)
 }
 
+/// What is read where the line has no word behind the program's.
+const NO_WORDS: Words<'static> = Words {
+    source: "-",
+    input: None,
+    commands: None,
+    options: DEFAULTS,
+};
+
+/// Holds what is read of a line's words to what is wanted.
+fn reads(rt: &impl Abort, alloc: Global, line: &str, wanted: Words<'_>) -> Result<(), Fail> {
+    let words = words_of(alloc, line)?;
+    let read = read_words(alloc, words.as_slice())?;
+    assert!(rt; read.source == wanted.source);
+    assert!(rt; read.input == wanted.input);
+    assert!(rt; read.commands == wanted.commands);
+    assert!(rt; read.options == wanted.options);
+    Ok(())
+}
+
 /// Holds the source and the options that a line's words name to what is wanted.
-fn reads(
+fn reads_options(
     rt: &impl Abort,
     alloc: Global,
     line: &str,
     source: &str,
-    options: Options,
+    options: (u32, u16, u16),
 ) -> Result<(), Fail> {
-    let words = words_of(alloc, line)?;
-    let read = read_words(alloc, words.as_slice())?;
-    assert!(rt; read.source == source);
-    assert!(rt; read.options == options);
-    Ok(())
+    let (steps, pages, slots) = options;
+    let options = Options {
+        steps,
+        pages,
+        slots,
+    };
+    let wanted = Words {
+        source,
+        options,
+        ..NO_WORDS
+    };
+    reads(rt, alloc, line, wanted)
 }
 
 #[test]
 fn reads_the_words(rt: HostRuntime) -> Result<(), Fail> {
     let alloc = rt.alloc();
-    reads(&rt, alloc, "rvboard", "-", DEFAULTS)?;
+    reads(&rt, alloc, "rvboard", NO_WORDS)?;
+    let most = (1_000_000_000, 4096, 4096);
     let line = "rvboard a.s --steps 2 --pages=1 --slots 64";
-    let options = Options {
-        steps: 2,
-        pages: 1,
-        slots: 64,
-    };
-    reads(&rt, alloc, line, "a.s", options)?;
-    let options = Options {
-        steps: 5,
-        ..DEFAULTS
-    };
-    reads(&rt, alloc, "rvboard --steps +0005 -- --x", "--x", options)?;
+    reads_options(&rt, alloc, line, "a.s", (2, 1, 64))?;
+    let line = "rvboard --steps +0005 -- --x";
+    reads_options(&rt, alloc, line, "--x", (5, 256, 1024))?;
     let line = "rvboard --slots=4096 --pages=4096 --steps=1000000000 -";
-    let options = Options {
-        steps: 1_000_000_000,
-        pages: 4096,
-        slots: 4096,
-    };
-    reads(&rt, alloc, line, "-", options)
+    reads_options(&rt, alloc, line, "-", most)
 }
 
 /// Holds the files that a line's words name to what is wanted.
-fn names(
+fn names<'a>(
     rt: &impl Abort,
     alloc: Global,
     line: &str,
-    input: Option<&str>,
-    commands: Option<&str>,
+    input: Option<&'a str>,
+    commands: Option<&'a str>,
 ) -> Result<(), Fail> {
-    let words = words_of(alloc, line)?;
-    let read = read_words(alloc, words.as_slice())?;
-    assert!(rt; read.input == input);
-    assert!(rt; read.commands == commands);
-    Ok(())
+    let wanted = Words {
+        input,
+        commands,
+        ..NO_WORDS
+    };
+    reads(rt, alloc, line, wanted)
 }
 
 #[test]
 fn reads_the_files(rt: HostRuntime) -> Result<(), Fail> {
     let alloc = rt.alloc();
-    names(&rt, alloc, "rvboard a.s", None, None)?;
-    let both = "rvboard --commands=c.txt a.s --input i.txt";
-    names(&rt, alloc, both, Some("i.txt"), Some("c.txt"))?;
+    let both = Words {
+        source: "a.s",
+        input: Some("i.txt"),
+        commands: Some("c.txt"),
+        ..NO_WORDS
+    };
+    reads(
+        &rt,
+        alloc,
+        "rvboard --commands=c.txt a.s --input i.txt",
+        both,
+    )?;
     names(&rt, alloc, "rvboard --input i.txt", Some("i.txt"), None)?;
     names(&rt, alloc, "rvboard --commands -", None, Some("-"))?;
     names(&rt, alloc, "rvboard --input=-x", Some("-x"), None)?;
@@ -80,11 +104,16 @@ fn reads_the_files(rt: HostRuntime) -> Result<(), Fail> {
     names(&rt, alloc, "rvboard --commands ", None, Some(""))
 }
 
-/// Holds that a line's words are refused with an error of this kind.
+/// Holds that a line's words are refused with an error of this kind, and that its run is told so.
 fn refuses(rt: &impl Abort, alloc: Global, line: &str, kind: ErrorKind) -> Result<(), Fail> {
     let words = words_of(alloc, line)?;
     let read = read_words(alloc, words.as_slice());
-    assert!(rt; read.is_err_and(|e| e.kind() == kind));
+    let why = if kind == ErrorKind::DisplayHelp {
+        NoRun::Help
+    } else {
+        NoRun::Refused
+    };
+    assert!(rt; read.is_err_and(|e| e.kind() == kind && NoRun::of(&e) == why));
     Ok(())
 }
 
@@ -120,6 +149,9 @@ fn refuses_by_kind(rt: HostRuntime) -> Result<(), Fail> {
         ("rvboard a.s b.s", ErrorKind::UnknownArgument),
         ("rvboard --steps 1 --steps 1", ErrorKind::ArgumentConflict),
         ("rvboard --help", ErrorKind::DisplayHelp),
+        ("rvboard -h", ErrorKind::DisplayHelp),
+        ("rvboard --pages x", ErrorKind::ValueValidation),
+        ("rvboard -V", ErrorKind::UnknownArgument),
     ];
     for (line, kind) in lines {
         refuses(&rt, rt.alloc(), line, kind)?;
@@ -134,43 +166,22 @@ fn refuses_many_words(rt: HostRuntime) {
     assert!(rt; read.is_err_and(|e| e.kind() == ErrorKind::UnknownArgument));
 }
 
-/// Holds the place that a line's words name for the source to what is wanted.
-fn reads_from(rt: &impl Abort, alloc: Global, line: &str, place: Place<'_>) -> Result<(), Fail> {
-    let words = words_of(alloc, line)?;
-    assert!(rt; read_words(alloc, words.as_slice())?.source_place() == place);
-    Ok(())
-}
-
 #[test]
 fn a_dash_is_the_standard_input(rt: HostRuntime) -> Result<(), Fail> {
-    let alloc = rt.alloc();
-    reads_from(&rt, alloc, "rvboard", Place::StandardInput)?;
-    reads_from(&rt, alloc, "rvboard ./-", Place::File("./-"))
-}
-
-/// Holds why a line's words give no run, and the status, to what is wanted.
-fn gives_no_run(
-    rt: &impl Abort,
-    alloc: Global,
-    line: &str,
-    why: NoRun,
-    status: u8,
-) -> Result<(), Fail> {
-    let words = words_of(alloc, line)?;
-    let read = read_words(alloc, words.as_slice());
-    assert!(rt; read.is_err_and(|e| NoRun::of(&e) == why));
-    assert_eq!(rt; why.status(), status);
-    Ok(())
+    let file = Words {
+        source: "./-",
+        ..NO_WORDS
+    };
+    assert!(rt; NO_WORDS.source_place() == Place::StandardInput);
+    assert!(rt; file.source_place() == Place::File("./-"));
+    reads(&rt, rt.alloc(), "rvboard ./-", file)
 }
 
 #[test]
-fn tells_why_there_is_no_run(rt: HostRuntime) -> Result<(), Fail> {
-    let alloc = rt.alloc();
-    gives_no_run(&rt, alloc, "rvboard -h", NoRun::Help, 0)?;
-    gives_no_run(&rt, alloc, "rvboard --pages x", NoRun::Refused, 3)?;
-    gives_no_run(&rt, alloc, "rvboard -V", NoRun::Refused, 3)?;
-    assert_eq!(&rt; NoRun::OutOfMemory.status(), 4);
-    Ok(())
+fn tells_why_there_is_no_run(rt: HostRuntime) {
+    assert_eq!(rt; NoRun::Help.status(), 0);
+    assert_eq!(rt; NoRun::Refused.status(), 3);
+    assert_eq!(rt; NoRun::OutOfMemory.status(), 4);
 }
 
 #[test]
