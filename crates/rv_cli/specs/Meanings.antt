@@ -1,6 +1,12 @@
 -- A run's fault, by what its texts mean.
 -- Not to audit: private contracts alone cite this.
-use Rattle.std.specs.Prelude.{Result, Err, ⊤}
+use Rattle.std.specs.Prelude.{List, Option, Result, Err, ⊤}
+use Rattle.rv_asm.specs.Assembly.{Assembly}
+use Rattle.rv_board.specs.declared.event.BootFault.{BootFault}
+use Rattle.rv_lists.specs.declared.input.TimedInput.{TimedInput}
+use Rattle.rv_words.specs.declared.Options.{Options}
+use Rattle.rv_cli.specs.Output.{IsOutputByBoard}
+use Rattle.rv_texts.specs.Readers.{Texts}
 use Rattle.rv_texts.specs.declared.fault.CliFault.{CliFault}
 use Rattle.rv_texts.specs.declared.fault.CliFault.TheVariants.{OutOfMemory, ReadSource, ReadInput, ReadCommands, Write}
 
@@ -12,3 +18,8 @@ RefusedBy IsMeant ReadInput = ⊥
 RefusedBy IsMeant ReadCommands = ⊥
 RefusedBy IsMeant Write = ⊥
 RefusedBy IsMeant fault = IsMeant (Err fault)
+
+-- the fault is that of each run whose board can't be had for this, unless memory ran out
+abbrev pub HasNoBoard : Option BootFault → CliFault → Type 0
+HasNoBoard why fault = (texts : Texts) (options : Options) (assembly : Assembly) (inputs : List TimedInput)
+    → RefusedBy (IsOutputByBoard why texts options assembly inputs) fault

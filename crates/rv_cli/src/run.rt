@@ -1,7 +1,9 @@
 //! A run from its texts to the text that is printed.
-ghost use Rattle.std.specs.Prelude.{◌≡◌, ◌≢◌, IfErr, IfOk, Ok, false, is_some};
+ghost use Rattle.std.specs.Prelude.{◌≡◌, ◌≢◌, IfErr, IfOk, None, Ok, false, is_some, length};
+ghost use Rattle.rv_board.specs.Boot.{boot_fault, start};
+ghost use Rattle.rv_monitor.specs.State as monitor;
 ghost use Rattle.rv_cli.specs.Output.{IsOutput, IsOutputByAssembly, IsOutputByList, IsRunOf};
-ghost use Rattle.rv_cli.specs.Meanings.{RefusedBy};
+ghost use Rattle.rv_cli.specs.Meanings.{HasNoBoard, RefusedBy};
 ghost use Rattle.rv_cli.specs.Run.{Ended, Refused};
 ghost use Rattle.rv_texts.specs.Readers.{IsSoundIf, readers, side, side_if};
 ghost use Rattle.rv_texts.specs.declared.fault.CliFault.TheVariants.{ReadInput, ReadSource, Write};
@@ -40,6 +42,37 @@ fn print_session<M: ByteMemory, C: Decoded>(
     Ok(Printed { text, ending })
 }
 
+/// Boots the program's image on a board of the options.
+fn boot_board(alloc: Global, program: &Program, options: Options) -> Result<BootedBoard, CliFault>
+    ensures ok { IfOk result (λ b. (boot_fault (length program.now.bytes) options.pages options.slots ≡ None) × (b ≡ start program.now.bytes options.pages)) }
+    ensures err { IfErr result (HasNoBoard (boot_fault (length program.now.bytes) options.pages options.slots)) }
+{
+    let pages = u32::from(options.pages);
+    let slots = u32::from(options.slots);
+    match BootedBoard::boot(alloc, program, pages, slots) {
+        Ok(board) => Ok(board),
+        Err(BootFault::BadPages) => Err(CliFault::BadPages),
+        Err(BootFault::BadSlots) => Err(CliFault::BadSlots),
+        Err(BootFault::ImageTooLarge) => Err(CliFault::ImageTooLarge),
+        Err(BootFault::OutOfMemory) => Err(CliFault::OutOfMemory),
+    }
+}
+
+/// Runs a board with its timed inputs.
+fn run_board(
+    alloc: Global,
+    board: BootedBoard,
+    program: Program,
+    timeline: Timeline,
+    texts: &Texts,
+    limit: u64,
+) -> Result<Printed, NoMemory>
+    ensures { IfOk result (λ p. IsRunOf texts.now.commands (monitor.start board timeline program limit) (Ok (p.text.items, p.ending))) }
+{
+    let mut session = Session::new(alloc, board, timeline, program, limit);
+    print_session(alloc, &mut session, texts)
+}
+
 /// Boots the program's image and runs it with its timed inputs.
 fn run_timed(
     alloc: Global,
@@ -51,18 +84,12 @@ fn run_timed(
     ensures ok { IfOk result (λ p. IsOutputByList (Ok timeline) texts.now options program (Ok (p.text.items, p.ending))) }
     ensures err { IfErr result (RefusedBy (IsOutputByList (Ok timeline) texts.now options program)) }
 {
-    let pages = u32::from(options.pages);
-    let slots = u32::from(options.slots);
-    let board = match BootedBoard::boot(alloc, &program, pages, slots) {
+    let board = match boot_board(alloc, &program, options) {
         Ok(board) => board,
-        Err(BootFault::BadPages) => return Err(CliFault::BadPages),
-        Err(BootFault::BadSlots) => return Err(CliFault::BadSlots),
-        Err(BootFault::ImageTooLarge) => return Err(CliFault::ImageTooLarge),
-        Err(BootFault::OutOfMemory) => return Err(CliFault::OutOfMemory),
+        Err(fault) => return Err(fault),
     };
     let limit = u64::from(options.steps);
-    let mut session = Session::new(alloc, board, timeline, program, limit);
-    match print_session(alloc, &mut session, texts) {
+    match run_board(alloc, board, program, timeline, texts, limit) {
         Ok(printed) => Ok(printed),
         Err(NoMemory) => Err(CliFault::OutOfMemory),
     }

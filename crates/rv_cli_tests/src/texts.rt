@@ -8,6 +8,7 @@ use rv_cli::{
 };
 use std::alloc::Global;
 use std::io::{self, ErrorKind, Read, Write};
+use std::process::Abort;
 
 /// Runs a source with no input and without commands.
 fn run_source<S: TextIn, W: TextOut>(
@@ -34,19 +35,29 @@ fn reads_and_writes_a_byte_a_call(rt: HostRuntime) {
     assert!(rt; !source.failed() && !out.failed());
 }
 
+/// Holds that a run stops at this writer, which takes so much of what it prints.
+fn stops_at(rt: &impl Abort, alloc: Global, out: &mut MemoryOut, taken: &str)
+    requires { out.old.has_failed ≡ false }
+{
+    let outcome = run_source(alloc, &mut MemoryIn::new(HELLO), DEFAULTS, out);
+    assert!(rt; outcome == Err(CliFault::Write));
+    assert!(rt; out.bytes() == taken.as_bytes());
+    assert!(rt; out.failed());
+    assert_eq!(rt; exit_status(&outcome), 4);
+}
+
 #[test]
 fn stops_at_a_failed_write(rt: HostRuntime) {
-    let failing = MemoryOut::new(rt.alloc())
-        .with_most(3)
-        .with_failure_after(1);
-    let taking_none = MemoryOut::new(rt.alloc()).with_most(0);
-    for (mut out, taken) in [(failing, "H\nh"), (taking_none, "")] {
-        let outcome = run_source(rt.alloc(), &mut MemoryIn::new(HELLO), DEFAULTS, &mut out);
-        assert!(rt; outcome == Err(CliFault::Write));
-        assert!(rt; out.bytes() == taken.as_bytes());
-        assert!(rt; out.failed());
-        assert_eq!(rt; exit_status(&outcome), 4);
-    }
+    let alloc = rt.alloc();
+    let mut failing = MemoryOut::new(alloc).with_most(3).with_failure_after(1);
+    stops_at(&rt, alloc, &mut failing, "H\nh");
+}
+
+#[test]
+fn stops_at_a_write_that_takes_nothing(rt: HostRuntime) {
+    let alloc = rt.alloc();
+    let mut taking_none = MemoryOut::new(alloc).with_most(0);
+    stops_at(&rt, alloc, &mut taking_none, "");
 }
 
 /// A reader without an end.
@@ -183,13 +194,19 @@ fn goes_on_after_an_interrupted_read(rt: HostRuntime) {
     assert!(rt; !source.failed());
 }
 
+/// Runs a source into a writer of std, and answers with the outcome whether it is told that a write failed.
+fn run_into(alloc: Global, writer: &mut Interrupted<'_>) -> (Result<Ending, CliFault>, bool) {
+    let mut out = FileOut::new(writer);
+    let outcome = run_source(alloc, &mut MemoryIn::new(HELLO), DEFAULTS, &mut out);
+    (outcome, out.failed())
+}
+
 #[test]
 fn goes_on_after_an_interrupted_write(rt: HostRuntime) {
     let mut writer = Interrupted::new(b"", None);
-    let mut out = FileOut::new(&mut writer);
-    let outcome = run_source(rt.alloc(), &mut MemoryIn::new(HELLO), DEFAULTS, &mut out);
+    let (outcome, has_failed) = run_into(rt.alloc(), &mut writer);
     assert!(rt; outcome == Ok(Ending::Halted(0)));
-    assert!(rt; !out.failed());
+    assert!(rt; !has_failed);
     assert!(rt; writer.taken.starts_with(WRITTEN));
     assert_eq!(rt; writer.count, WRITTEN.len());
 }
@@ -207,10 +224,9 @@ fn stops_at_a_read_of_std_that_fails(rt: HostRuntime) {
 #[test]
 fn stops_at_a_write_of_std_that_fails(rt: HostRuntime) {
     let mut writer = Interrupted::new(b"", Some(5));
-    let mut out = FileOut::new(&mut writer);
-    let outcome = run_source(rt.alloc(), &mut MemoryIn::new(HELLO), DEFAULTS, &mut out);
+    let (outcome, has_failed) = run_into(rt.alloc(), &mut writer);
     assert!(rt; outcome == Err(CliFault::Write));
-    assert!(rt; out.failed());
+    assert!(rt; has_failed);
     assert_eq!(rt; writer.count, 2);
 }
 

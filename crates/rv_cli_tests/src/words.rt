@@ -1,121 +1,162 @@
 //! Words that are taken, words that are refused, and the help.
+use crate::runs::DEFAULTS;
 use clap::error::ErrorKind;
-use rv_cli::{NoRun, Place, read_words};
-use std::alloc::Global;
+use rv_cli::{NoRun, Options, Place, Words, read_words};
+use std::alloc::{AllocError, Global};
 use std::process::Abort;
 use std::test::Fail;
 
-#[test]
-fn reads_the_words(rt: HostRuntime) -> Result<(), Fail> {
-    let given = [
-        "rvboard",
-        "a.s",
-        "--steps",
-        "2",
-        "--pages=1",
-        "--slots",
-        "64",
-    ];
-    let after_dashes = ["rvboard", "--steps", "+0005", "--", "--x"];
-    let most = [
-        "rvboard",
-        "--slots=4096",
-        "--pages=4096",
-        "--steps=1000000000",
-        "-",
-    ];
-    let rows: [(&[&str], &str, u32, u16, u16); 4] = [
-        (&["rvboard"], "-", 1_000_000, 256, 1024),
-        (&given, "a.s", 2, 1, 64),
-        (&after_dashes, "--x", 5, 256, 1024),
-        (&most, "-", 1_000_000_000, 4096, 4096),
-    ];
-    for (words, source, steps, pages, slots) in rows {
-        let read = read_words(rt.alloc(), words)?;
-        assert!(rt; read.source == source);
-        assert_eq!(rt; read.options.steps, steps);
-        assert_eq!(rt; read.options.pages, pages);
-        assert_eq!(rt; read.options.slots, slots);
-    }
+/// The words of a line, with a space between two.
+fn words_of<'a>(alloc: Global, line: &'a str) -> Result<Vec<&'a str>, AllocError> {
+    line.split(' ').collect(alloc)
+}
+
+/// What is read where the line has no word behind the program's.
+const NO_WORDS: Words<'static> = Words {
+    source: "-",
+    input: None,
+    commands: None,
+    options: DEFAULTS,
+};
+
+/// Holds what is read of a line's words to what is wanted.
+fn reads(rt: &impl Abort, alloc: Global, line: &str, wanted: Words<'_>) -> Result<(), Fail> {
+    let words = words_of(alloc, line)?;
+    let read = read_words(alloc, words.as_slice())?;
+    assert!(rt; read.source == wanted.source);
+    assert!(rt; read.input == wanted.input);
+    assert!(rt; read.commands == wanted.commands);
+    assert!(rt; read.options == wanted.options);
     Ok(())
 }
 
-/// Holds the files that words name to what is wanted.
-fn names(
+/// Holds the source and the options that a line's words name to what is wanted.
+fn reads_options(
     rt: &impl Abort,
     alloc: Global,
-    words: &[&str],
-    input: Option<&str>,
-    commands: Option<&str>,
+    line: &str,
+    source: &str,
+    options: (u32, u16, u16),
 ) -> Result<(), Fail> {
-    let read = read_words(alloc, words)?;
-    assert!(rt; read.input == input);
-    assert!(rt; read.commands == commands);
-    Ok(())
+    let (steps, pages, slots) = options;
+    let options = Options {
+        steps,
+        pages,
+        slots,
+    };
+    let wanted = Words {
+        source,
+        options,
+        ..NO_WORDS
+    };
+    reads(rt, alloc, line, wanted)
+}
+
+#[test]
+fn reads_the_words(rt: HostRuntime) -> Result<(), Fail> {
+    let alloc = rt.alloc();
+    reads(&rt, alloc, "rvboard", NO_WORDS)?;
+    let most = (1_000_000_000, 4096, 4096);
+    let line = "rvboard a.s --steps 2 --pages=1 --slots 64";
+    reads_options(&rt, alloc, line, "a.s", (2, 1, 64))?;
+    let line = "rvboard --steps +0005 -- --x";
+    reads_options(&rt, alloc, line, "--x", (5, 256, 1024))?;
+    let line = "rvboard --slots=4096 --pages=4096 --steps=1000000000 -";
+    reads_options(&rt, alloc, line, "-", most)
+}
+
+/// Holds the files that a line's words name to what is wanted.
+fn names<'a>(
+    rt: &impl Abort,
+    alloc: Global,
+    line: &str,
+    input: Option<&'a str>,
+    commands: Option<&'a str>,
+) -> Result<(), Fail> {
+    let wanted = Words {
+        input,
+        commands,
+        ..NO_WORDS
+    };
+    reads(rt, alloc, line, wanted)
 }
 
 #[test]
 fn reads_the_files(rt: HostRuntime) -> Result<(), Fail> {
     let alloc = rt.alloc();
-    names(&rt, alloc, &["rvboard", "a.s"], None, None)?;
-    let both = ["rvboard", "--commands=c.txt", "a.s", "--input", "i.txt"];
-    names(&rt, alloc, &both, Some("i.txt"), Some("c.txt"))?;
-    let input = ["rvboard", "--input", "i.txt"];
-    names(&rt, alloc, &input, Some("i.txt"), None)?;
-    let commands = ["rvboard", "--commands", "-"];
-    names(&rt, alloc, &commands, None, Some("-"))?;
-    names(&rt, alloc, &["rvboard", "--input=-x"], Some("-x"), None)?;
-    names(&rt, alloc, &["rvboard", "--input="], Some(""), None)?;
-    let empty = ["rvboard", "--commands", ""];
-    names(&rt, alloc, &empty, None, Some(""))
+    let both = Words {
+        source: "a.s",
+        input: Some("i.txt"),
+        commands: Some("c.txt"),
+        ..NO_WORDS
+    };
+    reads(
+        &rt,
+        alloc,
+        "rvboard --commands=c.txt a.s --input i.txt",
+        both,
+    )?;
+    names(&rt, alloc, "rvboard --input i.txt", Some("i.txt"), None)?;
+    names(&rt, alloc, "rvboard --commands -", None, Some("-"))?;
+    names(&rt, alloc, "rvboard --input=-x", Some("-x"), None)?;
+    names(&rt, alloc, "rvboard --input=", Some(""), None)?;
+    // The last word is empty.
+    names(&rt, alloc, "rvboard --commands ", None, Some(""))
 }
 
-/// Whether words are refused with an error of this kind.
-fn are_refused(alloc: Global, words: &[&str], kind: ErrorKind) -> bool {
-    read_words(alloc, words).is_err_and(|e| e.kind() == kind)
-}
-
-#[test]
-fn refuses_files_by_kind(rt: HostRuntime) {
-    let alloc = rt.alloc();
-    let twice = ["rvboard", "--input=a", "--input=b"];
-    assert!(&rt; are_refused(alloc, &twice, ErrorKind::ArgumentConflict));
-    let twice = ["rvboard", "--commands", "a", "--commands", "a"];
-    assert!(&rt; are_refused(alloc, &twice, ErrorKind::ArgumentConflict));
-    let no_value = ["rvboard", "--input"];
-    assert!(&rt; are_refused(alloc, &no_value, ErrorKind::InvalidValue));
-    let no_value = ["rvboard", "--commands"];
-    assert!(&rt; are_refused(alloc, &no_value, ErrorKind::InvalidValue));
-    let no_value = ["rvboard", "--input", "--commands", "a"];
-    assert!(&rt; are_refused(alloc, &no_value, ErrorKind::InvalidValue));
-    let unknown = ["rvboard", "--input", "-x"];
-    assert!(&rt; are_refused(alloc, &unknown, ErrorKind::UnknownArgument));
-    let unknown = ["rvboard", "--commands", "-x"];
-    assert!(rt; are_refused(alloc, &unknown, ErrorKind::UnknownArgument));
+/// Holds that a line's words are refused with an error of this kind, and that its run is told so.
+fn refuses(rt: &impl Abort, alloc: Global, line: &str, kind: ErrorKind) -> Result<(), Fail> {
+    let words = words_of(alloc, line)?;
+    let read = read_words(alloc, words.as_slice());
+    let why = if kind == ErrorKind::DisplayHelp {
+        NoRun::Help
+    } else {
+        NoRun::Refused
+    };
+    assert!(rt; read.is_err_and(|e| e.kind() == kind && NoRun::of(&e) == why));
+    Ok(())
 }
 
 #[test]
-fn refuses_by_kind(rt: HostRuntime) {
-    let cases: [(&[&str], ErrorKind); 9] = [
-        (&["rvboard", "--pages", "0"], ErrorKind::ValueValidation),
-        (&["rvboard", "--pages", "4097"], ErrorKind::ValueValidation),
-        (&["rvboard", "--slots", "63"], ErrorKind::ValueValidation),
-        (&["rvboard", "--slots=4097"], ErrorKind::ValueValidation),
+fn refuses_files_by_kind(rt: HostRuntime) -> Result<(), Fail> {
+    let lines = [
+        ("rvboard --input=a --input=b", ErrorKind::ArgumentConflict),
         (
-            &["rvboard", "--steps", "1000000001"],
-            ErrorKind::ValueValidation,
-        ),
-        (&["rvboard", "--step", "1"], ErrorKind::UnknownArgument),
-        (&["rvboard", "a.s", "b.s"], ErrorKind::UnknownArgument),
-        (
-            &["rvboard", "--steps", "1", "--steps", "1"],
+            "rvboard --commands a --commands a",
             ErrorKind::ArgumentConflict,
         ),
-        (&["rvboard", "--help"], ErrorKind::DisplayHelp),
+        ("rvboard --input", ErrorKind::InvalidValue),
+        ("rvboard --commands", ErrorKind::InvalidValue),
+        ("rvboard --input --commands a", ErrorKind::InvalidValue),
+        ("rvboard --input -x", ErrorKind::UnknownArgument),
+        ("rvboard --commands -x", ErrorKind::UnknownArgument),
     ];
-    for (words, kind) in cases {
-        assert!(rt; read_words(rt.alloc(), words).is_err_and(|e| e.kind() == kind));
+    for (line, kind) in lines {
+        refuses(&rt, rt.alloc(), line, kind)?;
     }
+    Ok(())
+}
+
+#[test]
+fn refuses_by_kind(rt: HostRuntime) -> Result<(), Fail> {
+    let lines = [
+        ("rvboard --pages 0", ErrorKind::ValueValidation),
+        ("rvboard --pages 4097", ErrorKind::ValueValidation),
+        ("rvboard --slots 63", ErrorKind::ValueValidation),
+        ("rvboard --slots=4097", ErrorKind::ValueValidation),
+        ("rvboard --steps 1000000001", ErrorKind::ValueValidation),
+        ("rvboard --step 1", ErrorKind::UnknownArgument),
+        ("rvboard a.s b.s", ErrorKind::UnknownArgument),
+        ("rvboard --steps 1 --steps 1", ErrorKind::ArgumentConflict),
+        ("rvboard --help", ErrorKind::DisplayHelp),
+        ("rvboard -h", ErrorKind::DisplayHelp),
+        ("rvboard --pages x", ErrorKind::ValueValidation),
+        ("rvboard -V", ErrorKind::UnknownArgument),
+    ];
+    for (line, kind) in lines {
+        refuses(&rt, rt.alloc(), line, kind)?;
+    }
+    Ok(())
 }
 
 #[test]
@@ -127,24 +168,19 @@ fn refuses_many_words(rt: HostRuntime) {
 
 #[test]
 fn a_dash_is_the_standard_input(rt: HostRuntime) -> Result<(), Fail> {
-    let none = ["rvboard"];
-    let file = ["rvboard", "./-"];
-    assert!(rt; read_words(rt.alloc(), &none)?.source_place() == Place::StandardInput);
-    assert!(rt; read_words(rt.alloc(), &file)?.source_place() == Place::File("./-"));
-    Ok(())
+    let file = Words {
+        source: "./-",
+        ..NO_WORDS
+    };
+    assert!(rt; NO_WORDS.source_place() == Place::StandardInput);
+    assert!(rt; file.source_place() == Place::File("./-"));
+    reads(&rt, rt.alloc(), "rvboard ./-", file)
 }
 
 #[test]
 fn tells_why_there_is_no_run(rt: HostRuntime) {
-    let rows: [(&[&str], NoRun, u8); 3] = [
-        (&["rvboard", "-h"], NoRun::Help, 0),
-        (&["rvboard", "--pages", "x"], NoRun::Refused, 3),
-        (&["rvboard", "-V"], NoRun::Refused, 3),
-    ];
-    for (words, why, status) in rows {
-        assert!(rt; read_words(rt.alloc(), words).is_err_and(|e| NoRun::of(&e) == why));
-        assert_eq!(rt; why.status(), status);
-    }
+    assert_eq!(rt; NoRun::Help.status(), 0);
+    assert_eq!(rt; NoRun::Refused.status(), 3);
     assert_eq!(rt; NoRun::OutOfMemory.status(), 4);
 }
 

@@ -8,7 +8,7 @@ ghost use Rattle.std.specs.Prelude.{◌≡◌, IfOk, false};
 ghost use Rattle.rv_texts.specs.Readers.{IsSoundIf};
 
 use rv_cli::{
-    CliFault, Ending, FileIn, FileOut, MemoryIn, NoRun, Place, TextIn, TextName, Words,
+    CliFault, Ending, FileIn, FileOut, MemoryIn, NoRun, Options, Place, TextIn, TextName, Words,
     exit_status, fault_line, opened, read_words, run_text,
 };
 use std::alloc::AllocError;
@@ -40,6 +40,22 @@ fn open_named(
     Ok(Some(FileIn::new(file)))
 }
 
+/// Runs a source with a timed list and commands, and prints to the standard output.
+fn run_texts<S: TextIn, I: TextIn>(
+    rt: &HostRuntime,
+    source: &mut S,
+    inputs: &mut I,
+    commands: &mut Option<FileIn<File>>,
+    options: Options,
+) -> Result<Ending, CliFault>
+    requires source { S.has_failed source.old ≡ false }
+    requires inputs { I.has_failed inputs.old ≡ false }
+    requires commands { IsSoundIf (λ f. f.has_failed) commands.old }
+{
+    let mut out = FileOut::new(rt.stdout());
+    run_text(rt.alloc(), source, inputs, commands, options, &mut out)
+}
+
 /// Runs a source with the timed list and the commands that the words name, whose files it opens first.
 fn run_source<S: TextIn>(
     rt: &HostRuntime,
@@ -51,27 +67,9 @@ fn run_source<S: TextIn>(
     let input = open_named(rt, TextName::Input, words.input)?;
     let mut commands = open_named(rt, TextName::Commands, words.commands)?;
     let options = words.options;
-    let mut out = FileOut::new(rt.stdout());
     match input {
-        Some(mut inputs) => run_text(
-            rt.alloc(),
-            source,
-            &mut inputs,
-            &mut commands,
-            options,
-            &mut out,
-        ),
-        None => {
-            let mut inputs = MemoryIn::new(b"");
-            run_text(
-                rt.alloc(),
-                source,
-                &mut inputs,
-                &mut commands,
-                options,
-                &mut out,
-            )
-        }
+        Some(mut inputs) => run_texts(rt, source, &mut inputs, &mut commands, options),
+        None => run_texts(rt, source, &mut MemoryIn::new(b""), &mut commands, options),
     }
 }
 
