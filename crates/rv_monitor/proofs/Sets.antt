@@ -1,5 +1,6 @@
 -- Lists of addresses as sets.
 use Rattle.std.proofs.Common.{◌≡◌, ◌∙◌, ℕ, Bool, true, false, cond, List, [], ◌∷◌, length, sym, refl, ap, arith}
+use Rattle.std.proofs.lemmas.Bool.Decides.{nat_tests}
 use Rattle.std.specs.Prelude.{nat_eq, ◌||◌, ◌&&◌, not}
 use Rattle.std.specs.List.{list_any}
 use Rattle.std.specs.Ordering.{nat_cmp}
@@ -27,6 +28,17 @@ pub inserted : (xs ys : List ℕ) (x : ℕ) → ((q : ℕ) → is_in ys q ≡ co
 inserted xs ys x each = same_set nat_cmp_total nat_cmp-IsAntisymmetric _ _ (λ q.
     has ys q ∙ (each q ∙ (or_else (nat_eq x q) (is_in xs q)
     ∙ sym (contains-insert nat_cmp_total (from_list xs) x q ∙ (ap (λ b. b || contains (from_list {R = nat_cmp} xs) q) (unsigned_tied q x ∙ nat_eq_equiv.symm q x) ∙ ap (λ b. nat_eq x q || b) (has xs q))))))
+
+-- one that is there already
+with_same : (s : set.FinSet nat_cmp) (x q : ℕ) (b : Bool) → nat_eq x q ≡ b → contains s x ≡ true → (nat_eq x q || contains s q) ≡ contains s q
+with_same s x q true e h =
+    let same : q ≡ x = grind (arith, nat_tests) in
+    ap (λ b. b || contains s q) e ∙ sym (ap (contains s) same ∙ h)
+with_same s x q false e h = ap (λ b. b || contains s q) e
+
+pub there : (s : set.FinSet nat_cmp) (x : ℕ) → contains s x ≡ true → s ≡ insert s x
+there s x h = same_set nat_cmp_total nat_cmp-IsAntisymmetric _ _ (λ q.
+    sym (contains-insert nat_cmp_total s x q ∙ (ap (λ b. b || contains s q) (unsigned_tied q x ∙ nat_eq_equiv.symm q x) ∙ with_same s x q (nat_eq x q) refl h)))
 
 -- and with one less
 pub removed : (xs ys : List ℕ) (x : ℕ) → ((q : ℕ) → is_in ys q ≡ cond (nat_eq x q) false (is_in xs q)) → from_list {R = nat_cmp} ys ≡ remove (from_list xs) x

@@ -12,7 +12,7 @@ use Rattle.rv_monitor.specs.declared.stop.Stop.{Stop}
 use Rattle.rv_monitor.specs.declared.stop.Stop.TheVariants.{Halted, Breakpoint, Limit}
 use Rattle.rv_monitor.specs.declared.command.Next.{Next}
 use Rattle.rv_monitor.specs.declared.command.Next.TheVariants as next
-use Rattle.rv_monitor.specs.State.{Addresses, SessionState, most_of}
+use Rattle.rv_monitor.specs.State.{Addresses, SessionState, most_of, with_break, without_break}
 use Rattle.rv_monitor.specs.Stops.{stop_after, HasStopped, IsRefused}
 
 -- ---- steps
@@ -41,8 +41,8 @@ going_for s (Some n) = n
 abbrev pub Leaves : Option Command → SessionState → SessionState → Type 0
 Leaves (Some (Step n)) old new = Took set.empty n old new
 Leaves (Some (Go n)) old new = Took old.breakpoints (going_for old n) old new
-Leaves (Some (SetBreak addr)) old new = new ≡ record old { breakpoints = set.insert old.breakpoints addr }
-Leaves (Some (ClearBreak addr)) old new = new ≡ record old { breakpoints = set.remove old.breakpoints addr }
+Leaves (Some (SetBreak addr)) old new = new ≡ with_break old addr
+Leaves (Some (ClearBreak addr)) old new = new ≡ without_break old addr
 Leaves _ old new = new ≡ old
 
 -- the text had room for fewer bytes than are asked for, and nothing was done
@@ -50,9 +50,9 @@ pub record HadNoRoom (asked room : ℕ) (old new : SessionState) : Type 0 where
   pub full : room < asked
   pub state : new ≡ old
 
--- a breakpoint was not set: the text had no room, or the address would have been a new one
+-- a breakpoint was not set: the text had no room, or the address would have been a new one, for which there was none either
 pub record WasNotSet (addr room : ℕ) (old new : SessionState) : Type 0 where
-  pub full : (room < 15) ⊎ (set.contains old.breakpoints addr ≡ false)
+  pub full : (room < 15) ⊎ ((set.contains old.breakpoints addr ≡ false) × (old.room ≡ 0))
   pub state : new ≡ old
 
 -- what a command leaves where memory ran out, by how many bytes more the text had room for: room is asked for the longest

@@ -1,5 +1,6 @@
 pub mod Events
 pub mod State
+pub mod Breaks
 pub mod Stops
 pub mod Laws
 pub mod Asked

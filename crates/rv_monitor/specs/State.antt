@@ -1,6 +1,6 @@
 -- To audit: public contracts cite this.
 -- All that a session is.
-use Rattle.std.specs.Prelude.{◌≡◌, ℕ, ◌+◌, ◌-◌, ◌≤◌, min, true, List, length, drop, filter, nat_le, nat_lt}
+use Rattle.std.specs.Prelude.{◌≡◌, ℕ, ◌+◌, ◌-◌, ◌≤◌, ◌==◌, if◌then◌else◌, min, true, List, length, drop, filter, nat_le, nat_lt}
 use Rattle.std.specs.List.{list_all}
 use Rattle.std.specs.Ordering.{nat_cmp}
 use Rattle.std.specs.FinSet as set
@@ -23,12 +23,14 @@ pub record TimedState : Type 0 where
   pub place : ℕ
   pub taken : ℕ
 
--- with the program that was booted, the most steps that may be taken, and the breakpoints
+-- with the program that was booted, the most steps that may be taken, the breakpoints, and for how many more of them there is
+-- room, so that they take no memory
 pub record SessionState : Type 0 where
   pub timed : TimedState
   pub program : Assembly
   pub limit : ℕ
   pub breakpoints : Addresses
+  pub room : ℕ
 
 -- the inputs that weren't given
 abbrev pub rest : TimedState → List TimedInput
@@ -43,11 +45,26 @@ pub record IsInTime (s : TimedState) : Type 0 where
 -- a session before its first step
 abbrev pub start : BoardState → List TimedInput → Assembly → ℕ → SessionState
 start board inputs program limit =
-    record { timed = record { board = board; inputs = inputs; place = 0; taken = 0 }; program = program; limit = limit; breakpoints = set.empty }
+    record { timed = record { board = board; inputs = inputs; place = 0; taken = 0 }; program = program; limit = limit; breakpoints = set.empty; room = 0 }
 
 -- the most steps that a call for so many may take
 abbrev pub most_of : SessionState → ℕ → ℕ
 most_of s n = min n (s.limit - s.timed.taken)
+
+-- ---- breakpoints
+
+-- the room behind one that was set: where it was there already, it took none; another takes a place, and where there was none,
+-- room for nine was made first
+abbrev pub room_behind : Addresses → ℕ → ℕ → ℕ
+room_behind breakpoints room address = if set.contains breakpoints address then room else (if room == 0 then 9 else room) - 1
+
+-- with one more
+abbrev pub with_break : SessionState → ℕ → SessionState
+with_break s address = record s { breakpoints = set.insert s.breakpoints address; room = room_behind s.breakpoints s.room address }
+
+-- with one less, which gives no room back
+abbrev pub without_break : SessionState → ℕ → SessionState
+without_break s address = record s { breakpoints = set.remove s.breakpoints address }
 
 -- ---- what steps make of it
 

@@ -4,6 +4,7 @@ ghost use Rattle.std.specs.FinSet as set;
 ghost use Rattle.rv_views.specs.Numbers.{hex};
 ghost use Rattle.rv_views.specs.Views.{line, stop_text};
 ghost use Rattle.rv_commands.specs.Commands.{command_of, IsNamed};
+ghost use Rattle.rv_monitor.specs.State.{with_break, without_break};
 ghost use Rattle.rv_monitor.specs.Commands.{Took, WasRefused, HadNoRoom, WasNotSet, Leaves, LeavesRefused, going_for, steps_text, cleared_text, answer, next_of, word_of};
 
 use crate::session::Session;
@@ -82,7 +83,7 @@ impl<M: ByteMemory, C: Decoded> Session<M, C> {
 
     /// Sets a breakpoint, and says where.
     fn answer_set(&mut self, addr: u32, text: &mut Vec<u8>) -> Result<(), NoMemory>
-        ensures ok { OnOk result (self.new ≡ record self.old { breakpoints = set.insert self.old.breakpoints addr }) }
+        ensures ok { OnOk result (self.new ≡ with_break self.old addr) }
         ensures text { OnOk result (text.new.items ≡ text.old.items ++ line (codes "break " ++ hex 8 addr)) }
         ensures err { OnErr result (WasNotSet addr (vec_capacity text.old - vec_len text.old) self.old self.new) }
         ensures unwritten { OnErr result (text.new.items ≡ text.old.items) }
@@ -95,7 +96,7 @@ impl<M: ByteMemory, C: Decoded> Session<M, C> {
 
     /// Clears a breakpoint, and says where it was.
     fn answer_clear(&mut self, addr: u32, text: &mut Vec<u8>) -> Result<(), NoMemory>
-        ensures ok { OnOk result (self.new ≡ record self.old { breakpoints = set.remove self.old.breakpoints addr }) }
+        ensures ok { OnOk result (self.new ≡ without_break self.old addr) }
         ensures text { OnOk result (text.new.items ≡ text.old.items ++ cleared_text self.old.breakpoints addr) }
         ensures err { OnErr result (HadNoRoom 15 (vec_capacity text.old - vec_len text.old) self.old self.new) }
         ensures unwritten { OnErr result (text.new.items ≡ text.old.items) }

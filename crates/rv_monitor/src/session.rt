@@ -2,7 +2,7 @@
 ghost use Rattle.std.specs.Prelude.{◌≡◌, ◌+◌, ◌-◌, ◌≤◌, ◌<◌, min, false, OnOk, OnErr, IfOk};
 ghost use Rattle.std.specs.FinSet as set;
 ghost use Rattle.rv_monitor.specs.Laws.{RunsJoin, CallsJoin};
-ghost use Rattle.rv_monitor.specs.State.{TimedState, IsInTime, start, most_of};
+ghost use Rattle.rv_monitor.specs.State.{TimedState, IsInTime, start, most_of, with_break, without_break};
 ghost use Rattle.rv_monitor.specs.Stops.{HasStopped, IsRefused};
 
 use crate::breakpoints::Breakpoints;
@@ -42,7 +42,7 @@ impl<M: ByteMemory, C: Decoded> Model for Session<M, C> {
 
     ghost coded = { Prim.hlevel (codes, plic_code, set.code {R = nat_cmp} coded_ℕ) };
 
-    ghost view = { λ s. record { timed = s.timed; program = s.program; limit = s.limit; breakpoints = s.breakpoints } };
+    ghost view = { λ s. record { timed = s.timed; program = s.program; limit = s.limit; breakpoints = s.breakpoints.addresses; room = s.breakpoints.room } };
 
     ghost invariant = { λ s. s.timed.taken ≤ s.limit };
 }
@@ -104,12 +104,13 @@ impl<M: ByteMemory, C: Decoded> Session<M, C> {
         self.breakpoints.contains(address)
     }
 
-    /// Makes an address a breakpoint. A refused call changes nothing, and only one for an address that is none can be
-    /// refused.
+    /// Makes an address a breakpoint. A refused call changes nothing. Only one for an address that is none can be refused,
+    /// and only where the breakpoints have no room, which is made for nine of them at a time.
     pub fn set_break(&mut self, address: u32) -> Result<(), NoMemory>
-        ensures ok { OnOk result (self.new ≡ record self.old { breakpoints = set.insert self.old.breakpoints address }) }
+        ensures ok { OnOk result (self.new ≡ with_break self.old address) }
         ensures err { OnErr result (self.new ≡ self.old) }
         ensures absent { OnErr result (set.contains self.old.breakpoints address ≡ false) }
+        ensures room { OnErr result (self.old.room ≡ 0) }
     {
         self.breakpoints.insert(address)
     }
@@ -117,7 +118,7 @@ impl<M: ByteMemory, C: Decoded> Session<M, C> {
     /// Takes a breakpoint away, and says whether it was there.
     pub fn clear_break(&mut self, address: u32) -> bool
         ensures was { result ≡ set.contains self.old.breakpoints address }
-        ensures gone { self.new ≡ record self.old { breakpoints = set.remove self.old.breakpoints address } }
+        ensures gone { self.new ≡ without_break self.old address }
     {
         self.breakpoints.remove(address)
     }
