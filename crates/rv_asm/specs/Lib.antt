@@ -6,3 +6,4 @@ pub mod Listing
 pub mod Layout
 pub mod Assembly
 pub mod Steps
+pub mod Taken

@@ -1,12 +1,13 @@
 //! From source to image.
-ghost use Rattle.std.specs.Prelude.{◌≡◌, ◌≤◌, ◌<◌, Result, Ok, IfOk, length};
+ghost use Rattle.std.specs.Prelude.{◌≡◌, ◌≤◌, ◌<◌, Result, Ok, IfOk, IfErr, OnOk, length};
 ghost use Rattle.std.specs.List.{All};
 ghost use Rattle.rv_tokens.specs.Lines.{lines};
 ghost use Rattle.rv_source.specs.Reading.{said};
 ghost use Rattle.rv_asm.specs.declared.fault.AsmFault.{AsmFault};
 ghost use Rattle.rv_asm.specs.Faults.{Gives};
 ghost use Rattle.rv_asm.specs.Assembly.{assembled};
-ghost use Rattle.rv_asm.specs.Steps.{State, extended, lines_laid_out, image_of};
+ghost use Rattle.rv_asm.specs.Steps.{State, nothing, extended, lines_laid_out, image_of};
+ghost use Rattle.rv_asm.specs.Taken.{so_far, IsUnread};
 
 use crate::layout::Layout;
 use crate::placed::Placed;
@@ -16,42 +17,60 @@ use rv_source::{Line, read_line};
 use rv_tokens::cut_lines;
 use std::alloc::Global;
 
-/// One more line, where no line before it had a fault in phase two.
-fn extended<'a>(
+/// What a line says, or its fault in phase one.
+fn read<'a>(alloc: Global, number: usize, text: &'a [u8]) -> Result<Line<'a>, AsmFault>
+    requires { number < 0xffffffffffffffff }
+    ensures ok { IfOk result (λ line. said text.now ≡ Ok line) }
+    ensures err { IfErr result (IsUnread number text.now) }
+{
+    match read_line(alloc, text) {
+        Ok(line) => Ok(line),
+        Err(fault) => Err(AsmFault::at(number + 1, FaultKind::from(fault))),
+    }
+}
+
+/// Lays out one more line, where no line before it had a fault in phase two.
+fn add<'a>(
     alloc: Global,
-    layout: Result<Layout<'a>, AsmFault>,
     number: usize,
     text: &'a [u8],
     line: &Line,
-) -> Result<Layout<'a>, AsmFault>
-    requires up_to { IfOk layout (λ l. All (λ d. d.line ≤ number) l.known.definitions.locals) }
+    layout: &mut Layout<'a>,
+    fault: &mut Option<AsmFault>,
+)
+    requires up_to { IfOk (so_far fault.old layout.old) (λ l. All (λ d. d.line ≤ number) l.known.definitions.locals) }
     requires counted { number < 0xffffffffffffffff }
     requires read { said text.now ≡ Ok line.now }
-    ensures { (m : Result State AsmFault) → Gives (λ l. l) layout.entry m → Gives (λ l. l) result (extended number line.now m) }
+    ensures { (m : Result State AsmFault) → Gives (λ l. l) (so_far fault.old layout.old) m → Gives (λ l. l) (so_far fault.new layout.new) (extended number line.now m) }
 {
-    let mut layout = layout?;
-    match layout.add(alloc, number, text, line) {
-        Ok(()) => Ok(layout),
-        Err(kind) => Err(AsmFault::at(number + 1, kind)),
+    if fault.is_some() {
+        return;
+    }
+    if let Err(kind) = layout.add(alloc, number, text, line) {
+        *fault = Some(AsmFault::at(number + 1, kind));
     }
 }
 
 /// Reads the lines, and lays them out up to the first that has a fault in phase two: a later line that can't be read
 /// comes before that fault.
-fn lay_out<'a>(alloc: Global, source: &'a [u8]) -> Result<Layout<'a>, AsmFault>
-    ensures layout { Gives (λ l. l) result (lines_laid_out (lines source.now)) }
-    ensures within { IfOk result (λ l. All (λ i. i.line < length source.now) l.items) }
+fn lay_out<'a>(alloc: Global, source: &'a [u8], layout: &mut Layout<'a>) -> Result<(), AsmFault>
+    requires { layout.old ≡ nothing }
+    ensures layout { Gives (λ _. layout.new) result (lines_laid_out (lines source.now)) }
+    ensures within { OnOk result (All (λ i. i.line < length source.now) layout.new.items) }
 {
-    let mut layout = Ok(Layout::new(alloc));
+    let mut fault = None;
     let mut number: usize = 0;
     for text in cut_lines(source) {
-        match read_line(alloc, text) {
-            Ok(line) => layout = extended(alloc, layout, number, text, &line),
-            Err(fault) => return Err(AsmFault::at(number + 1, FaultKind::from(fault))),
+        match read(alloc, number, text) {
+            Ok(line) => add(alloc, number, text, &line, layout, &mut fault),
+            Err(unread) => return Err(unread),
         }
         number += 1;
     }
-    layout
+    match fault {
+        None => Ok(()),
+        Some(fault) => Err(fault),
+    }
 }
 
 /// The bytes of the statements.
@@ -73,7 +92,8 @@ fn image(alloc: Global, items: &[Placed], symbols: &Symbols) -> Result<Vec<u8>, 
 pub fn assemble(alloc: Global, source: &[u8]) -> Result<Program, AsmFault>
     ensures { Gives (λ p. p) result (assembled source.now) }
 {
-    let layout = lay_out(alloc, source)?;
+    let mut layout = Layout::new(alloc);
+    lay_out(alloc, source, &mut layout)?;
     let bytes = image(alloc, layout.items(), layout.symbols())?;
     Ok(Program::new(bytes, layout.into_names()))
 }

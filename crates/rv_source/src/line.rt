@@ -50,11 +50,4 @@ impl<'a> Line<'a> {
     {
         self.statement.as_ref()
     }
-
-    /// The statement, if the line has one, without the rest of the line.
-    pub fn into_statement(self) -> Option<Statement<'a>>
-        ensures { result ≡ self.entry.statement }
-    {
-        self.statement
-    }
 }

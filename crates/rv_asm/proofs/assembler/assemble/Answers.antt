@@ -6,11 +6,11 @@ use Rattle.rv_asm.proofs.Runs.{fails_bind}
 use Rattle.rv_asm.proofs.Whole.{whole, finished, program_of, image_fits}
 use Rattle.rv_asm.proofs.assembler.assemble.Goals as goal
 
-pub returns-in_err-layout : goal.returns-in_err-layout
-returns-in_err-layout c =
+pub returns-in_err-lay_out : goal.returns-in_err-lay_out
+returns-in_err-lay_out c =
     let p = err_from_is_err_and c.from_residual.result c.from_residual.ensures.1 in
-    let fault = c.in_err-layout.field-0.0 in
-    let f = fails_bind fault.kind fault (lines_laid_out (lines c.args.source.now)) finished c.in_err-layout.ensures.layout in
+    let fault = c.in_err-lay_out.field-0.0 in
+    let f = fails_bind fault.kind fault (lines_laid_out (lines c.args.source.now)) finished c.in_err-lay_out.ensures.layout in
     rw (p.1, p.2, whole c.args.source.now) f
 
 pub returns-in_err-bytes : goal.returns-in_err-bytes
@@ -19,14 +19,14 @@ returns-in_err-bytes c =
     let fault = c.in_err-bytes.field-0.0 in
     let f = fails_bind fault.kind fault (image_of c.symbols.result.now c.items.result.now) (program_of c.symbols.result.now) c.in_err-bytes.ensures in
     let g = rw (c.symbols.ensures, c.items.ensures) at f in
-    rw (p.1, p.2, whole c.args.source.now, c.in_ok-layout.ensures.layout) g
+    rw (p.1, p.2, whole c.args.source.now, c.in_ok-lay_out.ensures.layout) g
 
 pub new-requires : goal.new-requires
 new-requires c =
     let image = rw (c.symbols.ensures, c.items.ensures) at c.in_ok-bytes.ensures in
-    image_fits c.args.source.now c.in_ok-layout.layout c.in_ok-bytes.bytes.items c.in_ok-layout.ensures.layout image
+    image_fits c.args.source.now c.lay_out.new.layout c.in_ok-bytes.bytes.items c.in_ok-lay_out.ensures.layout image
 
 pub returns : goal.returns
 returns c =
     let image = rw (c.symbols.ensures, c.items.ensures) at c.in_ok-bytes.ensures in
-    rw (whole c.args.source.now, c.in_ok-layout.ensures.layout, image, c.new.ensures, c.into_names.ensures) refl
+    rw (whole c.args.source.now, c.in_ok-lay_out.ensures.layout, image, c.new.ensures, c.into_names.ensures) refl

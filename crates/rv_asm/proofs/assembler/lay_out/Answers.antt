@@ -1,9 +1,9 @@
-use Rattle.std.proofs.Common.{◌≡◌, ◌∙◌, ◌+◌, ◌∷◌, length, ap, sym, arith}
+use Rattle.std.proofs.Common.{◌≡◌, ◌∙◌, ◌∷◌, length, ap, sym, arith}
 use Rattle.std.specs.Prelude.{Ok}
 use Rattle.rv_tokens.specs.Lines.{lines}
-use Rattle.rv_asm.specs.Faults.{IsFaultAt, kind_of}
 use Rattle.rv_asm.specs.Assembly.{all_said}
 use Rattle.rv_asm.specs.Steps.{State, laid_out}
+use Rattle.rv_asm.specs.Taken.{so_far}
 use Rattle.rv_asm.proofs.Reading.{begun, laid_out-zero, up_to_laid_out, below_laid_out, read_more, laid_out_more, unread, read_all}
 use Rattle.rv_asm.proofs.assembler.lay_out.Goals as goal
 
@@ -13,41 +13,47 @@ loop-text-init c =
     record {
       can_next = tt;
       is_finite = tt;
-      so_far = rw all (begun (lines c.args.source.now));
-      layout = laid_out-zero (all_said (lines c.args.source.now)) ∙ ap (λ (s : State). Ok s) (sym c.new.ensures);
+      read = rw all (begun (lines c.args.source.now));
+      layout = laid_out-zero (all_said (lines c.args.source.now)) ∙ ap (λ (s : State). Ok s) (sym c.requires);
       counted = omega (arith, ap length c.into_iter-text-iterator.ensures.into_iter_gives, c.cut_lines-text-items.ensures.within);
     }
 
-pub extended-layout-requires-clause-up_to : goal.extended-layout-requires-clause-up_to
-extended-layout-requires-clause-up_to c = up_to_laid_out (all_said (lines c.args.source.now)) c.loop-text.number c.loop-text.layout c.loop-text.invariant.layout
+pub add-requires-clause-up_to : goal.add-requires-clause-up_to
+add-requires-clause-up_to c =
+    up_to_laid_out (all_said (lines c.args.source.now)) c.loop-text.number (so_far c.loop-text.fault c.loop-text.layout) c.loop-text.invariant.layout
 
 pub returns-in-Err-clause-layout : goal.returns-in-Err-clause-layout
 returns-in-Err-clause-layout c =
-    let at : IsFaultAt (c.loop-text.number + 1) (kind_of c.in-Err.fault) c.at.result = rw c.from.ensures at c.at.ensures in
-    unread (lines c.args.source.now) c.loop-text.text-iterator c.loop-text.number c.loop-text.invariant.so_far c.in-Some.text.now c.next.new.self c.in-Some.ensures.steps
-    c.in-Err.fault c.at.result c.in-Err.ensures.says at
+    let why = c.in-Err.ensures.err in
+    unread (lines c.args.source.now) c.loop-text.text-iterator c.loop-text.number c.loop-text.invariant.read c.in-Some.text.now c.next.new.self c.in-Some.ensures.steps
+    why.kind c.in-Err.unread why.fails why.at
 
 pub loop-text-preserved : goal.loop-text-preserved
 loop-text-preserved c =
     let texts = lines c.args.source.now in
     let rest = c.loop-text.text-iterator in
     let n = c.loop-text.number in
-    let so = c.loop-text.invariant.so_far in
+    let so = c.loop-text.invariant.read in
     let text = c.in-Some.text.now in
     let after = c.next.new.self in
     let cut : rest ≡ text ∷ after = c.in-Some.ensures.steps in
     record {
       can_next = tt;
       is_finite = tt;
-      so_far = read_more texts rest n so text after cut c.in-Ok.line c.in-Ok.ensures.says;
-      layout = rw (← laid_out_more texts rest n so text after cut c.in-Ok.line c.in-Ok.ensures.says) (c.extended-layout.ensures (laid_out (all_said texts) n) c.loop-text.invariant.layout);
+      read = read_more texts rest n so text after cut c.in-Ok.line c.in-Ok.ensures.ok;
+      layout = rw (← laid_out_more texts rest n so text after cut c.in-Ok.line c.in-Ok.ensures.ok) (c.add.ensures (laid_out (all_said texts) n) c.loop-text.invariant.layout);
       counted = omega (arith, c.loop-text.invariant.counted, ap length cut);
     }
 
-pub returns-clause-layout : goal.returns-clause-layout
-returns-clause-layout c =
-    rw (read_all (lines c.args.source.now) c.loop-text.text-iterator c.loop-text.number c.loop-text.invariant.so_far c.in-None.ensures.steps.0) c.loop-text.invariant.layout
+pub returns-in-None-fault-clause-layout : goal.returns-in-None-fault-clause-layout
+returns-in-None-fault-clause-layout c =
+    rw (read_all (lines c.args.source.now) c.loop-text.text-iterator c.loop-text.number c.loop-text.invariant.read c.in-None.ensures.steps.0) (rw c.in-None-fault.is at c.loop-text.invariant.layout)
 
-pub returns-clause-within : goal.returns-clause-within
-returns-clause-within c =
-    below_laid_out (all_said (lines c.args.source.now)) c.loop-text.number (length c.args.source.now) c.loop-text.layout (omega (arith, c.loop-text.invariant.counted)) c.loop-text.invariant.layout
+pub returns-in-None-fault-clause-within : goal.returns-in-None-fault-clause-within
+returns-in-None-fault-clause-within c =
+    let whole = rw c.in-None-fault.is at c.loop-text.invariant.layout in
+    below_laid_out (all_said (lines c.args.source.now)) c.loop-text.number (length c.args.source.now) (Ok c.loop-text.layout) (omega (arith, c.loop-text.invariant.counted)) whole
+
+pub returns-in-Some-fault-clause-layout : goal.returns-in-Some-fault-clause-layout
+returns-in-Some-fault-clause-layout c =
+    rw (read_all (lines c.args.source.now) c.loop-text.text-iterator c.loop-text.number c.loop-text.invariant.read c.in-None.ensures.steps.0) (rw c.in-Some-fault.is at c.loop-text.invariant.layout)

@@ -3,6 +3,7 @@ use Rattle.rv_tokens.specs.Lines.{lines}
 use Rattle.rv_asm.specs.Faults.{Gives}
 use Rattle.rv_asm.specs.Assembly.{all_said}
 use Rattle.rv_asm.specs.Steps.{laid_out}
+use Rattle.rv_asm.specs.Taken.{so_far}
 use Rattle.rv_asm.proofs.Reading.{SoFar}
 use Rattle.rv_asm.proofs.assembler.lay_out.Given as goal
 
@@ -11,7 +12,7 @@ invariant-loop-text l =
     record {
       can_next : (goal.iterator-loop-text).can_next l.text-iterator;
       is_finite : (goal.iterator-loop-text).is_finite l.text-iterator;
-      so_far : SoFar (lines l.source) l.text-iterator l.number;
-      layout : Gives (λ s. s) l.layout (laid_out (all_said (lines l.source)) l.number);
+      read : SoFar (lines l.source) l.text-iterator l.number;
+      layout : Gives (λ s. s) (so_far l.fault l.layout) (laid_out (all_said (lines l.source)) l.number);
       counted : l.number + length l.text-iterator ≤ length l.source;
     }
