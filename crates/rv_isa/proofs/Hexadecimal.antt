@@ -64,7 +64,3 @@ hex_length (suc k) n h small = ⊎_elim
     (λ l. omega (arith, one_long n l))
     (λ l. omega (arith, one_longer n l small, hex_length k (n / 16) (omega arith) (omega arith)))
     (cases_lt n 16)
-
--- one of twenty bits has at most five
-pub hex_upper : (n : ℕ) → n < 2 ^ 20 → length (digits 16 false n) ≤ 5
-hex_upper n h = hex_length 4 n (omega arith) (omega arith)

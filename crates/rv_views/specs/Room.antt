@@ -16,17 +16,17 @@ control_register_room name = length name + 10
 abbrev pub memory_room : ℕ → ℕ
 memory_room count = 10 * div_ceil count 16 + 3 * count
 
--- `i`: the address and the word, 8 digits each, what stands between and behind them, and the 32 of an instruction's text
+-- `i`: the address and the word, 8 digits each, what stands between and behind them, and the 19 of an instruction's text
 abbrev pub instruction_room : ℕ
-instruction_room = 52
+instruction_room = 39
 
 -- `t`: 47 for each trap that is kept
 abbrev pub traps_room : ℕ → ℕ
 traps_room count = 47 * count
 
--- `e`: a source of up to 3 digits and a count of up to 10
+-- `e`: a source of up to 2 digits, a count of up to 10, and what stands around them
 abbrev pub edges_room : ℕ
-edges_room = 28
+edges_room = 27
 
 -- `s` and `c`: the word, the 18 of the pc and the mode, a count of up to 20 digits, and what stands around them
 abbrev pub stop_room : List ℕ → ℕ

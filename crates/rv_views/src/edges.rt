@@ -11,10 +11,10 @@ use rv_plic::Source;
 use rv_ram::ByteMemory;
 
 /// How many bytes the line has at most.
-const LINE_BYTES: usize = 28;
+const LINE_BYTES: usize = 27;
 
 /// Appends how many edges of a source wait.
-#[tactic(auto, unfolding(crate::specs::Views::edges_text))]
+#[tactic(auto, using(crate::proofs::Decimals::two_at_most), unfolding(crate::specs::Views::edges_text))]
 pub fn write_edges<M: ByteMemory, C: Decoded>(
     board: &Board<M, C>,
     source: Source,

@@ -149,7 +149,7 @@ fn word<M: ByteMemory, C: Decoded>(board: &Board<M, C>, addr: u32) -> Option<u32
 }
 
 /// How many bytes a word and what it means have at most.
-const WORD_BYTES: usize = 41;
+const WORD_BYTES: usize = 28;
 
 /// Appends a word and what it means, or `--------` where there is none.
 fn append_word(word: Option<u32>, text: &mut Vec<u8>)
