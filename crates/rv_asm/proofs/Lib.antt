@@ -1,4 +1,3 @@
-pub mod Lookups
 pub mod Sums
 pub mod Nops
 pub mod Always

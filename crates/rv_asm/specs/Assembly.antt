@@ -1,8 +1,9 @@
 -- What a source is assembled to.
 -- To audit: public contracts cite this.
 -- Own language; see docs/ASSEMBLER.md.
-use Rattle.std.specs.Prelude.{ℕ, suc, List, [], map, length, get_or, ℤ, pos, Option, Some, None, Result, Ok, Err}
+use Rattle.std.specs.Prelude.{ℕ, suc, List, [], map, length, get_or, pos, Option, Some, None, Result, Ok, Err}
 use Rattle.std.specs.Option.{option_map, option_or, unwrap_or}
+pub use Rattle.rv_program.specs.Program.{Assembly}
 use Rattle.rv_source.specs.Said.{Said}
 use Rattle.rv_source.specs.Reading.{said}
 use Rattle.rv_tokens.specs.Lines.{lines}
@@ -12,11 +13,6 @@ use Rattle.rv_asm.specs.Faults.{kind_of}
 use Rattle.rv_asm.specs.Symbols.{sum_value}
 use Rattle.rv_asm.specs.Layout.{first, joined, blank, line_at, known_at, constant_of, definitions, phase_two_fault}
 use Rattle.rv_asm.specs.Listing.{statement_bytes}
-
--- the bytes of the image, and the names with their values, in order of definition
-pub record Assembly : Type 0 where
-  pub bytes : List ℕ
-  pub symbols : List (List ℕ × ℤ)
 
 -- the fault of line k in phase one
 abbrev pub phase_one_fault : List (List ℕ) → ℕ → Option FaultKind

@@ -1,12 +1,11 @@
--- Answers that don't know their line, and what is kept of values and local labels.
+-- Answers that don't know their line, and what is kept of local labels.
 -- Own language; see docs/ASSEMBLER.md.
 -- Not to audit: private contracts alone cite this.
-use Rattle.std.specs.Prelude.{◌≡◌, ℕ, List, [], ◌∷◌, ℤ, pos, ◌+ℤ◌, ◌≤ℤ◌, true, ◌==◌, if◌then◌else◌, ◌≤◌, ◌<◌, get_or, length, Result, Ok, Err}
+use Rattle.std.specs.Prelude.{◌≡◌, ℕ, List, [], ◌∷◌, ℤ, pos, ◌+ℤ◌, ◌≤ℤ◌, ◌==◌, if◌then◌else◌, ◌≤◌, ◌<◌, get_or, length, Result, Ok, Err}
 use Rattle.std.specs.List.{AllByRecursion}
 use Rattle.rv_asm.specs.declared.fault.FaultKind.{FaultKind}
 use Rattle.rv_asm.specs.declared.fault.FaultKind.TheVariants.{OutOfMemory}
 use Rattle.rv_asm.specs.declared.locals.LocalLabel.{LocalLabel}
-use Rattle.rv_asm.specs.Values.{is_word}
 
 -- ---- an answer that may fail, and doesn't know its line
 
@@ -23,11 +22,7 @@ abbrev pub KindBecomes : {A B : Type 0} → B → Result A FaultKind → Result 
 KindBecomes new (Ok x) meaning = meaning ≡ Ok new
 KindBecomes new (Err kind) meaning = KindFails kind meaning
 
--- ---- what is kept of values and local labels
-
--- each value is one of 32 bits, with or without a sign
-abbrev pub AreWords : List (List ℕ × ℤ) → Type 0
-AreWords ds = AllByRecursion (λ d. is_word d.1 ≡ true) ds
+-- ---- what is kept of local labels
 
 -- from -n to n
 pub record IsNear (n : ℕ) (v : ℤ) : Type 0 where

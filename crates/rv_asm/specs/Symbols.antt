@@ -1,9 +1,9 @@
 -- What is defined in a source, and what an expression stands for.
 -- To audit: public contracts cite this.
 -- Own language; see docs/ASSEMBLER.md.
-use Rattle.std.specs.Prelude.{ℕ, map, Vec, ◌&&◌, List, [], ◌∷◌, ℤ, pos, ◌+ℤ◌, ◌-ℤ◌, Bool, Option, Some, None, option_and_then, ◌==◌, nat_le, nat_lt, if◌then◌else◌}
+use Rattle.std.specs.Prelude.{ℕ, ◌&&◌, List, [], ◌∷◌, ℤ, pos, ◌+ℤ◌, ◌-ℤ◌, Bool, Option, Some, None, option_and_then, ◌==◌, nat_le, nat_lt, if◌then◌else◌}
 use Rattle.std.specs.Option.{option_map, option_or}
-use Rattle.std.specs.Str.{bytes_eq}
+pub use Rattle.rv_program.specs.Program.{value_of}
 use Rattle.rv_source.specs.declared.expression.Atom.{Atom}
 use Rattle.rv_source.specs.declared.expression.Atom.TheVariants.{Number, Symbol, Local, Here}
 use Rattle.rv_source.specs.declared.expression.Term.{Term}
@@ -15,11 +15,6 @@ use Rattle.rv_asm.specs.declared.locals.LocalLabel.{LocalLabel}
 pub record Definitions : Type 0 where
   pub names : List (List ℕ × ℤ)
   pub locals : List LocalLabel
-
--- the value of a name: that of its only definition
-abbrev pub value_of : List (List ℕ × ℤ) → List ℕ → Option ℤ
-value_of [] name = None
-value_of (d ∷ ds) name = if bytes_eq name d.0 then Some d.1 else value_of ds name
 
 -- `nf`: the nearest definition of n on a line after this one
 abbrev pub nearest_after : List LocalLabel → ℕ → ℕ → Option ℕ
@@ -53,7 +48,3 @@ unfoldable pub sum_value : Definitions → ℕ → ℕ → List Term → Option 
 sum_value ds line here [] = Some (pos 0)
 sum_value ds line here (t ∷ ts) =
     option_and_then (λ v. option_map (λ w. added w t.negative v) (sum_value ds line here ts)) (atom_value ds line here t.atom)
-
--- a map's entries as definitions
-abbrev pub definitions_of : {A : Type 0} → List (Vec ℕ A × ℤ) → List (List ℕ × ℤ)
-definitions_of = map (λ e. (e.0.items, e.1))

@@ -2,6 +2,7 @@
 -- To audit: public contracts cite this.
 -- Own language; see docs/ASSEMBLER.md.
 use Rattle.std.specs.Prelude.{ℕ, ◌+◌, ◌-◌, ◌/◌, ◌%◌, ◌^◌, Bool, ◌&&◌, List, [], ◌∷◌, ℤ, pos, negsuc, ◌-ℤ◌, int_le, nat_lt, ◌==◌, Option, Some, None, if◌then◌else◌}
+pub use Rattle.rv_program.specs.Program.{is_word}
 use Rattle.rv_isa.specs.Number.{modulo, signed}
 use Rattle.rv_isa.specs.declared.kind.Kind.{Kind}
 use Rattle.rv_isa.specs.declared.kind.Kind.TheVariants.{Lui, OpImm}
@@ -11,10 +12,6 @@ use Rattle.rv_isa.specs.declared.op.Width.TheVariants.{One, Two, Four}
 
 abbrev pub is_between : ℤ → ℤ → ℤ → Bool
 is_between low high v = int_le low v && int_le v high
-
--- from -2 ^ 31 to 2 ^ 32 - 1
-abbrev pub is_word : ℤ → Bool
-is_word = is_between (negsuc 0x7fffffff) (pos 0xffffffff)
 
 -- a word with or without a sign, and so for two bytes and for one
 abbrev pub fits : Width → ℤ → Bool

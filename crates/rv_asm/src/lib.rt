@@ -11,13 +11,11 @@ mod fault;
 mod instructions;
 mod layout;
 mod locals;
-mod names;
 mod placed;
-mod program;
 mod symbols;
 mod values;
 
 pub use assembler::assemble;
 pub use fault::{AsmFault, FaultKind};
 pub use locals::LocalLabel;
-pub use program::Program;
+pub use rv_program::Program;

@@ -5,7 +5,7 @@ ghost use Rattle.rv_asm.specs.Kept.{IsNear};
 ghost use Rattle.rv_asm.specs.Values.{is_word};
 
 use crate::locals::Locals;
-use crate::names::Names;
+use rv_program::Names;
 use rv_source::{Atom, Expression};
 use std::alloc::Global;
 use std::marker::Model;

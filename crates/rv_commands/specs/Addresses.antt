@@ -6,7 +6,7 @@ use Rattle.std.specs.Option.{option_map}
 use Rattle.std.specs.List.{list_all, starts_with}
 use Rattle.rv_isa.specs.Number.{modulo}
 use Rattle.rv_lists.specs.Numbers.{hex_digit}
-use Rattle.rv_asm.specs.Symbols.{value_of}
+use Rattle.rv_program.specs.Program.{value_of}
 
 -- what hexadecimal digits stand for, the first of them the highest
 abbrev pub hex_value : List ℕ → ℕ

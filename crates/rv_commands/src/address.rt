@@ -3,8 +3,8 @@ ghost use Rattle.std.specs.Prelude.{◌≡◌, ◌^◌, ◌&&◌, nat_le};
 ghost use Rattle.rv_isa.specs.Number.{modulo};
 ghost use Rattle.rv_commands.specs.Addresses.{hexadecimal, address_of};
 
-use rv_asm::Program;
 use rv_lists::hex_digit;
+use rv_program::Program;
 
 /// Whether an address may have so many hexadecimal digits.
 fn is_digit_count(count: usize) -> bool

@@ -6,10 +6,10 @@ ghost use Rattle.rv_commands.specs.Commands.{number_of, byte_count, edge_source,
 
 use crate::Command;
 use crate::address::address;
-use rv_asm::Program;
 use rv_isa::csr_named;
 use rv_lists::{begins_comment, decimal, first_word, has_word};
 use rv_plic::Source;
+use rv_program::Program;
 use rv_tokens::Name;
 
 /// The longest line that is looked at.

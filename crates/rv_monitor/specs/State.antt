@@ -5,7 +5,7 @@ use Rattle.std.specs.List.{list_all}
 use Rattle.std.specs.Ordering.{nat_cmp}
 use Rattle.std.specs.FinSet as set
 use Rattle.std.specs.FinSet.{FinSet}
-use Rattle.rv_asm.specs.Assembly.{Assembly}
+use Rattle.rv_program.specs.Program.{Assembly}
 use Rattle.rv_board.specs.State.{BoardState}
 use Rattle.rv_board.specs.Move.{run}
 use Rattle.rv_lists.specs.Timed.{never_falls}

@@ -1,8 +1,8 @@
 use Rattle.std.proofs.Common.{◌≡◌, ◌∙◌, ap}
-use Rattle.rv_asm.specs.Symbols.{value_of, definitions_of}
-use Rattle.rv_asm.proofs.Lookups.{lookup_value, word_of_name}
-use Rattle.rv_asm.proofs.names.Names.value.Goals as goal
-use Rattle.rv_asm.proofs.names.Names.value.Goals.{After-copied}
+use Rattle.rv_program.specs.Program.{value_of, definitions_of}
+use Rattle.rv_program.proofs.Lookups.{lookup_value, word_of_name}
+use Rattle.rv_program.proofs.names.Names.value.Goals as goal
+use Rattle.rv_program.proofs.names.Names.value.Goals.{After-copied}
 
 found : (c : After-copied) → c.copied.result ≡ value_of (definitions_of c.self.inside.map.entries) c.args.name.now
 found c = (c.copied.ensures ∙ c.get.ensures.value) ∙ lookup_value c.self.inside.map.entries c.args.name.now

@@ -14,7 +14,7 @@ pub struct Program {
 
 impl Model for Program {
     ghost use Rattle.std.specs.Prelude.{◌≤◌, length};
-    ghost use Rattle.rv_asm.specs.Assembly.{Assembly};
+    ghost use Rattle.rv_program.specs.Program.{Assembly};
 
     ghost Value = { Assembly };
 
@@ -25,9 +25,10 @@ impl Model for Program {
 
 impl Program {
     ghost use Rattle.std.specs.Prelude.{◌≡◌, ◌≤◌, length};
-    ghost use Rattle.rv_asm.specs.Symbols.{value_of, definitions_of};
+    ghost use Rattle.rv_program.specs.Program.{value_of, definitions_of};
 
-    pub(crate) fn new(bytes: Vec<u8>, names: Names) -> Self
+    /// An image of at most 16,777,216 bytes, with these names.
+    pub fn new(bytes: Vec<u8>, names: Names) -> Self
         requires { length bytes.items ≤ 16777216 }
         ensures { result ≡ record { bytes = bytes.items; symbols = names } }
     {

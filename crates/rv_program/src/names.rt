@@ -1,7 +1,7 @@
 //! The names that a source defines.
 ghost use Rattle.std.specs.Prelude.{◌≡◌, true, List, [], ◌∷◌, ◌++◌, None, IfSome, OnOk, OnErr};
-ghost use Rattle.rv_asm.specs.Symbols.{value_of, definitions_of};
-ghost use Rattle.rv_asm.specs.Values.{is_word};
+ghost use Rattle.rv_program.specs.Program.{value_of, definitions_of};
+ghost use Rattle.rv_program.specs.Program.{is_word};
 
 use indexmap::IndexMap;
 use std::alloc::{AllocError, Global};
@@ -15,8 +15,8 @@ pub struct Names {
 
 impl Model for Names {
     ghost use Rattle.std.specs.Prelude.{List, ℕ, ℤ};
-    ghost use Rattle.rv_asm.specs.Symbols.{definitions_of};
-    ghost use Rattle.rv_asm.specs.Kept.{AreWords};
+    ghost use Rattle.rv_program.specs.Program.{definitions_of};
+    ghost use Rattle.rv_program.specs.Kept.{AreWords};
 
     ghost Value = { List (List ℕ × ℤ) };
 
@@ -26,6 +26,7 @@ impl Model for Names {
 }
 
 impl Names {
+    /// No name, which takes no memory.
     pub fn new(alloc: Global) -> Self
         ensures { result ≡ [] }
     {

@@ -4,11 +4,11 @@ use lib.Pointwise.{pointwise}
 use Rattle.std.specs.Prelude.{nat_eq}
 use mir.Syntax.{w64}
 use mir.Val.{to_z, of_z, SFits}
-use Rattle.rv_asm.specs.Symbols.{value_of, definitions_of}
+use Rattle.rv_program.specs.Program.{value_of, definitions_of}
 use Rattle.indexmap.proofs.CallerLemmas.{insert_entry-new}
-use Rattle.rv_asm.proofs.Lookups.{lookup_value, definitions_of-push, AreWords-push}
-use Rattle.rv_asm.proofs.names.Names.define.Goals as goal
-use Rattle.rv_asm.proofs.names.Names.define.Goals.{In_ok-insert}
+use Rattle.rv_program.proofs.Lookups.{lookup_value, definitions_of-push, AreWords-push}
+use Rattle.rv_program.proofs.names.Names.define.Goals as goal
+use Rattle.rv_program.proofs.names.Names.define.Goals.{In_ok-insert}
 
 key_is : (c : In_ok-insert) → c.in_ok-key.key.items ≡ c.args.name.now
 key_is c = c.in_ok-key.ensures.items_if_clones_equal (λ x y e. e)

@@ -4,9 +4,9 @@ use Rattle.std.specs.Prelude.{Option, Some, IfSome, nat_eq}
 use Rattle.std.specs.Str.{bytes_eq}
 use Rattle.std.specs.Map.{lookup}
 use lib.Pointwise.{pointwise}
-use Rattle.rv_asm.specs.Values.{is_word}
-use Rattle.rv_asm.specs.Symbols.{value_of, definitions_of}
-use Rattle.rv_asm.specs.Kept.{AreWords}
+use Rattle.rv_program.specs.Program.{is_word}
+use Rattle.rv_program.specs.Program.{value_of, definitions_of}
+use Rattle.rv_program.specs.Kept.{AreWords}
 
 pub lookup_value : {A : Type 0} (es : List (Vec ℕ A × ℤ)) (name : List ℕ) → lookup (λ k. pointwise nat_eq name k.items) es ≡ value_of (definitions_of es) name
 lookup_value [] name = refl

@@ -1,0 +1,23 @@
+-- What a source is assembled to.
+-- To audit: public contracts cite this.
+-- Own language; see docs/ASSEMBLER.md.
+use Rattle.std.specs.Prelude.{ℕ, map, Vec, ◌&&◌, List, [], ◌∷◌, ℤ, pos, negsuc, int_le, Bool, Option, Some, None, if◌then◌else◌}
+use Rattle.std.specs.Str.{bytes_eq}
+
+-- the bytes of the image, and the names with their values, in order of definition
+pub record Assembly : Type 0 where
+  pub bytes : List ℕ
+  pub symbols : List (List ℕ × ℤ)
+
+-- the value of a name: that of its only definition
+abbrev pub value_of : List (List ℕ × ℤ) → List ℕ → Option ℤ
+value_of [] name = None
+value_of (d ∷ ds) name = if bytes_eq name d.0 then Some d.1 else value_of ds name
+
+-- a map's entries as definitions
+abbrev pub definitions_of : {A : Type 0} → List (Vec ℕ A × ℤ) → List (List ℕ × ℤ)
+definitions_of = map (λ e. (e.0.items, e.1))
+
+-- from -2 ^ 31 to 2 ^ 32 - 1
+abbrev pub is_word : ℤ → Bool
+is_word v = int_le (negsuc 0x7fffffff) v && int_le v (pos 0xffffffff)
