@@ -7,7 +7,7 @@ use std::alloc::{AllocError, Global};
 use std::marker::Model;
 
 /// A definition of a local label, as the definitions speak of it; the program answers none.
-#[derive(Clone, Copy, PartialEq, Eq, Debug)]
+#[derive(Clone, Copy)]
 pub struct LocalLabel {
     /// The line on which it stands, counted from 0.
     pub line: usize,

@@ -2,7 +2,7 @@
 use rv_plic::Source;
 
 /// One atomic action of one of the board's actors. Every interleaving of them is a list of events.
-#[derive(Clone, Copy, Debug, PartialEq, Eq)]
+#[derive(Clone, Copy)]
 pub enum Event {
     /// Time passes by one tick, and the hart does one step.
     Step,

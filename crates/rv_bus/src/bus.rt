@@ -29,7 +29,7 @@ pub enum StoreRefusal {
 }
 
 /// What the passing of time changes, as it was.
-#[derive(Clone, Copy, Debug, PartialEq, Eq)]
+#[derive(Clone, Copy)]
 pub struct Mark {
     timer: Timer,
     plic: Plic,
@@ -50,7 +50,7 @@ impl Model for Mark {
 }
 
 /// What a tick changes, as it is before it: the time, and the sources whose requests it forwards.
-#[derive(Clone, Copy, Debug, PartialEq, Eq)]
+#[derive(Clone, Copy)]
 pub struct Tick {
     time: u64,
     requests: SourceSet,

@@ -24,7 +24,7 @@ const PLIC: u32 = 0x0c00_0000;
 const PLIC_END: u32 = 0x1000_0000;
 
 /// What the address table has at an address, for an access of some width.
-#[derive(Clone, Copy, Debug, PartialEq, Eq)]
+#[derive(Clone, Copy)]
 pub enum Place {
     /// The memory, at this offset in bytes: accesses of every width, and fetches.
     Ram(u32),

@@ -5,7 +5,7 @@ ghost use Rattle.rv_csr.specs.Registers.{counted, grown, with_low, with_high, wr
 use crate::register;
 
 /// The two counters, each of 64 bits. Privileged Architecture 20211203, section 3.1.10.
-#[derive(Clone, Copy, PartialEq, Eq, Debug)]
+#[derive(Clone, Copy)]
 pub struct Counters {
     /// mcycle: the steps.
     pub cycles: u64,

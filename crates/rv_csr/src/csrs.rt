@@ -28,7 +28,7 @@ const EXTERNAL_INTERRUPT: u32 = 0x8000000B;
 /// The control registers of machine mode, with physical memory protection.
 ///
 /// mepc is always a multiple of 4.
-#[derive(Drop, Debug)]
+#[derive(Drop)]
 pub struct Csrs {
     status: Status,
     enables: Lines,

@@ -8,7 +8,7 @@ use rv_pmp::Mode;
 
 /// A control register, beside those of physical memory protection: the one of this name in the standard. Privileged
 /// Architecture 20211203, section 3.1.
-#[derive(Clone, Copy, PartialEq, Eq, Debug)]
+#[derive(Clone, Copy)]
 pub enum Register {
     /// Interrupt enables, the mode before the last trap, and what loads, stores and WFI go by.
     Mstatus,

@@ -7,7 +7,7 @@ use rv_isa::Lines;
 use rv_pmp::Mode;
 
 /// The fields of mstatus that this hart has. Privileged Architecture 20211203, section 3.1.6.
-#[derive(Clone, Copy, PartialEq, Eq, Debug)]
+#[derive(Clone, Copy)]
 pub struct Status {
     /// MIE: whether machine mode takes interrupts.
     pub interrupts: bool,

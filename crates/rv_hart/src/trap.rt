@@ -2,7 +2,7 @@
 use rv_isa::NoMemory;
 
 /// Why an instruction was not done: an exception (Privileged Architecture 20211203, sections 3.1.15 and 3.1.16).
-#[derive(Clone, Copy, Debug, PartialEq, Eq)]
+#[derive(Clone, Copy)]
 pub struct Trap {
     /// The number of the cause.
     pub cause: u32,
@@ -11,7 +11,7 @@ pub struct Trap {
 }
 
 /// What a step did.
-#[derive(Clone, Copy, Debug, PartialEq, Eq)]
+#[derive(Clone, Copy)]
 pub enum Outcome {
     /// An instruction retired.
     Retired,
@@ -29,7 +29,7 @@ pub enum Outcome {
 }
 
 /// Why an instruction came to no end: it trapped, or a growth was refused.
-#[derive(Clone, Copy, Debug, PartialEq, Eq)]
+#[derive(Clone, Copy)]
 pub(crate) enum Stop {
     Trap(Trap),
     NoMemory,

@@ -16,7 +16,7 @@ ghost use Rattle.rv_isa.specs.declared.op.AluOp.{AluOp};
 /// The condition under which a branch is taken, of its two registers.
 ///
 /// RISC-V Unprivileged ISA 20191213, section 2.5. `branch_taken` is what each one asks.
-#[derive(Clone, Copy, PartialEq, Eq, Debug)]
+#[derive(Clone, Copy)]
 pub enum Cond {
     /// BEQ: equal.
     Eq,
@@ -65,7 +65,7 @@ impl Cond {
 /// What a load reads, and how it is extended to a word.
 ///
 /// RISC-V Unprivileged ISA 20191213, section 2.6.
-#[derive(Clone, Copy, PartialEq, Eq, Debug)]
+#[derive(Clone, Copy)]
 pub enum LoadOp {
     /// LB: one byte, extended with its sign.
     Lb,
@@ -191,7 +191,7 @@ impl Width {
 /// An operation on a register and an immediate.
 ///
 /// RISC-V Unprivileged ISA 20191213, section 2.4.
-#[derive(Clone, Copy, PartialEq, Eq, Debug)]
+#[derive(Clone, Copy)]
 pub enum ImmOp {
     /// ADDI: the sum.
     Addi,
@@ -254,7 +254,7 @@ impl ImmOp {
 /// What an instruction does to a control register.
 ///
 /// RISC-V Unprivileged ISA 20191213, section 9.1.
-#[derive(Clone, Copy, PartialEq, Eq, Debug)]
+#[derive(Clone, Copy)]
 pub enum CsrOp {
     /// CSRRW, CSRRWI: the source is written.
     Write,
@@ -291,7 +291,7 @@ impl CsrOp {
 /// A shift of a register by an amount that stands in the instruction.
 ///
 /// RISC-V Unprivileged ISA 20191213, section 2.4.
-#[derive(Clone, Copy, PartialEq, Eq, Debug)]
+#[derive(Clone, Copy)]
 pub enum ShiftOp {
     /// SLLI: to the left.
     Slli,

@@ -6,7 +6,7 @@ use std::marker::Model;
 /// One of the integer registers x0 to x31, seen as its number.
 ///
 /// RISC-V Unprivileged ISA 20191213, section 2.1. Its text is the number's name, as `x10`.
-#[derive(Clone, Copy, PartialEq, Eq, Debug)]
+#[derive(Clone, Copy)]
 pub struct Reg(pub(crate) u8);
 
 impl Model for Reg {

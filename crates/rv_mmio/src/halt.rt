@@ -5,7 +5,7 @@ ghost use Rattle.rv_mmio.specs.Halt.{halted_by};
 use std::marker::Model;
 
 /// The halt register. It keeps the code of the last store that halted the board.
-#[derive(Clone, Copy, PartialEq, Eq, Debug)]
+#[derive(Clone, Copy)]
 pub struct Halt {
     code: Option<u16>,
 }

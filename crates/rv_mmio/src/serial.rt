@@ -15,7 +15,7 @@ const QUEUE: usize = 16;
 const ROOM: usize = 4096;
 
 /// A register of the serial port.
-#[derive(Clone, Copy, PartialEq, Eq, Debug)]
+#[derive(Clone, Copy)]
 pub enum SerialReg {
     /// Sends a byte.
     Tx,

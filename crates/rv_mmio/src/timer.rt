@@ -8,7 +8,7 @@ use std::marker::Model;
 ///
 /// Privileged Architecture 20211203, section 3.2.1: mtime and mtimecmp have 64 bits, and a hart of 32 bits reaches
 /// each of their words alone.
-#[derive(Clone, Copy, PartialEq, Eq, Debug)]
+#[derive(Clone, Copy)]
 pub enum TimerReg {
     /// The software interrupt bit in bit 0, at 0 (section 3.1.9).
     Msip,

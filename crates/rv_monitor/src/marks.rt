@@ -6,7 +6,7 @@ ghost use Rattle.rv_monitor.specs.Marks.{is_marked};
 const MARKS: usize = 64;
 
 /// A mark for all addresses of words whose numbers have the same low six bits: an address that has none isn't in the set.
-#[derive(Clone, Copy, Debug, PartialEq, Eq)]
+#[derive(Clone, Copy)]
 pub(crate) struct Marks {
     flags: [bool; MARKS],
 }

@@ -11,7 +11,7 @@ use std::marker::Model;
 const FIRST: u8 = 24;
 
 /// How many edges of each source wait that is triggered by edges.
-#[derive(Clone, Copy, PartialEq, Eq, Debug)]
+#[derive(Clone, Copy)]
 pub struct Edges {
     counts: [u32; 8],
 }

@@ -9,7 +9,7 @@ use crate::set::SourceSet;
 use std::marker::Model;
 
 /// The gateways of all sources: whose line is high, whose request is not completed, and the edges that wait.
-#[derive(Clone, Copy, PartialEq, Eq, Debug)]
+#[derive(Clone, Copy)]
 pub struct Gateways {
     high: SourceSet,
     outstanding: SourceSet,

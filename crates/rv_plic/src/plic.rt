@@ -13,7 +13,7 @@ use crate::set::SourceSet;
 use std::marker::Model;
 
 /// The platform-level interrupt controller: 31 sources and one context.
-#[derive(Clone, Copy, PartialEq, Eq, Debug)]
+#[derive(Clone, Copy)]
 pub struct Plic {
     gateways: Gateways,
     pending: SourceSet,
@@ -263,7 +263,7 @@ impl Plic {
 }
 
 /// The priority of each source by its number, and the threshold: what tells which sources are above it.
-#[derive(Clone, Copy, PartialEq, Eq, Debug)]
+#[derive(Clone, Copy)]
 struct Levels {
     priorities: [u8; 32],
     threshold: u8,

@@ -5,7 +5,7 @@ ghost use Rattle.rv_plic.specs.Plic.{register_at};
 use crate::Source;
 
 /// A register of the controller, a word long, each at an offset of its own (PLIC Specification 1.0, "Memory Map").
-#[derive(Clone, Copy, PartialEq, Eq, Debug)]
+#[derive(Clone, Copy)]
 pub enum PlicReg {
     /// The priority of a source, at four times its number: three bits, and 0 never interrupts ("Interrupt Priorities").
     Priority(Source),

@@ -8,7 +8,7 @@ use std::marker::Model;
 
 /// A set of sources, as the word that has bit s for source s.
 #[tactic(auto, using(crate::proofs::Words::words))]
-#[derive(Clone, Copy, PartialEq, Eq, Debug)]
+#[derive(Clone, Copy)]
 pub struct SourceSet {
     word: u32,
 }

@@ -22,7 +22,7 @@ impl Mode {
 }
 
 /// What an access does with the bytes that it names.
-#[derive(Clone, Copy, PartialEq, Eq, Debug)]
+#[derive(Clone, Copy)]
 pub enum Access {
     Read,
     Write,

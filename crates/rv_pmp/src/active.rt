@@ -12,7 +12,7 @@ use crate::{Access, Mode};
 use std::marker::Model;
 
 /// An entry that matches addresses, with the span of its region.
-#[derive(Clone, Copy, PartialEq, Eq, Debug)]
+#[derive(Clone, Copy)]
 pub(crate) struct Active {
     entry: Entry,
     span: Span,
@@ -72,7 +72,7 @@ impl Active {
 }
 
 /// The entries that match addresses, in their order, so that an access goes over no other.
-#[derive(Drop, Debug)]
+#[derive(Drop)]
 pub(crate) struct Actives {
     items: [Active; ENTRIES],
     count: usize,

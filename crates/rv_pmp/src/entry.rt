@@ -8,7 +8,7 @@ use crate::{Access, Mode};
 
 /// How an entry's address is matched: the field A of its configuration byte. Privileged Architecture 20211203, section
 /// 3.7.1.
-#[derive(Clone, Copy, PartialEq, Eq, Debug)]
+#[derive(Clone, Copy)]
 pub enum Matching {
     /// No byte.
     Off,
@@ -57,7 +57,7 @@ impl Matching {
 
 /// An entry as its registers hold it: the address register, and the configuration byte's fields. Privileged
 /// Architecture 20211203, section 3.7.1.
-#[derive(Clone, Copy, PartialEq, Eq, Debug)]
+#[derive(Clone, Copy)]
 pub struct Entry {
     /// The address register: an address divided by 4.
     pub address: u32,

@@ -25,7 +25,7 @@ pub(crate) const ENTRIES: usize = 16;
 /// The registers of physical memory protection. Beside them stand the entries that match addresses, with the spans of
 /// their regions, so that an access computes none and asks no other entry; and spans in which user mode is granted
 /// accesses, so that most of its accesses ask none.
-#[derive(Drop, Debug)]
+#[derive(Drop)]
 pub struct Pmp {
     entries: [Entry; ENTRIES],
     actives: Actives,

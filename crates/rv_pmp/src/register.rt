@@ -3,7 +3,7 @@ ghost use Rattle.std.specs.Prelude.{◌≡◌};
 ghost use Rattle.rv_pmp.specs.Pmp.{register_at};
 
 /// A register of protection, with the entry that it belongs to: the first of four for a configuration register.
-#[derive(Clone, Copy, PartialEq, Eq, Debug)]
+#[derive(Clone, Copy)]
 pub enum PmpRegister {
     /// One of pmpcfg0 to pmpcfg3: the configuration bytes of four entries from this one on, low byte first.
     Config(u8),

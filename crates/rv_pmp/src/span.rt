@@ -10,7 +10,7 @@ ghost use Rattle.rv_pmp.specs.Window.{holds};
 use crate::entry::{Entry, Matching};
 
 /// The bytes from a first one up to but not including an end.
-#[derive(Clone, Copy, PartialEq, Eq, Debug)]
+#[derive(Clone, Copy)]
 pub(crate) struct Span {
     pub(crate) first: u64,
     pub(crate) end: u64,

@@ -61,7 +61,7 @@ impl<'a> Expression<'a> {
 }
 
 /// What may stand next in an expression.
-#[derive(Clone, Copy, PartialEq, Eq, Debug)]
+#[derive(Clone, Copy)]
 pub enum Wanted {
     /// A sign; the expression may also end.
     Sign,

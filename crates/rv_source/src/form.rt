@@ -2,7 +2,7 @@
 use rv_isa::{AluOp, Cond, CsrOp, ImmOp, LoadOp, ShiftOp, Width};
 
 /// What a word of a statement takes, and what it stands for: see docs/ASSEMBLER.md for each.
-#[derive(Clone, Copy, PartialEq, Eq, Debug)]
+#[derive(Clone, Copy)]
 pub enum Form {
     /// An instruction.
     Instruction(Instruction),
@@ -14,7 +14,7 @@ pub enum Form {
 
 /// The forms of instructions: RISC-V Unprivileged ISA 20191213, chapters 2, 3, 7 and 9, and Privileged Architecture
 /// 20211203, section 3.3.
-#[derive(Clone, Copy, PartialEq, Eq, Debug)]
+#[derive(Clone, Copy)]
 pub enum Instruction {
     /// `rd,imm`
     Lui,
@@ -50,7 +50,7 @@ pub enum Instruction {
 }
 
 /// The forms of words that stand for other instructions.
-#[derive(Clone, Copy, PartialEq, Eq, Debug)]
+#[derive(Clone, Copy)]
 pub enum Pseudo {
     Nop,
     /// `rd,rs`
@@ -95,7 +95,7 @@ pub enum Pseudo {
 }
 
 /// The forms of directives.
-#[derive(Clone, Copy, PartialEq, Eq, Debug)]
+#[derive(Clone, Copy)]
 pub enum Directive {
     /// Values, each in as many bytes as the width has.
     Data(Width),

@@ -3,7 +3,7 @@ use rv_tokens::LineFault;
 use std::alloc::{AllocError, AllocFailed};
 
 /// Why operands aren't taken.
-#[derive(Clone, Copy, PartialEq, Eq, Debug)]
+#[derive(Clone, Copy)]
 pub enum Refusal {
     /// The word doesn't take them.
     BadOperands,

@@ -7,7 +7,7 @@ use std::marker::Model;
 /// The number of a control register: 0 to 4095, whether it exists or not.
 ///
 /// RISC-V Unprivileged ISA 20191213, section 9.1.
-#[derive(Clone, Copy, PartialEq, Eq, Debug)]
+#[derive(Clone, Copy)]
 pub struct Csr(u16);
 
 impl Model for Csr {

@@ -64,7 +64,7 @@ impl From<NoMemory> for CliFault {
 }
 
 /// A text that the program reads.
-#[derive(Clone, Copy, Debug, PartialEq, Eq)]
+#[derive(Clone, Copy)]
 pub enum TextName {
     /// The source.
     Source,

@@ -7,11 +7,11 @@ ghost use Rattle.rv_texts.specs.declared.text.ReadFault.TheVariants.{NoMemory, U
 use std::alloc::Global;
 
 /// A read that gave nothing and failed.
-#[derive(Clone, Copy, Debug, PartialEq, Eq)]
+#[derive(Clone, Copy)]
 pub struct InFailed;
 
 /// A write that took nothing and failed.
-#[derive(Clone, Copy, Debug, PartialEq, Eq)]
+#[derive(Clone, Copy)]
 pub struct OutFailed;
 
 /// A reader of a text.
@@ -64,7 +64,7 @@ pub trait TextOut {
 const MOST_BYTES: usize = 16_777_216;
 
 /// Why a text was not read.
-#[derive(Clone, Copy, Debug, PartialEq, Eq)]
+#[derive(Clone, Copy)]
 pub(crate) enum ReadFault {
     /// The reader failed, or gave too many bytes.
     Unreadable,

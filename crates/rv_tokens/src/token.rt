@@ -5,7 +5,7 @@ use std::alloc::AllocError;
 use std::marker::Model;
 
 /// Which definition of a local label is meant: the nearest before, or the nearest after.
-#[derive(Clone, Copy, PartialEq, Eq, Debug)]
+#[derive(Clone, Copy)]
 pub enum Direction {
     /// As in `1b`: the nearest on an earlier line or on the same line.
     Backward,

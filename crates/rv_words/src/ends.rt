@@ -32,7 +32,7 @@ impl<'a> Words<'a> {
 }
 
 /// Why words ask for no run.
-#[derive(Clone, Copy, Debug, PartialEq, Eq)]
+#[derive(Clone, Copy)]
 pub enum NoRun {
     /// Help was asked for. Its text goes to the standard output.
     Help,

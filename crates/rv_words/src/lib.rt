@@ -27,7 +27,7 @@ pub struct Options {
 }
 
 /// What the program's words ask for.
-#[derive(Clone, Copy, Debug)]
+#[derive(Clone, Copy)]
 pub struct Words<'a> {
     /// The path of the source, or `-` for the standard input.
     pub source: &'a str,
