@@ -5,11 +5,13 @@ use Rattle.std.proofs.Math.Seq.{drop-cons}
 use Rattle.std.proofs.lemmas.List.{drop_all}
 use Rattle.rv_isa.specs.declared.op.Width.{Width}
 use Rattle.rv_source.specs.declared.expression.Term.{Term}
+use Rattle.rv_source.specs.declared.statement.Statement.TheVariants.{Marker}
 use Rattle.rv_asm.specs.declared.fault.FaultKind.{FaultKind}
 use Rattle.rv_asm.specs.declared.fault.FaultKind.TheVariants.{Undefined, OutOfRange}
 use Rattle.rv_asm.specs.Values.{fits}
-use Rattle.rv_asm.specs.Listing.{Valuation, ◌>>=◌, values_of, data_bytes, value_bytes, sums_bytes}
-use Rattle.rv_asm.specs.Steps.{appended}
+use Rattle.rv_asm.specs.Listing.{Valuation, ◌>>=◌, instructions, statement_bytes, values_of, data_bytes, value_bytes, sums_bytes}
+use Rattle.rv_asm.specs.Steps.{Item, appended, item_bytes}
+use Rattle.rv_asm.specs.Symbols.{Definitions}
 
 -- one of the values was out of range
 abbrev pub out_of_range : Result (List ℤ) FaultKind → Result (List ℕ) FaultKind
@@ -19,6 +21,11 @@ out_of_range values = values >>= λ vs. Err OutOfRange
 abbrev pub rest_bytes : Valuation → Width → Bool → List ℕ → List (List Term) → Result (List ℕ) FaultKind
 rest_bytes value width true out es = appended out (sums_bytes value width es)
 rest_bytes value width false out es = out_of_range (values_of value es)
+
+-- a marker's item has no bytes
+pub nothing_written : (ds : Definitions) (item : Item) (out : List ℕ) → Marker ≡ item.statement → appended out (item_bytes ds item) ≡ Ok out
+unfolding statement_bytes instructions
+nothing_written ds item out h = rw (sym h) (ap (λ x. Ok x) (append-nil out))
 
 module _ (value : Valuation) (width : Width) where
   two_appended : (out bs : List ℕ) (r : Result (List ℕ) FaultKind) → appended out (r >>= λ cs. Ok (bs ++ cs)) ≡ appended (out ++ bs) r

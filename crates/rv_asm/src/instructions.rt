@@ -10,10 +10,19 @@ use std::alloc::AllocError;
 use std::marker::Model;
 
 /// At most two instructions.
-#[derive(Drop)]
 pub struct Instructions {
     first: Option<Instr>,
     second: Option<Instr>,
+}
+
+// Written out, so that to let it go is one call where it is owned, and not one for each of its parts.
+impl Drop for Instructions {
+    fn drop(self) {
+        let Instructions {
+            first: _,
+            second: _,
+        } = self;
+    }
 }
 
 impl Model for Instructions {

@@ -111,11 +111,20 @@ fn make_room(alloc: Global, lists: &mut Vec<Repeated>, number: usize) -> Result<
 }
 
 /// The definitions of local labels, in order.
-#[derive(Drop)]
 pub struct Locals {
     labels: Vec<LocalLabel>,
     /// At each number its own definitions.
     by_number: Vec<Repeated>,
+}
+
+// Written out, so that to let it go is one call where it is owned, and not one for each of its parts.
+impl Drop for Locals {
+    fn drop(self) {
+        let Locals {
+            labels: _,
+            by_number: _,
+        } = self;
+    }
 }
 
 impl Model for Locals {

@@ -152,6 +152,7 @@ impl<'a> Placed<'a> {
     }
 
     /// Appends the bytes of the statement, with every name known.
+    #[tactic(auto, using(crate::proofs::Writing::nothing_written))]
     pub fn write(
         &self,
         alloc: Global,
@@ -169,7 +170,7 @@ impl<'a> Placed<'a> {
         };
         match line.statement() {
             Some(statement) => self.write_statement(symbols, statement, out),
-            None => self.write_statement(symbols, &Statement::Marker, out),
+            None => Ok(()),
         }
     }
 

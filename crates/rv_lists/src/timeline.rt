@@ -9,9 +9,15 @@ use std::alloc::Global;
 use std::marker::Model;
 
 /// The inputs of a board, each with the number of the step that it comes before, which never falls; seen as their list.
-#[derive(Drop)]
 pub struct Timeline {
     inputs: Vec<TimedInput>,
+}
+
+// Written out, so that to let it go is one call where it is owned, and not one for each of its parts.
+impl Drop for Timeline {
+    fn drop(self) {
+        let Timeline { inputs: _ } = self;
+    }
 }
 
 impl Model for Timeline {

@@ -21,13 +21,24 @@ use std::marker::Model;
 ///
 /// Step number t, from 0, comes behind the inputs of time t in their order. However many calls take the steps, the
 /// board ends as if one call had taken them.
-#[derive(Drop)]
 pub struct Session<M: ByteMemory, C: Decoded> {
     timed: TimedBoard<M, C>,
     program: Program,
     /// The most steps that may be taken in all.
     limit: u64,
     breakpoints: Breakpoints,
+}
+
+// Written out, so that to let it go is one call where it is owned, and not one for each of its parts.
+impl<M: ByteMemory, C: Decoded> Drop for Session<M, C> {
+    fn drop(self) {
+        let Session {
+            timed: _,
+            program: _,
+            limit: _,
+            breakpoints: _,
+        } = self;
+    }
 }
 
 impl<M: ByteMemory, C: Decoded> Model for Session<M, C> {

@@ -8,9 +8,15 @@ use std::alloc::{AllocError, Global};
 use std::marker::Model;
 
 /// Names and their values, in order of definition.
-#[derive(Drop)]
 pub struct Names {
     map: IndexMap<Vec<u8>, i64>,
+}
+
+// Written out, so that to let it go is one call where it is owned, and not one for each of its parts.
+impl Drop for Names {
+    fn drop(self) {
+        let Names { map: _ } = self;
+    }
 }
 
 impl Model for Names {

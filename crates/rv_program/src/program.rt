@@ -6,10 +6,16 @@ use indexmap::IndexMap;
 use std::marker::Model;
 
 /// An image and the names that its source defined.
-#[derive(Drop)]
 pub struct Program {
     bytes: Vec<u8>,
     names: Names,
+}
+
+// Written out, so that to let it go is one call where it is owned, and not one for each of its parts.
+impl Drop for Program {
+    fn drop(self) {
+        let Program { bytes: _, names: _ } = self;
+    }
 }
 
 impl Model for Program {

@@ -14,9 +14,15 @@ use std::marker::Model;
 ///
 /// The table of the pages is made with the memory. So a write may be refused only where it is the first to store
 /// something other than zeros in its page; reads, and all other writes, take no memory.
-#[derive(Drop)]
 pub struct PagedRam {
     pages: Vec<Page>,
+}
+
+// Written out, so that to let it go is one call where it is owned, and not one for each of its parts.
+impl Drop for PagedRam {
+    fn drop(self) {
+        let PagedRam { pages: _ } = self;
+    }
 }
 
 impl Model for PagedRam {

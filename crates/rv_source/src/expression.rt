@@ -24,9 +24,15 @@ pub struct Term<'a> {
 
 /// Atoms with their signs, to be summed as whole numbers; seen as the list of them. It has at most as many as a line
 /// has bytes: 1,024.
-#[derive(Drop)]
 pub struct Expression<'a> {
     terms: Vec<Term<'a>>,
+}
+
+// Written out, so that to let it go is one call where it is owned, and not one for each of its parts.
+impl<'a> Drop for Expression<'a> {
+    fn drop(self) {
+        let Expression { terms: _ } = self;
+    }
 }
 
 impl<'a> Model for Expression<'a> {

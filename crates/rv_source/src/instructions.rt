@@ -68,13 +68,14 @@ fn ordered<'a>(first: u16, second: u16) -> Statement<'a>
     })
 }
 
-/// A statement that takes no operands.
-pub fn alone<'a>(statement: Statement<'a>, tokens: &[Token<'a>]) -> Result<Statement<'a>, Refusal>
-    requires { length tokens.now ≤ 1024 }
-    ensures { Finds (λ s. s) result (none statement.entry (operands_of tokens.now)) }
+/// An instruction that takes no operands.
+pub fn alone<'a>(kind: Kind, tokens: &[Token<'a>]) -> Result<Statement<'a>, Refusal>
+    requires within { IsInRange kind }
+    requires short { length tokens.now ≤ 1024 }
+    ensures { Finds (λ s. s) result (none (s.Instruction kind) (operands_of tokens.now)) }
 {
     if are_none(tokens) {
-        Ok(statement)
+        Ok(instruction(kind))
     } else {
         Err(Refusal::BadOperands)
     }
@@ -274,20 +275,33 @@ fn load<'a>(alloc: Global, op: LoadOp, tokens: &[Token<'a>]) -> Result<Statement
     })
 }
 
+/// `rs2,m`
+fn store_at<'a>(
+    alloc: Global,
+    width: Width,
+    source: &[Token<'a>],
+    place: &[Token<'a>],
+) -> Result<Statement<'a>, Refusal>
+    requires { length place.now ≤ 1024 }
+    ensures { (operands : List (List Token)) → pair operands ≡ Some (source.now, place.now) → Finds (λ s. s) result (store width operands) }
+{
+    let source = register(source)?;
+    let (offset, base) = memory(alloc, place)?;
+    Ok(Statement::Store {
+        width,
+        source,
+        base,
+        offset,
+    })
+}
+
 /// `rs2,m` or `rs,E,rt`
 fn store<'a>(alloc: Global, width: Width, tokens: &[Token<'a>]) -> Result<Statement<'a>, Refusal>
     requires { length tokens.now ≤ 1024 }
     ensures { Finds (λ s. s) result (store width (operands_of tokens.now)) }
 {
     if let Some((source, place)) = pair(tokens) {
-        let source = register(source)?;
-        let (offset, base) = memory(alloc, place)?;
-        return Ok(Statement::Store {
-            width,
-            source,
-            base,
-            offset,
-        });
+        return store_at(alloc, width, source, place);
     }
     let Some((source, target, scratch)) = triple(tokens) else {
         return Err(Refusal::BadOperands);
@@ -383,14 +397,14 @@ fn fence<'a>(tokens: &[Token<'a>]) -> Result<Statement<'a>, Refusal>
 }
 
 /// `fence.i`
-fn fence_i<'a>() -> Statement<'a>
-    ensures { result ≡ s.Instruction (k.FenceI 0 0 0) }
+fn fence_i() -> Kind
+    ensures { result ≡ k.FenceI 0 0 0 }
 {
-    instruction(Kind::FenceI {
+    Kind::FenceI {
         rd: x(0),
         rs1: x(0),
         imm: 0,
-    })
+    }
 }
 
 /// What an instruction's word and its operands stand for.
@@ -418,9 +432,9 @@ pub fn read_instruction<'a>(
         Instruction::CsrImm(op) => change_csr_imm(alloc, op, tokens),
         Instruction::Fence => fence(tokens),
         Instruction::FenceI => alone(fence_i(), tokens),
-        Instruction::Ecall => alone(instruction(Kind::Ecall), tokens),
-        Instruction::Ebreak => alone(instruction(Kind::Ebreak), tokens),
-        Instruction::Mret => alone(instruction(Kind::Mret), tokens),
-        Instruction::Wfi => alone(instruction(Kind::Wfi), tokens),
+        Instruction::Ecall => alone(Kind::Ecall, tokens),
+        Instruction::Ebreak => alone(Kind::Ebreak, tokens),
+        Instruction::Mret => alone(Kind::Mret, tokens),
+        Instruction::Wfi => alone(Kind::Wfi, tokens),
     }
 }

@@ -13,10 +13,19 @@ pub enum Label<'a> {
 }
 
 /// A line that was read: its labels and its statement.
-#[derive(Drop)]
 pub struct Line<'a> {
     labels: Vec<Label<'a>>,
     statement: Option<Statement<'a>>,
+}
+
+// Written out, so that to let it go is one call where it is owned, and not one for each of its parts.
+impl<'a> Drop for Line<'a> {
+    fn drop(self) {
+        let Line {
+            labels: _,
+            statement: _,
+        } = self;
+    }
 }
 
 impl<'a> Model for Line<'a> {

@@ -225,15 +225,26 @@ fn call<'a>(
 }
 
 /// `addi x0,x0,0`
-fn nop<'a>() -> Statement<'a>
-    ensures { result ≡ s.Instruction (k.OpImm Addi 0 0 (pos 0)) }
+fn nop() -> Kind
+    ensures { result ≡ k.OpImm Addi 0 0 (pos 0) }
 {
-    instruction(Kind::OpImm {
+    Kind::OpImm {
         op: ImmOp::Addi,
         rd: x(0),
         rs1: x(0),
         imm: 0,
-    })
+    }
+}
+
+/// `jalr x0,0(x1)`
+fn ret() -> Kind
+    ensures { result ≡ k.Jalr 0 1 (pos 0) }
+{
+    Kind::Jalr {
+        rd: x(0),
+        base: x(1),
+        offset: 0,
+    }
 }
 
 /// What a word that stands for other instructions and its operands stand for.
@@ -260,7 +271,7 @@ pub fn read_pseudo<'a>(
         Pseudo::BranchSwapped(cond) => branch_swapped(alloc, cond, tokens),
         Pseudo::Jump => jump(alloc, tokens),
         Pseudo::JumpRegister => jump_register(tokens),
-        Pseudo::Return => alone(jump_to(x(0), x(1)), tokens),
+        Pseudo::Return => alone(ret(), tokens),
         Pseudo::CsrRead => read_csr(tokens),
         Pseudo::CsrChange(op) => write_csr(op, tokens),
         Pseudo::CsrChangeImm(op) => write_csr_imm(alloc, op, tokens),

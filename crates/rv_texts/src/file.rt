@@ -6,10 +6,19 @@ use std::io::{ErrorKind, Read, Write};
 use std::marker::Model;
 
 /// A reader of std as a text. A read that was interrupted is tried again.
-#[derive(Drop)]
 pub struct FileIn<R: Read> {
     reader: R,
     has_failed: bool,
+}
+
+// Written out, so that to let it go is one call where it is owned, and not one for each of its parts.
+impl<R: Read + Drop> Drop for FileIn<R> {
+    fn drop(self) {
+        let FileIn {
+            reader: _,
+            has_failed: _,
+        } = self;
+    }
 }
 
 impl<R: Read> Model for FileIn<R> {

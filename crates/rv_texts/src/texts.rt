@@ -13,11 +13,21 @@ use std::alloc::Global;
 use std::marker::Model;
 
 /// The texts of a run: its source, its timed list, and its commands, if it has any; seen as their bytes.
-#[derive(Drop)]
 pub struct Texts {
     source: Vec<u8>,
     inputs: Vec<u8>,
     commands: Option<Vec<u8>>,
+}
+
+// Written out, so that to let it go is one call where it is owned, and not one for each of its parts.
+impl Drop for Texts {
+    fn drop(self) {
+        let Texts {
+            source: _,
+            inputs: _,
+            commands: _,
+        } = self;
+    }
 }
 
 impl Model for Texts {
