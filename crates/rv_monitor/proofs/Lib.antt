@@ -3,3 +3,7 @@ pub mod Times
 pub mod Steps
 pub mod Stopping
 pub mod Marked
+pub mod Decimals
+pub mod Named
+pub mod Pieces
+pub mod Traps

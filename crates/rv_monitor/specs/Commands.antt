@@ -5,9 +5,9 @@ use Rattle.std.specs.Prelude.{◌≡◌, ◌⊎◌, ◌<◌, false, ℕ, ◌-◌
 use Rattle.std.specs.FinSet as set
 use Rattle.rv_commands.specs.declared.command.Command.{Command}
 use Rattle.rv_commands.specs.declared.command.Command.TheVariants.{Step, Go, SetBreak, ClearBreak, Registers, ControlRegister, Memory, Instruction, Traps, Edges, Quit, Nothing}
-use Rattle.rv_views.specs.Numbers.{hex}
-use Rattle.rv_views.specs.Room.{registers_room, control_register_room, memory_room, instruction_room, traps_room, edges_room}
-use Rattle.rv_views.specs.Views.{line, registers_text, control_register_text, memory_text, instruction_text, traps_text, edges_text, stop_text}
+use Rattle.rv_monitor.specs.Numbers.{hex}
+use Rattle.rv_monitor.specs.Room.{registers_room, control_register_room, memory_room, instruction_room, traps_room, edges_room}
+use Rattle.rv_monitor.specs.Views.{line, registers_text, control_register_text, memory_text, instruction_text, traps_text, edges_text, stop_text}
 use Rattle.rv_monitor.specs.declared.stop.Stop.{Stop}
 use Rattle.rv_monitor.specs.declared.stop.Stop.TheVariants.{Halted, Breakpoint, Limit}
 use Rattle.rv_monitor.specs.declared.command.Next.{Next}

@@ -7,3 +7,6 @@ pub mod Asked
 pub mod Commands
 pub mod Marks
 pub mod Bare
+pub mod Numbers
+pub mod Room
+pub mod Views

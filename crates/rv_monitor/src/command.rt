@@ -1,22 +1,22 @@
 //! Commands over a session.
 ghost use Rattle.std.specs.Prelude.{◌≡◌, ◌⊎◌, ◌++◌, ◌+◌, ◌-◌, ◌≤◌, Some, length, IfOk, OnOk, OnErr, codes, vec_len, vec_capacity};
 ghost use Rattle.std.specs.FinSet as set;
-ghost use Rattle.rv_views.specs.Numbers.{hex};
-ghost use Rattle.rv_views.specs.Views.{line, stop_text};
+ghost use Rattle.rv_monitor.specs.Numbers.{hex};
+ghost use Rattle.rv_monitor.specs.Views.{line, stop_text};
 ghost use Rattle.rv_commands.specs.Commands.{command_of, IsNamed};
 ghost use Rattle.rv_monitor.specs.State.{with_break, without_break};
 ghost use Rattle.rv_monitor.specs.Commands.{Took, WasRefused, HadNoRoom, WasNotSet, Leaves, LeavesRefused, going_for, steps_text, cleared_text, answer, next_of, word_of};
 
 use crate::session::Session;
 use crate::stop::Stop;
+use crate::views::{
+    STOP_BYTES, eight_digits, write_control_register, write_edges, write_instruction, write_memory,
+    write_registers, write_stop, write_traps,
+};
 use rv_cache::Decoded;
 use rv_commands::{Command, read_command};
 use rv_isa::{NoMemory, append_within};
 use rv_ram::ByteMemory;
-use rv_views::{
-    STOP_BYTES, eight_digits, write_control_register, write_edges, write_instruction, write_memory,
-    write_registers, write_stop, write_traps,
-};
 
 /// What comes behind a command.
 #[derive(Clone, Copy, PartialEq, Eq, Debug)]

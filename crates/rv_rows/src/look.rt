@@ -2,8 +2,8 @@
 use rv_board::Board;
 use rv_cache::Decoded;
 use rv_isa::NoMemory;
+use rv_monitor::{eight_digits, two_digits, write_memory, write_registers, write_traps};
 use rv_ram::ByteMemory;
-use rv_views::{eight_digits, two_digits, write_memory, write_registers, write_traps};
 
 /// The control registers that hold something.
 const CSRS: [u16; 15] = [

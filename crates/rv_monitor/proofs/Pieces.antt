@@ -1,0 +1,14 @@
+-- Pieces of text, one behind the other, behind a head.
+use Rattle.std.proofs.Common.{◌≡◌, ℕ, ◌+◌, List, ◌++◌, sym, ◌∙◌, ap, add-one, append-nil, append_assoc}
+use Rattle.rv_monitor.specs.Views.{pieces}
+
+pub no_piece_behind : (head : List ℕ) (piece : ℕ → List ℕ) → head ++ pieces piece 0 ≡ head
+unfolding pieces
+no_piece_behind head piece = append-nil head
+
+one_more_piece : (piece : ℕ → List ℕ) (n : ℕ) → pieces piece (n + 1) ≡ pieces piece n ++ piece n
+unfolding pieces
+one_more_piece piece n = ap (pieces piece) (add-one n)
+
+pub one_more_behind : (head : List ℕ) (piece : ℕ → List ℕ) (n : ℕ) → head ++ pieces piece (n + 1) ≡ head ++ pieces piece n ++ piece n
+one_more_behind head piece n = ap (λ text. head ++ text) (one_more_piece piece n) ∙ sym (append_assoc head (pieces piece n) (piece n))

@@ -1,0 +1,30 @@
+-- Traps, one behind the other.
+use Rattle.std.proofs.Common.{◌≡◌, ◌∙◌, ℕ, zero, suc, ◌+◌, ◌≤◌, List, [], ◌∷◌, ◌++◌, length, take, refl, sym, ap, add-one, append-nil, append_assoc}
+use Rattle.std.specs.Prelude.{Some, slice_get}
+use Rattle.std.specs.List.{flat_map}
+use Rattle.std.proofs.lemmas.List.{take_all}
+use Rattle.rv_board.specs.declared.event.TrapRecord.{TrapRecord}
+use Rattle.rv_monitor.specs.Views.{trap_text}
+
+none : (ts : List TrapRecord) → flat_map trap_text (take 0 ts) ≡ []
+none [] = refl
+none (t ∷ ts) = refl
+
+more : (ts : List TrapRecord) (i : ℕ) (t : TrapRecord) → Some t ≡ slice_get ts i → flat_map trap_text (take (suc i) ts) ≡ flat_map trap_text (take i ts) ++ trap_text t
+more [] zero t e = absurd cc
+more [] (suc i) t e = absurd cc
+more (x ∷ xs) zero t e = let same : t ≡ x = cc in rw same (append-nil (trap_text x))
+more (x ∷ xs) (suc i) t e = ap (λ text. trap_text x ++ text) (more xs i t e) ∙ sym (append_assoc (trap_text x) (flat_map trap_text (take i xs)) (trap_text t))
+
+-- behind a text
+pub no_trap : (text : List ℕ) (ts : List TrapRecord) → text ++ flat_map trap_text (take 0 ts) ≡ text
+no_trap text ts = ap (λ lines. text ++ lines) (none ts) ∙ append-nil text
+
+pub one_more_trap : (text : List ℕ) (ts : List TrapRecord) (i : ℕ) (t : TrapRecord) → Some t ≡ slice_get ts i
+    → text ++ flat_map trap_text (take (i + 1) ts) ≡ text ++ flat_map trap_text (take i ts) ++ trap_text t
+one_more_trap text ts i t e =
+    ap (λ lines. text ++ lines) (ap (λ n. flat_map trap_text (take n ts)) (add-one i) ∙ more ts i t e)
+    ∙ sym (append_assoc text (flat_map trap_text (take i ts)) (trap_text t))
+
+pub all_traps : (text : List ℕ) (ts : List TrapRecord) (n : ℕ) → length ts ≤ n → text ++ flat_map trap_text (take n ts) ≡ text ++ flat_map trap_text ts
+all_traps text ts n h = ap (λ lines. text ++ flat_map trap_text lines) (take_all n ts h)

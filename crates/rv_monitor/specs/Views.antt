@@ -1,0 +1,129 @@
+-- To audit: public contracts cite this.
+-- What is printed of a board: one definition a command.
+-- This project's own language.
+use Rattle.std.specs.Prelude.{ℕ, zero, suc, ◌+◌, ◌-◌, ◌*◌, ◌%◌, ◌^◌, ◌==◌, List, [], ◌∷◌, ◌++◌, if◌then◌else◌, min, Option, Some, None, unwrap_or, codes}
+use Rattle.std.specs.List.{flat_map}
+use Rattle.std.specs.Fmt.{decimal}
+use Rattle.std.specs.Int.{div_ceil}
+use Rattle.rv_isa.specs.Meaning.{means}
+use Rattle.rv_isa.specs.Text.{text}
+use Rattle.rv_isa.specs.declared.kind.Kind.{Kind}
+use Rattle.rv_pmp.specs.declared.access.Mode.{Mode}
+use Rattle.rv_pmp.specs.declared.access.Mode.TheVariants.{User, Machine}
+use Rattle.rv_plic.specs.Edges.{edges_of}
+use Rattle.rv_board.specs.State.{BoardState, reg_of, pc_of, mode_of, csr_of, byte_of, steps_of, plic_of}
+use Rattle.rv_board.specs.declared.event.TrapRecord.{TrapRecord}
+use Rattle.rv_monitor.specs.Numbers.{hex, two_decimals}
+
+-- ---- pieces of text
+
+-- with its line end
+abbrev pub line : List ℕ → List ℕ
+line text = text ++ 10 ∷ []
+
+-- the pieces of the numbers below n, one behind the other
+unfoldable pub pieces : (ℕ → List ℕ) → ℕ → List ℕ
+pieces piece zero = []
+pieces piece (suc n) = pieces piece n ++ piece n
+
+-- ---- registers
+
+abbrev pub mode_letter : Mode → List ℕ
+mode_letter User = codes "U"
+mode_letter Machine = codes "M"
+
+-- the pc and the mode, as `pc=80000000 mode=M`
+unfoldable pub place_text : BoardState → List ℕ
+place_text b = codes "pc=" ++ hex 8 (pc_of b) ++ codes " mode=" ++ mode_letter (mode_of b)
+
+-- a register, as `x07=00000555`
+unfoldable pub register_text : BoardState → ℕ → List ℕ
+register_text b r = codes "x" ++ two_decimals r ++ codes "=" ++ hex 8 (reg_of b r)
+
+-- a register in its line: behind the last of four stands a line end, behind the others a space
+unfoldable pub register_in_line : BoardState → ℕ → List ℕ
+register_in_line b r = register_text b r ++ (if r % 4 == 3 then codes "\n" else codes " ")
+
+-- `r`: x0 to x31, four in a line; then the pc and the mode
+unfoldable pub registers_text : BoardState → List ℕ
+registers_text b = pieces (register_in_line b) 32 ++ line (place_text b)
+
+-- `p`: a control register by the name that it was asked by
+unfoldable pub control_register_text : BoardState → List ℕ → ℕ → List ℕ
+control_register_text b name csr = line (name ++ codes "=" ++ hex 8 (unwrap_or (csr_of b csr) 0))
+
+-- ---- memory
+
+-- the byte that stands so far behind an address; addresses go on modulo 2 ^ 32
+abbrev pub byte_behind : BoardState → ℕ → ℕ → Option ℕ
+byte_behind b addr offset = byte_of b ((addr + offset) % 2 ^ 32)
+
+-- a byte, or `--` where none is
+abbrev pub byte_text : Option ℕ → List ℕ
+byte_text None = codes "--"
+byte_text (Some byte) = hex 2 byte
+
+-- a byte in its line, behind a space
+unfoldable pub byte_in_line : BoardState → ℕ → ℕ → List ℕ
+byte_in_line b addr offset = codes " " ++ byte_text (byte_behind b addr offset)
+
+-- an address and so many bytes from there on
+unfoldable pub bytes_line : BoardState → ℕ → ℕ → List ℕ
+bytes_line b addr count = line (hex 8 addr ++ codes ":" ++ pieces (byte_in_line b addr) count)
+
+-- line k of so many bytes in all: 16 of them, and in the last line those that are left
+unfoldable pub memory_line : BoardState → ℕ → ℕ → ℕ → List ℕ
+memory_line b addr count k = bytes_line b ((addr + 16 * k) % 2 ^ 32) (min 16 (count - 16 * k))
+
+-- `m`: as many lines as it takes
+unfoldable pub memory_text : BoardState → ℕ → ℕ → List ℕ
+memory_text b addr count = pieces (memory_line b addr count) (div_ceil count 16)
+
+-- the word of four bytes, low one first, where all are there
+abbrev pub word_from : Option ℕ → Option ℕ → Option ℕ → Option ℕ → Option ℕ
+word_from (Some b0) (Some b1) (Some b2) (Some b3) = Some (b0 + 256 * b1 + 65536 * b2 + 16777216 * b3)
+word_from _ _ _ _ = None
+
+-- the word at an address
+unfoldable pub word_of : BoardState → ℕ → Option ℕ
+word_of b addr = word_from (byte_behind b addr 0) (byte_behind b addr 1) (byte_behind b addr 2) (byte_behind b addr 3)
+
+-- an instruction's text, or `illegal` where none has the word
+abbrev pub meaning_text : Option Kind → List ℕ
+meaning_text None = codes "illegal"
+meaning_text (Some kind) = text kind
+
+-- a word and what it means, or `--------` where it isn't there whole
+abbrev pub word_text : Option ℕ → List ℕ
+word_text None = codes "--------"
+word_text (Some word) = hex 8 word ++ codes " " ++ meaning_text (means word)
+
+-- `i`: the instruction at an address
+unfoldable pub instruction_text : BoardState → ℕ → List ℕ
+instruction_text b addr = line (hex 8 addr ++ codes ": " ++ word_text (word_of b addr))
+
+-- ---- traps
+
+-- a word behind its label
+unfoldable pub labelled : List ℕ → ℕ → List ℕ
+labelled label word = label ++ hex 8 word
+
+unfoldable pub trap_text : TrapRecord → List ℕ
+trap_text t = line (labelled (codes "trap cause=") t.cause ++ labelled (codes " epc=") t.epc ++ labelled (codes " tval=") t.tval)
+
+-- `t`: the kept traps, oldest first
+abbrev pub traps_text : BoardState → List ℕ
+traps_text b = flat_map trap_text b.traps
+
+-- ---- waiting edges
+
+-- `e`: how many edges of a source wait
+unfoldable pub edges_text : BoardState → ℕ → List ℕ
+edges_text b source =
+    line (codes "source " ++ decimal source ++ codes " edges=" ++ decimal (edges_of (plic_of b).gateways.edges source))
+
+-- ---- stops
+
+-- `s` and `c`: why the steps ended, and where the board stands
+unfoldable pub stop_text : BoardState → List ℕ → List ℕ
+stop_text b word = line (codes "stop " ++ word ++ codes " " ++ place_text b ++ codes " steps=" ++ decimal (steps_of b))

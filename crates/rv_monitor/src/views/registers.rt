@@ -1,0 +1,142 @@
+//! Registers, as they are printed.
+ghost use Rattle.std.specs.Prelude.{◌≡◌, ◌++◌, ◌+◌, ◌<◌, ◌≤◌, length, Some, IsSome, OnOk, OnErr, vec_len, vec_capacity};
+ghost use Rattle.rv_isa.specs.Names.{lookup, csr_names};
+ghost use Rattle.rv_board.specs.State.{csr_of};
+ghost use Rattle.rv_monitor.specs.Room.{registers_room, control_register_room};
+ghost use Rattle.rv_monitor.specs.Views as spec;
+ghost use Rattle.rv_monitor.specs.Views.{pieces, registers_text, place_text, control_register_text, register_text, register_in_line};
+
+use super::number::{eight_digits, two_decimals};
+use rv_board::Board;
+use rv_cache::Decoded;
+use rv_isa::{NoMemory, Reg, append_within};
+use rv_pmp::Mode;
+use rv_ram::ByteMemory;
+
+/// `U` or `M`.
+pub fn mode_letter(mode: Mode) -> &'static str
+    ensures letter { result.now ≡ spec.mode_letter mode }
+    ensures one { length result.now ≡ 1 }
+{
+    match mode {
+        Mode::User => "U",
+        Mode::Machine => "M",
+    }
+}
+
+/// How many bytes the pc and the mode have.
+const PLACE_BYTES: usize = 18;
+
+/// Appends the pc and the mode to a text that has room for them.
+#[tactic(auto, unfolding(crate::specs::Views::place_text))]
+pub(crate) fn append_place<M: ByteMemory, C: Decoded>(board: &Board<M, C>, text: &mut Vec<u8>)
+    requires { vec_len text.old + PLACE_BYTES ≤ vec_capacity text.old }
+    ensures items { text.new.items ≡ text.old.items ++ place_text board.now }
+    ensures len { vec_len text.new ≡ vec_len text.old + PLACE_BYTES }
+    ensures capacity { vec_capacity text.old ≤ vec_capacity text.new }
+{
+    append_within(text, b"pc=");
+    append_within(text, &eight_digits(board.pc()));
+    append_within(text, b" mode=");
+    append_within(text, mode_letter(board.mode()).as_bytes());
+}
+
+/// How many bytes a register has in its line.
+const REGISTER_BYTES: usize = 13;
+
+/// How many registers there are.
+const REGISTERS: u8 = 32;
+
+/// Appends a register.
+#[tactic(auto, unfolding(crate::specs::Views::register_text))]
+fn append_register<M: ByteMemory, C: Decoded>(
+    board: &Board<M, C>,
+    register: Reg,
+    text: &mut Vec<u8>,
+)
+    requires { vec_len text.old + 12 ≤ vec_capacity text.old }
+    ensures items { text.new.items ≡ text.old.items ++ register_text board.now register }
+    ensures len { vec_len text.new ≡ vec_len text.old + 12 }
+    ensures capacity { vec_capacity text.old ≤ vec_capacity text.new }
+{
+    append_within(text, b"x");
+    append_within(text, &two_decimals(register.number()));
+    append_within(text, b"=");
+    append_within(text, &eight_digits(board.reg(register)));
+}
+
+/// Appends a register, and a line end behind the last of four or else a space.
+#[tactic(auto, unfolding(crate::specs::Views::register_in_line))]
+fn append_in_line<M: ByteMemory, C: Decoded>(board: &Board<M, C>, register: Reg, text: &mut Vec<u8>)
+    requires { vec_len text.old + REGISTER_BYTES ≤ vec_capacity text.old }
+    ensures items { text.new.items ≡ text.old.items ++ register_in_line board.now register }
+    ensures len { vec_len text.new ≡ vec_len text.old + REGISTER_BYTES }
+    ensures capacity { vec_capacity text.old ≤ vec_capacity text.new }
+{
+    append_register(board, register, text);
+    if register.number() % 4 == 3 {
+        append_within(text, b"\n");
+    } else {
+        append_within(text, b" ");
+    }
+}
+
+/// Appends the lines of all registers.
+#[tactic(auto, using(crate::proofs::Pieces::no_piece_behind, crate::proofs::Pieces::one_more_behind))]
+fn append_registers<M: ByteMemory, C: Decoded>(board: &Board<M, C>, text: &mut Vec<u8>)
+    requires { vec_len text.old + 416 ≤ vec_capacity text.old }
+    ensures items { text.new.items ≡ text.old.items ++ pieces (register_in_line board.now) 32 }
+    ensures len { vec_len text.new ≡ vec_len text.old + 416 }
+    ensures capacity { vec_capacity text.old ≤ vec_capacity text.new }
+{
+    for number in 0..REGISTERS {
+        // Each number below 32 has a register.
+        let register = Reg::new(number).unwrap();
+        append_in_line(board, register, text);
+    }
+}
+
+/// Appends all 32 registers, four in a line, and then a line of the pc and the mode.
+#[tactic(auto, unfolding(crate::specs::Views::registers_text))]
+pub fn write_registers<M: ByteMemory, C: Decoded>(
+    board: &Board<M, C>,
+    text: &mut Vec<u8>,
+) -> Result<(), NoMemory>
+    ensures ok { OnOk result (text.new.items ≡ text.old.items ++ registers_text board.now) }
+    ensures err { OnErr result (text.new.items ≡ text.old.items) }
+    ensures room { OnErr result (vec_capacity text.old < vec_len text.old + registers_room) }
+{
+    text.reserve(REGISTER_BYTES * usize::from(REGISTERS) + PLACE_BYTES + 1)?;
+    append_registers(board, text);
+    append_place(board, text);
+    append_within(text, b"\n");
+    Ok(())
+}
+
+/// How many bytes the line of a control register has beside its name.
+const VALUE_BYTES: usize = 10;
+
+/// Appends a line of a control register: its name as given, and what machine mode reads there. `csr` is the number that
+/// `csr_named` gives for the name.
+#[tactic(auto, using(crate::proofs::Named::named_is_read), unfolding(crate::specs::Views::control_register_text))]
+pub fn write_control_register<M: ByteMemory, C: Decoded>(
+    board: &Board<M, C>,
+    name: &[u8],
+    csr: u16,
+    text: &mut Vec<u8>,
+) -> Result<(), NoMemory>
+    requires { lookup name.now csr_names ≡ Some csr }
+    ensures ok { OnOk result (text.new.items ≡ text.old.items ++ control_register_text board.now name.now csr) }
+    ensures err { OnErr result (text.new.items ≡ text.old.items) }
+    ensures room { OnErr result (vec_capacity text.old < vec_len text.old + control_register_room name.now) }
+    ensures read { IsSome (csr_of board.now csr) }
+{
+    // Each name of the table has a register that can be read.
+    let value = board.csr(csr).unwrap();
+    text.reserve(name.len() + VALUE_BYTES)?;
+    append_within(text, name);
+    append_within(text, b"=");
+    append_within(text, &eight_digits(value));
+    append_within(text, b"\n");
+    Ok(())
+}

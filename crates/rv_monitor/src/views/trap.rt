@@ -1,0 +1,66 @@
+//! Traps, as they are printed.
+ghost use Rattle.std.specs.Prelude.{◌≡◌, ◌++◌, ◌+◌, ◌*◌, ◌<◌, ◌≤◌, length, OnOk, OnErr, vec_len, vec_capacity};
+ghost use Rattle.rv_monitor.specs.Room.{traps_room};
+ghost use Rattle.rv_monitor.specs.Views.{labelled, trap_text, traps_text};
+
+use super::number::eight_digits;
+use rv_board::{Board, TrapRecord};
+use rv_cache::Decoded;
+use rv_isa::{NoMemory, append_within};
+use rv_ram::ByteMemory;
+
+/// How many bytes the line of a trap has.
+const TRAP_BYTES: usize = 47;
+
+/// Appends a word behind its label.
+#[tactic(auto, unfolding(crate::specs::Views::labelled))]
+fn append_labelled(label: &[u8], word: u32, text: &mut Vec<u8>)
+    requires { vec_len text.old + length label.now + 8 ≤ vec_capacity text.old }
+    ensures items { text.new.items ≡ text.old.items ++ labelled label.now word }
+    ensures len { vec_len text.new ≡ vec_len text.old + length label.now + 8 }
+    ensures capacity { vec_capacity text.old ≤ vec_capacity text.new }
+{
+    append_within(text, label);
+    append_within(text, &eight_digits(word));
+}
+
+/// Appends the line of a trap.
+#[tactic(auto, unfolding(crate::specs::Views::trap_text, crate::specs::Views::labelled))]
+fn append_trap(trap: TrapRecord, text: &mut Vec<u8>)
+    requires { vec_len text.old + TRAP_BYTES ≤ vec_capacity text.old }
+    ensures items { text.new.items ≡ text.old.items ++ trap_text trap }
+    ensures len { vec_len text.new ≡ vec_len text.old + TRAP_BYTES }
+    ensures capacity { vec_capacity text.old ≤ vec_capacity text.new }
+{
+    append_labelled(b"trap cause=", trap.cause, text);
+    append_labelled(b" epc=", trap.epc, text);
+    append_labelled(b" tval=", trap.tval, text);
+    append_within(text, b"\n");
+}
+
+/// Appends the lines of the kept traps.
+#[tactic(auto, using(crate::proofs::Traps::no_trap, crate::proofs::Traps::one_more_trap, crate::proofs::Traps::all_traps))]
+fn append_traps<M: ByteMemory, C: Decoded>(board: &Board<M, C>, text: &mut Vec<u8>)
+    requires { vec_len text.old + traps_room (length board.now.traps) ≤ vec_capacity text.old }
+    ensures { text.new.items ≡ text.old.items ++ traps_text board.now }
+{
+    for index in 0..board.trap_count() {
+        // Each index below the count has a trap.
+        let trap = board.trap(index).unwrap();
+        append_trap(trap, text);
+    }
+}
+
+/// Appends a line for each kept trap, oldest first.
+pub fn write_traps<M: ByteMemory, C: Decoded>(
+    board: &Board<M, C>,
+    text: &mut Vec<u8>,
+) -> Result<(), NoMemory>
+    ensures ok { OnOk result (text.new.items ≡ text.old.items ++ traps_text board.now) }
+    ensures err { OnErr result (text.new.items ≡ text.old.items) }
+    ensures room { OnErr result (vec_capacity text.old < vec_len text.old + traps_room (length board.now.traps)) }
+{
+    text.reserve(TRAP_BYTES * board.trap_count())?;
+    append_traps(board, text);
+    Ok(())
+}
