@@ -137,8 +137,8 @@ module _ (texts rest : List (List ℕ)) (n : ℕ) (so : SoFar texts rest n) wher
       unread_by at (inl o) e = let f = rw o at e in rw f refl
       unread_by at (inr p) e = fails_at (n + 1) (kind_of fault) at (lines_laid_out texts) e (unread_all p)
 
-      pub unread : (at : AsmFault) → LineFails fault (said text) → IsFaultAt (n + 1) (kind_of fault) at → Fails at (lines_laid_out texts)
-      unread at h e = unread_by at (unread_kind fault (said text) h) e
+      pub unread : (at answer : AsmFault) → LineFails fault (said text) → IsFaultAt (n + 1) (kind_of fault) at → answer ≡ at → Fails answer (lines_laid_out texts)
+      unread at answer h e is = rw is (unread_by at (unread_kind fault (said text) h) e)
 
   pub read_all : rest ≡ [] → lines_laid_out texts ≡ laid_out (all_said texts) n
   unfolding lines_laid_out

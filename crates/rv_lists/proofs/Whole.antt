@@ -89,8 +89,11 @@ module _ (texts rest : List (List ℕ)) (n : ℕ) (inputs : List TimedInput) (so
     pub read_more : (new : List TimedInput) → behind inputs (said text) ≡ Some new → SoFar texts after (n + 1) new
     read_more new e = record { left = rw add-one (sym next.back); inputs_are = next_is ∙ e; taken = more_taken new e }
 
-    pub refused : behind inputs (said text) ≡ None → IsFirstRefused texts (n + 1)
-    refused e = record { counted = omega arith; within = omega (arith, next.below); refused = next_is ∙ e; taken = so.taken }
+    first_refused : behind inputs (said text) ≡ None → IsFirstRefused texts (n + 1)
+    first_refused e = record { counted = omega arith; within = omega (arith, next.below); refused = next_is ∙ e; taken = so.taken }
+
+    pub refused : behind inputs (said text) ≡ None → (k : ℕ) → k ≡ n + 1 → IsFirstRefused texts k
+    refused e k is = rw is (first_refused e)
 
   pub read_all : rest ≡ [] → timed texts ≡ Some inputs
   read_all h =

@@ -239,18 +239,18 @@ module _ (b : BoardState) (xs more : List TimedInput) (place t n : ℕ) (is : mo
   number : n ≡ count_before (t + 1) (rest old)
   number = count ∙ ap (count_before (t + 1)) is
 
-  pub given_in_time : (c : BoardState) → IsInTime old → IsInTime (record { board = c; inputs = xs; place = place + n; taken = t })
+  pub given_in_time : (c : BoardState) (p : ℕ) → IsInTime old → p ≡ place + n → IsInTime (record { board = c; inputs = xs; place = p; taken = t })
   unfolding with_due
-  given_in_time c h = rw number (let g = in_time_due old h in record { within = g.within; rising = g.rising; ahead = g.ahead })
+  given_in_time c p h at = rw (at, number) (let g = in_time_due old h in record { within = g.within; rising = g.rising; ahead = g.ahead })
 
-  pub given_all : IsInTime old → from (t + 1) (drop (place + n) xs) ≡ true
-  given_all h =
-      ap (λ i. from (t + 1) (drop (place + i) xs)) number
+  pub given_all : (p : ℕ) → IsInTime old → p ≡ place + n → from (t + 1) (drop p xs) ≡ true
+  given_all p h at =
+      ap (λ i. from (t + 1) (drop i xs)) (at ∙ ap (λ i. place + i) number)
       ∙ (ap (from (t + 1)) (rest_late old (t + 1)) ∙ late_from (t + 1) (rest old) (drop_rises place xs h.rising))
 
-  pub given_is_due : (c : BoardState) → c ≡ run b (inputs_at more t) → ◌≡◌ {A = TimedState} (record { board = c; inputs = xs; place = place + n; taken = t }) (with_due old)
+  pub given_is_due : (c : BoardState) (p : ℕ) → c ≡ run b (inputs_at more t) → p ≡ place + n → ◌≡◌ {A = TimedState} (record { board = c; inputs = xs; place = p; taken = t }) (with_due old)
   unfolding with_due
-  given_is_due c ran = same _ _ xs _ _ _ _ (ran ∙ ap (λ ys. run b (inputs_at ys t)) is) (ap (λ i. place + i) number) refl
+  given_is_due c p ran at = same _ _ xs _ _ _ _ (ran ∙ ap (λ ys. run b (inputs_at ys t)) is) (at ∙ ap (λ i. place + i) number) refl
 
 -- ---- the inputs of a time, one after another
 

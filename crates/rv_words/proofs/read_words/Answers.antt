@@ -1,4 +1,4 @@
-use Rattle.std.proofs.Common.{◌≡◌, ◌∙◌, rules, arith, ap, refl, Some, List, ℕ}
+use Rattle.std.proofs.Common.{◌≡◌, ◌≤◌, ◌∙◌, rules, arith, ap, refl, Some, List, ℕ}
 use Rattle.std.specs.Borrow.{Bor}
 use Rattle.std.specs.Prelude.{codes, option_map}
 use Rattle.std.specs.Str.Parse.{ParsesUnsigned, ExplainsUnsignedError, HasUnsignedDigitsIfOk}
@@ -42,16 +42,27 @@ returns-clause-read c =
     let steps : c.unwrap-steps.result ≡ n.value = cc in
     let pages : c.unwrap-pages.result ≡ k.value = cc in
     let slots : c.unwrap-slots.result ≡ j.value = cc in
+    let source = text_got words m (codes "source") c.get_str.result p c.get_str.ensures ∙ ap (option_map (λ (s : Bor (List ℕ)). s.now)) found in
+    let input = text_got words m (codes "input") c.get_str-input.result p c.get_str-input.ensures in
+    let commands = text_got words m (codes "commands") c.get_str-commands.result p c.get_str-commands.ensures in
+    let steps_said = steps ∙ n.said in
+    let pages_said = pages ∙ k.said in
+    let slots_said = slots ∙ j.said in
+    let most_steps : c.unwrap-steps.result ≤ 1000000000 = rw steps n.most in
+    let least_pages : 1 ≤ c.unwrap-pages.result = rw pages k.least in
+    let most_pages : c.unwrap-pages.result ≤ 4096 = rw pages k.most in
+    let least_slots : 64 ≤ c.unwrap-slots.result = rw slots j.least in
+    let most_slots : c.unwrap-slots.result ≤ 4096 = rw slots j.most in
     record {
-      source = text_got words m (codes "source") c.get_str.result p c.get_str.ensures ∙ ap (option_map (λ (s : Bor (List ℕ)). s.now)) found;
-      input = text_got words m (codes "input") c.get_str-input.result p c.get_str-input.ensures;
-      commands = text_got words m (codes "commands") c.get_str-commands.result p c.get_str-commands.ensures;
-      steps = steps ∙ n.said;
-      pages = pages ∙ k.said;
-      slots = slots ∙ j.said;
-      most_steps = rw steps n.most;
-      least_pages = rw pages k.least;
-      most_pages = rw pages k.most;
-      least_slots = rw slots j.least;
-      most_slots = rw slots j.most;
+      source = search rules;
+      input = search rules;
+      commands = search rules;
+      steps = search rules;
+      pages = search rules;
+      slots = search rules;
+      most_steps = search rules;
+      least_pages = search rules;
+      most_pages = search rules;
+      least_slots = search rules;
+      most_slots = search rules;
     }

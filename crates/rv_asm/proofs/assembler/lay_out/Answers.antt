@@ -1,4 +1,4 @@
-use Rattle.std.proofs.Common.{◌≡◌, ◌∙◌, ◌∷◌, length, ap, sym, arith}
+use Rattle.std.proofs.Common.{◌≡◌, ◌∙◌, ◌∷◌, length, ap, sym, arith, rules}
 use Rattle.std.specs.Prelude.{Ok}
 use Rattle.rv_tokens.specs.Lines.{lines}
 use Rattle.rv_asm.specs.Assembly.{all_said}
@@ -26,7 +26,7 @@ pub returns-in-Err-clause-layout : goal.returns-in-Err-clause-layout
 returns-in-Err-clause-layout c =
     let why = c.in-Err.ensures.err in
     unread (lines c.args.source.now) c.loop-text.text-iterator c.loop-text.number c.loop-text.invariant.read c.in-Some.text.now c.next.new.self c.in-Some.ensures.steps
-    why.kind c.in-Err.unread why.fails why.at
+    why.kind c.in-Err.unread _ why.fails why.at (search rules)
 
 pub loop-text-preserved : goal.loop-text-preserved
 loop-text-preserved c =

@@ -1,5 +1,6 @@
-use Rattle.std.proofs.Common.{◌≡◌, [], ◌∙◌, sym, drop, length, arith}
+use Rattle.std.proofs.Common.{◌≡◌, [], ◌∙◌, sym, drop, length, arith, rules}
 use Rattle.std.proofs.lemmas.List.{drop_all}
+use Rattle.rv_tokens.specs.Lines.{without_return}
 use Rattle.rv_tokens.proofs.Splitting.{lines_feed, lines_last}
 use Rattle.rv_tokens.proofs.lines.first_line.Goals as goal
 
@@ -11,5 +12,6 @@ returns-in-Some c =
 pub returns-in-None : goal.returns-in-None
 returns-in-None c =
     let none : drop (length c.args.text.now) c.args.text.now ≡ [] = drop_all (length c.args.text.now) c.args.text.now (omega arith) in
-    rw (c.split_at-in-None.ensures.back, none, c.without_return-in-None.ensures)
+    let line : c.without_return-in-None.result.now ≡ without_return c.args.text.now = search rules in
+    rw (c.split_at-in-None.ensures.back, none, line)
     (lines_last c.args.text.now c.requires (sym c.in-None.is ∙ c.feed.ensures))

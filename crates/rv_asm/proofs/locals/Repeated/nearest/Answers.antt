@@ -10,6 +10,9 @@ last_some : (ds : List LocalLabel) (i : ℕ) (z : LocalLabel) → (i ≡ 0 → �
 last_some ds zero z h = absurd (h refl)
 last_some ds (suc i) z h = let e : suc i - 1 ≡ i = omega arith in rw e refl
 
+element : (ds : List LocalLabel) (k i : ℕ) (z : LocalLabel) → z ≡ get_or ds k z → k ≡ i → z ≡ get_or ds i z
+element ds k i z h is = rw is at h
+
 pub returns-then-count-eq0 : goal.returns-then-count-eq0
 returns-then-count-eq0 c =
     let cut : IsCut c.args.self.now c.args.line c.count_up_to-count.result = rw (c.deref.ensures.value, c.self.view_is) at c.count_up_to-count.ensures in
@@ -22,7 +25,7 @@ returns-else-count-eq0 c =
     let cut : IsCut c.args.self.now c.args.line c.count_up_to-count.result = rw (c.deref.ensures.value, c.self.view_is) at c.count_up_to-count.ensures in
     let z = c.index.result.now in
     let e = cut_before c.args.self.now c.args.number c.args.line c.count_up_to-count.result z c.requires.one cut ∙ last_some c.args.self.now c.count_up_to-count.result z c.if-count-eq0.false in
-    let is : z ≡ get_or c.args.self.now (c.count_up_to-count.result - 1) z = rw c.self.view_is at c.index.ensures in
+    let is : z ≡ get_or c.args.self.now (c.count_up_to-count.result - 1) z = element c.args.self.now _ _ z (rw c.self.view_is at c.index.ensures) (omega arith) in
     rw (c.in-Backward.is) (ap (λ (d : LocalLabel). Some d.address) is ∙ sym e)
 
 pub returns-then-count-len : goal.returns-then-count-len

@@ -33,7 +33,7 @@ loop-line-preserved c =
 pub returns-in-Err-BadLine : goal.returns-in-Err-BadLine
 returns-in-Err-BadLine c =
     refused (lines c.args.text.now) c.loop-line.line-iterator c.loop-line.number c.loop-line.inputs.items c.loop-line.invariant.so_far c.in-Some.line.now c.next.new.self c.in-Some.ensures.steps
-    (rw c.in-Err-BadLine.field-0-is at c.in-Err-BadLine.ensures)
+    (rw c.in-Err-BadLine.field-0-is at c.in-Err-BadLine.ensures) _ (omega arith)
 
 pub invariant_of-result : goal.invariant_of-result
 invariant_of-result c =
