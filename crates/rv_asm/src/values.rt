@@ -1,5 +1,5 @@
 //! Values in the places of a statement.
-ghost use Rattle.std.specs.Prelude.{◌≡◌, ◌<◌, ◌≤◌, ◌^◌, IfSome};
+ghost use Rattle.std.specs.Prelude.{◌≡◌, ◌==◌, ◌<◌, ◌≤◌, ◌^◌, IfSome};
 ghost use Rattle.rv_isa.specs.Number.{IsWithin, IsDistance, modulo};
 ghost use Rattle.rv_asm.specs.Values.{is_between, is_word, fits, immediate, upper_immediate, five_bits, distance, hi, lo, as_word, far, loading, gap};
 
@@ -10,6 +10,13 @@ pub fn is_between(low: i64, high: i64, value: i64) -> bool
     ensures { result ≡ is_between low high value }
 {
     low <= value && value <= high
+}
+
+/// Whether a value is even. A function of its own, since a remainder of either sign makes a dear goal of each distance.
+fn is_even(value: i64) -> bool
+    ensures { result ≡ (modulo value 2 == 0) }
+{
+    value.rem_euclid(2) == 0
 }
 
 /// Whether a value is one of 32 bits, with or without a sign.
@@ -82,7 +89,7 @@ pub fn jump_distance(here: u32, target: i64) -> Option<i32>
     ensures within { IfSome result (IsDistance (2 ^ 20)) }
 {
     let offset = target.checked_sub(i64::from(here))?;
-    if is_between(-1_048_576, 1_048_574, offset) && offset % 2 == 0 {
+    if is_between(-1_048_576, 1_048_574, offset) && is_even(offset) {
         Some(offset as i32)
     } else {
         None
@@ -95,7 +102,7 @@ pub fn branch_distance(here: u32, target: i64) -> Option<i32>
     ensures within { IfSome result (IsDistance (2 ^ 12)) }
 {
     let offset = target.checked_sub(i64::from(here))?;
-    if is_between(-4096, 4094, offset) && offset % 2 == 0 {
+    if is_between(-4096, 4094, offset) && is_even(offset) {
         Some(offset as i32)
     } else {
         None
