@@ -83,6 +83,14 @@ pub fn five_bits(value: i64) -> Option<u8>
     }
 }
 
+/// A distance in 32 bits. A function of its own, since a cast makes a dear goal of each clause of a distance.
+fn narrow(offset: i64) -> i32
+    requires { IsWithin (2 ^ 20) offset }
+    ensures { result ≡ offset }
+{
+    offset as i32
+}
+
 /// How far the target of `jal` is from it.
 pub fn jump_distance(here: u32, target: i64) -> Option<i32>
     ensures value { result ≡ distance (2 ^ 20) here target }
@@ -90,7 +98,7 @@ pub fn jump_distance(here: u32, target: i64) -> Option<i32>
 {
     let offset = target.checked_sub(i64::from(here))?;
     if is_between(-1_048_576, 1_048_574, offset) && is_even(offset) {
-        Some(offset as i32)
+        Some(narrow(offset))
     } else {
         None
     }
@@ -103,7 +111,7 @@ pub fn branch_distance(here: u32, target: i64) -> Option<i32>
 {
     let offset = target.checked_sub(i64::from(here))?;
     if is_between(-4096, 4094, offset) && is_even(offset) {
-        Some(offset as i32)
+        Some(narrow(offset))
     } else {
         None
     }

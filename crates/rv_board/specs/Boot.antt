@@ -1,6 +1,6 @@
 -- The board at reset.
 -- To audit: public contracts cite this.
-use Rattle.std.specs.Prelude.{ℕ, Bool, ◌*◌, ◌-◌, ◌^◌, ◌==◌, ◌&&◌, nat_le, nat_lt, not, if◌then◌else◌, List, [], ◌∷◌, ◌++◌, length, Option, Some, None}
+use Rattle.std.specs.Prelude.{ℕ, ◌*◌, ◌-◌, ◌&&◌, nat_le, nat_lt, not, if◌then◌else◌, List, [], ◌++◌, length, Option, Some, None}
 use Rattle.rv_ram.specs.Bytes.{zeros}
 use Rattle.rv_cache.specs.Noted.{is_slot_count}
 use Rattle.rv_bus.specs.State as bus

@@ -1,3 +1,4 @@
 pub mod AsmFaults
 pub mod Obeyed
 pub mod Digits
+pub mod Refusals

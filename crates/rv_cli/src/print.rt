@@ -1,5 +1,5 @@
 //! What is printed of a board.
-ghost use Rattle.std.specs.Prelude.{◌≡◌, ◌++◌, OnOk, Some};
+ghost use Rattle.std.specs.Prelude.{◌≡◌, [], ◌∷◌, ◌++◌, OnOk, Some};
 ghost use Rattle.rv_board.specs.State.{halted_of};
 ghost use Rattle.rv_cli.specs.Output.{eight_digits, ending_of, printed, status_text, with_line_end};
 
@@ -58,6 +58,15 @@ fn append_lines(text: &mut Vec<u8>, piece: &[u8]) -> Result<(), NoMemory>
     Ok(())
 }
 
+/// Appends the status line.
+fn append_status(status: Status, text: &mut Vec<u8>) -> Result<(), NoMemory>
+    ensures { OnOk result (text.new.items ≡ text.old.items ++ status_text status.halted status.pc status.steps ++ 10 ∷ []) }
+{
+    let line = format!(in *text.allocator(); "{status}\n")?;
+    text.extend_from_slice(line.as_bytes())?;
+    Ok(())
+}
+
 /// Appends the console and the status line.
 pub(crate) fn print_board<M: ByteMemory, C: Decoded>(
     board: &Board<M, C>,
@@ -65,15 +74,13 @@ pub(crate) fn print_board<M: ByteMemory, C: Decoded>(
 ) -> Result<(), NoMemory>
     ensures { OnOk result (text.new.items ≡ text.old.items ++ printed board.now) }
 {
+    append_lines(text, board.console())?;
     let status = Status {
         halted: board.halted(),
         pc: board.pc(),
         steps: board.steps(),
     };
-    append_lines(text, board.console())?;
-    let line = format!(in *text.allocator(); "{status}\n")?;
-    text.extend_from_slice(line.as_bytes())?;
-    Ok(())
+    append_status(status, text)
 }
 
 /// How the board's run ended.

@@ -12,3 +12,9 @@ one_more_piece piece n = ap (pieces piece) (add-one n)
 
 pub one_more_behind : (head : List ℕ) (piece : ℕ → List ℕ) (n : ℕ) → head ++ pieces piece (n + 1) ≡ head ++ pieces piece n ++ piece n
 one_more_behind head piece n = ap (λ text. head ++ text) (one_more_piece piece n) ∙ sym (append_assoc head (pieces piece n) (piece n))
+
+-- a text with the pieces before one, and then that one behind it, has one more
+pub piece_behind : (head before after : List ℕ) (piece : ℕ → List ℕ) (n : ℕ)
+    → before ≡ head ++ pieces piece n → after ≡ before ++ piece n → after ≡ head ++ pieces piece (n + 1)
+piece_behind head before after piece n stands appended =
+    appended ∙ ap (λ text. text ++ piece n) stands ∙ sym (one_more_behind head piece n)

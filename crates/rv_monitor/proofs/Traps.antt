@@ -1,6 +1,6 @@
 -- Traps, one behind the other.
-use Rattle.std.proofs.Common.{◌≡◌, ◌∙◌, ℕ, zero, suc, ◌+◌, ◌≤◌, List, [], ◌∷◌, ◌++◌, length, take, refl, sym, ap, add-one, append-nil, append_assoc}
-use Rattle.std.specs.Prelude.{Some, slice_get}
+use Rattle.std.proofs.Common.{◌≡◌, ◌∙◌, ℕ, zero, suc, ◌+◌, ◌<◌, ◌≤◌, List, [], ◌∷◌, ◌++◌, length, take, refl, sym, ap, add-one, append-nil, append_assoc, rules, arith}
+use Rattle.std.specs.Prelude.{Option, Some, IsSome, slice_get}
 use Rattle.std.specs.List.{flat_map}
 use Rattle.std.proofs.lemmas.List.{take_all}
 use Rattle.rv_board.specs.declared.event.TrapRecord.{TrapRecord}
@@ -28,3 +28,18 @@ one_more_trap text ts i t e =
 
 pub all_traps : (text : List ℕ) (ts : List TrapRecord) (n : ℕ) → length ts ≤ n → text ++ flat_map trap_text (take n ts) ≡ text ++ flat_map trap_text ts
 all_traps text ts n h = ap (λ lines. text ++ flat_map trap_text lines) (take_all n ts h)
+
+-- a text with the traps before one, and then that one behind it, has one more
+pub trap_behind : (text before after : List ℕ) (ts : List TrapRecord) (i : ℕ) (t : TrapRecord) → Some t ≡ slice_get ts i
+    → before ≡ text ++ flat_map trap_text (take i ts) → after ≡ before ++ trap_text t → after ≡ text ++ flat_map trap_text (take (i + 1) ts)
+trap_behind text before after ts i t here stands appended =
+    appended ∙ ap (λ head. head ++ trap_text t) stands ∙ sym (one_more_trap text ts i t here)
+
+some_trap : (ts : List TrapRecord) (i : ℕ) → i < length ts → IsSome (slice_get ts i)
+some_trap [] i h = absurd (omega (arith, h))
+some_trap (t ∷ ts) zero h = search rules
+some_trap (t ∷ ts) (suc i) h = some_trap ts i (omega (arith, h))
+
+-- each index below the count has a trap
+pub has_trap : (ts : List TrapRecord) (i : ℕ) (answered : Option TrapRecord) → answered ≡ slice_get ts i → i < length ts → IsSome answered
+has_trap ts i answered e h = rw e (some_trap ts i h)

@@ -3,6 +3,7 @@ ghost use Rattle.std.specs.Prelude.{◌≡◌, ◌+◌, ◌*◌, ◌/◌, ◌%�
 ghost use Rattle.rv_isa.specs.Width.{bytes_of};
 ghost use Rattle.rv_ram.specs.Bytes.{word_at, put, zeros};
 ghost use Rattle.rv_ram.specs.Pages.{none_made, wants_page, makes_page, made_after};
+ghost use Rattle.rv_ram.specs.Table.{new_table};
 
 use crate::page::Page;
 use crate::{ByteMemory, PAGE_BYTES};
@@ -36,9 +37,23 @@ impl Model for PagedRam {
     ghost invariant = { λ m. IsTable m.pages.items };
 }
 
+/// A table of so many pages, of which none exists yet.
+#[tactic(auto, using(crate::proofs::Table::new_more, crate::proofs::Table::new_zero))]
+fn blank_pages(alloc: Global, pages: u32) -> Result<Vec<Page>, NoMemory>
+    ensures { IfOk result (λ table. table.items ≡ new_table pages) }
+{
+    let mut table = Vec::with_capacity(alloc, pages as usize)?;
+    for _n in 0..pages {
+        if table.push(Page::new(alloc)).is_err() {
+            return Err(NoMemory);
+        }
+    }
+    Ok(table)
+}
+
 impl PagedRam {
     /// A memory of so many pages, all zero, of which none exists yet.
-    #[tactic(auto, using(crate::proofs::Table::joined_new, crate::proofs::Table::made_new, crate::proofs::Table::new_more, crate::proofs::Table::new_zero, crate::proofs::Table::is_table_new, crate::proofs::Zeros::length_zeros))]
+    #[tactic(auto, using(crate::proofs::Table::joined_new, crate::proofs::Table::made_new, crate::proofs::Table::is_table_new, crate::proofs::Zeros::length_zeros))]
     pub fn new(alloc: Global, pages: u32) -> Result<PagedRam, NoMemory>
         requires some { 1 ≤ pages }
         requires most { pages ≤ 4096 }
@@ -46,13 +61,8 @@ impl PagedRam {
         ensures pages { IfOk result (λ m. m.made ≡ none_made pages) }
         ensures size { IfOk result (λ m. length m.bytes ≡ 4096 * pages) }
     {
-        let mut table = Vec::with_capacity(alloc, pages as usize)?;
-        for _n in 0..pages {
-            if table.push(Page::new(alloc)).is_err() {
-                return Err(NoMemory);
-            }
-        }
-        Ok(PagedRam { pages: table })
+        let pages = blank_pages(alloc, pages)?;
+        Ok(PagedRam { pages })
     }
 }
 

@@ -31,19 +31,27 @@ pub fn x(number: u8) -> Reg
     reg
 }
 
-/// The statement of an instruction whose fields are in range.
-pub fn instruction<'a>(kind: Kind) -> Statement<'a>
+/// The instruction whose fields, all in range, are these.
+pub fn instr(kind: Kind) -> Instr
     requires { IsInRange kind }
-    ensures { result ≡ s.Instruction kind }
+    ensures { result ≡ kind }
 {
     let Some(instr) = Instr::new(kind) else {
         unreachable!()
     };
-    Statement::Instruction(instr)
+    instr
+}
+
+/// The statement of an instruction whose fields are in range.
+fn instruction<'a>(kind: Kind) -> Statement<'a>
+    requires { IsInRange kind }
+    ensures { result ≡ s.Instruction kind }
+{
+    Statement::Instruction(instr(kind))
 }
 
 /// A jump to what a register says.
-pub fn jump_to<'a>(rd: Reg, base: Reg) -> Statement<'a>
+fn jump_to<'a>(rd: Reg, base: Reg) -> Statement<'a>
     requires link { rd < 32 }
     requires base { base < 32 }
     ensures { result ≡ s.Instruction (k.Jalr rd base (pos 0)) }

@@ -1,5 +1,5 @@
 //! Words that stand for other instructions.
-ghost use Rattle.std.specs.Prelude.{◌≡◌, ◌≤◌, ◌^◌, length, pos};
+ghost use Rattle.std.specs.Prelude.{◌≡◌, ◌≤◌, ◌^◌, length, pos, true};
 ghost use Rattle.rv_isa.specs.Number.{IsWithin};
 ghost use Rattle.rv_isa.specs.declared.kind.Kind.TheVariants as k;
 ghost use Rattle.rv_isa.specs.declared.op.ImmOp.TheVariants.{Addi};
@@ -9,38 +9,39 @@ ghost use Rattle.rv_source.specs.Operands.{operands_of};
 ghost use Rattle.rv_source.specs.Partial.{Finds};
 ghost use Rattle.rv_source.specs.Expressions.{value};
 ghost use Rattle.rv_source.specs.Statements.{register, one, two, pseudo};
+ghost use Rattle.rv_source.specs.Valued.{is_of_registers};
 
 use crate::Statement;
 use crate::form::Pseudo;
 use crate::instructions::{
-    alone, instruction, jump_to, one_register, one_value, register_and_value, registers_and_value,
-    two_registers, x,
+    alone, instr, one_register, one_value, register_and_value, registers_and_value, two_registers,
+    x,
 };
 use crate::operand::pair;
 use crate::places::{csr, register};
 use crate::refusal::Refusal;
 use crate::terms::read_value;
-use rv_isa::{AluOp, Cond, CsrOp, ImmOp, Kind, Reg};
+use rv_isa::{AluOp, Cond, CsrOp, ImmOp, Instr, Kind, Reg};
 use rv_tokens::Token;
 use std::alloc::Global;
 
 /// An operation on a register and this immediate.
-fn op_with_imm<'a>(op: ImmOp, imm: i32, tokens: &[Token<'a>]) -> Result<Statement<'a>, Refusal>
+fn op_with_imm(op: ImmOp, imm: i32, tokens: &[Token]) -> Result<Instr, Refusal>
     requires within { IsWithin (2 ^ 11) imm }
     requires short { length tokens.now ≤ 1024 }
-    ensures { Finds (λ s. s) result (two register register (λ rd rs. s.Instruction (k.OpImm op rd rs imm)) (operands_of tokens.now)) }
+    ensures { Finds s.Instruction result (two register register (λ rd rs. s.Instruction (k.OpImm op rd rs imm)) (operands_of tokens.now)) }
 {
     let (rd, rs1) = two_registers(tokens)?;
-    Ok(instruction(Kind::OpImm { op, rd, rs1, imm }))
+    Ok(instr(Kind::OpImm { op, rd, rs1, imm }))
 }
 
 /// An operation on a register and x0.
-fn op_with_zero<'a>(op: AluOp, tokens: &[Token<'a>]) -> Result<Statement<'a>, Refusal>
+fn op_with_zero(op: AluOp, tokens: &[Token]) -> Result<Instr, Refusal>
     requires { length tokens.now ≤ 1024 }
-    ensures { Finds (λ s. s) result (two register register (λ rd rs. s.Instruction (k.Op op rd rs 0)) (operands_of tokens.now)) }
+    ensures { Finds s.Instruction result (two register register (λ rd rs. s.Instruction (k.Op op rd rs 0)) (operands_of tokens.now)) }
 {
     let (rd, rs1) = two_registers(tokens)?;
-    Ok(instruction(Kind::Op {
+    Ok(instr(Kind::Op {
         op,
         rd,
         rs1,
@@ -49,12 +50,12 @@ fn op_with_zero<'a>(op: AluOp, tokens: &[Token<'a>]) -> Result<Statement<'a>, Re
 }
 
 /// An operation on x0 and a register.
-fn op_on_zero<'a>(op: AluOp, tokens: &[Token<'a>]) -> Result<Statement<'a>, Refusal>
+fn op_on_zero(op: AluOp, tokens: &[Token]) -> Result<Instr, Refusal>
     requires { length tokens.now ≤ 1024 }
-    ensures { Finds (λ s. s) result (two register register (λ rd rs. s.Instruction (k.Op op rd 0 rs)) (operands_of tokens.now)) }
+    ensures { Finds s.Instruction result (two register register (λ rd rs. s.Instruction (k.Op op rd 0 rs)) (operands_of tokens.now)) }
 {
     let (rd, rs2) = two_registers(tokens)?;
-    Ok(instruction(Kind::Op {
+    Ok(instr(Kind::Op {
         op,
         rd,
         rs1: x(0),
@@ -124,25 +125,29 @@ fn jump<'a>(alloc: Global, tokens: &[Token<'a>]) -> Result<Statement<'a>, Refusa
     Ok(Statement::Jal { rd: x(0), target })
 }
 
-fn jump_register<'a>(tokens: &[Token<'a>]) -> Result<Statement<'a>, Refusal>
+fn jump_register(tokens: &[Token]) -> Result<Instr, Refusal>
     requires { length tokens.now ≤ 1024 }
-    ensures { Finds (λ s. s) result (one register (λ rs. s.Instruction (k.Jalr 0 rs (pos 0))) (operands_of tokens.now)) }
+    ensures { Finds s.Instruction result (one register (λ rs. s.Instruction (k.Jalr 0 rs (pos 0))) (operands_of tokens.now)) }
 {
     let base = one_register(tokens)?;
-    Ok(jump_to(x(0), base))
+    Ok(instr(Kind::Jalr {
+        rd: x(0),
+        base,
+        offset: 0,
+    }))
 }
 
 #[tactic(auto, unfolding(crate::specs::Statements::pseudo))]
-fn read_csr<'a>(tokens: &[Token<'a>]) -> Result<Statement<'a>, Refusal>
+fn read_csr(tokens: &[Token]) -> Result<Instr, Refusal>
     requires { length tokens.now ≤ 1024 }
-    ensures { Finds (λ s. s) result (pseudo p.CsrRead (operands_of tokens.now)) }
+    ensures { Finds s.Instruction result (pseudo p.CsrRead (operands_of tokens.now)) }
 {
     let Some((rd, number)) = pair(tokens) else {
         return Err(Refusal::BadOperands);
     };
     let rd = register(rd)?;
     let csr = csr(number)?.number();
-    Ok(instruction(Kind::Csr {
+    Ok(instr(Kind::Csr {
         op: CsrOp::Set,
         rd,
         rs1: x(0),
@@ -151,16 +156,16 @@ fn read_csr<'a>(tokens: &[Token<'a>]) -> Result<Statement<'a>, Refusal>
 }
 
 #[tactic(auto, unfolding(crate::specs::Statements::pseudo))]
-fn write_csr<'a>(op: CsrOp, tokens: &[Token<'a>]) -> Result<Statement<'a>, Refusal>
+fn write_csr(op: CsrOp, tokens: &[Token]) -> Result<Instr, Refusal>
     requires { length tokens.now ≤ 1024 }
-    ensures { Finds (λ s. s) result (pseudo (p.CsrChange op) (operands_of tokens.now)) }
+    ensures { Finds s.Instruction result (pseudo (p.CsrChange op) (operands_of tokens.now)) }
 {
     let Some((number, source)) = pair(tokens) else {
         return Err(Refusal::BadOperands);
     };
     let csr = csr(number)?.number();
     let rs1 = register(source)?;
-    Ok(instruction(Kind::Csr {
+    Ok(instr(Kind::Csr {
         op,
         rd: x(0),
         rs1,
@@ -247,6 +252,38 @@ fn ret() -> Kind
     }
 }
 
+/// The instruction of a word that stands for one of registers alone.
+#[tactic(auto, unfolding(crate::specs::Statements::pseudo))]
+fn registers_instr(form: Pseudo, tokens: &[Token]) -> Result<Instr, Refusal>
+    requires registers { is_of_registers form ≡ true }
+    requires short { length tokens.now ≤ 1024 }
+    ensures { Finds s.Instruction result (pseudo form (operands_of tokens.now)) }
+{
+    match form {
+        Pseudo::Mv => op_with_imm(ImmOp::Addi, 0, tokens),
+        Pseudo::Not => op_with_imm(ImmOp::Xori, -1, tokens),
+        Pseudo::Neg => op_on_zero(AluOp::Sub, tokens),
+        Pseudo::Seqz => op_with_imm(ImmOp::Sltiu, 1, tokens),
+        Pseudo::Snez => op_on_zero(AluOp::Sltu, tokens),
+        Pseudo::Sltz => op_with_zero(AluOp::Slt, tokens),
+        Pseudo::Sgtz => op_on_zero(AluOp::Slt, tokens),
+        Pseudo::JumpRegister => jump_register(tokens),
+        Pseudo::CsrRead => read_csr(tokens),
+        Pseudo::CsrChange(op) => write_csr(op, tokens),
+        _ => unreachable!(),
+    }
+}
+
+/// What a word that stands for an instruction of registers alone and its operands stand for.
+fn read_registers<'a>(form: Pseudo, tokens: &[Token<'a>]) -> Result<Statement<'a>, Refusal>
+    requires registers { is_of_registers form ≡ true }
+    requires short { length tokens.now ≤ 1024 }
+    ensures { Finds (λ s. s) result (pseudo form (operands_of tokens.now)) }
+{
+    let instr = registers_instr(form, tokens)?;
+    Ok(Statement::Instruction(instr))
+}
+
 /// What a word that stands for other instructions and its operands stand for.
 #[tactic(auto, unfolding(crate::specs::Statements::pseudo))]
 pub fn read_pseudo<'a>(
@@ -258,26 +295,17 @@ pub fn read_pseudo<'a>(
     ensures { Finds (λ s. s) result (pseudo form (operands_of tokens.now)) }
 {
     match form {
-        Pseudo::Nop => alone(nop(), tokens),
-        Pseudo::Mv => op_with_imm(ImmOp::Addi, 0, tokens),
-        Pseudo::Not => op_with_imm(ImmOp::Xori, -1, tokens),
-        Pseudo::Neg => op_on_zero(AluOp::Sub, tokens),
-        Pseudo::Seqz => op_with_imm(ImmOp::Sltiu, 1, tokens),
-        Pseudo::Snez => op_on_zero(AluOp::Sltu, tokens),
-        Pseudo::Sltz => op_with_zero(AluOp::Slt, tokens),
-        Pseudo::Sgtz => op_on_zero(AluOp::Slt, tokens),
         Pseudo::BranchZero(cond) => branch_zero(alloc, cond, tokens),
         Pseudo::ZeroBranch(cond) => zero_branch(alloc, cond, tokens),
         Pseudo::BranchSwapped(cond) => branch_swapped(alloc, cond, tokens),
         Pseudo::Jump => jump(alloc, tokens),
-        Pseudo::JumpRegister => jump_register(tokens),
-        Pseudo::Return => alone(ret(), tokens),
-        Pseudo::CsrRead => read_csr(tokens),
-        Pseudo::CsrChange(op) => write_csr(op, tokens),
         Pseudo::CsrChangeImm(op) => write_csr_imm(alloc, op, tokens),
         Pseudo::Li => li(alloc, tokens),
         Pseudo::La => la(alloc, tokens),
         Pseudo::Call => call(alloc, x(1), x(1), tokens),
         Pseudo::Tail => call(alloc, x(0), x(6), tokens),
+        Pseudo::Nop => alone(nop(), tokens),
+        Pseudo::Return => alone(ret(), tokens),
+        _ => read_registers(form, tokens),
     }
 }

@@ -1,6 +1,7 @@
 //! How a run ends, why one gives no text, the line that says so, and what the program exits with.
-ghost use Rattle.std.specs.Prelude.{◌≡◌, ◌++◌, Err, IfErr, IfOk, Ok, OnErr, OnOk, Some};
-ghost use Rattle.rv_texts.specs.Faults.{input_line_of, line_of, read_fault_of, source_line_of, status_of};
+ghost use Rattle.std.specs.Prelude.{◌≡◌, ◌++◌, Err, IfErr, IfOk, Ok, OnErr, OnOk, Some, false};
+ghost use Rattle.rv_texts.specs.Faults.{ended, input_line_of, line_of, read_fault_of, source_line_of, status_of};
+ghost use Rattle.rv_texts.specs.Numbered.{has_number};
 
 use rv_asm::AsmFault;
 use rv_isa::NoMemory;
@@ -126,30 +127,61 @@ impl fmt::Display for InputLine {
     }
 }
 
+/// The line of a fault that has no number in it, with its line end.
+fn plain_line(fault: CliFault) -> &'static str
+    requires { has_number fault ≡ false }
+    ensures { result.now ≡ line_of fault }
+{
+    match fault {
+        CliFault::ReadSource => "cannot read source\n",
+        CliFault::ReadInput => "cannot read input\n",
+        CliFault::ReadCommands => "cannot read commands\n",
+        CliFault::BadPages => "bad pages\n",
+        CliFault::BadSlots => "bad slots\n",
+        CliFault::ImageTooLarge => "image too large\n",
+        CliFault::OutOfMemory => "out of memory\n",
+        CliFault::Write => "cannot write\n",
+        CliFault::Source(_) | CliFault::Input(_) => unreachable!(),
+    }
+}
+
+/// Appends a text. Refused, it leaves what is there as it was.
+fn append(text: &str, line: &mut Vec<u8>) -> Result<(), NoMemory>
+    ensures ok { OnOk result (line.new.items ≡ line.old.items ++ text.now) }
+    ensures err { OnErr result (line.new.items ≡ line.old.items) }
+{
+    line.extend_from_slice(text.as_bytes())?;
+    Ok(())
+}
+
+/// Appends the line of a source that can't be assembled.
+fn append_source_line(fault: AsmFault, line: &mut Vec<u8>) -> Result<(), NoMemory>
+    ensures ok { OnOk result (line.new.items ≡ line.old.items ++ ended (source_line_of fault)) }
+    ensures err { OnErr result (line.new.items ≡ line.old.items) }
+{
+    let text = format!(in *line.allocator(); "{}\n", SourceLine(fault))?;
+    append(&text, line)
+}
+
+/// Appends the line of a timed list that is refused.
+fn append_input_line(number: usize, line: &mut Vec<u8>) -> Result<(), NoMemory>
+    ensures ok { OnOk result (line.new.items ≡ line.old.items ++ ended (input_line_of number)) }
+    ensures err { OnErr result (line.new.items ≡ line.old.items) }
+{
+    let text = format!(in *line.allocator(); "{}\n", InputLine(number))?;
+    append(&text, line)
+}
+
 /// Appends the line that says the fault, with its line end. Refused, it leaves the text as it was.
 pub fn fault_line(fault: &CliFault, line: &mut Vec<u8>) -> Result<(), NoMemory>
     ensures ok { OnOk result (line.new.items ≡ line.old.items ++ line_of fault.now) }
     ensures err { OnErr result (line.new.items ≡ line.old.items) }
 {
     match *fault {
-        CliFault::ReadSource => line.extend_from_slice(b"cannot read source\n")?,
-        CliFault::ReadInput => line.extend_from_slice(b"cannot read input\n")?,
-        CliFault::ReadCommands => line.extend_from_slice(b"cannot read commands\n")?,
-        CliFault::Source(fault) => {
-            let text = format!(in *line.allocator(); "{}\n", SourceLine(fault))?;
-            line.extend_from_slice(text.as_bytes())?
-        }
-        CliFault::Input(number) => {
-            let text = format!(in *line.allocator(); "{}\n", InputLine(number))?;
-            line.extend_from_slice(text.as_bytes())?
-        }
-        CliFault::BadPages => line.extend_from_slice(b"bad pages\n")?,
-        CliFault::BadSlots => line.extend_from_slice(b"bad slots\n")?,
-        CliFault::ImageTooLarge => line.extend_from_slice(b"image too large\n")?,
-        CliFault::OutOfMemory => line.extend_from_slice(b"out of memory\n")?,
-        CliFault::Write => line.extend_from_slice(b"cannot write\n")?,
+        CliFault::Source(fault) => append_source_line(fault, line),
+        CliFault::Input(number) => append_input_line(number, line),
+        other => append(plain_line(other), line),
     }
-    Ok(())
 }
 
 /// What the program exits with: 0 halted with 0, 1 halted otherwise, 2 running, 3 where the source,

@@ -2,8 +2,13 @@
 ghost use Rattle.std.specs.Prelude.{◌≡◌, false};
 
 use crate::text::{InFailed, OutFailed, TextIn, TextOut};
-use std::io::{ErrorKind, Read, Write};
+use std::io::{Error, ErrorKind, Read, Write};
 use std::marker::Model;
+
+/// Whether a call failed only since it was interrupted.
+fn was_interrupted(error: Error) -> bool {
+    error.kind() == ErrorKind::Interrupted
+}
 
 /// A reader of std as a text. A read that was interrupted is tried again.
 pub struct FileIn<R: Read> {
@@ -51,7 +56,7 @@ impl<R: Read> TextIn for FileIn<R> {
             match self.reader.read(buffer) {
                 Ok(count) => return Ok(count),
                 Err(error) => {
-                    if error.kind() != ErrorKind::Interrupted {
+                    if !was_interrupted(error) {
                         break 'tries;
                     }
                 }
@@ -104,13 +109,11 @@ impl<W: Write> TextOut for FileOut<W> {
         'tries: for _ in 0..u64::MAX {
             match self.writer.write(bytes) {
                 Ok(count) => {
-                    if count == 0 && !bytes.is_empty() {
-                        self.has_failed = true;
-                    }
+                    self.has_failed |= count == 0 && !bytes.is_empty();
                     return Ok(count);
                 }
                 Err(error) => {
-                    if error.kind() != ErrorKind::Interrupted {
+                    if !was_interrupted(error) {
                         break 'tries;
                     }
                 }

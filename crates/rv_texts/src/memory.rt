@@ -223,9 +223,7 @@ impl TextOut for MemoryOut {
             self.has_failed = true;
             return Err(OutFailed);
         }
-        if count == 0 && !bytes.is_empty() {
-            self.has_failed = true;
-        }
+        self.has_failed |= count == 0 && !bytes.is_empty();
         Ok(count)
     }
 

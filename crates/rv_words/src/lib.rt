@@ -2,9 +2,10 @@
 //! `rvboard [SOURCE] [--input F] [--commands F] [--steps N] [--pages P] [--slots S]`.
 #![tactic(auto)]
 
-ghost use Rattle.std.specs.Prelude.{◌≡◌, codes, IfErr, IfOk, false, true};
+ghost use Rattle.std.specs.Prelude.{◌≡◌, All, codes, IfErr, IfOk, false, map, true};
 ghost use Rattle.clap.specs.Words.{FailsBy, app_of, fault_of, kind_of, matches_of, rule_of, takes};
 ghost use Rattle.rv_words.specs.Board.{board_app, file_rule, number_rule, source_rule, texts_of};
+ghost use Rattle.rv_words.specs.Chain.{IsLocal, board_rules};
 ghost use Rattle.rv_words.specs.Parse.{IsBoardParse};
 ghost use Rattle.rv_words.specs.Read.{IsReadFrom};
 
@@ -50,25 +51,15 @@ fn source_arg<'a>(alloc: Global) -> Arg<'a>
         .default_value("-")
 }
 
-fn input_arg<'a>(alloc: Global) -> Arg<'a>
-    ensures rule { rule_of result ≡ file_rule (codes "input") }
+/// An option that takes a value, which the help calls `value_name`.
+fn option_arg<'a>(alloc: Global, name: &'a str, value_name: &'a str, help: &'a str) -> Arg<'a>
+    ensures rule { rule_of result ≡ file_rule name.entry.now }
     ensures local { result.global ≡ false }
 {
-    Arg::new(alloc, "input")
-        .long("input")
-        .value_name("F")
-        .help("the timed serial bytes and interrupt lines, a file")
-        .action(ArgAction::Set)
-}
-
-fn commands_arg<'a>(alloc: Global) -> Arg<'a>
-    ensures rule { rule_of result ≡ file_rule (codes "commands") }
-    ensures local { result.global ≡ false }
-{
-    Arg::new(alloc, "commands")
-        .long("commands")
-        .value_name("F")
-        .help("the monitor's commands, a file")
+    Arg::new(alloc, name)
+        .long(name)
+        .value_name(value_name)
+        .help(help)
         .action(ArgAction::Set)
 }
 
@@ -76,11 +67,7 @@ fn steps_arg<'a>(alloc: Global) -> Arg<'a>
     ensures rule { rule_of result ≡ number_rule (codes "steps") (codes "1000000") 0 1000000000 }
     ensures local { result.global ≡ false }
 {
-    Arg::new(alloc, "steps")
-        .long("steps")
-        .value_name("N")
-        .help("the most steps, 0 to 1000000000")
-        .action(ArgAction::Set)
+    option_arg(alloc, "steps", "N", "the most steps, 0 to 1000000000")
         .default_value("1000000")
         .value_parser(value_parser!(u32).range(0..=1_000_000_000))
 }
@@ -89,11 +76,8 @@ fn pages_arg<'a>(alloc: Global) -> Arg<'a>
     ensures rule { rule_of result ≡ number_rule (codes "pages") (codes "256") 1 4096 }
     ensures local { result.global ≡ false }
 {
-    Arg::new(alloc, "pages")
-        .long("pages")
-        .value_name("P")
-        .help("the pages of RAM of 4096 bytes each, 1 to 4096")
-        .action(ArgAction::Set)
+    let help = "the pages of RAM of 4096 bytes each, 1 to 4096";
+    option_arg(alloc, "pages", "P", help)
         .default_value("256")
         .value_parser(value_parser!(u16).range(1..=4096))
 }
@@ -102,28 +86,38 @@ fn slots_arg<'a>(alloc: Global) -> Arg<'a>
     ensures rule { rule_of result ≡ number_rule (codes "slots") (codes "1024") 64 4096 }
     ensures local { result.global ≡ false }
 {
-    Arg::new(alloc, "slots")
-        .long("slots")
-        .value_name("S")
-        .help("the slots of the instruction cache, a power of two from 64 to 4096")
-        .action(ArgAction::Set)
+    let help = "the slots of the instruction cache, a power of two from 64 to 4096";
+    option_arg(alloc, "slots", "S", help)
         .default_value("1024")
         .value_parser(value_parser!(u16).range(64..=4096))
+}
+
+/// The arguments of the command, in their order.
+fn board_args<'a>(alloc: Global) -> Result<Vec<Arg<'a>>, AllocError>
+    ensures rules { IfOk result (λ args. map rule_of args.items ≡ board_rules) }
+    ensures local { IfOk result (λ args. All IsLocal args.items) }
+{
+    let input = "the timed serial bytes and interrupt lines, a file";
+    let commands = "the monitor's commands, a file";
+    let args = vec![in alloc;
+        source_arg(alloc),
+        option_arg(alloc, "input", "F", input),
+        option_arg(alloc, "commands", "F", commands),
+        steps_arg(alloc),
+        pages_arg(alloc),
+        slots_arg(alloc),
+    ]?;
+    Ok(args)
 }
 
 /// The command that the program's words are read by.
 fn board_command<'a>(alloc: Global) -> Result<Command<'a>, AllocError>
     ensures { IfOk result (λ c. app_of c ≡ board_app) }
 {
-    let command = Command::new(alloc, "rvboard")
+    let args = board_args(alloc)?;
+    Command::new(alloc, "rvboard")
         .about("assembles a program and runs it on a small RISC-V board")
-        .arg(source_arg(alloc))?
-        .arg(input_arg(alloc))?
-        .arg(commands_arg(alloc))?
-        .arg(steps_arg(alloc))?
-        .arg(pages_arg(alloc))?
-        .arg(slots_arg(alloc))?;
-    Ok(command)
+        .args(args)
 }
 
 /// The matches of the words.

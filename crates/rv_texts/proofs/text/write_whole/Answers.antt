@@ -1,4 +1,4 @@
-use Rattle.std.proofs.Common.{◌++◌, ◌+◌, ◌-◌, ◌≡◌, ◌<◌, ℕ, List, arith, length, take, drop}
+use Rattle.std.proofs.Common.{◌++◌, ◌-◌, ◌≡◌, ◌<◌, ℕ, List, arith, take, drop}
 use Rattle.std.proofs.KnownBytes.{Appends-trans}
 use Rattle.std.proofs.Math.Seq.{take-add}
 use Rattle.std.proofs.lemmas.Grind.{common_steps}

@@ -1,0 +1,56 @@
+-- Why a run gave no ending, by why its texts were not read or what they mean.
+use Rattle.std.proofs.Common.{Option, Some, None}
+use Rattle.std.specs.Prelude.{ℕ, List}
+use Rattle.rv_words.specs.declared.Options.{Options}
+use Rattle.rv_texts.specs.Readers.{AllGave, AreInOrder, Gave, GaveIf, IsInOrder, IsInOrderIf, Readers, Side, Texts}
+use Rattle.rv_texts.specs.Unread.{Unread}
+use Rattle.rv_texts.specs.declared.fault.CliFault.{CliFault}
+use Rattle.rv_texts.specs.declared.fault.CliFault.TheVariants.{ReadSource, ReadInput, ReadCommands, Source, Input, BadPages, BadSlots, ImageTooLarge, OutOfMemory, Write}
+use Rattle.rv_cli.specs.Meanings.{RefusedBy}
+use Rattle.rv_cli.specs.Output.{IsOutput}
+use Rattle.rv_cli.specs.Run.{Refused}
+
+in_order : (reader : Side) (text : List ℕ) → Gave reader text → IsInOrder reader
+in_order reader text g = record {
+  part = record { bytes = text; gave = g.whole.gave; within = g.whole.within };
+  sound = g.sound;
+}
+
+in_order_if : (reader : Option Side) (text : Option (List ℕ)) → GaveIf reader text → IsInOrderIf reader
+in_order_if None text g = tt
+in_order_if (Some reader) (Some text) g = in_order reader text g
+in_order_if (Some reader) None g = absurd g
+
+are_in_order : (r : Readers) (texts : Texts) → AllGave r texts → AreInOrder r
+are_in_order r texts g = record {
+  source = in_order r.source texts.source g.source;
+  inputs = in_order r.inputs texts.inputs g.inputs;
+  commands = in_order_if r.commands texts.commands g.commands;
+}
+
+-- the texts were not read
+pub refused_unread : (r : Readers) (out : Side) (options : Options) (fault : CliFault) → Unread r fault → Refused r out options fault
+refused_unread r out options ReadSource h = h
+refused_unread r out options ReadInput h = h
+refused_unread r out options ReadCommands h = h
+refused_unread r out options OutOfMemory h = h
+refused_unread r out options (Source fault) h = absurd h
+refused_unread r out options (Input n) h = absurd h
+refused_unread r out options BadPages h = absurd h
+refused_unread r out options BadSlots h = absurd h
+refused_unread r out options ImageTooLarge h = absurd h
+refused_unread r out options Write h = absurd h
+
+-- they were read, and are refused by what they mean
+pub refused_by : (r : Readers) (out : Side) (options : Options) (texts : Texts) (fault : CliFault) → AllGave r texts
+    → RefusedBy (IsOutput texts options) fault → Refused r out options fault
+refused_by r out options texts (Source fault) g h = record { texts = texts; gave = g; is = h }
+refused_by r out options texts (Input n) g h = record { texts = texts; gave = g; is = h }
+refused_by r out options texts BadPages g h = record { texts = texts; gave = g; is = h }
+refused_by r out options texts BadSlots g h = record { texts = texts; gave = g; is = h }
+refused_by r out options texts ImageTooLarge g h = record { texts = texts; gave = g; is = h }
+refused_by r out options texts OutOfMemory g h = are_in_order r texts g
+refused_by r out options texts ReadSource g h = absurd h
+refused_by r out options texts ReadInput g h = absurd h
+refused_by r out options texts ReadCommands g h = absurd h
+refused_by r out options texts Write g h = absurd h

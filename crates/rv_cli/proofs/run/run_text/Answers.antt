@@ -1,0 +1,13 @@
+use Rattle.std.proofs.lemmas.Result.{err_from_is_err_and}
+use Rattle.rv_cli.proofs.Refusals.{refused_by, refused_unread}
+use Rattle.rv_cli.proofs.run.run_text.Goals as goal
+
+pub returns-in_err-texts-clause-refused : goal.returns-in_err-texts-clause-refused
+returns-in_err-texts-clause-refused g c =
+    let e = err_from_is_err_and c.from_residual.result c.from_residual.ensures.1 in
+    rw (e.1, e.2) (refused_unread _ _ c.args.options c.in_err-texts.field-0.0 c.in_err-texts.ensures.err)
+
+pub returns-in_err-printed-clause-refused : goal.returns-in_err-printed-clause-refused
+returns-in_err-printed-clause-refused g c =
+    let e = err_from_is_err_and c.from_residual-in_err-printed.result c.from_residual-in_err-printed.ensures.1 in
+    rw (e.1, e.2) (refused_by _ _ c.args.options c.in_ok-texts.texts c.in_err-printed.field-0.0 c.in_ok-texts.ensures.ok c.in_err-printed.ensures.err)

@@ -1,0 +1,81 @@
+-- Words as signed numbers, and signed numbers as words.
+use Rattle.std.proofs.Common.{◌≡◌, ◌∙◌, ℕ, zero, suc, ◌-◌, ◌/◌, ◌%◌, ◌^◌, ◌<◌, ◌≤◌, refl, sym, ap, subst, ℤ, pos, negsuc, ◌*ℤ◌, nat_lt, w32, w64, SFits, to_z, of_z, arith}
+use Rattle.std.specs.Prelude.{int_div, int_rem, if◌then◌else◌}
+use Rattle.std.specs.Int.{int_wrapping_div}
+use Rattle.std.specs.Int.RustNames.{unsigned_abs}
+use Rattle.std.proofs.lemmas.Int.{of_z-to_z, to_z-of_z, to_z_pos, fits_signed_mul}
+use native.Mathlib.Nat.{div-le_self, mod-le}
+use lib.IntN.{neg_ℤ}
+use Rattle.rv_isa.specs.Number.{signed}
+use Rattle.rv_isa.specs.Alu.{reduced}
+
+-- what a cast to a signed number gives
+signed_is : (a : ℕ) → to_z w32 a ≡ signed a
+signed_is a =
+    let same : 2 ^ 32 - suc a ≡ 2 ^ 32 - 1 - a = omega arith in
+    ap (λ (n : ℕ). if nat_lt a (2 ^ 31) then pos a else negsuc n) same
+
+-- what is left of numbers that are passed on
+widened : (x : ℤ) → SFits w32 x → to_z w64 (of_z w64 (to_z w32 (of_z w32 x))) ≡ x
+widened x f = ap (λ (z : ℤ). to_z w64 (of_z w64 z)) (to_z-of_z w32 x f) ∙ to_z-of_z w64 x (record { sfits = omega (arith, f.sfits) })
+
+abs_le : (x : ℤ) → SFits w32 x → unsigned_abs x ≤ 2 ^ 31
+abs_le (pos n) f = omega (arith, f.sfits)
+abs_le (negsuc n) f = omega (arith, f.sfits)
+
+-- the product of two words as signed numbers, and of a signed and an unsigned one, where it is passed on
+pub signed_product : (a b : ℕ) (x y : ℤ) → SFits w32 x → SFits w32 y → x ≡ to_z w32 a → y ≡ to_z w32 b
+    → to_z w64 (of_z w64 (to_z w64 (of_z w64 (to_z w32 (of_z w32 x))) *ℤ to_z w64 (of_z w64 (to_z w32 (of_z w32 y))))) ≡ signed a *ℤ signed b
+signed_product a b x y f g e d =
+    ap (λ (z : ℤ). to_z w64 (of_z w64 z)) (λ i. widened x f i *ℤ widened y g i)
+    ∙ to_z-of_z w64 (x *ℤ y) (fits_signed_mul w64 x y (2 ^ 31) (2 ^ 31) (abs_le x f) (abs_le y g) (omega arith))
+    ∙ (λ i. (e ∙ signed_is a) i *ℤ (d ∙ signed_is b) i)
+
+mixed_factors : (x : ℤ) (b : ℕ) → SFits w32 x → b < 2 ^ 32 → to_z w64 (of_z w64 (to_z w32 (of_z w32 x))) *ℤ to_z w64 b ≡ x *ℤ pos b
+mixed_factors x b f h = λ i. widened x f i *ℤ to_z_pos w64 b (omega arith) i
+
+mixed_is_small : (x : ℤ) (b : ℕ) → SFits w32 x → b < 2 ^ 32 → SFits w64 (x *ℤ pos b)
+mixed_is_small x b f h = fits_signed_mul w64 x (pos b) (2 ^ 31) (2 ^ 32 - 1) (abs_le x f) (omega arith) (omega arith)
+
+pub mixed_fits : (x : ℤ) (b : ℕ) → SFits w32 x → b < 2 ^ 32 → SFits w64 (to_z w64 (of_z w64 (to_z w32 (of_z w32 x))) *ℤ to_z w64 b)
+mixed_fits x b f h = subst (SFits w64) (sym (mixed_factors x b f h)) (mixed_is_small x b f h)
+
+pub mixed_product : (a b : ℕ) (x : ℤ) → SFits w32 x → b < 2 ^ 32 → x ≡ to_z w32 a
+    → to_z w64 (of_z w64 (to_z w64 (of_z w64 (to_z w32 (of_z w32 x))) *ℤ to_z w64 b)) ≡ signed a *ℤ pos b
+mixed_product a b x f h e =
+    ap (λ (z : ℤ). to_z w64 (of_z w64 z)) (mixed_factors x b f h)
+    ∙ to_z-of_z w64 (x *ℤ pos b) (mixed_is_small x b f h)
+    ∙ (λ i. (e ∙ signed_is a) i *ℤ pos b)
+
+-- the word of a quotient and of a remainder, neither of which is above its dividend
+word_above : (n : ℕ) → n ≤ 2 ^ 31 → n ≡ reduced (pos n)
+word_above n h = omega arith
+
+word_below : (n : ℕ) → n ≤ 2 ^ 31 → of_z w32 (neg_ℤ (pos n)) ≡ reduced (neg_ℤ (pos n))
+word_below zero h = refl
+word_below (suc n) h = omega arith
+
+is_word : (z : ℤ) → reduced z < 2 ^ 32
+is_word (pos n) = omega arith
+is_word (negsuc n) = omega arith
+
+quotient : (x y : ℤ) → SFits w32 x → of_z w32 (int_div x y) ≡ reduced (int_div x y)
+quotient (pos a) (pos b) f = word_above (a / b) (omega (arith, div-le_self a b))
+quotient (pos a) (negsuc b) f = word_below (a / suc b) (omega (arith, div-le_self a (suc b)))
+quotient (negsuc a) (pos b) f = word_below (suc a / b) (omega (arith, div-le_self (suc a) b))
+quotient (negsuc a) (negsuc b) f = word_above (suc a / suc b) (omega (arith, div-le_self (suc a) (suc b)))
+
+pub quotient_word : (x y : ℤ) → SFits w32 x → of_z w32 (int_wrapping_div w32 x y) ≡ reduced (int_div x y)
+quotient_word x y f = ap (λ (n : ℕ). of_z w32 (to_z w32 n)) (quotient x y f) ∙ of_z-to_z w32 (reduced (int_div x y)) (is_word (int_div x y))
+
+pub remainder_word : (x y : ℤ) → SFits w32 x → of_z w32 (int_rem x y) ≡ reduced (int_rem x y)
+remainder_word (pos a) y f = word_above (a % unsigned_abs y) (omega (arith, mod-le a (unsigned_abs y)))
+remainder_word (negsuc a) y f = word_below (suc a % unsigned_abs y) (omega (arith, mod-le (suc a) (unsigned_abs y)))
+
+-- what an operation gives of the signed numbers of two words, passed on as a word
+pub word_of : (op : ℤ → ℤ → ℤ) (meaning : ℤ → ℤ → ℕ) (a b r : ℕ) (x y z : ℤ) → SFits w32 x → SFits w32 y → SFits w32 z
+    → x ≡ to_z w32 a → y ≡ to_z w32 b → z ≡ op (to_z w32 (of_z w32 x)) (to_z w32 (of_z w32 y)) → r ≡ of_z w32 (to_z w32 (of_z w32 z))
+    → of_z w32 (op x y) ≡ meaning x y → r ≡ meaning (signed a) (signed b)
+word_of op meaning a b r x y z f g h e d is was small =
+    was ∙ ap (of_z w32) (to_z-of_z w32 z h ∙ is ∙ (λ i. op (to_z-of_z w32 x f i) (to_z-of_z w32 y g i))) ∙ small
+    ∙ (λ i. meaning ((e ∙ signed_is a) i) ((d ∙ signed_is b) i))

@@ -1,0 +1,23 @@
+use Rattle.std.proofs.Common.{◌≡◌, ◌∙◌, ◌<◌, length, rules, arith}
+use Rattle.std.specs.Prelude.{Some, slice_get}
+use Rattle.rv_monitor.proofs.Traps.{has_trap, trap_behind, all_traps}
+use Rattle.rv_monitor.proofs.views.trap.append_traps.Goals as goal
+
+pub unwrap-trap-requires : goal.unwrap-trap-requires
+unwrap-trap-requires g c = has_trap c.args.board.now.traps _ _ c.trap.ensures (omega (arith, c.trap_count-index-end.ensures.count))
+
+pub append_trap-requires : goal.append_trap-requires
+append_trap-requires g c =
+    let before : c.loop-index.index < length c.args.board.now.traps = omega (arith, c.loop-index-test.true, c.trap_count-index-end.ensures.count) in
+    omega (arith, c.loop-index.invariant.1, before)
+
+pub loop-index-preserved : goal.loop-index-preserved
+loop-index-preserved g c =
+    let here : Some c.unwrap-trap.result ≡ slice_get c.args.board.now.traps c.loop-index.index = search rules in (
+      trap_behind c.args.text.now.items c.loop-index.text.items c.append_trap.new.text.items c.args.board.now.traps c.loop-index.index c.unwrap-trap.result
+          here c.loop-index.invariant.0 c.append_trap.ensures.items,
+      omega (arith, c.loop-index.invariant.1, c.append_trap.ensures.len, c.append_trap.ensures.capacity),
+    )
+
+pub returns : goal.returns
+returns g c = c.loop-index.invariant.0 ∙ all_traps c.args.text.now.items c.args.board.now.traps c.loop-index.index (omega arith)
