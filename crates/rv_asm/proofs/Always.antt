@@ -11,6 +11,7 @@ use Rattle.rv_source.specs.declared.statement.Immediate.{Immediate}
 use Rattle.rv_source.specs.declared.statement.Immediate.TheVariants as i
 use Rattle.rv_source.specs.declared.statement.Upper.{Upper}
 use Rattle.rv_source.specs.declared.statement.Upper.TheVariants as u
+use Rattle.rv_source.specs.declared.statement.ValueTaker.TheVariants as takes
 use Rattle.rv_source.specs.declared.statement.Statement.{Statement}
 use Rattle.rv_source.specs.declared.statement.Statement.TheVariants as s
 use Rattle.rv_asm.specs.declared.fault.FaultKind.{FaultKind}
@@ -76,25 +77,22 @@ module _ (less more : Valuation) (kept : (e : List Term) (v : ℤ) → less e �
   unfolding instructions statement_bytes
   kept_bytes here c (s.Instruction k) kind h = ap (λ m. m >>= λ kinds. Ok (bytes kinds)) h
   kept_bytes here c (s.Lui rd imm) kind h = ap (λ m. m >>= λ kinds. Ok (bytes kinds)) (then_kept _ (upper_of less imm) (upper_of more imm) (kind ∷ []) (upper_kept imm) h)
-  kept_bytes here c (s.Auipc rd imm) kind h = ap (λ m. m >>= λ kinds. Ok (bytes kinds)) (then_kept _ (wanted _ (less imm)) (wanted _ (more imm)) (kind ∷ []) (wanted_kept _ imm) h)
-  kept_bytes here c (s.Jal rd target) kind h = ap (λ m. m >>= λ kinds. Ok (bytes kinds)) (then_kept _ (wanted _ (less target)) (wanted _ (more target)) (kind ∷ []) (wanted_kept _ target) h)
-  kept_bytes here c (s.Jalr rd base offset) kind h = ap (λ m. m >>= λ kinds. Ok (bytes kinds)) (then_kept _ (immediate_of less offset) (immediate_of more offset) (kind ∷ []) (immediate_kept offset) h)
-  kept_bytes here c (s.Branch cond rs1 rs2 target) kind h = ap (λ m. m >>= λ kinds. Ok (bytes kinds)) (then_kept _ (wanted _ (less target)) (wanted _ (more target)) (kind ∷ []) (wanted_kept _ target) h)
-  kept_bytes here c (s.Load op rd base offset) kind h = ap (λ m. m >>= λ kinds. Ok (bytes kinds)) (then_kept _ (immediate_of less offset) (immediate_of more offset) (kind ∷ []) (immediate_kept offset) h)
-  kept_bytes here c (s.Store width source base offset) kind h = ap (λ m. m >>= λ kinds. Ok (bytes kinds)) (then_kept _ (immediate_of less offset) (immediate_of more offset) (kind ∷ []) (immediate_kept offset) h)
-  kept_bytes here c (s.OpImm op rd rs1 imm) kind h = ap (λ m. m >>= λ kinds. Ok (bytes kinds)) (then_kept _ (immediate_of less imm) (immediate_of more imm) (kind ∷ []) (immediate_kept imm) h)
-  kept_bytes here c (s.Shift op rd rs1 amount) kind h = ap (λ m. m >>= λ kinds. Ok (bytes kinds)) (then_kept _ (wanted _ (less amount)) (wanted _ (more amount)) (kind ∷ []) (wanted_kept _ amount) h)
-  kept_bytes here c (s.CsrImm op rd imm csr) kind h = ap (λ m. m >>= λ kinds. Ok (bytes kinds)) (then_kept _ (wanted _ (less imm)) (wanted _ (more imm)) (kind ∷ []) (wanted_kept _ imm) h)
-  kept_bytes here c (s.Li rd v) kind h = ap (λ m. m >>= λ kinds. Ok (bytes kinds)) h
-  kept_bytes here c (s.La rd target) kind h = ap (λ m. m >>= λ kinds. Ok (bytes kinds)) (then_kept _ (wanted _ (less target)) (wanted _ (more target)) (kind ∷ []) (wanted_kept _ target) h)
-  kept_bytes here c (s.Call link scratch target) kind h = ap (λ m. m >>= λ kinds. Ok (bytes kinds)) (then_kept _ (wanted _ (less target)) (wanted _ (more target)) (kind ∷ []) (wanted_kept _ target) h)
-  kept_bytes here c (s.LoadFrom op rd target) kind h = ap (λ m. m >>= λ kinds. Ok (bytes kinds)) (then_kept _ (wanted _ (less target)) (wanted _ (more target)) (kind ∷ []) (wanted_kept _ target) h)
-  kept_bytes here c (s.StoreTo width source scratch target) kind h = ap (λ m. m >>= λ kinds. Ok (bytes kinds)) (then_kept _ (wanted _ (less target)) (wanted _ (more target)) (kind ∷ []) (wanted_kept _ target) h)
+  kept_bytes here c (s.WithImmediate taker imm) kind h = ap (λ m. m >>= λ kinds. Ok (bytes kinds)) (then_kept _ (immediate_of less imm) (immediate_of more imm) (kind ∷ []) (immediate_kept imm) h)
+  kept_bytes here c (s.WithValue (takes.Auipc rd) v) kind h = ap (λ m. m >>= λ kinds. Ok (bytes kinds)) (then_kept _ (wanted _ (less v)) (wanted _ (more v)) (kind ∷ []) (wanted_kept _ v) h)
+  kept_bytes here c (s.WithValue (takes.Jal rd) v) kind h = ap (λ m. m >>= λ kinds. Ok (bytes kinds)) (then_kept _ (wanted _ (less v)) (wanted _ (more v)) (kind ∷ []) (wanted_kept _ v) h)
+  kept_bytes here c (s.WithValue (takes.Branch cond rs1 rs2) v) kind h = ap (λ m. m >>= λ kinds. Ok (bytes kinds)) (then_kept _ (wanted _ (less v)) (wanted _ (more v)) (kind ∷ []) (wanted_kept _ v) h)
+  kept_bytes here c (s.WithValue (takes.Shift op rd rs1) v) kind h = ap (λ m. m >>= λ kinds. Ok (bytes kinds)) (then_kept _ (wanted _ (less v)) (wanted _ (more v)) (kind ∷ []) (wanted_kept _ v) h)
+  kept_bytes here c (s.WithValue (takes.CsrImm op rd csr) v) kind h = ap (λ m. m >>= λ kinds. Ok (bytes kinds)) (then_kept _ (wanted _ (less v)) (wanted _ (more v)) (kind ∷ []) (wanted_kept _ v) h)
+  kept_bytes here c (s.WithValue (takes.Li rd) v) kind h = ap (λ m. m >>= λ kinds. Ok (bytes kinds)) h
+  kept_bytes here c (s.WithValue (takes.La rd) v) kind h = ap (λ m. m >>= λ kinds. Ok (bytes kinds)) (then_kept _ (wanted _ (less v)) (wanted _ (more v)) (kind ∷ []) (wanted_kept _ v) h)
+  kept_bytes here c (s.WithValue (takes.Call link scratch) v) kind h = ap (λ m. m >>= λ kinds. Ok (bytes kinds)) (then_kept _ (wanted _ (less v)) (wanted _ (more v)) (kind ∷ []) (wanted_kept _ v) h)
+  kept_bytes here c (s.WithValue (takes.LoadFrom op rd) v) kind h = ap (λ m. m >>= λ kinds. Ok (bytes kinds)) (then_kept _ (wanted _ (less v)) (wanted _ (more v)) (kind ∷ []) (wanted_kept _ v) h)
+  kept_bytes here c (s.WithValue (takes.StoreTo width source scratch) v) kind h = ap (λ m. m >>= λ kinds. Ok (bytes kinds)) (then_kept _ (wanted _ (less v)) (wanted _ (more v)) (kind ∷ []) (wanted_kept _ v) h)
+  kept_bytes here c (s.WithValue takes.Align power) kind h = absurd cc
+  kept_bytes here c (s.WithValue takes.Balign multiple) kind h = absurd cc
   kept_bytes here c (s.Data width values) kind h = absurd cc
   kept_bytes here c (s.Bytes bs) kind h = absurd cc
   kept_bytes here c (s.Space size fill) kind h = absurd cc
-  kept_bytes here c (s.Align power) kind h = absurd cc
-  kept_bytes here c (s.Balign multiple) kind h = absurd cc
   kept_bytes here c (s.Constant name v) kind h = absurd cc
   kept_bytes here c s.Marker kind h = absurd cc
 

@@ -8,6 +8,7 @@ use Rattle.rv_isa.specs.declared.kind.Kind.{Kind}
 use Rattle.rv_isa.specs.declared.op.Width.{Width}
 use Rattle.rv_isa.specs.declared.op.Width.TheVariants.{One, Two, Four}
 use Rattle.rv_source.specs.declared.expression.Term.{Term}
+use Rattle.rv_source.specs.declared.statement.ValueTaker.TheVariants as takes
 use Rattle.rv_source.specs.declared.statement.Statement.{Statement}
 use Rattle.rv_source.specs.declared.statement.Statement.TheVariants as s
 use Rattle.rv_asm.specs.declared.fault.FaultKind.{FaultKind}
@@ -73,25 +74,22 @@ sized : (value : Valuation) (line here : ℕ) (c : ℤ) (statement : Statement) 
 unfolding statement_bytes instructions
 sized value line here c (s.Instruction k) t = refl
 sized value line here c (s.Lui rd imm) t = words_counted 1 _ (one_counted _ (upper_of value imm))
-sized value line here c (s.Auipc rd imm) t = words_counted 1 _ (one_counted _ (wanted _ (value imm)))
-sized value line here c (s.Jal rd target) t = words_counted 1 _ (one_counted _ (wanted _ (value target)))
-sized value line here c (s.Jalr rd base offset) t = words_counted 1 _ (one_counted _ (immediate_of value offset))
-sized value line here c (s.Branch cond rs1 rs2 target) t = words_counted 1 _ (one_counted _ (wanted _ (value target)))
-sized value line here c (s.Load op rd base offset) t = words_counted 1 _ (one_counted _ (immediate_of value offset))
-sized value line here c (s.Store width source base offset) t = words_counted 1 _ (one_counted _ (immediate_of value offset))
-sized value line here c (s.OpImm op rd rs1 imm) t = words_counted 1 _ (one_counted _ (immediate_of value imm))
-sized value line here c (s.Shift op rd rs1 amount) t = words_counted 1 _ (one_counted _ (wanted _ (value amount)))
-sized value line here c (s.CsrImm op rd imm csr) t = words_counted 1 _ (one_counted _ (wanted _ (value imm)))
-sized value line here c (s.Li rd v) t = length_bytes (loading rd (modulo c (2 ^ 32)))
-sized value line here c (s.La rd target) t = words_counted 2 _ (two_counted _ (wanted (far here) (value target)))
-sized value line here c (s.Call link scratch target) t = words_counted 2 _ (two_counted _ (wanted (far here) (value target)))
-sized value line here c (s.LoadFrom op rd target) t = words_counted 2 _ (two_counted _ (wanted (far here) (value target)))
-sized value line here c (s.StoreTo width source scratch target) t = words_counted 2 _ (two_counted _ (wanted (far here) (value target)))
+sized value line here c (s.WithImmediate taker imm) t = words_counted 1 _ (one_counted _ (immediate_of value imm))
+sized value line here c (s.WithValue (takes.Auipc rd) v) t = words_counted 1 _ (one_counted _ (wanted _ (value v)))
+sized value line here c (s.WithValue (takes.Jal rd) v) t = words_counted 1 _ (one_counted _ (wanted _ (value v)))
+sized value line here c (s.WithValue (takes.Branch cond rs1 rs2) v) t = words_counted 1 _ (one_counted _ (wanted _ (value v)))
+sized value line here c (s.WithValue (takes.Shift op rd rs1) v) t = words_counted 1 _ (one_counted _ (wanted _ (value v)))
+sized value line here c (s.WithValue (takes.CsrImm op rd csr) v) t = words_counted 1 _ (one_counted _ (wanted _ (value v)))
+sized value line here c (s.WithValue (takes.Li rd) v) t = length_bytes (loading rd (modulo c (2 ^ 32)))
+sized value line here c (s.WithValue (takes.La rd) v) t = words_counted 2 _ (two_counted _ (wanted (far here) (value v)))
+sized value line here c (s.WithValue (takes.Call link scratch) v) t = words_counted 2 _ (two_counted _ (wanted (far here) (value v)))
+sized value line here c (s.WithValue (takes.LoadFrom op rd) v) t = words_counted 2 _ (two_counted _ (wanted (far here) (value v)))
+sized value line here c (s.WithValue (takes.StoreTo width source scratch) v) t = words_counted 2 _ (two_counted _ (wanted (far here) (value v)))
+sized value line here c (s.WithValue takes.Align power) t = padded here (2 ^ modulo c 32) (power_is_regular c t)
+sized value line here c (s.WithValue takes.Balign multiple) t = padded here (modulo c (2 ^ 32)) (multiple_is_regular c t)
 sized value line here c (s.Data width values) t = data_counted width value values
 sized value line here c (s.Bytes bs) t = refl
 sized value line here c (s.Space size fill) t = filled (modulo c (2 ^ 32)) (fill_of value fill)
-sized value line here c (s.Align power) t = padded here (2 ^ modulo c 32) (power_is_regular c t)
-sized value line here c (s.Balign multiple) t = padded here (modulo c (2 ^ 32)) (multiple_is_regular c t)
 sized value line here c (s.Constant name v) t = refl
 sized value line here c s.Marker t = refl
 

@@ -10,6 +10,7 @@ use Rattle.rv_source.specs.Said.{Said}
 use Rattle.rv_source.specs.declared.expression.Term.{Term}
 use Rattle.rv_source.specs.declared.line.Label.{Label}
 use Rattle.rv_source.specs.declared.line.Label.TheVariants as label
+use Rattle.rv_source.specs.declared.statement.ValueTaker.TheVariants as takes
 use Rattle.rv_source.specs.declared.statement.Statement.{Statement}
 use Rattle.rv_source.specs.declared.statement.Statement.TheVariants as s
 use Rattle.rv_asm.specs.declared.fault.FaultKind.{FaultKind}
@@ -46,11 +47,11 @@ is_multiple v = is_between (pos 1) (pos 4096) v && (4096 % modulo v (2 ^ 32) == 
 
 -- the expression whose value has to be known where the statement stands, and the values that it takes
 abbrev pub asked : Statement → Option (List Term × (ℤ → Bool))
-asked (s.Li rd value) = Some (value, is_word)
+asked (s.WithValue (takes.Li rd) value) = Some (value, is_word)
 asked (s.Constant name value) = Some (value, is_word)
 asked (s.Space size fill) = Some (size, is_between (pos 0) (pos limit))
-asked (s.Align power) = Some (power, is_between (pos 0) (pos 12))
-asked (s.Balign multiple) = Some (multiple, is_multiple)
+asked (s.WithValue takes.Align power) = Some (power, is_between (pos 0) (pos 12))
+asked (s.WithValue takes.Balign multiple) = Some (multiple, is_multiple)
 asked statement = None
 
 abbrev pub taken : (ℤ → Bool) → ℤ → Option ℤ
@@ -65,16 +66,16 @@ constant ds line here statement = elim (asked statement) as (λ _. Option ℤ) [
 
 -- how many bytes a statement at an address has; c is the value that was asked for
 abbrev pub size_of : ℕ → ℤ → Statement → ℕ
-size_of here c (s.Li rd value) = 4 * length (loading rd (modulo c (2 ^ 32)))
-size_of here c (s.La rd target) = 8
-size_of here c (s.Call link scratch target) = 8
-size_of here c (s.LoadFrom op rd target) = 8
-size_of here c (s.StoreTo width source scratch target) = 8
+size_of here c (s.WithValue (takes.Li rd) value) = 4 * length (loading rd (modulo c (2 ^ 32)))
+size_of here c (s.WithValue (takes.La rd) target) = 8
+size_of here c (s.WithValue (takes.Call link scratch) target) = 8
+size_of here c (s.WithValue (takes.LoadFrom op rd) target) = 8
+size_of here c (s.WithValue (takes.StoreTo width source scratch) target) = 8
 size_of here c (s.Data width values) = bytes_of width * length values
 size_of here c (s.Bytes bytes) = length bytes
 size_of here c (s.Space size fill) = modulo c (2 ^ 32)
-size_of here c (s.Align power) = gap here (multiple_of (s.Align power) c)
-size_of here c (s.Balign multiple) = gap here (multiple_of (s.Balign multiple) c)
+size_of here c (s.WithValue takes.Align power) = gap here (multiple_of (s.WithValue takes.Align power) c)
+size_of here c (s.WithValue takes.Balign multiple) = gap here (multiple_of (s.WithValue takes.Balign multiple) c)
 size_of here c (s.Constant name value) = 0
 size_of here c s.Marker = 0
 size_of here c statement = 4
@@ -84,8 +85,8 @@ abbrev pub is_instruction : Statement → Bool
 is_instruction (s.Data width values) = false
 is_instruction (s.Bytes bytes) = false
 is_instruction (s.Space size fill) = false
-is_instruction (s.Align power) = false
-is_instruction (s.Balign multiple) = false
+is_instruction (s.WithValue takes.Align power) = false
+is_instruction (s.WithValue takes.Balign multiple) = false
 is_instruction (s.Constant name value) = false
 is_instruction s.Marker = false
 is_instruction statement = true

@@ -11,6 +11,10 @@ use Rattle.rv_isa.specs.declared.op.ImmOp.TheVariants.{Addi}
 use Rattle.rv_isa.specs.declared.op.Width.{Width}
 use Rattle.rv_isa.specs.declared.op.Width.TheVariants.{One, Two, Four}
 use Rattle.rv_source.specs.declared.expression.Term.{Term}
+use Rattle.rv_source.specs.declared.statement.ImmediateTaker.{ImmediateTaker}
+use Rattle.rv_source.specs.declared.statement.ImmediateTaker.TheVariants as takes_imm
+use Rattle.rv_source.specs.declared.statement.ValueTaker.{ValueTaker}
+use Rattle.rv_source.specs.declared.statement.ValueTaker.TheVariants as takes
 use Rattle.rv_source.specs.declared.statement.Statement.{Statement}
 use Rattle.rv_source.specs.declared.statement.Statement.TheVariants as s
 use Rattle.rv_source.specs.declared.statement.Immediate.{Immediate}
@@ -51,30 +55,39 @@ upper_of value (u.High e) = wanted (part_of hi) (value e)
 abbrev pub one : {A : Type 0} → (A → Kind) → Result A FaultKind → Result (List Kind) FaultKind
 one kind m = m >>= λ x. Ok (kind x ∷ [])
 
--- an instruction that adds the high part of a distance to its own address, and one that takes the low part
-abbrev pub pair : Valuation → ℕ → ℕ → List Term → (ℤ → Kind) → Result (List Kind) FaultKind
-pair value here scratch target second =
-    wanted (far here) (value target) >>= λ d. Ok (kind.Auipc scratch (hi d) ∷ second (lo d) ∷ [])
+-- the instruction of what takes an immediate of twelve bits
+abbrev pub with_immediate : ImmediateTaker → ℤ → Kind
+with_immediate (takes_imm.Jalr rd base) x = kind.Jalr rd base x
+with_immediate (takes_imm.Load op rd base) x = kind.Load op rd base x
+with_immediate (takes_imm.Store width source base) x = kind.Store width source base x
+with_immediate (takes_imm.OpImm op rd rs1) x = kind.OpImm op rd rs1 x
 
--- the instructions of a statement at an address, with its values put in;
+-- an instruction that adds the high part of a distance to its own address, and one that takes the low part
+abbrev pub pair : ℕ → ℕ → ImmediateTaker → Option ℤ → Result (List Kind) FaultKind
+pair here scratch second target =
+    wanted (far here) target >>= λ d. Ok (kind.Auipc scratch (hi d) ∷ with_immediate second (lo d) ∷ [])
+
+-- the instructions at an address of what takes a value;
 -- c is the value that was asked for when it was placed
+abbrev pub with_value : ℕ → ℤ → ValueTaker → Option ℤ → Result (List Kind) FaultKind
+with_value here c (takes.Auipc rd) v = one (λ x. kind.Auipc rd x) (wanted upper_immediate v)
+with_value here c (takes.Jal rd) v = one (λ x. kind.Jal rd x) (wanted (distance (2 ^ 20) here) v)
+with_value here c (takes.Branch cond rs1 rs2) v = one (λ x. kind.Branch cond rs1 rs2 x) (wanted (distance (2 ^ 12) here) v)
+with_value here c (takes.Shift op rd rs1) v = one (λ x. kind.Shift op rd rs1 x) (wanted five_bits v)
+with_value here c (takes.CsrImm op rd csr) v = one (λ x. kind.CsrImm op rd x csr) (wanted five_bits v)
+with_value here c (takes.Li rd) v = Ok (loading rd (modulo c (2 ^ 32)))
+with_value here c (takes.La rd) v = pair here rd (takes_imm.OpImm Addi rd rd) v
+with_value here c (takes.Call link scratch) v = pair here scratch (takes_imm.Jalr link scratch) v
+with_value here c (takes.LoadFrom op rd) v = pair here rd (takes_imm.Load op rd rd) v
+with_value here c (takes.StoreTo width source scratch) v = pair here scratch (takes_imm.Store width source scratch) v
+with_value here c taker v = Ok []
+
+-- the instructions of a statement at an address, with its values put in
 unfoldable pub instructions : Valuation → ℕ → ℤ → Statement → Result (List Kind) FaultKind
 instructions value here c (s.Instruction k) = Ok (k ∷ [])
 instructions value here c (s.Lui rd imm) = one (λ x. kind.Lui rd x) (upper_of value imm)
-instructions value here c (s.Auipc rd imm) = one (λ x. kind.Auipc rd x) (wanted upper_immediate (value imm))
-instructions value here c (s.Jal rd target) = one (λ x. kind.Jal rd x) (wanted (distance (2 ^ 20) here) (value target))
-instructions value here c (s.Jalr rd base offset) = one (λ x. kind.Jalr rd base x) (immediate_of value offset)
-instructions value here c (s.Branch cond rs1 rs2 target) = one (λ x. kind.Branch cond rs1 rs2 x) (wanted (distance (2 ^ 12) here) (value target))
-instructions value here c (s.Load op rd base offset) = one (λ x. kind.Load op rd base x) (immediate_of value offset)
-instructions value here c (s.Store width source base offset) = one (λ x. kind.Store width source base x) (immediate_of value offset)
-instructions value here c (s.OpImm op rd rs1 imm) = one (λ x. kind.OpImm op rd rs1 x) (immediate_of value imm)
-instructions value here c (s.Shift op rd rs1 amount) = one (λ x. kind.Shift op rd rs1 x) (wanted five_bits (value amount))
-instructions value here c (s.CsrImm op rd imm csr) = one (λ x. kind.CsrImm op rd x csr) (wanted five_bits (value imm))
-instructions value here c (s.Li rd v) = Ok (loading rd (modulo c (2 ^ 32)))
-instructions value here c (s.La rd target) = pair value here rd target (λ x. kind.OpImm Addi rd rd x)
-instructions value here c (s.Call link scratch target) = pair value here scratch target (λ x. kind.Jalr link scratch x)
-instructions value here c (s.LoadFrom op rd target) = pair value here rd target (λ x. kind.Load op rd rd x)
-instructions value here c (s.StoreTo width source scratch target) = pair value here scratch target (λ x. kind.Store width source scratch x)
+instructions value here c (s.WithImmediate taker imm) = one (with_immediate taker) (immediate_of value imm)
+instructions value here c (s.WithValue taker e) = with_value here c taker (value e)
 instructions value here c statement = Ok []
 
 -- the word of each instruction in four bytes, the low one first
@@ -121,8 +134,8 @@ padding here n = let zeros = min n (gap here 4) in replicate zeros 0 ++ bytes (n
 
 -- what an alignment aligns to
 abbrev pub multiple_of : Statement → ℤ → ℕ
-multiple_of (s.Align power) c = 2 ^ modulo c 32
-multiple_of (s.Balign multiple) c = modulo c (2 ^ 32)
+multiple_of (s.WithValue takes.Align power) c = 2 ^ modulo c 32
+multiple_of (s.WithValue takes.Balign multiple) c = modulo c (2 ^ 32)
 multiple_of statement c = 1
 
 -- the bytes of a statement at an address, with its values put in
@@ -130,6 +143,6 @@ unfoldable pub statement_bytes : Valuation → ℕ → ℤ → Statement → Res
 statement_bytes value here c (s.Data width es) = sums_bytes value width es
 statement_bytes value here c (s.Bytes bs) = Ok bs
 statement_bytes value here c (s.Space size fill) = fill_of value fill >>= λ b. Ok (replicate (modulo c (2 ^ 32)) b)
-statement_bytes value here c (s.Align power) = Ok (padding here (gap here (multiple_of (s.Align power) c)))
-statement_bytes value here c (s.Balign multiple) = Ok (padding here (gap here (multiple_of (s.Balign multiple) c)))
+statement_bytes value here c (s.WithValue takes.Align power) = Ok (padding here (gap here (multiple_of (s.WithValue takes.Align power) c)))
+statement_bytes value here c (s.WithValue takes.Balign multiple) = Ok (padding here (gap here (multiple_of (s.WithValue takes.Balign multiple) c)))
 statement_bytes value here c statement = instructions value here c statement >>= λ kinds. Ok (bytes kinds)

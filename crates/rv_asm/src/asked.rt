@@ -6,7 +6,7 @@ ghost use Rattle.rv_asm.specs.Steps.{IsTaken};
 
 use crate::symbols::Symbols;
 use crate::values::{bits, gap, is_between, is_word, loading};
-use rv_source::Statement;
+use rv_source::{Statement, ValueTaker};
 
 /// Where the image lies.
 pub const BASE: u32 = 0x8000_0000;
@@ -28,7 +28,10 @@ pub fn constant(symbols: &Symbols, line: usize, here: u32, statement: &Statement
     ensures taken { IfSome result (λ c. IsTaken (record { line = line; address = here; constant = c; statement = statement.now })) }
 {
     match statement {
-        Statement::Li { value, .. } => {
+        Statement::WithValue {
+            taker: ValueTaker::Li { .. },
+            value,
+        } => {
             let value = symbols.sum(value, line, here)?;
             is_word(value).then_some(value)
         }
@@ -40,11 +43,17 @@ pub fn constant(symbols: &Symbols, line: usize, here: u32, statement: &Statement
             let size = symbols.sum(size, line, here)?;
             is_between(0, i64::from(LIMIT), size).then_some(size)
         }
-        Statement::Align { power } => {
+        Statement::WithValue {
+            taker: ValueTaker::Align,
+            value: power,
+        } => {
             let power = symbols.sum(power, line, here)?;
             is_between(0, 12, power).then_some(power)
         }
-        Statement::Balign { multiple } => {
+        Statement::WithValue {
+            taker: ValueTaker::Balign,
+            value: multiple,
+        } => {
             let multiple = symbols.sum(multiple, line, here)?;
             is_multiple(multiple).then_some(multiple)
         }
@@ -61,19 +70,40 @@ pub fn size_of(here: u32, constant: i64, statement: &Statement) -> Option<u32>
     ensures none { result ≡ None → 2 ^ 32 ≤ size_of here constant statement.now }
 {
     match statement {
-        Statement::Li { rd, .. } => Some(loading(*rd, bits(constant)).size()),
-        Statement::La { .. } => Some(8),
-        Statement::Call { .. } => Some(8),
-        Statement::LoadFrom { .. } => Some(8),
-        Statement::StoreTo { .. } => Some(8),
+        Statement::WithValue {
+            taker: ValueTaker::Li { rd },
+            ..
+        } => Some(loading(*rd, bits(constant)).size()),
+        Statement::WithValue {
+            taker: ValueTaker::La { .. },
+            ..
+        } => Some(8),
+        Statement::WithValue {
+            taker: ValueTaker::Call { .. },
+            ..
+        } => Some(8),
+        Statement::WithValue {
+            taker: ValueTaker::LoadFrom { .. },
+            ..
+        } => Some(8),
+        Statement::WithValue {
+            taker: ValueTaker::StoreTo { .. },
+            ..
+        } => Some(8),
         Statement::Data { width, values } => {
             let count = u32::try_from(values.as_slice().len()).ok()?;
             count.checked_mul(width.bytes())
         }
         Statement::Bytes(bytes) => u32::try_from(bytes.as_slice().len()).ok(),
         Statement::Space { .. } => Some(bits(constant)),
-        Statement::Align { .. } => Some(gap(here, 1 << bits(constant))),
-        Statement::Balign { .. } => Some(gap(here, bits(constant))),
+        Statement::WithValue {
+            taker: ValueTaker::Align,
+            ..
+        } => Some(gap(here, 1 << bits(constant))),
+        Statement::WithValue {
+            taker: ValueTaker::Balign,
+            ..
+        } => Some(gap(here, bits(constant))),
         Statement::Constant { .. } => Some(0),
         Statement::Marker => Some(0),
         _ => Some(4),
@@ -99,8 +129,10 @@ pub fn is_instruction(statement: &Statement) -> bool
         Statement::Data { .. }
             | Statement::Bytes(_)
             | Statement::Space { .. }
-            | Statement::Align { .. }
-            | Statement::Balign { .. }
+            | Statement::WithValue {
+                taker: ValueTaker::Align | ValueTaker::Balign,
+                ..
+            }
             | Statement::Constant { .. }
             | Statement::Marker
     )

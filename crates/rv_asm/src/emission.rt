@@ -5,20 +5,18 @@ ghost use Rattle.rv_asm.specs.Kept.{KindBecomes};
 ghost use Rattle.rv_asm.specs.Steps.{appended};
 ghost use Rattle.rv_asm.specs.Symbols.{sum_value};
 ghost use Rattle.rv_asm.specs.Values.{immediate, upper_immediate, five_bits, distance, hi, lo, far};
-ghost use Rattle.rv_asm.specs.Listing.{wanted, part_of, immediate_of, upper_of, fill_of, sums_bytes, instructions};
+ghost use Rattle.rv_asm.specs.Listing.{wanted, part_of, immediate_of, upper_of, pair, with_value, fill_of, sums_bytes, instructions};
 
 use crate::data::write_value;
-use crate::instructions::{
-    Instructions, auipc, branch, csr_imm, jal, jalr, load, lui, op_imm, shift, store,
-};
+use crate::instructions::{Instructions, auipc, branch, csr_imm, jal, lui, shift, with_immediate};
 use crate::symbols::Symbols;
 use crate::values::{
     as_word, bits, branch_distance, far, fits, five_bits, hi, jump_distance, lo, loading,
     upper_immediate,
 };
 use crate::{FaultKind, values};
-use rv_isa::{ImmOp, Width};
-use rv_source::{Expression, Immediate, Statement, Upper};
+use rv_isa::{ImmOp, Reg, Width};
+use rv_source::{Expression, Immediate, ImmediateTaker, Statement, Upper, ValueTaker};
 
 /// Where expressions are evaluated: what is defined, and the line, counted from 0, and the address of the statement.
 #[derive(Clone, Copy)]
@@ -119,6 +117,79 @@ impl<'a> Scope<'a> {
         far(self.here, target).ok_or(FaultKind::OutOfRange)
     }
 
+    /// AUIPC into `scratch` with the high part of how far a target is from here, and what takes the low part.
+    fn pair(
+        &self,
+        scratch: Reg,
+        second: ImmediateTaker,
+        target: &Expression,
+    ) -> Result<Instructions, FaultKind>
+        ensures { result ≡ pair self.now.here scratch second (sum_value self.now.symbols.now self.now.line self.now.here target.now) }
+    {
+        let far = self.far(target)?;
+        let second = with_immediate(second, lo(far));
+        Ok(Instructions::two(auipc(scratch, hi(far)), second))
+    }
+
+    /// The instructions of what takes a value: none where it isn't placed as instructions.
+    fn with_value(
+        &self,
+        constant: i64,
+        taker: ValueTaker,
+        value: &Expression,
+    ) -> Result<Instructions, FaultKind>
+        ensures { result ≡ with_value self.now.here constant taker (sum_value self.now.symbols.now self.now.line self.now.here value.now) }
+    {
+        match taker {
+            ValueTaker::Auipc { rd } => {
+                let imm = self.upper_immediate(value)?;
+                Ok(Instructions::one(auipc(rd, imm)))
+            }
+            ValueTaker::Jal { rd } => {
+                let offset = self.jump(value)?;
+                Ok(Instructions::one(jal(rd, offset)))
+            }
+            ValueTaker::Branch { cond, rs1, rs2 } => {
+                let offset = self.branch(value)?;
+                Ok(Instructions::one(branch(cond, rs1, rs2, offset)))
+            }
+            ValueTaker::Shift { op, rd, rs1 } => {
+                let amount = self.five_bits(value)?;
+                Ok(Instructions::one(shift(op, rd, rs1, amount)))
+            }
+            ValueTaker::CsrImm { op, rd, csr } => {
+                let imm = self.five_bits(value)?;
+                Ok(Instructions::one(csr_imm(op, rd, imm, csr)))
+            }
+            ValueTaker::Li { rd } => Ok(loading(rd, bits(constant))),
+            ValueTaker::La { rd } => {
+                let op = ImmOp::Addi;
+                self.pair(rd, ImmediateTaker::OpImm { op, rd, rs1: rd }, value)
+            }
+            ValueTaker::Call { link, scratch } => {
+                let (rd, base) = (link, scratch);
+                self.pair(scratch, ImmediateTaker::Jalr { rd, base }, value)
+            }
+            ValueTaker::LoadFrom { op, rd } => {
+                self.pair(rd, ImmediateTaker::Load { op, rd, base: rd }, value)
+            }
+            ValueTaker::StoreTo {
+                width,
+                source,
+                scratch,
+            } => {
+                let base = scratch;
+                let second = ImmediateTaker::Store {
+                    width,
+                    source,
+                    base,
+                };
+                self.pair(scratch, second, value)
+            }
+            ValueTaker::Align | ValueTaker::Balign => Ok(Instructions::none()),
+        }
+    }
+
     /// The instructions of a statement, with its values put in: none where it isn't placed as instructions.
     #[tactic(auto, unfolding(crate::specs::Listing::instructions))]
     pub fn instructions(
@@ -134,92 +205,11 @@ impl<'a> Scope<'a> {
                 let imm = self.upper(imm)?;
                 Ok(Instructions::one(lui(*rd, imm)))
             }
-            Statement::Auipc { rd, imm } => {
-                let imm = self.upper_immediate(imm)?;
-                Ok(Instructions::one(auipc(*rd, imm)))
-            }
-            Statement::Jal { rd, target } => {
-                let offset = self.jump(target)?;
-                Ok(Instructions::one(jal(*rd, offset)))
-            }
-            Statement::Jalr { rd, base, offset } => {
-                let offset = self.immediate(offset)?;
-                Ok(Instructions::one(jalr(*rd, *base, offset)))
-            }
-            Statement::Branch {
-                cond,
-                rs1,
-                rs2,
-                target,
-            } => {
-                let offset = self.branch(target)?;
-                Ok(Instructions::one(branch(*cond, *rs1, *rs2, offset)))
-            }
-            Statement::Load {
-                op,
-                rd,
-                base,
-                offset,
-            } => {
-                let offset = self.immediate(offset)?;
-                Ok(Instructions::one(load(*op, *rd, *base, offset)))
-            }
-            Statement::Store {
-                width,
-                source,
-                base,
-                offset,
-            } => {
-                let offset = self.immediate(offset)?;
-                Ok(Instructions::one(store(*width, *source, *base, offset)))
-            }
-            Statement::OpImm { op, rd, rs1, imm } => {
+            Statement::WithImmediate { taker, imm } => {
                 let imm = self.immediate(imm)?;
-                Ok(Instructions::one(op_imm(*op, *rd, *rs1, imm)))
+                Ok(Instructions::one(with_immediate(*taker, imm)))
             }
-            Statement::Shift {
-                op,
-                rd,
-                rs1,
-                amount,
-            } => {
-                let amount = self.five_bits(amount)?;
-                Ok(Instructions::one(shift(*op, *rd, *rs1, amount)))
-            }
-            Statement::CsrImm { op, rd, imm, csr } => {
-                let imm = self.five_bits(imm)?;
-                Ok(Instructions::one(csr_imm(*op, *rd, imm, *csr)))
-            }
-            Statement::Li { rd, .. } => Ok(loading(*rd, bits(constant))),
-            Statement::La { rd, target } => {
-                let far = self.far(target)?;
-                let second = op_imm(ImmOp::Addi, *rd, *rd, lo(far));
-                Ok(Instructions::two(auipc(*rd, hi(far)), second))
-            }
-            Statement::Call {
-                link,
-                scratch,
-                target,
-            } => {
-                let far = self.far(target)?;
-                let second = jalr(*link, *scratch, lo(far));
-                Ok(Instructions::two(auipc(*scratch, hi(far)), second))
-            }
-            Statement::LoadFrom { op, rd, target } => {
-                let far = self.far(target)?;
-                let second = load(*op, *rd, *rd, lo(far));
-                Ok(Instructions::two(auipc(*rd, hi(far)), second))
-            }
-            Statement::StoreTo {
-                width,
-                source,
-                scratch,
-                target,
-            } => {
-                let far = self.far(target)?;
-                let second = store(*width, *source, *scratch, lo(far));
-                Ok(Instructions::two(auipc(*scratch, hi(far)), second))
-            }
+            Statement::WithValue { taker, value } => self.with_value(constant, *taker, value),
             _ => Ok(Instructions::none()),
         }
     }

@@ -2,10 +2,11 @@
 ghost use Rattle.std.specs.Prelude.{◌≡◌, ◌<◌, ◌^◌};
 ghost use Rattle.rv_isa.specs.Number.{IsWithin, IsDistance};
 ghost use Rattle.rv_isa.specs.Word.{IsInRange};
+ghost use Rattle.rv_asm.specs.Listing.{with_immediate};
 ghost use Rattle.rv_isa.specs.declared.kind.Kind.TheVariants.{Lui, Auipc, Jal, Jalr, Branch, Load, Store, OpImm, Shift, CsrImm};
 
 use rv_isa::{Cond, CsrOp, ImmOp, Instr, Kind, LoadOp, Reg, ShiftOp, Width, encode};
-use rv_source::Csr;
+use rv_source::{Csr, ImmediateTaker};
 use std::alloc::AllocError;
 use std::marker::Model;
 
@@ -229,4 +230,21 @@ pub fn csr_imm(op: CsrOp, rd: Reg, imm: u8, csr: Csr) -> Instr
         imm,
         csr: csr.number(),
     })
+}
+
+/// The instruction of what takes an immediate of twelve bits.
+pub fn with_immediate(taker: ImmediateTaker, imm: i32) -> Instr
+    requires { IsWithin (2 ^ 11) imm }
+    ensures { result ≡ with_immediate taker imm }
+{
+    match taker {
+        ImmediateTaker::Jalr { rd, base } => jalr(rd, base, imm),
+        ImmediateTaker::Load { op, rd, base } => load(op, rd, base, imm),
+        ImmediateTaker::Store {
+            width,
+            source,
+            base,
+        } => store(width, source, base, imm),
+        ImmediateTaker::OpImm { op, rd, rs1 } => op_imm(op, rd, rs1, imm),
+    }
 }

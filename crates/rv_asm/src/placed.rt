@@ -11,7 +11,7 @@ use crate::instructions::Instructions;
 use crate::symbols::Symbols;
 use crate::values::{bits, gap};
 use rv_isa::Instr;
-use rv_source::{Statement, read_line};
+use rv_source::{Statement, ValueTaker, read_line};
 use std::alloc::Global;
 use std::marker::Model;
 
@@ -197,11 +197,17 @@ impl<'a> Placed<'a> {
                 let byte = scope.fill(fill)?;
                 Ok(data::fill(bits(self.constant), byte, out)?)
             }
-            Statement::Align { .. } => {
+            Statement::WithValue {
+                taker: ValueTaker::Align,
+                ..
+            } => {
                 let count = gap(self.address, 1 << bits(self.constant));
                 Ok(pad(self.address, count, out)?)
             }
-            Statement::Balign { .. } => {
+            Statement::WithValue {
+                taker: ValueTaker::Balign,
+                ..
+            } => {
                 let count = gap(self.address, bits(self.constant));
                 Ok(pad(self.address, count, out)?)
             }

@@ -6,4 +6,4 @@ pub mod Said
 pub mod Reading
 pub mod Partial
 pub mod Rows
-pub mod Valued
+pub mod Registers

@@ -17,6 +17,8 @@ use Rattle.rv_source.specs.declared.statement.Immediate.{Immediate}
 use Rattle.rv_source.specs.declared.statement.Immediate.TheVariants as i
 use Rattle.rv_source.specs.declared.statement.Upper.{Upper}
 use Rattle.rv_source.specs.declared.statement.Upper.TheVariants as u
+use Rattle.rv_source.specs.declared.statement.ImmediateTaker.TheVariants as takes_imm
+use Rattle.rv_source.specs.declared.statement.ValueTaker.TheVariants as takes
 use Rattle.rv_source.specs.declared.statement.Statement.{Statement}
 use Rattle.rv_source.specs.declared.statement.Statement.TheVariants as s
 use Rattle.rv_source.specs.declared.form.Instruction.{Instruction}
@@ -153,22 +155,22 @@ of_some f (x ∷ xs) = f (x ∷ xs)
 -- ---- the forms
 
 abbrev pub jal : List (List Token) → Option Statement
-jal = either (two register value (λ rd target. s.Jal rd target)) (one value (λ target. s.Jal 1 target))
+jal = either (two register value (λ rd target. s.WithValue (takes.Jal rd) target)) (one value (λ target. s.WithValue (takes.Jal 1) target))
 
 abbrev pub jalr : List (List Token) → Option Statement
 jalr =
     either (two register register (λ rd base. s.Instruction (k.Jalr rd base (pos 0))))
-    (either (two register memory (λ rd m. s.Jalr rd m.1 m.0))
-    (either (three register register immediate (λ rd base offset. s.Jalr rd base offset))
+    (either (two register memory (λ rd m. s.WithImmediate (takes_imm.Jalr rd m.1) m.0))
+    (either (three register register immediate (λ rd base offset. s.WithImmediate (takes_imm.Jalr rd base) offset))
     (one register (λ base. s.Instruction (k.Jalr 1 base (pos 0))))))
 
 abbrev pub load : LoadOp → List (List Token) → Option Statement
-load op = either (two register value (λ rd target. s.LoadFrom op rd target)) (two register memory (λ rd m. s.Load op rd m.1 m.0))
+load op = either (two register value (λ rd target. s.WithValue (takes.LoadFrom op rd) target)) (two register memory (λ rd m. s.WithImmediate (takes_imm.Load op rd m.1) m.0))
 
 abbrev pub store : Width → List (List Token) → Option Statement
 store width =
-    either (two register memory (λ source m. s.Store width source m.1 m.0))
-    (three register value register (λ source target scratch. s.StoreTo width source scratch target))
+    either (two register memory (λ source m. s.WithImmediate (takes_imm.Store width source m.1) m.0))
+    (three register value register (λ source target scratch. s.WithValue (takes.StoreTo width source scratch) target))
 
 -- iorw,iorw where no sets are written
 abbrev pub fence : List (List Token) → Option Statement
@@ -180,17 +182,17 @@ space = either (one value (λ size. s.Space size None)) (two value value (λ siz
 -- what an instruction's word and its operands stand for
 unfoldable pub instruction : Instruction → List (List Token) → Option Statement
 instruction f.Lui = two register upper (λ rd imm. s.Lui rd imm)
-instruction f.Auipc = two register value (λ rd imm. s.Auipc rd imm)
+instruction f.Auipc = two register value (λ rd imm. s.WithValue (takes.Auipc rd) imm)
 instruction f.Jal = jal
 instruction f.Jalr = jalr
-instruction (f.Branch cond) = three register register value (λ rs1 rs2 target. s.Branch cond rs1 rs2 target)
+instruction (f.Branch cond) = three register register value (λ rs1 rs2 target. s.WithValue (takes.Branch cond rs1 rs2) target)
 instruction (f.Load op) = load op
 instruction (f.Store width) = store width
-instruction (f.OpImm op) = three register register immediate (λ rd rs1 imm. s.OpImm op rd rs1 imm)
-instruction (f.Shift op) = three register register value (λ rd rs1 amount. s.Shift op rd rs1 amount)
+instruction (f.OpImm op) = three register register immediate (λ rd rs1 imm. s.WithImmediate (takes_imm.OpImm op rd rs1) imm)
+instruction (f.Shift op) = three register register value (λ rd rs1 amount. s.WithValue (takes.Shift op rd rs1) amount)
 instruction (f.Op op) = three register register register (λ rd rs1 rs2. s.Instruction (k.Op op rd rs1 rs2))
 instruction (f.Csr op) = three register csr register (λ rd csr rs1. s.Instruction (k.Csr op rd rs1 csr))
-instruction (f.CsrImm op) = three register csr value (λ rd csr imm. s.CsrImm op rd imm csr)
+instruction (f.CsrImm op) = three register csr value (λ rd csr imm. s.WithValue (takes.CsrImm op rd csr) imm)
 instruction f.Fence = fence
 instruction f.FenceI = none (s.Instruction (k.FenceI 0 0 0))
 instruction f.Ecall = none (s.Instruction k.Ecall)
@@ -208,27 +210,27 @@ pseudo p.Seqz = two register register (λ rd rs. s.Instruction (k.OpImm Sltiu rd
 pseudo p.Snez = two register register (λ rd rs. s.Instruction (k.Op Sltu rd 0 rs))
 pseudo p.Sltz = two register register (λ rd rs. s.Instruction (k.Op Slt rd rs 0))
 pseudo p.Sgtz = two register register (λ rd rs. s.Instruction (k.Op Slt rd 0 rs))
-pseudo (p.BranchZero cond) = two register value (λ rs target. s.Branch cond rs 0 target)
-pseudo (p.ZeroBranch cond) = two register value (λ rs target. s.Branch cond 0 rs target)
-pseudo (p.BranchSwapped cond) = three register register value (λ rs rt target. s.Branch cond rt rs target)
-pseudo p.Jump = one value (λ target. s.Jal 0 target)
+pseudo (p.BranchZero cond) = two register value (λ rs target. s.WithValue (takes.Branch cond rs 0) target)
+pseudo (p.ZeroBranch cond) = two register value (λ rs target. s.WithValue (takes.Branch cond 0 rs) target)
+pseudo (p.BranchSwapped cond) = three register register value (λ rs rt target. s.WithValue (takes.Branch cond rt rs) target)
+pseudo p.Jump = one value (λ target. s.WithValue (takes.Jal 0) target)
 pseudo p.JumpRegister = one register (λ rs. s.Instruction (k.Jalr 0 rs (pos 0)))
 pseudo p.Return = none (s.Instruction (k.Jalr 0 1 (pos 0)))
 pseudo p.CsrRead = two register csr (λ rd csr. s.Instruction (k.Csr Set rd 0 csr))
 pseudo (p.CsrChange op) = two csr register (λ csr rs. s.Instruction (k.Csr op 0 rs csr))
-pseudo (p.CsrChangeImm op) = two csr value (λ csr imm. s.CsrImm op 0 imm csr)
-pseudo p.Li = two register value (λ rd v. s.Li rd v)
-pseudo p.La = two register value (λ rd target. s.La rd target)
-pseudo p.Call = one value (λ target. s.Call 1 1 target)
-pseudo p.Tail = one value (λ target. s.Call 0 6 target)
+pseudo (p.CsrChangeImm op) = two csr value (λ csr imm. s.WithValue (takes.CsrImm op 0 csr) imm)
+pseudo p.Li = two register value (λ rd v. s.WithValue (takes.Li rd) v)
+pseudo p.La = two register value (λ rd target. s.WithValue (takes.La rd) target)
+pseudo p.Call = one value (λ target. s.WithValue (takes.Call 1 1) target)
+pseudo p.Tail = one value (λ target. s.WithValue (takes.Call 0 6) target)
 
 -- what a directive and its operands stand for
 unfoldable pub directive : Directive → List (List Token) → Option Statement
 directive (d.Data width) = λ operands. option_map (λ es. s.Data width es) (of_some values operands)
 directive (d.Text terminated) = λ operands. option_map (λ bytes. s.Bytes bytes) (of_some (strings terminated) operands)
 directive d.Space = space
-directive d.Align = one value (λ power. s.Align power)
-directive d.Balign = one value (λ multiple. s.Balign multiple)
+directive d.Align = one value (λ power. s.WithValue takes.Align power)
+directive d.Balign = one value (λ multiple. s.WithValue takes.Balign multiple)
 directive d.Constant = two symbol value (λ name v. s.Constant name v)
 directive d.Marker = λ _. Some s.Marker
 

@@ -3,6 +3,7 @@ ghost use Rattle.std.specs.Prelude.{◌≡◌, ◌≤◌, ◌++◌, length};
 ghost use Rattle.std.specs.Option.{option_map};
 ghost use Rattle.rv_source.specs.declared.form.Directive.TheVariants as d;
 ghost use Rattle.rv_source.specs.declared.statement.Statement.TheVariants as s;
+ghost use Rattle.rv_source.specs.declared.statement.ValueTaker.TheVariants as takes;
 ghost use Rattle.rv_source.specs.Operands.{operands_of};
 ghost use Rattle.rv_source.specs.Partial.{Finds, Becomes};
 ghost use Rattle.rv_source.specs.Expressions.{value};
@@ -14,7 +15,7 @@ use crate::operand::{Operands, are_none, only, pair};
 use crate::places::symbol;
 use crate::refusal::Refusal;
 use crate::terms::read_value;
-use crate::{Bytes, Statement, Values};
+use crate::{Bytes, Statement, ValueTaker, Values};
 use rv_isa::Width;
 use rv_tokens::Token;
 use std::alloc::Global;
@@ -111,18 +112,24 @@ fn space<'a>(alloc: Global, tokens: &[Token<'a>]) -> Result<Statement<'a>, Refus
 
 fn align<'a>(alloc: Global, tokens: &[Token<'a>]) -> Result<Statement<'a>, Refusal>
     requires { length tokens.now ≤ 1024 }
-    ensures { Finds (λ s. s) result (one value (λ power. s.Align power) (operands_of tokens.now)) }
+    ensures { Finds (λ s. s) result (one value (λ power. s.WithValue takes.Align power) (operands_of tokens.now)) }
 {
     let power = one_value(alloc, tokens)?;
-    Ok(Statement::Align { power })
+    Ok(Statement::WithValue {
+        taker: ValueTaker::Align,
+        value: power,
+    })
 }
 
 fn balign<'a>(alloc: Global, tokens: &[Token<'a>]) -> Result<Statement<'a>, Refusal>
     requires { length tokens.now ≤ 1024 }
-    ensures { Finds (λ s. s) result (one value (λ multiple. s.Balign multiple) (operands_of tokens.now)) }
+    ensures { Finds (λ s. s) result (one value (λ multiple. s.WithValue takes.Balign multiple) (operands_of tokens.now)) }
 {
     let multiple = one_value(alloc, tokens)?;
-    Ok(Statement::Balign { multiple })
+    Ok(Statement::WithValue {
+        taker: ValueTaker::Balign,
+        value: multiple,
+    })
 }
 
 #[tactic(auto, unfolding(crate::specs::Statements::directive))]

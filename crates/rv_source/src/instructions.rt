@@ -15,7 +15,7 @@ use crate::operand::{are_none, only, pair, triple};
 use crate::places::{csr, fence_set, immediate, memory, register, register_in, upper};
 use crate::refusal::Refusal;
 use crate::terms::{is_value, read_value};
-use crate::{Expression, Immediate, Statement};
+use crate::{Expression, Immediate, ImmediateTaker, Statement, ValueTaker};
 use rv_isa::{AluOp, Cond, CsrOp, ImmOp, Instr, Kind, LoadOp, Reg, ShiftOp, Width};
 use rv_tokens::Token;
 use std::alloc::Global;
@@ -198,7 +198,10 @@ fn auipc<'a>(alloc: Global, tokens: &[Token<'a>]) -> Result<Statement<'a>, Refus
     ensures { Finds (λ s. s) result (instruction f.Auipc (operands_of tokens.now)) }
 {
     let (rd, imm) = register_and_value(alloc, tokens)?;
-    Ok(Statement::Auipc { rd, imm })
+    Ok(Statement::WithValue {
+        taker: ValueTaker::Auipc { rd },
+        value: imm,
+    })
 }
 
 /// `rd,target`, or `target` alone with x1 as the link
@@ -208,10 +211,16 @@ fn jal<'a>(alloc: Global, tokens: &[Token<'a>]) -> Result<Statement<'a>, Refusal
 {
     if let Some(target) = only(tokens) {
         let target = read_value(alloc, target)?;
-        return Ok(Statement::Jal { rd: x(1), target });
+        return Ok(Statement::WithValue {
+            taker: ValueTaker::Jal { rd: x(1) },
+            value: target,
+        });
     }
     let (rd, target) = register_and_value(alloc, tokens)?;
-    Ok(Statement::Jal { rd, target })
+    Ok(Statement::WithValue {
+        taker: ValueTaker::Jal { rd },
+        value: target,
+    })
 }
 
 /// `rd,rs1` or `rd,m`
@@ -228,7 +237,10 @@ fn jump_from<'a>(
         return Ok(jump_to(rd, base));
     }
     let (offset, base) = memory(alloc, place)?;
-    Ok(Statement::Jalr { rd, base, offset })
+    Ok(Statement::WithImmediate {
+        taker: ImmediateTaker::Jalr { rd, base },
+        imm: offset,
+    })
 }
 
 /// `rd,rs1`, `rd,m`, `rd,rs1,i`, or `rs1` with x1 as the link
@@ -244,7 +256,10 @@ fn jalr<'a>(alloc: Global, tokens: &[Token<'a>]) -> Result<Statement<'a>, Refusa
         return jump_from(alloc, rd, place);
     }
     let (rd, base, offset) = registers_and_immediate(alloc, tokens)?;
-    Ok(Statement::Jalr { rd, base, offset })
+    Ok(Statement::WithImmediate {
+        taker: ImmediateTaker::Jalr { rd, base },
+        imm: offset,
+    })
 }
 
 #[tactic(auto, unfolding(crate::specs::Statements::instruction))]
@@ -253,11 +268,9 @@ fn branch<'a>(alloc: Global, cond: Cond, tokens: &[Token<'a>]) -> Result<Stateme
     ensures { Finds (λ s. s) result (instruction (f.Branch cond) (operands_of tokens.now)) }
 {
     let (rs1, rs2, target) = registers_and_value(alloc, tokens)?;
-    Ok(Statement::Branch {
-        cond,
-        rs1,
-        rs2,
-        target,
+    Ok(Statement::WithValue {
+        taker: ValueTaker::Branch { cond, rs1, rs2 },
+        value: target,
     })
 }
 
@@ -272,14 +285,15 @@ fn load<'a>(alloc: Global, op: LoadOp, tokens: &[Token<'a>]) -> Result<Statement
     let rd = register(rd)?;
     if is_value(place) {
         let target = read_value(alloc, place)?;
-        return Ok(Statement::LoadFrom { op, rd, target });
+        return Ok(Statement::WithValue {
+            taker: ValueTaker::LoadFrom { op, rd },
+            value: target,
+        });
     }
     let (offset, base) = memory(alloc, place)?;
-    Ok(Statement::Load {
-        op,
-        rd,
-        base,
-        offset,
+    Ok(Statement::WithImmediate {
+        taker: ImmediateTaker::Load { op, rd, base },
+        imm: offset,
     })
 }
 
@@ -295,11 +309,13 @@ fn store_at<'a>(
 {
     let source = register(source)?;
     let (offset, base) = memory(alloc, place)?;
-    Ok(Statement::Store {
-        width,
-        source,
-        base,
-        offset,
+    Ok(Statement::WithImmediate {
+        taker: ImmediateTaker::Store {
+            width,
+            source,
+            base,
+        },
+        imm: offset,
     })
 }
 
@@ -317,11 +333,13 @@ fn store<'a>(alloc: Global, width: Width, tokens: &[Token<'a>]) -> Result<Statem
     let source = register(source)?;
     let scratch = register(scratch)?;
     let target = read_value(alloc, target)?;
-    Ok(Statement::StoreTo {
-        width,
-        source,
-        scratch,
-        target,
+    Ok(Statement::WithValue {
+        taker: ValueTaker::StoreTo {
+            width,
+            source,
+            scratch,
+        },
+        value: target,
     })
 }
 
@@ -331,7 +349,10 @@ fn op_imm<'a>(alloc: Global, op: ImmOp, tokens: &[Token<'a>]) -> Result<Statemen
     ensures { Finds (λ s. s) result (instruction (f.OpImm op) (operands_of tokens.now)) }
 {
     let (rd, rs1, imm) = registers_and_immediate(alloc, tokens)?;
-    Ok(Statement::OpImm { op, rd, rs1, imm })
+    Ok(Statement::WithImmediate {
+        taker: ImmediateTaker::OpImm { op, rd, rs1 },
+        imm,
+    })
 }
 
 #[tactic(auto, unfolding(crate::specs::Statements::instruction))]
@@ -340,11 +361,9 @@ fn shift<'a>(alloc: Global, op: ShiftOp, tokens: &[Token<'a>]) -> Result<Stateme
     ensures { Finds (λ s. s) result (instruction (f.Shift op) (operands_of tokens.now)) }
 {
     let (rd, rs1, amount) = registers_and_value(alloc, tokens)?;
-    Ok(Statement::Shift {
-        op,
-        rd,
-        rs1,
-        amount,
+    Ok(Statement::WithValue {
+        taker: ValueTaker::Shift { op, rd, rs1 },
+        value: amount,
     })
 }
 
@@ -386,7 +405,10 @@ fn change_csr_imm<'a>(
     let rd = register(rd)?;
     let csr = csr(number)?;
     let imm = read_value(alloc, imm)?;
-    Ok(Statement::CsrImm { op, rd, imm, csr })
+    Ok(Statement::WithValue {
+        taker: ValueTaker::CsrImm { op, rd, csr },
+        value: imm,
+    })
 }
 
 fn fence<'a>(tokens: &[Token<'a>]) -> Result<Statement<'a>, Refusal>

@@ -22,4 +22,4 @@ pub use form::{Directive, Form, Instruction, Pseudo};
 pub use line::{Label, Line};
 pub use reader::read_line;
 pub use rv_tokens::{Cut, Direction, LineFault, Name, cut_lines};
-pub use statement::{Bytes, Csr, Immediate, Statement, Upper, Values};
+pub use statement::{Bytes, Csr, Immediate, ImmediateTaker, Statement, Upper, ValueTaker, Values};

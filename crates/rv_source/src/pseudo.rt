@@ -5,13 +5,13 @@ ghost use Rattle.rv_isa.specs.declared.kind.Kind.TheVariants as k;
 ghost use Rattle.rv_isa.specs.declared.op.ImmOp.TheVariants.{Addi};
 ghost use Rattle.rv_source.specs.declared.form.Pseudo.TheVariants as p;
 ghost use Rattle.rv_source.specs.declared.statement.Statement.TheVariants as s;
+ghost use Rattle.rv_source.specs.declared.statement.ValueTaker.TheVariants as takes;
 ghost use Rattle.rv_source.specs.Operands.{operands_of};
 ghost use Rattle.rv_source.specs.Partial.{Finds};
 ghost use Rattle.rv_source.specs.Expressions.{value};
 ghost use Rattle.rv_source.specs.Statements.{register, one, two, pseudo};
-ghost use Rattle.rv_source.specs.Valued.{is_of_registers};
+ghost use Rattle.rv_source.specs.Registers.{is_of_registers};
 
-use crate::Statement;
 use crate::form::Pseudo;
 use crate::instructions::{
     alone, instr, one_register, one_value, register_and_value, registers_and_value, two_registers,
@@ -21,6 +21,7 @@ use crate::operand::pair;
 use crate::places::{csr, register};
 use crate::refusal::Refusal;
 use crate::terms::read_value;
+use crate::{Statement, ValueTaker};
 use rv_isa::{AluOp, Cond, CsrOp, ImmOp, Instr, Kind, Reg};
 use rv_tokens::Token;
 use std::alloc::Global;
@@ -73,11 +74,13 @@ fn branch_zero<'a>(
     ensures { Finds (λ s. s) result (pseudo (p.BranchZero cond) (operands_of tokens.now)) }
 {
     let (rs1, target) = register_and_value(alloc, tokens)?;
-    Ok(Statement::Branch {
-        cond,
-        rs1,
-        rs2: x(0),
-        target,
+    Ok(Statement::WithValue {
+        taker: ValueTaker::Branch {
+            cond,
+            rs1,
+            rs2: x(0),
+        },
+        value: target,
     })
 }
 
@@ -91,11 +94,13 @@ fn zero_branch<'a>(
     ensures { Finds (λ s. s) result (pseudo (p.ZeroBranch cond) (operands_of tokens.now)) }
 {
     let (rs2, target) = register_and_value(alloc, tokens)?;
-    Ok(Statement::Branch {
-        cond,
-        rs1: x(0),
-        rs2,
-        target,
+    Ok(Statement::WithValue {
+        taker: ValueTaker::Branch {
+            cond,
+            rs1: x(0),
+            rs2,
+        },
+        value: target,
     })
 }
 
@@ -109,20 +114,21 @@ fn branch_swapped<'a>(
     ensures { Finds (λ s. s) result (pseudo (p.BranchSwapped cond) (operands_of tokens.now)) }
 {
     let (rs2, rs1, target) = registers_and_value(alloc, tokens)?;
-    Ok(Statement::Branch {
-        cond,
-        rs1,
-        rs2,
-        target,
+    Ok(Statement::WithValue {
+        taker: ValueTaker::Branch { cond, rs1, rs2 },
+        value: target,
     })
 }
 
 fn jump<'a>(alloc: Global, tokens: &[Token<'a>]) -> Result<Statement<'a>, Refusal>
     requires { length tokens.now ≤ 1024 }
-    ensures { Finds (λ s. s) result (one value (λ target. s.Jal 0 target) (operands_of tokens.now)) }
+    ensures { Finds (λ s. s) result (one value (λ target. s.WithValue (takes.Jal 0) target) (operands_of tokens.now)) }
 {
     let target = one_value(alloc, tokens)?;
-    Ok(Statement::Jal { rd: x(0), target })
+    Ok(Statement::WithValue {
+        taker: ValueTaker::Jal { rd: x(0) },
+        value: target,
+    })
 }
 
 fn jump_register(tokens: &[Token]) -> Result<Instr, Refusal>
@@ -187,28 +193,32 @@ fn write_csr_imm<'a>(
     };
     let csr = csr(number)?;
     let imm = read_value(alloc, imm)?;
-    Ok(Statement::CsrImm {
-        op,
-        rd: x(0),
-        imm,
-        csr,
+    Ok(Statement::WithValue {
+        taker: ValueTaker::CsrImm { op, rd: x(0), csr },
+        value: imm,
     })
 }
 
 fn li<'a>(alloc: Global, tokens: &[Token<'a>]) -> Result<Statement<'a>, Refusal>
     requires { length tokens.now ≤ 1024 }
-    ensures { Finds (λ s. s) result (two register value (λ rd v. s.Li rd v) (operands_of tokens.now)) }
+    ensures { Finds (λ s. s) result (two register value (λ rd v. s.WithValue (takes.Li rd) v) (operands_of tokens.now)) }
 {
     let (rd, value) = register_and_value(alloc, tokens)?;
-    Ok(Statement::Li { rd, value })
+    Ok(Statement::WithValue {
+        taker: ValueTaker::Li { rd },
+        value,
+    })
 }
 
 fn la<'a>(alloc: Global, tokens: &[Token<'a>]) -> Result<Statement<'a>, Refusal>
     requires { length tokens.now ≤ 1024 }
-    ensures { Finds (λ s. s) result (two register value (λ rd target. s.La rd target) (operands_of tokens.now)) }
+    ensures { Finds (λ s. s) result (two register value (λ rd target. s.WithValue (takes.La rd) target) (operands_of tokens.now)) }
 {
     let (rd, target) = register_and_value(alloc, tokens)?;
-    Ok(Statement::La { rd, target })
+    Ok(Statement::WithValue {
+        taker: ValueTaker::La { rd },
+        value: target,
+    })
 }
 
 /// A call through `scratch`, with the way back in `link`.
@@ -219,13 +229,12 @@ fn call<'a>(
     tokens: &[Token<'a>],
 ) -> Result<Statement<'a>, Refusal>
     requires { length tokens.now ≤ 1024 }
-    ensures { Finds (λ s. s) result (one value (λ target. s.Call link scratch target) (operands_of tokens.now)) }
+    ensures { Finds (λ s. s) result (one value (λ target. s.WithValue (takes.Call link scratch) target) (operands_of tokens.now)) }
 {
     let target = one_value(alloc, tokens)?;
-    Ok(Statement::Call {
-        link,
-        scratch,
-        target,
+    Ok(Statement::WithValue {
+        taker: ValueTaker::Call { link, scratch },
+        value: target,
     })
 }
 

@@ -123,6 +123,86 @@ impl Bytes {
     }
 }
 
+/// What takes an immediate of twelve bits, with all else that it says.
+#[derive(Clone, Copy)]
+pub enum ImmediateTaker {
+    Jalr {
+        rd: Reg,
+        base: Reg,
+    },
+    Load {
+        op: LoadOp,
+        rd: Reg,
+        base: Reg,
+    },
+    Store {
+        width: Width,
+        source: Reg,
+        base: Reg,
+    },
+    OpImm {
+        op: ImmOp,
+        rd: Reg,
+        rs1: Reg,
+    },
+}
+
+/// What takes one value, with all else that it says.
+#[derive(Clone, Copy)]
+pub enum ValueTaker {
+    Auipc {
+        rd: Reg,
+    },
+    /// A jump to the value.
+    Jal {
+        rd: Reg,
+    },
+    /// A branch to the value.
+    Branch {
+        cond: Cond,
+        rs1: Reg,
+        rs2: Reg,
+    },
+    Shift {
+        op: ShiftOp,
+        rd: Reg,
+        rs1: Reg,
+    },
+    CsrImm {
+        op: CsrOp,
+        rd: Reg,
+        csr: Csr,
+    },
+    /// Loads the value: one or two instructions, by the value.
+    Li {
+        rd: Reg,
+    },
+    /// AUIPC and ADDI: `rd` becomes the value, an address.
+    La {
+        rd: Reg,
+    },
+    /// AUIPC into `scratch` and JALR: a jump to the value, however far; `link` gets the address of what follows.
+    Call {
+        link: Reg,
+        scratch: Reg,
+    },
+    /// AUIPC into `rd` and a load of what stands at the value.
+    LoadFrom {
+        op: LoadOp,
+        rd: Reg,
+    },
+    /// AUIPC into `scratch` and a store to the value.
+    StoreTo {
+        width: Width,
+        source: Reg,
+        scratch: Reg,
+    },
+    /// Padding to a multiple of 2 to the power of the value.
+    Align,
+    /// Padding to a multiple of the value.
+    Balign,
+}
+
 /// What a line tells the assembler to place or to define.
 #[derive(Drop)]
 pub enum Statement<'a> {
@@ -132,83 +212,15 @@ pub enum Statement<'a> {
         rd: Reg,
         imm: Upper<'a>,
     },
-    Auipc {
-        rd: Reg,
-        imm: Expression<'a>,
-    },
-    Jal {
-        rd: Reg,
-        target: Expression<'a>,
-    },
-    Jalr {
-        rd: Reg,
-        base: Reg,
-        offset: Immediate<'a>,
-    },
-    Branch {
-        cond: Cond,
-        rs1: Reg,
-        rs2: Reg,
-        target: Expression<'a>,
-    },
-    Load {
-        op: LoadOp,
-        rd: Reg,
-        base: Reg,
-        offset: Immediate<'a>,
-    },
-    Store {
-        width: Width,
-        source: Reg,
-        base: Reg,
-        offset: Immediate<'a>,
-    },
-    OpImm {
-        op: ImmOp,
-        rd: Reg,
-        rs1: Reg,
+    /// What takes an immediate of twelve bits, and what is written for it.
+    WithImmediate {
+        taker: ImmediateTaker,
         imm: Immediate<'a>,
     },
-    Shift {
-        op: ShiftOp,
-        rd: Reg,
-        rs1: Reg,
-        amount: Expression<'a>,
-    },
-    CsrImm {
-        op: CsrOp,
-        rd: Reg,
-        imm: Expression<'a>,
-        csr: Csr,
-    },
-    /// Loads a value: one or two instructions, by the value.
-    Li {
-        rd: Reg,
+    /// What takes one value, and the value.
+    WithValue {
+        taker: ValueTaker,
         value: Expression<'a>,
-    },
-    /// AUIPC and ADDI: `rd` becomes the target's address.
-    La {
-        rd: Reg,
-        target: Expression<'a>,
-    },
-    /// AUIPC into `scratch` and JALR: a jump to the target, however far; `link` gets the address of what follows.
-    Call {
-        link: Reg,
-        scratch: Reg,
-        target: Expression<'a>,
-    },
-    /// AUIPC into `rd` and a load of what stands at the target.
-    LoadFrom {
-        op: LoadOp,
-        rd: Reg,
-        target: Expression<'a>,
-    },
-    /// AUIPC into `scratch` and a store to the target.
-    StoreTo {
-        width: Width,
-        source: Reg,
-        scratch: Reg,
-        target: Expression<'a>,
     },
     /// Values, each in as many bytes as the width has.
     Data {
@@ -221,14 +233,6 @@ pub enum Statement<'a> {
     Space {
         size: Expression<'a>,
         fill: Option<Expression<'a>>,
-    },
-    /// Padding to a multiple of 2 to the power.
-    Align {
-        power: Expression<'a>,
-    },
-    /// Padding to a multiple.
-    Balign {
-        multiple: Expression<'a>,
     },
     /// A name for a value.
     Constant {
