@@ -3,6 +3,7 @@ ghost use Rattle.std.specs.Prelude.{◌≡◌};
 
 use crate::names::Names;
 use indexmap::IndexMap;
+use std::convert::AsSlice;
 use std::marker::Model;
 
 /// An image and the names that its source defined.
@@ -61,5 +62,14 @@ impl Program {
         ensures { result ≡ value_of self.now.symbols name.now }
     {
         self.names.value(name)
+    }
+}
+
+/// A program lends its image, so that a board boots it.
+impl AsSlice<u8> for Program {
+    ghost items = { λ p. p.bytes };
+
+    fn as_slice(&self) -> &[u8] {
+        self.bytes()
     }
 }
