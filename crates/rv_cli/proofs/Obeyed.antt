@@ -1,8 +1,7 @@
 -- Lines of commands, done one after the other.
 use Rattle.std.proofs.Common.{◌≡◌, ◌++◌, ◌∷◌, [], ℕ, List, Option, refl, sym, subst, append_assoc, append-nil}
-use Rattle.rv_commands.specs.Commands.{command_of}
 use Rattle.rv_commands.specs.declared.command.Command.{Command}
-use Rattle.rv_monitor.specs.Commands.{Leaves, answer, next_of}
+use Rattle.rv_monitor.specs.Commands.{Leaves, answer, command_in, next_of}
 use Rattle.rv_monitor.specs.State.{SessionState}
 use Rattle.rv_monitor.specs.declared.command.Next.{Next}
 use Rattle.rv_monitor.specs.declared.command.Next.TheVariants.{More, Quit}
@@ -31,19 +30,19 @@ does_last word command Rest old new quits leaves =
 
 -- the first line
 obeys_more : (line : List ℕ) (more : List (List ℕ)) (now next new : SessionState) (behind : List ℕ)
-    → More ≡ next_of (command_of line now.program.symbols) → Leaves (command_of line now.program.symbols) now next → Obeys more next new behind
-    → Obeys (line ∷ more) now new (answer (command_of line now.program.symbols) now next ++ behind)
+    → More ≡ next_of (command_in line now) → Leaves (command_in line now) now next → Obeys more next new behind
+    → Obeys (line ∷ more) now new (answer (command_in line now) now next ++ behind)
 unfolding Obeys
 obeys_more line more now next new behind goes_on leaves rest =
-    does_more (next_of (command_of line now.program.symbols)) (command_of line now.program.symbols) (λ s t. Obeys more s new t) now next new behind goes_on leaves rest
+    does_more (next_of (command_in line now)) (command_in line now) (λ s t. Obeys more s new t) now next new behind goes_on leaves rest
 
 -- the last line
 obeys_last : (line : List ℕ) (more : List (List ℕ)) (now next : SessionState)
-    → Quit ≡ next_of (command_of line now.program.symbols) → Leaves (command_of line now.program.symbols) now next
-    → Obeys (line ∷ more) now next (answer (command_of line now.program.symbols) now next)
+    → Quit ≡ next_of (command_in line now) → Leaves (command_in line now) now next
+    → Obeys (line ∷ more) now next (answer (command_in line now) now next)
 unfolding Obeys
 obeys_last line more now next quits leaves =
-    does_last (next_of (command_of line now.program.symbols)) (command_of line now.program.symbols) (λ s t. Obeys more s next t) now next quits leaves
+    does_last (next_of (command_in line now)) (command_in line now) (λ s t. Obeys more s next t) now next quits leaves
 
 -- no line
 obeys_none : (now : SessionState) → Obeys [] now now []
@@ -56,11 +55,11 @@ none_done all first new behind h = h
 
 -- after one more
 pub one_done : (all left more : List (List ℕ)) (line : List ℕ) (first now next : SessionState) (text : List ℕ)
-    → Continues all first left now text → left ≡ line ∷ more → More ≡ next_of (command_of line now.program.symbols)
-    → Leaves (command_of line now.program.symbols) now next
-    → Continues all first more next (text ++ answer (command_of line now.program.symbols) now next)
+    → Continues all first left now text → left ≡ line ∷ more → More ≡ next_of (command_in line now)
+    → Leaves (command_in line now) now next
+    → Continues all first more next (text ++ answer (command_in line now) now next)
 one_done all left more line first now next text so_far cut goes_on leaves new behind h =
-    let said = answer (command_of line now.program.symbols) now next in
+    let said = answer (command_in line now) now next in
     let rest : Obeys left now new (said ++ behind) =
     subst (λ (ls : List (List ℕ)). Obeys ls now new (said ++ behind)) (sym cut) (obeys_more line more now next new behind goes_on leaves h) in
     subst (λ (t : List ℕ). Obeys all first new t) (sym (append_assoc text said behind)) (so_far new (said ++ behind) rest)
@@ -73,9 +72,9 @@ all_done all left first now text so_far ends =
 
 -- after one that quits
 pub quit_done : (all left more : List (List ℕ)) (line : List ℕ) (first now next : SessionState) (text : List ℕ)
-    → Continues all first left now text → left ≡ line ∷ more → Quit ≡ next_of (command_of line now.program.symbols)
-    → Leaves (command_of line now.program.symbols) now next
-    → Obeys all first next (text ++ answer (command_of line now.program.symbols) now next)
+    → Continues all first left now text → left ≡ line ∷ more → Quit ≡ next_of (command_in line now)
+    → Leaves (command_in line now) now next
+    → Obeys all first next (text ++ answer (command_in line now) now next)
 quit_done all left more line first now next text so_far cut quits leaves =
-    let said = answer (command_of line now.program.symbols) now next in
+    let said = answer (command_in line now) now next in
     so_far next said (subst (λ (ls : List (List ℕ)). Obeys ls now next said) (sym cut) (obeys_last line more now next quits leaves))

@@ -10,13 +10,12 @@ use Rattle.rv_board.specs.Boot as boot
 use Rattle.rv_board.specs.State.{BoardState, console_of, halted_of, pc_of, steps_of}
 use Rattle.rv_board.specs.declared.event.BootFault.{BootFault}
 use Rattle.rv_board.specs.declared.event.BootFault.TheVariants as boot_fault
-use Rattle.rv_commands.specs.Commands.{command_of}
 use Rattle.rv_commands.specs.declared.command.Command.{Command}
 use Rattle.rv_lists.specs.Timed.{IsRead}
 use Rattle.rv_lists.specs.declared.fault.TimelineFault.{TimelineFault}
 use Rattle.rv_lists.specs.declared.fault.TimelineFault.TheVariants as list_fault
 use Rattle.rv_lists.specs.declared.input.TimedInput.{TimedInput}
-use Rattle.rv_monitor.specs.Commands.{Leaves, Took, answer, next_of}
+use Rattle.rv_monitor.specs.Commands.{Leaves, Took, answer, command_in, next_of}
 use Rattle.rv_monitor.specs.State.{SessionState, start}
 use Rattle.rv_monitor.specs.declared.command.Next.{Next}
 use Rattle.rv_monitor.specs.declared.command.Next.TheVariants.{More, Quit}
@@ -83,7 +82,7 @@ DoesThen Quit command Rest old new text = IsLast command old new text
 unfoldable pub Obeys : List (List ℕ) → SessionState → SessionState → List ℕ → Type 0
 Obeys [] old new text = (new ≡ old) × (text ≡ [])
 Obeys (line ∷ more) old new text =
-    DoesThen (next_of (command_of line old.program.symbols)) (command_of line old.program.symbols)
+    DoesThen (next_of (command_in line old)) (command_in line old)
     (λ next behind. Obeys more next new behind) old new text
 
 -- ---- the run

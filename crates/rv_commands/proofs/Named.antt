@@ -38,7 +38,7 @@ unfolding going
 going_named [] = tt
 going_named (w ∷ ws) = with_one (λ count. Go (Some count)) (number_alone (w ∷ ws)) (λ n. tt)
 
-memory_by : (symbols : List (List ℕ × ℤ)) (ws : List (List ℕ)) → IfSome (memory symbols ws) IsNamed
+memory_by : (symbols : List ℕ → Option ℤ) (ws : List (List ℕ)) → IfSome (memory symbols ws) IsNamed
 unfolding memory
 memory_by symbols [] = tt
 memory_by symbols (a ∷ []) = tt
@@ -61,7 +61,7 @@ edges_named : (ws : List (List ℕ)) → IfSome (edges ws) IsNamed
 unfolding edges
 edges_named ws = with_one (λ source. Edges source) (option_and_then edge_source (only ws)) (λ n. tt)
 
-row_named : (symbols : List (List ℕ × ℤ)) (w : List ℕ) (ws : List (List ℕ)) → IfSome (row symbols w ws) IsNamed
+row_named : (symbols : List ℕ → Option ℤ) (w : List ℕ) (ws : List (List ℕ)) → IfSome (row symbols w ws) IsNamed
 unfolding row
 row_named symbols w ws =
     either (bytes_eq w (codes "s")) _ _ (steps_named ws)
@@ -76,13 +76,13 @@ row_named symbols w ws =
     (either (bytes_eq w (codes "e")) _ _ (edges_named ws)
     (either (bytes_eq w (codes "q")) _ _ (alone_named Quit ws tt) tt))))))))))
 
-said_named : (symbols : List (List ℕ × ℤ)) (ws : List (List ℕ)) → IfSome (said_by symbols ws) IsNamed
+said_named : (symbols : List ℕ → Option ℤ) (ws : List (List ℕ)) → IfSome (said_by symbols ws) IsNamed
 said_named symbols [] = tt
 said_named symbols (w ∷ ws) = either (begins_comment w) (Some Nothing) (row symbols w ws) tt (row_named symbols w ws)
 
-line_named : (line : List ℕ) (symbols : List (List ℕ × ℤ)) → IfSome (command_of line symbols) IsNamed
+line_named : (line : List ℕ) (symbols : List ℕ → Option ℤ) → IfSome (command_of line symbols) IsNamed
 unfolding command_of
 line_named line symbols = either (nat_lt 1024 (length line)) None (said_by symbols (words line)) tt (said_named symbols (words line))
 
-pub is_named : (command : Option Command) (line : List ℕ) (symbols : List (List ℕ × ℤ)) → command ≡ command_of line symbols → IfSome command IsNamed
+pub is_named : (command : Option Command) (line : List ℕ) (symbols : List ℕ → Option ℤ) → command ≡ command_of line symbols → IfSome command IsNamed
 is_named command line symbols e = let P : Option Command → Type 0 = λ o. IfSome o IsNamed in subst P (sym e) (line_named line symbols)

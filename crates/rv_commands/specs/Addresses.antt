@@ -6,7 +6,6 @@ use Rattle.std.specs.Option.{option_map}
 use Rattle.std.specs.List.{list_all, starts_with}
 use Rattle.rv_isa.specs.Number.{modulo}
 use Rattle.rv_lists.specs.Numbers.{hex_digit}
-use Rattle.rv_program.specs.Program.{value_of}
 
 -- what hexadecimal digits stand for, the first of them the highest
 abbrev pub hex_value : List ℕ → ℕ
@@ -19,8 +18,8 @@ hexadecimal digits =
     then Some (hex_value digits)
     else None
 
--- ADDR: `0x` and one to eight hexadecimal digits, or a symbol, modulo 2 ^ 32
-unfoldable pub address_of : List (List ℕ × ℤ) → List ℕ → Option ℕ
+-- ADDR: `0x` and one to eight hexadecimal digits, or a symbol, modulo 2 ^ 32; symbols: the value of each name that has one
+unfoldable pub address_of : (List ℕ → Option ℤ) → List ℕ → Option ℕ
 address_of symbols word =
     if starts_with nat_eq word (codes "0x") then hexadecimal (drop 2 word)
-    else option_map (λ value. modulo value (2 ^ 32)) (value_of symbols word)
+    else option_map (λ value. modulo value (2 ^ 32)) (symbols word)

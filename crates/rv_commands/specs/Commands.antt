@@ -34,7 +34,7 @@ only _ = None
 unfoldable pub number_alone : List (List ℕ) → Option ℕ
 number_alone more = option_and_then number_of (only more)
 
-unfoldable pub address_alone : List (List ℕ × ℤ) → List (List ℕ) → Option ℕ
+unfoldable pub address_alone : (List ℕ → Option ℤ) → List (List ℕ) → Option ℕ
 address_alone symbols more = option_and_then (address_of symbols) (only more)
 
 -- no word
@@ -58,7 +58,7 @@ control_register more =
     option_and_then (λ name. option_map (λ csr. ControlRegister name csr) (lookup name csr_names)) (only more)
 
 -- `m ADDR N`
-unfoldable pub memory : List (List ℕ × ℤ) → List (List ℕ) → Option Command
+unfoldable pub memory : (List ℕ → Option ℤ) → List (List ℕ) → Option Command
 memory symbols (address ∷ n ∷ []) =
     option_and_then (λ addr. option_map (λ count. Memory addr count) (byte_count n)) (address_of symbols address)
 memory symbols _ = None
@@ -69,7 +69,7 @@ edges more = option_map (λ source. Edges source) (option_and_then edge_source (
 
 -- ---- a command by its first word and those behind it: one row a command
 
-unfoldable pub row : List (List ℕ × ℤ) → List ℕ → List (List ℕ) → Option Command
+unfoldable pub row : (List ℕ → Option ℤ) → List ℕ → List (List ℕ) → Option Command
 row symbols word more =
     if bytes_eq word (codes "s") then steps more
     else (if bytes_eq word (codes "c") then going more
@@ -85,12 +85,12 @@ row symbols word more =
     else None))))))))))
 
 -- a line by its words: nothing where it is blank or a comment
-abbrev pub said_by : List (List ℕ × ℤ) → List (List ℕ) → Option Command
+abbrev pub said_by : (List ℕ → Option ℤ) → List (List ℕ) → Option Command
 said_by symbols [] = Some Nothing
 said_by symbols (word ∷ more) = if begins_comment word then Some Nothing else row symbols word more
 
 -- a line; one of over 1,024 bytes is refused whatever it says
-unfoldable pub command_of : List ℕ → List (List ℕ × ℤ) → Option Command
+unfoldable pub command_of : List ℕ → (List ℕ → Option ℤ) → Option Command
 command_of line symbols = if nat_lt 1024 (length line) then None else said_by symbols (words line)
 
 -- a command's control register is that of its name

@@ -3,8 +3,8 @@ ghost use Rattle.std.specs.Prelude.{◌≡◌, ◌^◌, ◌&&◌, nat_le};
 ghost use Rattle.rv_isa.specs.Number.{modulo};
 ghost use Rattle.rv_commands.specs.Addresses.{hexadecimal, address_of};
 
+use crate::Symbols;
 use rv_lists::hex_digit;
-use rv_program::Program;
 
 /// Whether an address may have so many hexadecimal digits.
 fn is_digit_count(count: usize) -> bool
@@ -37,14 +37,14 @@ fn low_word(value: i64) -> u32
     value.rem_euclid(0x1_0000_0000) as u32
 }
 
-/// The address that a word stands for: a number behind `0x`, or a symbol of the program.
+/// The address that a word stands for: a number behind `0x`, or a symbol.
 #[tactic(auto, unfolding(crate::specs::Addresses::address_of))]
-pub fn address(word: &[u8], program: &Program) -> Option<u32>
-    ensures { result ≡ address_of program.now.symbols word.now }
+pub fn address<S: Symbols>(word: &[u8], symbols: &S) -> Option<u32>
+    ensures { result ≡ address_of (S.symbols symbols.now) word.now }
 {
     if word.starts_with(b"0x") {
         hexadecimal(word.split_at(2).1)
     } else {
-        Some(low_word(program.symbol(word)?))
+        Some(low_word(symbols.symbol(word)?))
     }
 }

@@ -13,13 +13,15 @@
 //! - `t`: the kept traps are shown;
 //! - `q`: the commands end.
 //!
-//! ADDR is `0x` with one to eight hexadecimal digits of either case, or a symbol of the program, whose value is taken
-//! modulo 2^32. N is a decimal number of at most 1,000,000,000, with any number of leading zeros.
+//! ADDR is `0x` with one to eight hexadecimal digits of either case, or a symbol, whose value is taken modulo 2^32. N is
+//! a decimal number of at most 1,000,000,000, with any number of leading zeros.
 #![tactic(auto)]
 
 mod address;
 mod command;
 mod reader;
+mod symbols;
 
 pub use command::Command;
 pub use reader::read_command;
+pub use symbols::Symbols;

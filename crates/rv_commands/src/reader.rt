@@ -4,12 +4,11 @@ ghost use Rattle.std.specs.Option.{option_copied};
 ghost use Rattle.rv_lists.specs.Words.{words};
 ghost use Rattle.rv_commands.specs.Commands.{number_of, byte_count, edge_source, only, number_alone, address_alone, alone, steps, going, control_register, memory, edges, row, command_of, IsNamed};
 
-use crate::Command;
 use crate::address::address;
+use crate::{Command, Symbols};
 use rv_isa::csr_named;
 use rv_lists::{begins_comment, decimal, first_word, has_word};
 use rv_plic::Source;
-use rv_program::Program;
 use rv_tokens::Name;
 
 /// The longest line that is looked at.
@@ -65,10 +64,10 @@ fn only_number(text: &[u8]) -> Option<u64>
 
 /// The address that the only word of a text stands for.
 #[tactic(auto, unfolding(crate::specs::Commands::address_alone))]
-fn only_address(text: &[u8], program: &Program) -> Option<u32>
-    ensures { result ≡ address_alone program.now.symbols (words text.now) }
+fn only_address<S: Symbols>(text: &[u8], symbols: &S) -> Option<u32>
+    ensures { result ≡ address_alone (S.symbols symbols.now) (words text.now) }
 {
-    address(only_word(text)?, program)
+    address(only_word(text)?, symbols)
 }
 
 /// Behind `s`: how many steps, or none for one.
@@ -108,12 +107,12 @@ fn control_register<'a>(text: &'a [u8]) -> Option<Command<'a>>
 
 /// Behind `m`: an address, and how many bytes.
 #[tactic(auto, unfolding(crate::specs::Commands::memory))]
-fn memory<'a>(text: &[u8], program: &Program) -> Option<Command<'a>>
-    ensures { result ≡ memory program.now.symbols (words text.now) }
+fn memory<'a, S: Symbols>(text: &[u8], symbols: &S) -> Option<Command<'a>>
+    ensures { result ≡ memory (S.symbols symbols.now) (words text.now) }
 {
     let (first, rest) = first_word(text)?;
     let second = only_word(rest)?;
-    let addr = address(first, program)?;
+    let addr = address(first, symbols)?;
     let count = byte_count(second)?;
     Some(Command::Memory { addr, count })
 }
@@ -136,25 +135,25 @@ fn alone<'a>(command: Command<'a>, text: &[u8]) -> Option<Command<'a>>
 
 /// A command by its first word and what follows it.
 #[tactic(auto, unfolding(crate::specs::Commands::row))]
-fn row<'a>(word: &[u8], rest: &'a [u8], program: &Program) -> Option<Command<'a>>
-    ensures { result ≡ row program.now.symbols word.now (words rest.now) }
+fn row<'a, S: Symbols>(word: &[u8], rest: &'a [u8], symbols: &S) -> Option<Command<'a>>
+    ensures { result ≡ row (S.symbols symbols.now) word.now (words rest.now) }
 {
     match word {
         b"s" => steps(rest),
         b"c" => going(rest),
         b"b" => {
-            let addr = only_address(rest, program)?;
+            let addr = only_address(rest, symbols)?;
             Some(Command::SetBreak { addr })
         }
         b"d" => {
-            let addr = only_address(rest, program)?;
+            let addr = only_address(rest, symbols)?;
             Some(Command::ClearBreak { addr })
         }
         b"r" => alone(Command::Registers, rest),
         b"p" => control_register(rest),
-        b"m" => memory(rest, program),
+        b"m" => memory(rest, symbols),
         b"i" => {
-            let addr = only_address(rest, program)?;
+            let addr = only_address(rest, symbols)?;
             Some(Command::Instruction { addr })
         }
         b"t" => alone(Command::Traps, rest),
@@ -166,8 +165,8 @@ fn row<'a>(word: &[u8], rest: &'a [u8], program: &Program) -> Option<Command<'a>
 
 /// What a line says.
 #[tactic(auto, unfolding(crate::specs::Commands::command_of))]
-fn read<'a>(line: &'a [u8], program: &Program) -> Option<Command<'a>>
-    ensures { result ≡ command_of line.now program.now.symbols }
+fn read<'a, S: Symbols>(line: &'a [u8], symbols: &S) -> Option<Command<'a>>
+    ensures { result ≡ command_of line.now (S.symbols symbols.now) }
 {
     if line.len() > LONGEST_LINE {
         return None;
@@ -178,14 +177,14 @@ fn read<'a>(line: &'a [u8], program: &Program) -> Option<Command<'a>>
     if begins_comment(first) {
         return Some(Command::Nothing);
     }
-    row(first, rest, program)
+    row(first, rest, symbols)
 }
 
-/// What a line says, or None where it is no command. The names of a program's symbols stand for their values.
+/// What a line says, or None where it is no command. Symbols stand for their values.
 #[tactic(auto, using(crate::proofs::Named::is_named))]
-pub fn read_command<'a>(line: &'a [u8], program: &Program) -> Option<Command<'a>>
-    ensures value { result ≡ command_of line.now program.now.symbols }
+pub fn read_command<'a, S: Symbols>(line: &'a [u8], symbols: &S) -> Option<Command<'a>>
+    ensures value { result ≡ command_of line.now (S.symbols symbols.now) }
     ensures named { IfSome result IsNamed }
 {
-    read(line, program)
+    read(line, symbols)
 }

@@ -3,6 +3,8 @@
 -- This project's own language.
 use Rattle.std.specs.Prelude.{◌≡◌, ◌⊎◌, ◌<◌, false, ℕ, ◌-◌, List, [], ◌++◌, length, if◌then◌else◌, Option, Some, None, codes, unwrap_or}
 use Rattle.std.specs.FinSet as set
+use Rattle.rv_program.specs.Program.{value_of}
+use Rattle.rv_commands.specs.Commands.{command_of}
 use Rattle.rv_commands.specs.declared.command.Command.{Command}
 use Rattle.rv_commands.specs.declared.command.Command.TheVariants.{Step, Go, SetBreak, ClearBreak, Registers, ControlRegister, Memory, Instruction, Traps, Edges, Quit, Nothing}
 use Rattle.rv_monitor.specs.Numbers.{hex}
@@ -14,6 +16,11 @@ use Rattle.rv_monitor.specs.declared.command.Next.{Next}
 use Rattle.rv_monitor.specs.declared.command.Next.TheVariants as next
 use Rattle.rv_monitor.specs.State.{Addresses, SessionState, most_of, with_break, without_break}
 use Rattle.rv_monitor.specs.Stops.{stop_after, HasStopped, IsRefused}
+
+-- ---- what a line asks of a session, where a symbol is a name of its program
+
+abbrev pub command_in : List ℕ → SessionState → Option Command
+command_in line s = command_of line (value_of s.program.symbols)
 
 -- ---- steps
 

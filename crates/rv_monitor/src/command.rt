@@ -3,9 +3,10 @@ ghost use Rattle.std.specs.Prelude.{◌≡◌, ◌⊎◌, ◌++◌, ◌+◌, ◌
 ghost use Rattle.std.specs.FinSet as set;
 ghost use Rattle.rv_monitor.specs.Numbers.{hex};
 ghost use Rattle.rv_monitor.specs.Views.{line, stop_text};
-ghost use Rattle.rv_commands.specs.Commands.{command_of, IsNamed};
+ghost use Rattle.rv_program.specs.Program.{value_of};
+ghost use Rattle.rv_commands.specs.Commands.{IsNamed};
 ghost use Rattle.rv_monitor.specs.State.{with_break, without_break};
-ghost use Rattle.rv_monitor.specs.Commands.{Took, WasRefused, HadNoRoom, WasNotSet, Leaves, LeavesRefused, going_for, steps_text, cleared_text, answer, next_of, word_of};
+ghost use Rattle.rv_monitor.specs.Commands.{Took, WasRefused, HadNoRoom, WasNotSet, Leaves, LeavesRefused, going_for, steps_text, cleared_text, answer, next_of, word_of, command_in};
 
 use crate::session::Session;
 use crate::stop::Stop;
@@ -14,8 +15,9 @@ use crate::views::{
     write_registers, write_stop, write_traps,
 };
 use rv_cache::Decoded;
-use rv_commands::{Command, read_command};
+use rv_commands::{Command, Symbols, read_command};
 use rv_isa::{NoMemory, append_within};
+use rv_program::Program;
 use rv_ram::ByteMemory;
 
 /// What comes behind a command.
@@ -53,6 +55,18 @@ fn append_address(text: &mut Vec<u8>, word: &[u8], addr: u32)
     append_within(text, word);
     append_within(text, &eight_digits(addr));
     append_within(text, b"\n");
+}
+
+/// The names of a program.
+#[derive(Drop)]
+struct Names<'a>(&'a Program);
+
+impl<'a> Symbols for Names<'a> {
+    ghost symbols = { λ names. value_of names.0.now.symbols };
+
+    fn symbol(&self, name: &[u8]) -> Option<i64> {
+        self.0.symbol(name)
+    }
 }
 
 impl<M: ByteMemory, C: Decoded> Session<M, C> {
@@ -144,13 +158,13 @@ impl<M: ByteMemory, C: Decoded> Session<M, C> {
     /// stand: none where the text had no room. A command that looks at the board is refused only where the text had no
     /// room for the longest answer of its kind.
     pub fn command(&mut self, line: &[u8], text: &mut Vec<u8>) -> Result<Next, NoMemory>
-        ensures next { IfOk result (λ next. next ≡ next_of (command_of line.now self.old.program.symbols)) }
-        ensures ok { OnOk result (Leaves (command_of line.now self.old.program.symbols) self.old self.new) }
-        ensures text { OnOk result (text.new.items ≡ text.old.items ++ answer (command_of line.now self.old.program.symbols) self.old self.new) }
-        ensures err { OnErr result (LeavesRefused (command_of line.now self.old.program.symbols) (vec_capacity text.old - vec_len text.old) self.old self.new) }
+        ensures next { IfOk result (λ next. next ≡ next_of (command_in line.now self.old)) }
+        ensures ok { OnOk result (Leaves (command_in line.now self.old) self.old self.new) }
+        ensures text { OnOk result (text.new.items ≡ text.old.items ++ answer (command_in line.now self.old) self.old self.new) }
+        ensures err { OnErr result (LeavesRefused (command_in line.now self.old) (vec_capacity text.old - vec_len text.old) self.old self.new) }
         ensures unwritten { OnErr result (text.new.items ≡ text.old.items) }
     {
-        let Some(command) = read_command(line, self.program()) else {
+        let Some(command) = read_command(line, &Names(self.program())) else {
             text.extend_from_slice(b"?\n")?;
             return Ok(Next::More);
         };
