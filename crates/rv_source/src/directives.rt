@@ -10,9 +10,8 @@ ghost use Rattle.rv_source.specs.Expressions.{value};
 ghost use Rattle.rv_source.specs.Statements.{of_some, one, values, string, strings, space, directive};
 
 use crate::form::Directive;
-use crate::instructions::one_value;
-use crate::operand::{Operands, are_none, only, pair};
-use crate::places::symbol;
+use crate::operand::{Operands, are_none, only};
+use crate::places::{both, one};
 use crate::refusal::Refusal;
 use crate::terms::read_value;
 use crate::{Bytes, Statement, ValueTaker, Values};
@@ -99,11 +98,7 @@ fn space<'a>(alloc: Global, tokens: &[Token<'a>]) -> Result<Statement<'a>, Refus
         let size = read_value(alloc, size)?;
         return Ok(Statement::Space { size, fill: None });
     }
-    let Some((size, fill)) = pair(tokens) else {
-        return Err(Refusal::BadOperands);
-    };
-    let size = read_value(alloc, size)?;
-    let fill = read_value(alloc, fill)?;
+    let (size, fill) = both(alloc, tokens)?;
     Ok(Statement::Space {
         size,
         fill: Some(fill),
@@ -114,7 +109,7 @@ fn align<'a>(alloc: Global, tokens: &[Token<'a>]) -> Result<Statement<'a>, Refus
     requires { length tokens.now ≤ 1024 }
     ensures { Finds (λ s. s) result (one value (λ power. s.WithValue takes.Align power) (operands_of tokens.now)) }
 {
-    let power = one_value(alloc, tokens)?;
+    let power = one(alloc, tokens)?;
     Ok(Statement::WithValue {
         taker: ValueTaker::Align,
         value: power,
@@ -125,7 +120,7 @@ fn balign<'a>(alloc: Global, tokens: &[Token<'a>]) -> Result<Statement<'a>, Refu
     requires { length tokens.now ≤ 1024 }
     ensures { Finds (λ s. s) result (one value (λ multiple. s.WithValue takes.Balign multiple) (operands_of tokens.now)) }
 {
-    let multiple = one_value(alloc, tokens)?;
+    let multiple = one(alloc, tokens)?;
     Ok(Statement::WithValue {
         taker: ValueTaker::Balign,
         value: multiple,
@@ -137,11 +132,7 @@ fn constant<'a>(alloc: Global, tokens: &[Token<'a>]) -> Result<Statement<'a>, Re
     requires { length tokens.now ≤ 1024 }
     ensures { Finds (λ s. s) result (directive d.Constant (operands_of tokens.now)) }
 {
-    let Some((name, value)) = pair(tokens) else {
-        return Err(Refusal::BadOperands);
-    };
-    let name = symbol(name)?;
-    let value = read_value(alloc, value)?;
+    let (name, value) = both(alloc, tokens)?;
     Ok(Statement::Constant { name, value })
 }
 

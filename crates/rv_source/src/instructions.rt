@@ -1,5 +1,5 @@
 //! What the words of instructions and their operands stand for.
-ghost use Rattle.std.specs.Prelude.{◌≡◌, ◌<◌, ◌≤◌, ◌+◌, ◌*◌, length, IfOk, pos, List, Some};
+ghost use Rattle.std.specs.Prelude.{◌≡◌, ◌<◌, ◌≤◌, ◌+◌, ◌*◌, length, pos, List, Some};
 ghost use Rattle.rv_tokens.specs.declared.token.Token.{Token};
 ghost use Rattle.rv_isa.specs.Word.{IsInRange};
 ghost use Rattle.rv_isa.specs.declared.kind.Kind.TheVariants as k;
@@ -7,15 +7,14 @@ ghost use Rattle.rv_source.specs.declared.form.Instruction.TheVariants as f;
 ghost use Rattle.rv_source.specs.declared.statement.Statement.TheVariants as s;
 ghost use Rattle.rv_source.specs.Operands.{operands_of, pair};
 ghost use Rattle.rv_source.specs.Partial.{Finds};
-ghost use Rattle.rv_source.specs.Expressions.{value};
-ghost use Rattle.rv_source.specs.Statements.{register, csr, immediate, alone, none, both, all, jal, jalr, load, store, fence, instruction};
+ghost use Rattle.rv_source.specs.Statements.{none, jal, jalr, load, store, fence, instruction};
 
 use crate::form::Instruction;
 use crate::operand::{are_none, only, pair, triple};
-use crate::places::{csr, fence_set, immediate, memory, register, register_in, upper};
+use crate::places::{all, both, fence_set, memory, register, register_in};
 use crate::refusal::Refusal;
 use crate::terms::{is_value, read_value};
-use crate::{Expression, Immediate, ImmediateTaker, Statement, ValueTaker};
+use crate::{Csr, ImmediateTaker, Statement, ValueTaker};
 use rv_isa::{AluOp, Cond, CsrOp, ImmOp, Instr, Kind, LoadOp, Reg, ShiftOp, Width};
 use rv_tokens::Token;
 use std::alloc::Global;
@@ -89,106 +88,12 @@ pub fn alone<'a>(kind: Kind, tokens: &[Token<'a>]) -> Result<Statement<'a>, Refu
     }
 }
 
-pub fn one_register(tokens: &[Token]) -> Result<Reg, Refusal>
-    requires { length tokens.now ≤ 1024 }
-    ensures value { Finds (λ r. r) result (alone register (operands_of tokens.now)) }
-    ensures below { IfOk result (λ r. r < 32) }
-{
-    let Some(reg) = only(tokens) else {
-        return Err(Refusal::BadOperands);
-    };
-    register(reg)
-}
-
-pub fn two_registers(tokens: &[Token]) -> Result<(Reg, Reg), Refusal>
-    requires { length tokens.now ≤ 1024 }
-    ensures value { Finds (λ p. p) result (both register register (operands_of tokens.now)) }
-    ensures below { IfOk result (λ p. (p.0 < 32) × (p.1 < 32)) }
-{
-    let Some((first, second)) = pair(tokens) else {
-        return Err(Refusal::BadOperands);
-    };
-    Ok((register(first)?, register(second)?))
-}
-
-fn three_registers(tokens: &[Token]) -> Result<(Reg, Reg, Reg), Refusal>
-    requires { length tokens.now ≤ 1024 }
-    ensures value { Finds (λ p. p) result (all register register register (operands_of tokens.now)) }
-    ensures below { IfOk result (λ p. (p.0 < 32) × (p.1 < 32) × (p.2 < 32)) }
-{
-    let Some((first, second, third)) = triple(tokens) else {
-        return Err(Refusal::BadOperands);
-    };
-    Ok((register(first)?, register(second)?, register(third)?))
-}
-
-pub fn one_value<'a>(alloc: Global, tokens: &[Token<'a>]) -> Result<Expression<'a>, Refusal>
-    requires { length tokens.now ≤ 1024 }
-    ensures { Finds (λ e. e) result (alone value (operands_of tokens.now)) }
-{
-    let Some(operand) = only(tokens) else {
-        return Err(Refusal::BadOperands);
-    };
-    read_value(alloc, operand)
-}
-
-pub fn register_and_value<'a>(
-    alloc: Global,
-    tokens: &[Token<'a>],
-) -> Result<(Reg, Expression<'a>), Refusal>
-    requires { length tokens.now ≤ 1024 }
-    ensures { Finds (λ p. p) result (both register value (operands_of tokens.now)) }
-{
-    let Some((reg, operand)) = pair(tokens) else {
-        return Err(Refusal::BadOperands);
-    };
-    Ok((register(reg)?, read_value(alloc, operand)?))
-}
-
-pub fn registers_and_value<'a>(
-    alloc: Global,
-    tokens: &[Token<'a>],
-) -> Result<(Reg, Reg, Expression<'a>), Refusal>
-    requires { length tokens.now ≤ 1024 }
-    ensures { Finds (λ p. p) result (all register register value (operands_of tokens.now)) }
-{
-    let Some((first, second, operand)) = triple(tokens) else {
-        return Err(Refusal::BadOperands);
-    };
-    Ok((
-        register(first)?,
-        register(second)?,
-        read_value(alloc, operand)?,
-    ))
-}
-
-fn registers_and_immediate<'a>(
-    alloc: Global,
-    tokens: &[Token<'a>],
-) -> Result<(Reg, Reg, Immediate<'a>), Refusal>
-    requires { length tokens.now ≤ 1024 }
-    ensures { Finds (λ p. p) result (all register register immediate (operands_of tokens.now)) }
-{
-    let Some((first, second, operand)) = triple(tokens) else {
-        return Err(Refusal::BadOperands);
-    };
-    Ok((
-        register(first)?,
-        register(second)?,
-        immediate(alloc, operand)?,
-    ))
-}
-
 #[tactic(auto, unfolding(crate::specs::Statements::instruction))]
 fn lui<'a>(alloc: Global, tokens: &[Token<'a>]) -> Result<Statement<'a>, Refusal>
     requires { length tokens.now ≤ 1024 }
     ensures { Finds (λ s. s) result (instruction f.Lui (operands_of tokens.now)) }
 {
-    let Some((rd, imm)) = pair(tokens) else {
-        return Err(Refusal::BadOperands);
-    };
-    let rd = register(rd)?;
-    let imm = upper(alloc, imm)?;
+    let (rd, imm) = both(alloc, tokens)?;
     Ok(Statement::Lui { rd, imm })
 }
 
@@ -197,7 +102,7 @@ fn auipc<'a>(alloc: Global, tokens: &[Token<'a>]) -> Result<Statement<'a>, Refus
     requires { length tokens.now ≤ 1024 }
     ensures { Finds (λ s. s) result (instruction f.Auipc (operands_of tokens.now)) }
 {
-    let (rd, imm) = register_and_value(alloc, tokens)?;
+    let (rd, imm) = both(alloc, tokens)?;
     Ok(Statement::WithValue {
         taker: ValueTaker::Auipc { rd },
         value: imm,
@@ -216,7 +121,7 @@ fn jal<'a>(alloc: Global, tokens: &[Token<'a>]) -> Result<Statement<'a>, Refusal
             value: target,
         });
     }
-    let (rd, target) = register_and_value(alloc, tokens)?;
+    let (rd, target) = both(alloc, tokens)?;
     Ok(Statement::WithValue {
         taker: ValueTaker::Jal { rd },
         value: target,
@@ -255,7 +160,7 @@ fn jalr<'a>(alloc: Global, tokens: &[Token<'a>]) -> Result<Statement<'a>, Refusa
     if let Some((rd, place)) = pair(tokens) {
         return jump_from(alloc, rd, place);
     }
-    let (rd, base, offset) = registers_and_immediate(alloc, tokens)?;
+    let (rd, base, offset) = all(alloc, tokens)?;
     Ok(Statement::WithImmediate {
         taker: ImmediateTaker::Jalr { rd, base },
         imm: offset,
@@ -267,7 +172,7 @@ fn branch<'a>(alloc: Global, cond: Cond, tokens: &[Token<'a>]) -> Result<Stateme
     requires { length tokens.now ≤ 1024 }
     ensures { Finds (λ s. s) result (instruction (f.Branch cond) (operands_of tokens.now)) }
 {
-    let (rs1, rs2, target) = registers_and_value(alloc, tokens)?;
+    let (rs1, rs2, target) = all(alloc, tokens)?;
     Ok(Statement::WithValue {
         taker: ValueTaker::Branch { cond, rs1, rs2 },
         value: target,
@@ -348,7 +253,7 @@ fn op_imm<'a>(alloc: Global, op: ImmOp, tokens: &[Token<'a>]) -> Result<Statemen
     requires { length tokens.now ≤ 1024 }
     ensures { Finds (λ s. s) result (instruction (f.OpImm op) (operands_of tokens.now)) }
 {
-    let (rd, rs1, imm) = registers_and_immediate(alloc, tokens)?;
+    let (rd, rs1, imm) = all(alloc, tokens)?;
     Ok(Statement::WithImmediate {
         taker: ImmediateTaker::OpImm { op, rd, rs1 },
         imm,
@@ -360,7 +265,7 @@ fn shift<'a>(alloc: Global, op: ShiftOp, tokens: &[Token<'a>]) -> Result<Stateme
     requires { length tokens.now ≤ 1024 }
     ensures { Finds (λ s. s) result (instruction (f.Shift op) (operands_of tokens.now)) }
 {
-    let (rd, rs1, amount) = registers_and_value(alloc, tokens)?;
+    let (rd, rs1, amount) = all(alloc, tokens)?;
     Ok(Statement::WithValue {
         taker: ValueTaker::Shift { op, rd, rs1 },
         value: amount,
@@ -368,26 +273,26 @@ fn shift<'a>(alloc: Global, op: ShiftOp, tokens: &[Token<'a>]) -> Result<Stateme
 }
 
 #[tactic(auto, unfolding(crate::specs::Statements::instruction))]
-fn op<'a>(op: AluOp, tokens: &[Token<'a>]) -> Result<Statement<'a>, Refusal>
+fn op<'a>(alloc: Global, op: AluOp, tokens: &[Token<'a>]) -> Result<Statement<'a>, Refusal>
     requires { length tokens.now ≤ 1024 }
     ensures { Finds (λ s. s) result (instruction (f.Op op) (operands_of tokens.now)) }
 {
-    let (rd, rs1, rs2) = three_registers(tokens)?;
+    let (rd, rs1, rs2) = all(alloc, tokens)?;
     Ok(instruction(Kind::Op { op, rd, rs1, rs2 }))
 }
 
 #[tactic(auto, unfolding(crate::specs::Statements::instruction))]
-fn change_csr<'a>(op: CsrOp, tokens: &[Token<'a>]) -> Result<Statement<'a>, Refusal>
+fn change_csr<'a>(alloc: Global, op: CsrOp, tokens: &[Token<'a>]) -> Result<Statement<'a>, Refusal>
     requires { length tokens.now ≤ 1024 }
     ensures { Finds (λ s. s) result (instruction (f.Csr op) (operands_of tokens.now)) }
 {
-    let Some((rd, number, rs1)) = triple(tokens) else {
-        return Err(Refusal::BadOperands);
-    };
-    let rd = register(rd)?;
-    let csr = csr(number)?.number();
-    let rs1 = register(rs1)?;
-    Ok(instruction(Kind::Csr { op, rd, rs1, csr }))
+    let (rd, csr, rs1): (Reg, Csr, Reg) = all(alloc, tokens)?;
+    Ok(instruction(Kind::Csr {
+        op,
+        rd,
+        rs1,
+        csr: csr.number(),
+    }))
 }
 
 #[tactic(auto, unfolding(crate::specs::Statements::instruction))]
@@ -399,12 +304,7 @@ fn change_csr_imm<'a>(
     requires { length tokens.now ≤ 1024 }
     ensures { Finds (λ s. s) result (instruction (f.CsrImm op) (operands_of tokens.now)) }
 {
-    let Some((rd, number, imm)) = triple(tokens) else {
-        return Err(Refusal::BadOperands);
-    };
-    let rd = register(rd)?;
-    let csr = csr(number)?;
-    let imm = read_value(alloc, imm)?;
+    let (rd, csr, imm) = all(alloc, tokens)?;
     Ok(Statement::WithValue {
         taker: ValueTaker::CsrImm { op, rd, csr },
         value: imm,
@@ -457,8 +357,8 @@ pub fn read_instruction<'a>(
         Instruction::Store(width) => store(alloc, width, tokens),
         Instruction::OpImm(op) => op_imm(alloc, op, tokens),
         Instruction::Shift(op) => shift(alloc, op, tokens),
-        Instruction::Op(kind) => op(kind, tokens),
-        Instruction::Csr(op) => change_csr(op, tokens),
+        Instruction::Op(kind) => op(alloc, kind, tokens),
+        Instruction::Csr(op) => change_csr(alloc, op, tokens),
         Instruction::CsrImm(op) => change_csr_imm(alloc, op, tokens),
         Instruction::Fence => fence(tokens),
         Instruction::FenceI => alone(fence_i(), tokens),

@@ -3,15 +3,82 @@ ghost use Rattle.std.specs.Prelude.{◌≡◌, ◌<◌, ◌≤◌, length, IfSom
 ghost use Rattle.std.specs.Prelude.{option_and_then};
 ghost use Rattle.rv_isa.specs.Names.{lookup, csr_names};
 ghost use Rattle.rv_source.specs.Partial.{Finds};
-ghost use Rattle.rv_source.specs.Statements.{register_named, register, csr, csr_number, immediate, upper, offset, memory, symbol, letter, fence_letters, fence_set};
+ghost use Rattle.rv_source.specs.Operands.{indexed_of, part_of, part_indexed_of, operands_of};
+ghost use Rattle.rv_source.specs.Expressions.{value};
+ghost use Rattle.rv_source.specs.Statements.{register_named, register, csr_number, offset, low_offset, based, memory, letter, fence_letters, fence_set, alone, both, all};
 
-use crate::operand::{indexed, name, number, part, part_indexed};
+use crate::operand::{indexed, name, number, only, pair, part, part_indexed, triple};
 use crate::refusal::Refusal;
 use crate::terms::{is_symbol, read_value};
-use crate::{Csr, Immediate, Upper};
+use crate::{Csr, Expression, Immediate, Upper};
 use rv_isa::{Reg, csr_named, reg_named};
 use rv_tokens::{Name, Token};
 use std::alloc::Global;
+
+/// What a place of a statement takes: what one operand is read as.
+pub trait Place<'a>: Drop {
+    ghost use Rattle.std.specs.Prelude.{List, Option, IfOk, ◌≤◌, length};
+    ghost use Rattle.rv_tokens.specs.declared.token.Token.{Token};
+    ghost use Rattle.rv_source.specs.Partial.{Finds};
+
+    /// What tokens mean there.
+    ghost meant: { List Token → Option Self };
+
+    /// What is known of all that may stand there.
+    ghost fits: { Self → Type 0 };
+
+    /// Reads the tokens of an operand.
+    fn read(alloc: Global, tokens: &[Token<'a>]) -> Result<Self, Refusal>
+        requires { length tokens.now ≤ 1024 }
+        ensures value { Finds (λ x. x) result (meant tokens.now) }
+        ensures fits { IfOk result (λ x. fits x) };
+}
+
+/// The only operand.
+pub fn one<'a, A: Place<'a>>(alloc: Global, tokens: &[Token<'a>]) -> Result<A, Refusal>
+    requires { length tokens.now ≤ 1024 }
+    ensures value { Finds (λ x. x) result (alone A.meant (operands_of tokens.now)) }
+    ensures fits { IfOk result (λ x. A.fits x) }
+{
+    let Some(operand) = only(tokens) else {
+        return Err(Refusal::BadOperands);
+    };
+    A::read(alloc, operand)
+}
+
+/// Both of two operands.
+pub fn both<'a, A: Place<'a>, B: Place<'a>>(
+    alloc: Global,
+    tokens: &[Token<'a>],
+) -> Result<(A, B), Refusal>
+    requires { length tokens.now ≤ 1024 }
+    ensures value { Finds (λ p. p) result (both A.meant B.meant (operands_of tokens.now)) }
+    ensures fits { IfOk result (λ p. A.fits p.0 × B.fits p.1) }
+{
+    let Some((first, second)) = pair(tokens) else {
+        return Err(Refusal::BadOperands);
+    };
+    Ok((A::read(alloc, first)?, B::read(alloc, second)?))
+}
+
+/// All of three operands.
+pub fn all<'a, A: Place<'a>, B: Place<'a>, C: Place<'a>>(
+    alloc: Global,
+    tokens: &[Token<'a>],
+) -> Result<(A, B, C), Refusal>
+    requires { length tokens.now ≤ 1024 }
+    ensures value { Finds (λ p. p) result (all A.meant B.meant C.meant (operands_of tokens.now)) }
+    ensures fits { IfOk result (λ p. A.fits p.0 × B.fits p.1 × C.fits p.2) }
+{
+    let Some((first, second, third)) = triple(tokens) else {
+        return Err(Refusal::BadOperands);
+    };
+    Ok((
+        A::read(alloc, first)?,
+        B::read(alloc, second)?,
+        C::read(alloc, third)?,
+    ))
+}
 
 /// The register with a name.
 fn named(name: &Name) -> Option<Reg>
@@ -63,56 +130,126 @@ fn csr_with_name(name: &Name) -> Option<Csr>
     numbered(u32::from(number))
 }
 
+/// A register.
+impl<'a> Place<'a> for Reg {
+    ghost use Rattle.std.specs.Prelude.{◌<◌};
+    ghost use Rattle.rv_source.specs.Statements.{register};
+
+    ghost meant = { register };
+
+    ghost fits = { λ r. r < 32 };
+
+    fn read(_: Global, tokens: &[Token<'a>]) -> Result<Reg, Refusal> {
+        register(tokens)
+    }
+}
+
 /// A control register, by its name or its number.
-#[tactic(auto, unfolding(crate::specs::Statements::csr))]
-pub fn csr(tokens: &[Token]) -> Result<Csr, Refusal>
-    ensures { Finds (λ c. c) result (csr tokens.now) }
+impl<'a> Place<'a> for Csr {
+    ghost use Rattle.std.specs.Prelude.{⊤};
+    ghost use Rattle.rv_source.specs.Statements.{csr};
+
+    ghost meant = { csr };
+
+    ghost fits = { λ _. ⊤ };
+
+    #[tactic(auto, unfolding(crate::specs::Statements::csr))]
+    fn read(_: Global, tokens: &[Token<'a>]) -> Result<Csr, Refusal> {
+        if let Some(name) = name(tokens) {
+            if let Some(csr) = csr_with_name(&name) {
+                return Ok(csr);
+            }
+        }
+        if let Some(number) = number(tokens) {
+            if let Some(csr) = numbered(number) {
+                return Ok(csr);
+            }
+        }
+        Err(Refusal::BadOperands)
+    }
+}
+
+/// A value.
+impl<'a> Place<'a> for Expression<'a> {
+    ghost use Rattle.std.specs.Prelude.{⊤};
+    ghost use Rattle.rv_source.specs.Expressions.{value};
+
+    ghost meant = { value };
+
+    ghost fits = { λ _. ⊤ };
+
+    fn read(alloc: Global, tokens: &[Token<'a>]) -> Result<Expression<'a>, Refusal> {
+        read_value(alloc, tokens)
+    }
+}
+
+/// The value in the brackets behind `%hi` or `%lo`.
+fn value_in_brackets<'a>(alloc: Global, tokens: &[Token<'a>]) -> Result<Expression<'a>, Refusal>
+    requires { length tokens.now ≤ 1024 }
+    ensures { Finds (λ e. e) result (option_and_then value (part_of tokens.now)) }
 {
-    if let Some(name) = name(tokens) {
-        if let Some(csr) = csr_with_name(&name) {
-            return Ok(csr);
-        }
-    }
-    if let Some(number) = number(tokens) {
-        if let Some(csr) = numbered(number) {
-            return Ok(csr);
-        }
-    }
-    Err(Refusal::BadOperands)
+    let Some(inner) = part(tokens) else {
+        return Err(Refusal::BadOperands);
+    };
+    read_value(alloc, inner)
 }
 
 /// A value or the low part of one.
-#[tactic(auto, unfolding(crate::specs::Statements::immediate, crate::specs::Expressions::value, crate::specs::Expressions::terms))]
-pub fn immediate<'a>(alloc: Global, tokens: &[Token<'a>]) -> Result<Immediate<'a>, Refusal>
-    requires { length tokens.now ≤ 1024 }
-    ensures { Finds (λ imm. imm) result (immediate tokens.now) }
-{
-    if let [Token::Low, rest @ ..] = tokens {
-        let Some(inner) = part(rest) else {
-            return Err(Refusal::BadOperands);
-        };
-        let sum = read_value(alloc, inner)?;
-        return Ok(Immediate::Low(sum));
+impl<'a> Place<'a> for Immediate<'a> {
+    ghost use Rattle.std.specs.Prelude.{⊤};
+    ghost use Rattle.rv_source.specs.Statements.{immediate};
+
+    ghost meant = { immediate };
+
+    ghost fits = { λ _. ⊤ };
+
+    #[tactic(auto, unfolding(crate::specs::Statements::immediate))]
+    fn read(alloc: Global, tokens: &[Token<'a>]) -> Result<Immediate<'a>, Refusal> {
+        if let [Token::Low, rest @ ..] = tokens {
+            let sum = value_in_brackets(alloc, rest)?;
+            return Ok(Immediate::Low(sum));
+        }
+        let sum = read_value(alloc, tokens)?;
+        Ok(Immediate::Sum(sum))
     }
-    let sum = read_value(alloc, tokens)?;
-    Ok(Immediate::Sum(sum))
 }
 
 /// A value or the high part of one.
-#[tactic(auto, unfolding(crate::specs::Statements::upper, crate::specs::Expressions::value, crate::specs::Expressions::terms))]
-pub fn upper<'a>(alloc: Global, tokens: &[Token<'a>]) -> Result<Upper<'a>, Refusal>
-    requires { length tokens.now ≤ 1024 }
-    ensures { Finds (λ imm. imm) result (upper tokens.now) }
-{
-    if let [Token::High, rest @ ..] = tokens {
-        let Some(inner) = part(rest) else {
-            return Err(Refusal::BadOperands);
-        };
-        let sum = read_value(alloc, inner)?;
-        return Ok(Upper::High(sum));
+impl<'a> Place<'a> for Upper<'a> {
+    ghost use Rattle.std.specs.Prelude.{⊤};
+    ghost use Rattle.rv_source.specs.Statements.{upper};
+
+    ghost meant = { upper };
+
+    ghost fits = { λ _. ⊤ };
+
+    #[tactic(auto, unfolding(crate::specs::Statements::upper))]
+    fn read(alloc: Global, tokens: &[Token<'a>]) -> Result<Upper<'a>, Refusal> {
+        if let [Token::High, rest @ ..] = tokens {
+            let sum = value_in_brackets(alloc, rest)?;
+            return Ok(Upper::High(sum));
+        }
+        let sum = read_value(alloc, tokens)?;
+        Ok(Upper::Sum(sum))
     }
-    let sum = read_value(alloc, tokens)?;
-    Ok(Upper::Sum(sum))
+}
+
+/// A name other than `.`.
+impl<'a> Place<'a> for Name<'a> {
+    ghost use Rattle.std.specs.Prelude.{⊤};
+    ghost use Rattle.rv_source.specs.Statements.{symbol};
+
+    ghost meant = { symbol };
+
+    ghost fits = { λ _. ⊤ };
+
+    #[tactic(auto, unfolding(crate::specs::Statements::symbol))]
+    fn read(_: Global, tokens: &[Token<'a>]) -> Result<Name<'a>, Refusal> {
+        match name(tokens) {
+            Some(name) if is_symbol(&name) => Ok(name),
+            _ => Err(Refusal::BadOperands),
+        }
+    }
 }
 
 /// What may stand before a base.
@@ -127,23 +264,28 @@ fn offset<'a>(alloc: Global, tokens: &[Token<'a>]) -> Result<Immediate<'a>, Refu
     Ok(Immediate::Sum(sum))
 }
 
-/// A register in brackets, with what stands before them: the offset and the base.
-#[tactic(auto, unfolding(crate::specs::Statements::memory, crate::specs::Operands::indexed_of))]
-pub fn memory<'a>(alloc: Global, tokens: &[Token<'a>]) -> Result<(Immediate<'a>, Reg), Refusal>
+/// `(E)(name)` behind `%lo`
+fn low_memory<'a>(alloc: Global, tokens: &[Token<'a>]) -> Result<(Immediate<'a>, Reg), Refusal>
     requires { length tokens.now ≤ 1024 }
-    ensures value { Finds (λ m. m) result (memory tokens.now) }
+    ensures value { Finds (λ m. m) result (based low_offset (part_indexed_of tokens.now)) }
     ensures below { IfOk result (λ m. m.1 < 32) }
 {
-    if let [Token::Low, rest @ ..] = tokens {
-        let Some((inner, name)) = part_indexed(rest) else {
-            return Err(Refusal::BadOperands);
-        };
-        let Some(base) = named(&name) else {
-            return Err(Refusal::BadOperands);
-        };
-        let sum = read_value(alloc, inner)?;
-        return Ok((Immediate::Low(sum), base));
-    }
+    let Some((inner, name)) = part_indexed(tokens) else {
+        return Err(Refusal::BadOperands);
+    };
+    let Some(base) = named(&name) else {
+        return Err(Refusal::BadOperands);
+    };
+    let sum = read_value(alloc, inner)?;
+    Ok((Immediate::Low(sum), base))
+}
+
+/// `E(name)` or `(name)`
+fn plain_memory<'a>(alloc: Global, tokens: &[Token<'a>]) -> Result<(Immediate<'a>, Reg), Refusal>
+    requires { length tokens.now ≤ 1024 }
+    ensures value { Finds (λ m. m) result (based offset (indexed_of tokens.now)) }
+    ensures below { IfOk result (λ m. m.1 < 32) }
+{
     let Some((front, name)) = indexed(tokens) else {
         return Err(Refusal::BadOperands);
     };
@@ -154,14 +296,16 @@ pub fn memory<'a>(alloc: Global, tokens: &[Token<'a>]) -> Result<(Immediate<'a>,
     Ok((offset, base))
 }
 
-/// A name other than `.`.
-#[tactic(auto, unfolding(crate::specs::Statements::symbol))]
-pub fn symbol<'a>(tokens: &[Token<'a>]) -> Result<Name<'a>, Refusal>
-    ensures { Finds (λ n. n) result (symbol tokens.now) }
+/// A register in brackets, with what stands before them: the offset and the base.
+#[tactic(auto, unfolding(crate::specs::Statements::memory))]
+pub fn memory<'a>(alloc: Global, tokens: &[Token<'a>]) -> Result<(Immediate<'a>, Reg), Refusal>
+    requires { length tokens.now ≤ 1024 }
+    ensures value { Finds (λ m. m) result (memory tokens.now) }
+    ensures below { IfOk result (λ m. m.1 < 32) }
 {
-    match name(tokens) {
-        Some(name) if is_symbol(&name) => Ok(name),
-        _ => Err(Refusal::BadOperands),
+    match tokens {
+        [Token::Low, rest @ ..] => low_memory(alloc, rest),
+        _ => plain_memory(alloc, tokens),
     }
 }
 

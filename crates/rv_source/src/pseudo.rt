@@ -13,35 +13,30 @@ ghost use Rattle.rv_source.specs.Statements.{register, one, two, pseudo};
 ghost use Rattle.rv_source.specs.Registers.{is_of_registers};
 
 use crate::form::Pseudo;
-use crate::instructions::{
-    alone, instr, one_register, one_value, register_and_value, registers_and_value, two_registers,
-    x,
-};
-use crate::operand::pair;
-use crate::places::{csr, register};
+use crate::instructions::{alone, instr, x};
+use crate::places::{all, both, one};
 use crate::refusal::Refusal;
-use crate::terms::read_value;
-use crate::{Statement, ValueTaker};
+use crate::{Csr, Statement, ValueTaker};
 use rv_isa::{AluOp, Cond, CsrOp, ImmOp, Instr, Kind, Reg};
 use rv_tokens::Token;
 use std::alloc::Global;
 
 /// An operation on a register and this immediate.
-fn op_with_imm(op: ImmOp, imm: i32, tokens: &[Token]) -> Result<Instr, Refusal>
+fn op_with_imm(alloc: Global, op: ImmOp, imm: i32, tokens: &[Token]) -> Result<Instr, Refusal>
     requires within { IsWithin (2 ^ 11) imm }
     requires short { length tokens.now ≤ 1024 }
     ensures { Finds s.Instruction result (two register register (λ rd rs. s.Instruction (k.OpImm op rd rs imm)) (operands_of tokens.now)) }
 {
-    let (rd, rs1) = two_registers(tokens)?;
+    let (rd, rs1) = both(alloc, tokens)?;
     Ok(instr(Kind::OpImm { op, rd, rs1, imm }))
 }
 
 /// An operation on a register and x0.
-fn op_with_zero(op: AluOp, tokens: &[Token]) -> Result<Instr, Refusal>
+fn op_with_zero(alloc: Global, op: AluOp, tokens: &[Token]) -> Result<Instr, Refusal>
     requires { length tokens.now ≤ 1024 }
     ensures { Finds s.Instruction result (two register register (λ rd rs. s.Instruction (k.Op op rd rs 0)) (operands_of tokens.now)) }
 {
-    let (rd, rs1) = two_registers(tokens)?;
+    let (rd, rs1) = both(alloc, tokens)?;
     Ok(instr(Kind::Op {
         op,
         rd,
@@ -51,11 +46,11 @@ fn op_with_zero(op: AluOp, tokens: &[Token]) -> Result<Instr, Refusal>
 }
 
 /// An operation on x0 and a register.
-fn op_on_zero(op: AluOp, tokens: &[Token]) -> Result<Instr, Refusal>
+fn op_on_zero(alloc: Global, op: AluOp, tokens: &[Token]) -> Result<Instr, Refusal>
     requires { length tokens.now ≤ 1024 }
     ensures { Finds s.Instruction result (two register register (λ rd rs. s.Instruction (k.Op op rd 0 rs)) (operands_of tokens.now)) }
 {
-    let (rd, rs2) = two_registers(tokens)?;
+    let (rd, rs2) = both(alloc, tokens)?;
     Ok(instr(Kind::Op {
         op,
         rd,
@@ -73,7 +68,7 @@ fn branch_zero<'a>(
     requires { length tokens.now ≤ 1024 }
     ensures { Finds (λ s. s) result (pseudo (p.BranchZero cond) (operands_of tokens.now)) }
 {
-    let (rs1, target) = register_and_value(alloc, tokens)?;
+    let (rs1, target) = both(alloc, tokens)?;
     Ok(Statement::WithValue {
         taker: ValueTaker::Branch {
             cond,
@@ -93,7 +88,7 @@ fn zero_branch<'a>(
     requires { length tokens.now ≤ 1024 }
     ensures { Finds (λ s. s) result (pseudo (p.ZeroBranch cond) (operands_of tokens.now)) }
 {
-    let (rs2, target) = register_and_value(alloc, tokens)?;
+    let (rs2, target) = both(alloc, tokens)?;
     Ok(Statement::WithValue {
         taker: ValueTaker::Branch {
             cond,
@@ -113,7 +108,7 @@ fn branch_swapped<'a>(
     requires { length tokens.now ≤ 1024 }
     ensures { Finds (λ s. s) result (pseudo (p.BranchSwapped cond) (operands_of tokens.now)) }
 {
-    let (rs2, rs1, target) = registers_and_value(alloc, tokens)?;
+    let (rs2, rs1, target) = all(alloc, tokens)?;
     Ok(Statement::WithValue {
         taker: ValueTaker::Branch { cond, rs1, rs2 },
         value: target,
@@ -124,18 +119,18 @@ fn jump<'a>(alloc: Global, tokens: &[Token<'a>]) -> Result<Statement<'a>, Refusa
     requires { length tokens.now ≤ 1024 }
     ensures { Finds (λ s. s) result (one value (λ target. s.WithValue (takes.Jal 0) target) (operands_of tokens.now)) }
 {
-    let target = one_value(alloc, tokens)?;
+    let target = one(alloc, tokens)?;
     Ok(Statement::WithValue {
         taker: ValueTaker::Jal { rd: x(0) },
         value: target,
     })
 }
 
-fn jump_register(tokens: &[Token]) -> Result<Instr, Refusal>
+fn jump_register(alloc: Global, tokens: &[Token]) -> Result<Instr, Refusal>
     requires { length tokens.now ≤ 1024 }
     ensures { Finds s.Instruction result (one register (λ rs. s.Instruction (k.Jalr 0 rs (pos 0))) (operands_of tokens.now)) }
 {
-    let base = one_register(tokens)?;
+    let base = one(alloc, tokens)?;
     Ok(instr(Kind::Jalr {
         rd: x(0),
         base,
@@ -144,38 +139,30 @@ fn jump_register(tokens: &[Token]) -> Result<Instr, Refusal>
 }
 
 #[tactic(auto, unfolding(crate::specs::Statements::pseudo))]
-fn read_csr(tokens: &[Token]) -> Result<Instr, Refusal>
+fn read_csr(alloc: Global, tokens: &[Token]) -> Result<Instr, Refusal>
     requires { length tokens.now ≤ 1024 }
     ensures { Finds s.Instruction result (pseudo p.CsrRead (operands_of tokens.now)) }
 {
-    let Some((rd, number)) = pair(tokens) else {
-        return Err(Refusal::BadOperands);
-    };
-    let rd = register(rd)?;
-    let csr = csr(number)?.number();
+    let (rd, csr): (Reg, Csr) = both(alloc, tokens)?;
     Ok(instr(Kind::Csr {
         op: CsrOp::Set,
         rd,
         rs1: x(0),
-        csr,
+        csr: csr.number(),
     }))
 }
 
 #[tactic(auto, unfolding(crate::specs::Statements::pseudo))]
-fn write_csr(op: CsrOp, tokens: &[Token]) -> Result<Instr, Refusal>
+fn write_csr(alloc: Global, op: CsrOp, tokens: &[Token]) -> Result<Instr, Refusal>
     requires { length tokens.now ≤ 1024 }
     ensures { Finds s.Instruction result (pseudo (p.CsrChange op) (operands_of tokens.now)) }
 {
-    let Some((number, source)) = pair(tokens) else {
-        return Err(Refusal::BadOperands);
-    };
-    let csr = csr(number)?.number();
-    let rs1 = register(source)?;
+    let (csr, rs1): (Csr, Reg) = both(alloc, tokens)?;
     Ok(instr(Kind::Csr {
         op,
         rd: x(0),
         rs1,
-        csr,
+        csr: csr.number(),
     }))
 }
 
@@ -188,11 +175,7 @@ fn write_csr_imm<'a>(
     requires { length tokens.now ≤ 1024 }
     ensures { Finds (λ s. s) result (pseudo (p.CsrChangeImm op) (operands_of tokens.now)) }
 {
-    let Some((number, imm)) = pair(tokens) else {
-        return Err(Refusal::BadOperands);
-    };
-    let csr = csr(number)?;
-    let imm = read_value(alloc, imm)?;
+    let (csr, imm) = both(alloc, tokens)?;
     Ok(Statement::WithValue {
         taker: ValueTaker::CsrImm { op, rd: x(0), csr },
         value: imm,
@@ -203,7 +186,7 @@ fn li<'a>(alloc: Global, tokens: &[Token<'a>]) -> Result<Statement<'a>, Refusal>
     requires { length tokens.now ≤ 1024 }
     ensures { Finds (λ s. s) result (two register value (λ rd v. s.WithValue (takes.Li rd) v) (operands_of tokens.now)) }
 {
-    let (rd, value) = register_and_value(alloc, tokens)?;
+    let (rd, value) = both(alloc, tokens)?;
     Ok(Statement::WithValue {
         taker: ValueTaker::Li { rd },
         value,
@@ -214,7 +197,7 @@ fn la<'a>(alloc: Global, tokens: &[Token<'a>]) -> Result<Statement<'a>, Refusal>
     requires { length tokens.now ≤ 1024 }
     ensures { Finds (λ s. s) result (two register value (λ rd target. s.WithValue (takes.La rd) target) (operands_of tokens.now)) }
 {
-    let (rd, target) = register_and_value(alloc, tokens)?;
+    let (rd, target) = both(alloc, tokens)?;
     Ok(Statement::WithValue {
         taker: ValueTaker::La { rd },
         value: target,
@@ -231,7 +214,7 @@ fn call<'a>(
     requires { length tokens.now ≤ 1024 }
     ensures { Finds (λ s. s) result (one value (λ target. s.WithValue (takes.Call link scratch) target) (operands_of tokens.now)) }
 {
-    let target = one_value(alloc, tokens)?;
+    let target = one(alloc, tokens)?;
     Ok(Statement::WithValue {
         taker: ValueTaker::Call { link, scratch },
         value: target,
@@ -263,33 +246,37 @@ fn ret() -> Kind
 
 /// The instruction of a word that stands for one of registers alone.
 #[tactic(auto, unfolding(crate::specs::Statements::pseudo))]
-fn registers_instr(form: Pseudo, tokens: &[Token]) -> Result<Instr, Refusal>
+fn registers_instr(alloc: Global, form: Pseudo, tokens: &[Token]) -> Result<Instr, Refusal>
     requires registers { is_of_registers form ≡ true }
     requires short { length tokens.now ≤ 1024 }
     ensures { Finds s.Instruction result (pseudo form (operands_of tokens.now)) }
 {
     match form {
-        Pseudo::Mv => op_with_imm(ImmOp::Addi, 0, tokens),
-        Pseudo::Not => op_with_imm(ImmOp::Xori, -1, tokens),
-        Pseudo::Neg => op_on_zero(AluOp::Sub, tokens),
-        Pseudo::Seqz => op_with_imm(ImmOp::Sltiu, 1, tokens),
-        Pseudo::Snez => op_on_zero(AluOp::Sltu, tokens),
-        Pseudo::Sltz => op_with_zero(AluOp::Slt, tokens),
-        Pseudo::Sgtz => op_on_zero(AluOp::Slt, tokens),
-        Pseudo::JumpRegister => jump_register(tokens),
-        Pseudo::CsrRead => read_csr(tokens),
-        Pseudo::CsrChange(op) => write_csr(op, tokens),
+        Pseudo::Mv => op_with_imm(alloc, ImmOp::Addi, 0, tokens),
+        Pseudo::Not => op_with_imm(alloc, ImmOp::Xori, -1, tokens),
+        Pseudo::Neg => op_on_zero(alloc, AluOp::Sub, tokens),
+        Pseudo::Seqz => op_with_imm(alloc, ImmOp::Sltiu, 1, tokens),
+        Pseudo::Snez => op_on_zero(alloc, AluOp::Sltu, tokens),
+        Pseudo::Sltz => op_with_zero(alloc, AluOp::Slt, tokens),
+        Pseudo::Sgtz => op_on_zero(alloc, AluOp::Slt, tokens),
+        Pseudo::JumpRegister => jump_register(alloc, tokens),
+        Pseudo::CsrRead => read_csr(alloc, tokens),
+        Pseudo::CsrChange(op) => write_csr(alloc, op, tokens),
         _ => unreachable!(),
     }
 }
 
 /// What a word that stands for an instruction of registers alone and its operands stand for.
-fn read_registers<'a>(form: Pseudo, tokens: &[Token<'a>]) -> Result<Statement<'a>, Refusal>
+fn read_registers<'a>(
+    alloc: Global,
+    form: Pseudo,
+    tokens: &[Token<'a>],
+) -> Result<Statement<'a>, Refusal>
     requires registers { is_of_registers form ≡ true }
     requires short { length tokens.now ≤ 1024 }
     ensures { Finds (λ s. s) result (pseudo form (operands_of tokens.now)) }
 {
-    let instr = registers_instr(form, tokens)?;
+    let instr = registers_instr(alloc, form, tokens)?;
     Ok(Statement::Instruction(instr))
 }
 
@@ -315,6 +302,6 @@ pub fn read_pseudo<'a>(
         Pseudo::Tail => call(alloc, x(0), x(6), tokens),
         Pseudo::Nop => alone(nop(), tokens),
         Pseudo::Return => alone(ret(), tokens),
-        _ => read_registers(form, tokens),
+        _ => read_registers(alloc, form, tokens),
     }
 }
