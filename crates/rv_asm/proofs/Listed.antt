@@ -16,7 +16,7 @@ use Rattle.rv_asm.specs.Symbols.{Definitions, sum_value}
 use Rattle.rv_asm.specs.Layout.{Known, first, joined, line_at, base, limit, asked, taken, size_of, labelled, with_labels, with_statement, known_before, known_at, definitions, relabels, statement_fault, phase_two_fault}
 use Rattle.rv_asm.specs.Listing.{◌>>=◌}
 use Rattle.rv_asm.specs.Assembly.{first_fault, line_bytes, phase_three_fault}
-use Rattle.rv_asm.specs.Steps.{Item, IsTaken, item_bytes, appended, at_line, run, item_step, item_at, unless}
+use Rattle.rv_asm.specs.Steps.{size_in, Item, IsTaken, item_bytes, appended, at_line, run, item_step, item_at, unless}
 use Rattle.rv_asm.proofs.Placing.{item_of, free_placed}
 use Rattle.rv_asm.proofs.Runs.{run_append}
 use Rattle.rv_asm.proofs.Sizes.{item_size}
@@ -128,7 +128,8 @@ taken_asked : (ds : Definitions) (k here : ℕ) (o : Option (List Term × (ℤ �
 taken_asked ds k here None c h = cc
 taken_asked ds k here (Some a) c h = taken_value a.1 (sum_value ds k here a.0) c h
 
-is_taken : (k : ℕ) (known : Known) (s : Statement) → statement_fault k known s ≡ None → IsTaken (item_of k known s)
+is_taken : (k : ℕ) (known : Known) (s : Statement) → statement_fault k known s ≡ None → IsTaken (item_of k known s).constant s
+unfolding IsTaken
 is_taken k known s free = taken_asked known.definitions k known.address (asked s) (item_of k known s).constant (free_placed k known s free).known_value
 
 sized_answer : (r : Result (List ℕ) FaultKind) (n : ℕ) → ((bs : List ℕ) → r ≡ Ok bs → length bs ≡ n) → fault_in r ≡ None → length (listed r) ≡ n
@@ -144,6 +145,7 @@ size_line ds k known (Some s) free e =
 
 within_line : (k : ℕ) (known : Known) (statement : Option Statement) → option_and_then (statement_fault k known) statement ≡ None → known.address ≤ base + limit
     → (with_statement k known statement).address ≤ base + limit
+unfolding size_in
 within_line k known None free h = h
 within_line k known (Some s) free h = (free_placed k known s free).within
 

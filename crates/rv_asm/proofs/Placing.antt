@@ -8,7 +8,7 @@ use Rattle.rv_asm.specs.declared.fault.FaultKind.{FaultKind}
 use Rattle.rv_asm.specs.declared.fault.FaultKind.TheVariants.{DuplicateSymbol, NotConstant, Misplaced, TooLarge}
 use Rattle.rv_asm.specs.Symbols.{value_of}
 use Rattle.rv_asm.specs.Layout.{Known, base, limit, constant_of, size_of, name_in, renames, stated, statement_fault}
-use Rattle.rv_asm.specs.Steps.{Item, placed, end_of, definition_in, newly_stated}
+use Rattle.rv_asm.specs.Steps.{Item, size_in, placed, end_of, definition_in, newly_stated}
 
 -- the item of a statement on line k behind its labels
 abbrev pub item_of : ℕ → Known → Statement → Item
@@ -46,7 +46,7 @@ below m n h = grind (arith, nat_tests)
 
 placed_by : (k : ℕ) (known : Known) (statement : Statement) (item : Item) (fault : Option FaultKind) → statement_fault k known statement ≡ fault
     → elim fault as (λ _. Result Item FaultKind) [ Some kind ↦ Err kind | None ↦ Ok (item_of k known statement) ] ≡ Ok item → IsPlaced k known statement item
-unfolding statement_fault
+unfolding statement_fault size_in
 placed_by k known statement item (Some kind) e h = absurd cc
 placed_by k known statement item None e h =
     let is : item_of k known statement ≡ item = cc in
@@ -76,6 +76,7 @@ new_by names None c d e h = absurd cc
 new_by names (Some name) c d e h = let same : name ≡ d.0 = cc in rw (← same) (not_some (value_of names name) h)
 
 pub definition_new : (k : ℕ) (known : Known) (statement : Statement) (item : Item) (d : List ℕ × ℤ) → placed k known statement ≡ Ok item → definition_in item ≡ Some d → value_of known.definitions.names d.0 ≡ None
+unfolding definition_in
 definition_new k known statement item d h e =
     let p = placed_is k known statement item h in
     new_by known.definitions.names (name_in statement) item.constant d (rw p.said at e) p.new
@@ -102,6 +103,7 @@ module _ (k : ℕ) (known : Known) (statement : Statement) (item : Item) (h : pl
   -- with a name
   pub newly_defined : (d : List ℕ × ℤ) → definition_in item ≡ Some d
       → newly_stated k known statement ≡ Ok (record { address = end_of item; definitions = record { names = known.definitions.names ++ d ∷ []; locals = known.definitions.locals } }, item)
+  unfolding size_in definition_in
   newly_defined d e =
       let p = placed_is k known statement item h in
       let same = stated_by known (known.address + size_of known.address item.constant statement) item.constant (name_in statement) d (rw p.said at e) in
@@ -109,6 +111,7 @@ module _ (k : ℕ) (known : Known) (statement : Statement) (item : Item) (h : pl
 
   -- and without
   pub newly_passed : definition_in item ≡ None → newly_stated k known statement ≡ Ok (record { address = end_of item; definitions = known.definitions }, item)
+  unfolding size_in definition_in
   newly_passed e =
       let p = placed_is k known statement item h in
       let same = stated_same_by known (known.address + size_of known.address item.constant statement) item.constant (name_in statement) (rw p.said at e) in

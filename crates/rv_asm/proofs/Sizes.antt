@@ -69,33 +69,33 @@ filled : (n : ℕ) (m : Result ℕ FaultKind) → count_or n (m >>= λ b. Ok (re
 filled n (Ok b) = length-replicate n b
 filled n (Err fault) = refl
 
-sized : (value : Valuation) (line here : ℕ) (c : ℤ) (statement : Statement) → IsTaken (record { line = line; address = here; constant = c; statement = statement })
+sized : (value : Valuation) (here : ℕ) (c : ℤ) (statement : Statement) → IsTaken c statement
     → count_or (size_of here c statement) (statement_bytes value here c statement) ≡ size_of here c statement
-unfolding statement_bytes instructions
-sized value line here c (s.Instruction k) t = refl
-sized value line here c (s.Lui rd imm) t = words_counted 1 _ (one_counted _ (upper_of value imm))
-sized value line here c (s.WithImmediate taker imm) t = words_counted 1 _ (one_counted _ (immediate_of value imm))
-sized value line here c (s.WithValue (takes.Auipc rd) v) t = words_counted 1 _ (one_counted _ (wanted _ (value v)))
-sized value line here c (s.WithValue (takes.Jal rd) v) t = words_counted 1 _ (one_counted _ (wanted _ (value v)))
-sized value line here c (s.WithValue (takes.Branch cond rs1 rs2) v) t = words_counted 1 _ (one_counted _ (wanted _ (value v)))
-sized value line here c (s.WithValue (takes.Shift op rd rs1) v) t = words_counted 1 _ (one_counted _ (wanted _ (value v)))
-sized value line here c (s.WithValue (takes.CsrImm op rd csr) v) t = words_counted 1 _ (one_counted _ (wanted _ (value v)))
-sized value line here c (s.WithValue (takes.Li rd) v) t = length_bytes (loading rd (modulo c (2 ^ 32)))
-sized value line here c (s.WithValue (takes.La rd) v) t = words_counted 2 _ (two_counted _ (wanted (far here) (value v)))
-sized value line here c (s.WithValue (takes.Call link scratch) v) t = words_counted 2 _ (two_counted _ (wanted (far here) (value v)))
-sized value line here c (s.WithValue (takes.LoadFrom op rd) v) t = words_counted 2 _ (two_counted _ (wanted (far here) (value v)))
-sized value line here c (s.WithValue (takes.StoreTo width source scratch) v) t = words_counted 2 _ (two_counted _ (wanted (far here) (value v)))
-sized value line here c (s.WithValue takes.Align power) t = padded here (2 ^ modulo c 32) (power_is_regular c t)
-sized value line here c (s.WithValue takes.Balign multiple) t = padded here (modulo c (2 ^ 32)) (multiple_is_regular c t)
-sized value line here c (s.Data width values) t = data_counted width value values
-sized value line here c (s.Bytes bs) t = refl
-sized value line here c (s.Space size fill) t = filled (modulo c (2 ^ 32)) (fill_of value fill)
-sized value line here c (s.Constant name v) t = refl
-sized value line here c s.Marker t = refl
+unfolding statement_bytes instructions IsTaken
+sized value here c (s.Instruction k) t = refl
+sized value here c (s.Lui rd imm) t = words_counted 1 _ (one_counted _ (upper_of value imm))
+sized value here c (s.WithImmediate taker imm) t = words_counted 1 _ (one_counted _ (immediate_of value imm))
+sized value here c (s.WithValue (takes.Auipc rd) v) t = words_counted 1 _ (one_counted _ (wanted _ (value v)))
+sized value here c (s.WithValue (takes.Jal rd) v) t = words_counted 1 _ (one_counted _ (wanted _ (value v)))
+sized value here c (s.WithValue (takes.Branch cond rs1 rs2) v) t = words_counted 1 _ (one_counted _ (wanted _ (value v)))
+sized value here c (s.WithValue (takes.Shift op rd rs1) v) t = words_counted 1 _ (one_counted _ (wanted _ (value v)))
+sized value here c (s.WithValue (takes.CsrImm op rd csr) v) t = words_counted 1 _ (one_counted _ (wanted _ (value v)))
+sized value here c (s.WithValue (takes.Li rd) v) t = length_bytes (loading rd (modulo c (2 ^ 32)))
+sized value here c (s.WithValue (takes.La rd) v) t = words_counted 2 _ (two_counted _ (wanted (far here) (value v)))
+sized value here c (s.WithValue (takes.Call link scratch) v) t = words_counted 2 _ (two_counted _ (wanted (far here) (value v)))
+sized value here c (s.WithValue (takes.LoadFrom op rd) v) t = words_counted 2 _ (two_counted _ (wanted (far here) (value v)))
+sized value here c (s.WithValue (takes.StoreTo width source scratch) v) t = words_counted 2 _ (two_counted _ (wanted (far here) (value v)))
+sized value here c (s.WithValue takes.Align power) t = padded here (2 ^ modulo c 32) (power_is_regular c t)
+sized value here c (s.WithValue takes.Balign multiple) t = padded here (modulo c (2 ^ 32)) (multiple_is_regular c t)
+sized value here c (s.Data width values) t = data_counted width value values
+sized value here c (s.Bytes bs) t = refl
+sized value here c (s.Space size fill) t = filled (modulo c (2 ^ 32)) (fill_of value fill)
+sized value here c (s.Constant name v) t = refl
+sized value here c s.Marker t = refl
 
 -- the bytes of an item fill it
-pub item_size : (value : Valuation) (item : Item) (bs : List ℕ) → IsTaken item
+pub item_size : (value : Valuation) (item : Item) (bs : List ℕ) → IsTaken item.constant item.statement
     → statement_bytes value item.address item.constant item.statement ≡ Ok bs
     → length bs ≡ size_of item.address item.constant item.statement
 item_size value item bs taken h =
-    sym (ap (count_or (size_of item.address item.constant item.statement)) h) ∙ sized value item.line item.address item.constant item.statement taken
+    sym (ap (count_or (size_of item.address item.constant item.statement)) h) ∙ sized value item.address item.constant item.statement taken

@@ -5,13 +5,16 @@ use Rattle.std.proofs.Math.Seq.{drop-cons}
 use Rattle.std.proofs.lemmas.List.{drop_all}
 use Rattle.rv_isa.specs.declared.op.Width.{Width}
 use Rattle.rv_source.specs.declared.expression.Term.{Term}
-use Rattle.rv_source.specs.declared.statement.Statement.TheVariants.{Marker}
+use Rattle.rv_source.specs.declared.statement.ValueTaker.TheVariants as takes
+use Rattle.rv_source.specs.declared.statement.Statement.{Statement}
+use Rattle.rv_source.specs.declared.statement.Statement.TheVariants as s
 use Rattle.rv_asm.specs.declared.fault.FaultKind.{FaultKind}
 use Rattle.rv_asm.specs.declared.fault.FaultKind.TheVariants.{Undefined, OutOfRange}
+use Rattle.rv_asm.specs.Kept.{KindBecomes, words_of}
 use Rattle.rv_asm.specs.Values.{fits}
 use Rattle.rv_asm.specs.Listing.{Valuation, ◌>>=◌, instructions, statement_bytes, values_of, data_bytes, value_bytes, sums_bytes}
-use Rattle.rv_asm.specs.Steps.{Item, appended, item_bytes}
-use Rattle.rv_asm.specs.Symbols.{Definitions}
+use Rattle.rv_asm.specs.Steps.{Item, IsTaken, appended, item_bytes}
+use Rattle.rv_asm.specs.Symbols.{Definitions, sum_value}
 
 -- one of the values was out of range
 abbrev pub out_of_range : Result (List ℤ) FaultKind → Result (List ℕ) FaultKind
@@ -23,9 +26,52 @@ rest_bytes value width true out es = appended out (sums_bytes value width es)
 rest_bytes value width false out es = out_of_range (values_of value es)
 
 -- a marker's item has no bytes
-pub nothing_written : (ds : Definitions) (item : Item) (out : List ℕ) → Marker ≡ item.statement → appended out (item_bytes ds item) ≡ Ok out
+pub nothing_written : (ds : Definitions) (item : Item) (out : List ℕ) → s.Marker ≡ item.statement → appended out (item_bytes ds item) ≡ Ok out
 unfolding statement_bytes instructions
 nothing_written ds item out h = rw (sym h) (ap (λ x. Ok x) (append-nil out))
+
+-- ---- a statement that is placed as instructions, or has no bytes
+
+abbrev pub are_words : Statement → Bool
+are_words (s.Data width values) = false
+are_words (s.Bytes bytes) = false
+are_words (s.Space size fill) = false
+are_words (s.WithValue takes.Align power) = false
+are_words (s.WithValue takes.Balign multiple) = false
+are_words statement = true
+
+as_words : (value : Valuation) (here : ℕ) (c : ℤ) (statement : Statement) → are_words statement ≡ true → statement_bytes value here c statement ≡ words_of (instructions value here c statement)
+unfolding statement_bytes
+as_words value here c (s.Instruction k) h = refl
+as_words value here c (s.Lui rd imm) h = refl
+as_words value here c (s.WithImmediate taker imm) h = refl
+as_words value here c (s.WithValue (takes.Auipc rd) v) h = refl
+as_words value here c (s.WithValue (takes.Jal rd) v) h = refl
+as_words value here c (s.WithValue (takes.Branch cond rs1 rs2) v) h = refl
+as_words value here c (s.WithValue (takes.Shift op rd rs1) v) h = refl
+as_words value here c (s.WithValue (takes.CsrImm op rd csr) v) h = refl
+as_words value here c (s.WithValue (takes.Li rd) v) h = refl
+as_words value here c (s.WithValue (takes.La rd) v) h = refl
+as_words value here c (s.WithValue (takes.Call link scratch) v) h = refl
+as_words value here c (s.WithValue (takes.LoadFrom op rd) v) h = refl
+as_words value here c (s.WithValue (takes.StoreTo width source scratch) v) h = refl
+as_words value here c (s.WithValue takes.Align power) h = absurd cc
+as_words value here c (s.WithValue takes.Balign multiple) h = absurd cc
+as_words value here c (s.Data width values) h = absurd cc
+as_words value here c (s.Bytes bs) h = absurd cc
+as_words value here c (s.Space size fill) h = absurd cc
+as_words value here c (s.Constant name v) h = refl
+as_words value here c s.Marker h = refl
+
+pub words_written : {A : Type 0} (new out : List ℕ) (result : Result A FaultKind) (ds : Definitions) (item seen : Item) (statement : Statement) → seen ≡ item → statement ≡ item.statement → are_words statement ≡ true
+    → KindBecomes new result (appended out (words_of (instructions (sum_value ds seen.line seen.address) seen.address seen.constant statement))) → KindBecomes new result (appended out (item_bytes ds item))
+words_written new out result ds item seen statement same said h written =
+    let words : are_words item.statement ≡ true = rw said at h in
+    rw (as_words (sum_value ds item.line item.address) item.address item.constant item.statement words) (rw (same, said) at written)
+
+-- what a placed statement asked for is what the same statement asks for, read again
+pub taken_again : (item seen : Item) (statement : Statement) → seen ≡ item → statement ≡ item.statement → IsTaken seen.constant seen.statement → IsTaken seen.constant statement
+taken_again item seen statement same said taken = rw (said, sym same) taken
 
 module _ (value : Valuation) (width : Width) where
   two_appended : (out bs : List ℕ) (r : Result (List ℕ) FaultKind) → appended out (r >>= λ cs. Ok (bs ++ cs)) ≡ appended (out ++ bs) r

@@ -1,11 +1,14 @@
 -- Answers that don't know their line, and what is kept of local labels.
 -- Own language; see docs/ASSEMBLER.md.
 -- Not to audit: private contracts alone cite this.
-use Rattle.std.specs.Prelude.{◌≡◌, ℕ, List, [], ◌∷◌, ℤ, pos, ◌+ℤ◌, ◌≤ℤ◌, ◌==◌, if◌then◌else◌, ◌≤◌, ◌<◌, get_or, length, Result, Ok, Err}
+use Rattle.std.specs.Prelude.{◌≡◌, ℕ, List, [], ◌∷◌, ℤ, pos, ◌+ℤ◌, ◌≤ℤ◌, ◌==◌, if◌then◌else◌, ◌≤◌, ◌<◌, get_or, length, replicate, Option, Result, Ok, Err}
 use Rattle.std.specs.List.{AllByRecursion}
 use Rattle.rv_asm.specs.declared.fault.FaultKind.{FaultKind}
 use Rattle.rv_asm.specs.declared.fault.FaultKind.TheVariants.{OutOfMemory}
 use Rattle.rv_asm.specs.declared.locals.LocalLabel.{LocalLabel}
+use Rattle.rv_isa.specs.declared.kind.Kind.{Kind}
+use Rattle.rv_source.specs.declared.statement.ValueTaker.{ValueTaker}
+use Rattle.rv_asm.specs.Listing.{◌>>=◌, bytes, with_value}
 
 -- ---- an answer that may fail, and doesn't know its line
 
@@ -21,6 +24,20 @@ KindGives view (Err kind) meaning = KindFails kind meaning
 abbrev pub KindBecomes : {A B : Type 0} → B → Result A FaultKind → Result B FaultKind → Type 0
 KindBecomes new (Ok x) meaning = meaning ≡ Ok new
 KindBecomes new (Err kind) meaning = KindFails kind meaning
+
+-- ---- the bytes of a statement
+
+-- the instructions of what takes a value, as one word: its cases are dear where they aren't asked
+unfoldable pub valued : ℕ → ℤ → ValueTaker → Option ℤ → Result (List Kind) FaultKind
+valued here c taker v = with_value here c taker v
+
+-- the words of instructions, where there are any
+abbrev pub words_of : Result (List Kind) FaultKind → Result (List ℕ) FaultKind
+words_of m = m >>= λ kinds. Ok (bytes kinds)
+
+-- as many bytes, each of them the same
+abbrev pub filled : ℕ → Result ℕ FaultKind → Result (List ℕ) FaultKind
+filled size m = m >>= λ b. Ok (replicate size b)
 
 -- ---- what is kept of local labels
 

@@ -14,7 +14,7 @@ use Rattle.rv_asm.specs.declared.fault.FaultKind.{FaultKind}
 use Rattle.rv_asm.specs.declared.fault.FaultKind.TheVariants.{DuplicateSymbol}
 use Rattle.rv_asm.specs.declared.fault.AsmFault.{AsmFault}
 use Rattle.rv_asm.specs.Symbols.{Definitions, value_of, sum_value}
-use Rattle.rv_asm.specs.Layout.{Known, joined, line_at, start, labelled, stated, known_before, known_at, asked, size_of, name_in, constant_of, statement_fault, phase_two_fault}
+use Rattle.rv_asm.specs.Layout.{Known, joined, line_at, start, labelled, stated, known_before, known_at, asked, constant, size_of, name_in, constant_of, statement_fault, phase_two_fault}
 use Rattle.rv_asm.specs.Listing.{◌>>=◌, bytes, statement_bytes}
 use Rattle.rv_asm.specs.Assembly.{first_fault, phase_one_fault, all_said}
 
@@ -36,8 +36,15 @@ abbrev pub stated_in : List ℕ → Statement
 stated_in text = unwrap_or (statement_in text) Marker
 
 -- the value is one that the statement takes
-abbrev pub IsTaken : Item → Type 0
-IsTaken item = elim (asked item.statement) as (λ _. Type 0) [ None ↦ item.constant ≡ pos 0 | Some a ↦ a.1 item.constant ≡ true ]
+unfoldable pub IsTaken : ℤ → Statement → Type 0
+IsTaken c statement = elim (asked statement) as (λ _. Type 0) [ None ↦ c ≡ pos 0 | Some a ↦ a.1 c ≡ true ]
+
+-- the value that is asked for, and the size, as words of their own: their cases are dear where they aren't asked
+unfoldable pub constant_in : Definitions → ℕ → ℕ → Statement → Option ℤ
+constant_in ds line here statement = constant ds line here statement
+
+unfoldable pub size_in : ℕ → ℤ → Statement → ℕ
+size_in here c statement = size_of here c statement
 
 -- the item of a statement on line k behind its labels, or its fault in phase two
 unfoldable pub placed : ℕ → Known → Statement → Result Item FaultKind
@@ -48,10 +55,10 @@ placed k known statement = elim (statement_fault k known statement) as (λ _. Re
 
 -- the address of what follows an item
 abbrev pub end_of : Item → ℕ
-end_of item = item.address + size_of item.address item.constant item.statement
+end_of item = item.address + size_in item.address item.constant item.statement
 
 -- the name that `.equ` defines, and its value
-abbrev pub definition_in : Item → Option (List ℕ × ℤ)
+unfoldable pub definition_in : Item → Option (List ℕ × ℤ)
 definition_in item = option_map (λ name. (name, item.constant)) (name_in item.statement)
 
 -- the bytes of an item, with every name known

@@ -1,8 +1,8 @@
 //! What a statement asks for when it is placed, and how many bytes it has.
 ghost use Rattle.std.specs.Prelude.{◌≡◌, ◌≤◌, ◌<◌, ◌+◌, ◌^◌, true, None, IfSome};
-ghost use Rattle.rv_asm.specs.Layout.{constant, size_of, is_instruction, is_multiple};
+ghost use Rattle.rv_asm.specs.Layout.{is_instruction, is_multiple};
 ghost use Rattle.rv_asm.specs.Listing.{multiple_of};
-ghost use Rattle.rv_asm.specs.Steps.{IsTaken};
+ghost use Rattle.rv_asm.specs.Steps.{IsTaken, constant_in, size_in};
 
 use crate::symbols::Symbols;
 use crate::values::{bits, gap, is_between, is_word, loading};
@@ -23,9 +23,10 @@ fn is_multiple(value: i64) -> bool
 
 /// The value that has to be known where the statement stands, or 0 where it asks for none; None where the value isn't
 /// known or isn't one that the statement takes.
+#[tactic(auto, unfolding(crate::specs::Steps::constant_in, crate::specs::Steps::IsTaken))]
 pub fn constant(symbols: &Symbols, line: usize, here: u32, statement: &Statement) -> Option<i64>
-    ensures value { result ≡ constant symbols.now line here statement.now }
-    ensures taken { IfSome result (λ c. IsTaken (record { line = line; address = here; constant = c; statement = statement.now })) }
+    ensures value { result ≡ constant_in symbols.now line here statement.now }
+    ensures taken { IfSome result (λ c. IsTaken c statement.now) }
 {
     match statement {
         Statement::WithValue {
@@ -61,13 +62,33 @@ pub fn constant(symbols: &Symbols, line: usize, here: u32, statement: &Statement
     }
 }
 
+/// What an alignment aligns to, with the value that it asked for.
+#[tactic(auto, unfolding(crate::specs::Steps::IsTaken))]
+pub fn multiple_of(constant: i64, statement: &Statement) -> u32
+    requires { IsTaken constant statement.now }
+    ensures value { result ≡ multiple_of statement.now constant }
+    ensures positive { 0 < result }
+{
+    match statement {
+        Statement::WithValue {
+            taker: ValueTaker::Align,
+            ..
+        } => 1 << bits(constant),
+        Statement::WithValue {
+            taker: ValueTaker::Balign,
+            ..
+        } => bits(constant),
+        _ => 1,
+    }
+}
+
 /// How many bytes a statement has at an address, with the value that it asked for; None where they are more than 32
 /// bits can count.
-#[tactic(auto, unfolding(crate::specs::Values::loading))]
+#[tactic(auto, unfolding(crate::specs::Values::loading, crate::specs::Steps::size_in))]
 pub fn size_of(here: u32, constant: i64, statement: &Statement) -> Option<u32>
-    requires { IsTaken (record { line = 0; address = here; constant = constant; statement = statement.now }) }
-    ensures some { IfSome result (λ size. size ≡ size_of here constant statement.now) }
-    ensures none { result ≡ None → 2 ^ 32 ≤ size_of here constant statement.now }
+    requires { IsTaken constant statement.now }
+    ensures some { IfSome result (λ size. size ≡ size_in here constant statement.now) }
+    ensures none { result ≡ None → 2 ^ 32 ≤ size_in here constant statement.now }
 {
     match statement {
         Statement::WithValue {
@@ -97,13 +118,9 @@ pub fn size_of(here: u32, constant: i64, statement: &Statement) -> Option<u32>
         Statement::Bytes(bytes) => u32::try_from(bytes.as_slice().len()).ok(),
         Statement::Space { .. } => Some(bits(constant)),
         Statement::WithValue {
-            taker: ValueTaker::Align,
+            taker: ValueTaker::Align | ValueTaker::Balign,
             ..
-        } => Some(gap(here, 1 << bits(constant))),
-        Statement::WithValue {
-            taker: ValueTaker::Balign,
-            ..
-        } => Some(gap(here, bits(constant))),
+        } => Some(gap(here, multiple_of(constant, statement))),
         Statement::Constant { .. } => Some(0),
         Statement::Marker => Some(0),
         _ => Some(4),
@@ -112,9 +129,9 @@ pub fn size_of(here: u32, constant: i64, statement: &Statement) -> Option<u32>
 
 /// The address of what follows a statement; None where it is past the last byte that an image may have.
 pub fn end_of(here: u32, constant: i64, statement: &Statement) -> Option<u32>
-    requires { IsTaken (record { line = 0; address = here; constant = constant; statement = statement.now }) }
-    ensures some { IfSome result (λ end. (end ≡ here + size_of here constant statement.now) × (end ≤ 0x81000000)) }
-    ensures none { result ≡ None → 0x81000000 < here + size_of here constant statement.now }
+    requires { IsTaken constant statement.now }
+    ensures some { IfSome result (λ end. (end ≡ here + size_in here constant statement.now) × (end ≤ 0x81000000)) }
+    ensures none { result ≡ None → 0x81000000 < here + size_in here constant statement.now }
 {
     let end = here.checked_add(size_of(here, constant, statement)?)?;
     (end <= BASE + LIMIT).then_some(end)

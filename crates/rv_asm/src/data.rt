@@ -1,9 +1,12 @@
 //! The bytes of statements that aren't instructions.
-ghost use Rattle.std.specs.Prelude.{◌≡◌, ◌++◌, ◌<◌, ◌^◌, replicate, pos, OnOk, IfOk};
+ghost use Rattle.std.specs.Prelude.{◌≡◌, ◌++◌, ◌<◌, ◌^◌, replicate, pos, Ok, OnOk, IfOk};
 ghost use Rattle.rv_isa.specs.declared.kind.Kind.TheVariants.{OpImm};
 ghost use Rattle.rv_isa.specs.declared.op.ImmOp.TheVariants.{Addi};
+ghost use Rattle.rv_asm.specs.Kept.{KindBecomes};
 ghost use Rattle.rv_asm.specs.Listing.{value_bytes, padding, bytes, nops};
+ghost use Rattle.rv_asm.specs.Values.{gap};
 
+use crate::FaultKind;
 use crate::instructions::{op_imm, zero};
 use crate::values::{bits, gap};
 use rv_isa::{ImmOp, Width, encode};
@@ -39,11 +42,22 @@ fn write_nops(count: u32, out: &mut Vec<u8>) -> Result<(), AllocError>
     Ok(())
 }
 
-/// Appends padding: zeros up to a multiple of 4 or the end of the padding, and then words of `nop`.
-pub fn pad(here: u32, count: u32, out: &mut Vec<u8>) -> Result<(), AllocError>
-    ensures { OnOk result (out.new.items ≡ out.old.items ++ padding here count) }
+/// Appends padding up to the next multiple: zeros up to a multiple of 4 or the end of the padding, and then words of `nop`.
+pub fn pad(here: u32, multiple: u32, out: &mut Vec<u8>) -> Result<(), FaultKind>
+    requires { 0 < multiple }
+    ensures { KindBecomes out.new.items result (Ok (out.old.items ++ padding here (gap here multiple))) }
 {
+    let count = gap(here, multiple);
     let zeros = count.min(gap(here, 4));
     fill(zeros, 0, out)?;
-    write_nops((count - zeros) / 4, out)
+    write_nops((count - zeros) / 4, out)?;
+    Ok(())
+}
+
+/// Appends bytes.
+pub fn append(bytes: &[u8], out: &mut Vec<u8>) -> Result<(), FaultKind>
+    ensures { KindBecomes out.new.items result (Ok (out.old.items ++ bytes.now)) }
+{
+    out.extend_from_slice(bytes)?;
+    Ok(())
 }

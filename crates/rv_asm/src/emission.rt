@@ -1,17 +1,19 @@
 //! The bytes of statements, with their values put in.
-ghost use Rattle.std.specs.Prelude.{◌≡◌, ◌<◌, ◌^◌, Some, IfOk};
-ghost use Rattle.rv_isa.specs.Number.{IsWithin, IsDistance};
-ghost use Rattle.rv_asm.specs.Kept.{KindBecomes};
+ghost use Rattle.std.specs.Prelude.{◌≡◌, ◌<◌, ◌^◌, ℕ, None, Some, IfOk};
+ghost use Rattle.std.specs.Option.{ok_or};
+ghost use Rattle.rv_isa.specs.Number.{IsWithin};
+ghost use Rattle.rv_asm.specs.Kept.{KindBecomes, words_of, filled, valued};
+ghost use Rattle.rv_asm.specs.declared.fault.FaultKind.TheVariants.{OutOfRange};
 ghost use Rattle.rv_asm.specs.Steps.{appended};
 ghost use Rattle.rv_asm.specs.Symbols.{sum_value};
 ghost use Rattle.rv_asm.specs.Values.{immediate, upper_immediate, five_bits, distance, hi, lo, far};
-ghost use Rattle.rv_asm.specs.Listing.{wanted, part_of, immediate_of, upper_of, pair, with_value, fill_of, sums_bytes, instructions};
+ghost use Rattle.rv_asm.specs.Listing.{wanted, part_of, immediate_of, upper_of, pair, fill_of, sums_bytes, instructions};
 
-use crate::data::write_value;
+use crate::data::{self, write_value};
 use crate::instructions::{Instructions, auipc, branch, csr_imm, jal, lui, shift, with_immediate};
 use crate::symbols::Symbols;
 use crate::values::{
-    as_word, bits, branch_distance, far, fits, five_bits, hi, jump_distance, lo, loading,
+    bits, branch_distance, far, fits, five_bits, hi, high, jump_distance, lo, loading, low,
     upper_immediate,
 };
 use crate::{FaultKind, values};
@@ -24,6 +26,83 @@ pub struct Scope<'a> {
     pub symbols: &'a Symbols,
     pub line: usize,
     pub here: u32,
+}
+
+/// AUIPC into `scratch` with the high part of how far a target is from here, and what takes the low part; None where
+/// the target is no word.
+fn pair(here: u32, scratch: Reg, second: ImmediateTaker, target: i64) -> Option<Instructions>
+    ensures { ok_or result OutOfRange ≡ pair here scratch second (Some target) }
+{
+    let far = far(here, target)?;
+    let second = with_immediate(second, lo(far));
+    Some(Instructions::two(auipc(scratch, hi(far)), second))
+}
+
+/// The instructions of what takes a value that is defined; None where it is out of range.
+#[tactic(auto, unfolding(crate::specs::Kept::valued))]
+fn with_known(here: u32, constant: i64, taker: ValueTaker, value: i64) -> Option<Instructions>
+    ensures { ok_or result OutOfRange ≡ valued here constant taker (Some value) }
+{
+    match taker {
+        ValueTaker::Auipc { rd } => {
+            let imm = upper_immediate(value)?;
+            Some(Instructions::one(auipc(rd, imm)))
+        }
+        ValueTaker::Jal { rd } => {
+            let offset = jump_distance(here, value)?;
+            Some(Instructions::one(jal(rd, offset)))
+        }
+        ValueTaker::Branch { cond, rs1, rs2 } => {
+            let offset = branch_distance(here, value)?;
+            Some(Instructions::one(branch(cond, rs1, rs2, offset)))
+        }
+        ValueTaker::Shift { op, rd, rs1 } => {
+            let amount = five_bits(value)?;
+            Some(Instructions::one(shift(op, rd, rs1, amount)))
+        }
+        ValueTaker::CsrImm { op, rd, csr } => {
+            let imm = five_bits(value)?;
+            Some(Instructions::one(csr_imm(op, rd, imm, csr)))
+        }
+        ValueTaker::La { rd } => {
+            let op = ImmOp::Addi;
+            pair(here, rd, ImmediateTaker::OpImm { op, rd, rs1: rd }, value)
+        }
+        ValueTaker::Call { link, scratch } => {
+            let (rd, base) = (link, scratch);
+            pair(here, scratch, ImmediateTaker::Jalr { rd, base }, value)
+        }
+        ValueTaker::LoadFrom { op, rd } => {
+            pair(here, rd, ImmediateTaker::Load { op, rd, base: rd }, value)
+        }
+        ValueTaker::StoreTo {
+            width,
+            source,
+            scratch,
+        } => {
+            let base = scratch;
+            let second = ImmediateTaker::Store {
+                width,
+                source,
+                base,
+            };
+            pair(here, scratch, second, value)
+        }
+        ValueTaker::Li { rd } => Some(loading(rd, bits(constant))),
+        ValueTaker::Align | ValueTaker::Balign => Some(Instructions::none()),
+    }
+}
+
+/// The instructions of what takes a value that isn't defined.
+#[tactic(auto, unfolding(crate::specs::Kept::valued))]
+fn with_unknown(constant: i64, taker: ValueTaker) -> Result<Instructions, FaultKind>
+    ensures { (here : ℕ) → result ≡ valued here constant taker None }
+{
+    match taker {
+        ValueTaker::Li { rd } => Ok(loading(rd, bits(constant))),
+        ValueTaker::Align | ValueTaker::Balign => Ok(Instructions::none()),
+        _ => Err(FaultKind::Undefined),
+    }
 }
 
 impl<'a> Scope<'a> {
@@ -48,24 +127,9 @@ impl<'a> Scope<'a> {
     {
         match immediate {
             Immediate::Zero => Ok(0),
-            Immediate::Sum(sum) => {
-                let value = self.known(sum)?;
-                values::immediate(value).ok_or(FaultKind::OutOfRange)
-            }
-            Immediate::Low(sum) => {
-                let word = as_word(self.known(sum)?).ok_or(FaultKind::OutOfRange)?;
-                Ok(lo(word))
-            }
+            Immediate::Sum(sum) => values::immediate(self.known(sum)?).ok_or(FaultKind::OutOfRange),
+            Immediate::Low(sum) => low(self.known(sum)?).ok_or(FaultKind::OutOfRange),
         }
-    }
-
-    /// A sum in the place of an immediate of twenty bits.
-    fn upper_immediate(&self, sum: &Expression) -> Result<u32, FaultKind>
-        ensures value { result ≡ wanted upper_immediate (sum_value self.now.symbols.now self.now.line self.now.here sum.now) }
-        ensures within { IfOk result (λ imm. imm < 2 ^ 20) }
-    {
-        let value = self.known(sum)?;
-        upper_immediate(value).ok_or(FaultKind::OutOfRange)
     }
 
     /// An immediate of twenty bits.
@@ -74,61 +138,9 @@ impl<'a> Scope<'a> {
         ensures within { IfOk result (λ imm. imm < 2 ^ 20) }
     {
         match upper {
-            Upper::Sum(sum) => self.upper_immediate(sum),
-            Upper::High(sum) => {
-                let word = as_word(self.known(sum)?).ok_or(FaultKind::OutOfRange)?;
-                Ok(hi(word))
-            }
+            Upper::Sum(sum) => upper_immediate(self.known(sum)?).ok_or(FaultKind::OutOfRange),
+            Upper::High(sum) => high(self.known(sum)?).ok_or(FaultKind::OutOfRange),
         }
-    }
-
-    /// A shift's amount, or the immediate of a control register instruction.
-    fn five_bits(&self, sum: &Expression) -> Result<u8, FaultKind>
-        ensures value { result ≡ wanted five_bits (sum_value self.now.symbols.now self.now.line self.now.here sum.now) }
-        ensures within { IfOk result (λ n. n < 32) }
-    {
-        let value = self.known(sum)?;
-        five_bits(value).ok_or(FaultKind::OutOfRange)
-    }
-
-    /// How far the target of `jal` is from here.
-    fn jump(&self, target: &Expression) -> Result<i32, FaultKind>
-        ensures value { result ≡ wanted (distance (2 ^ 20) self.now.here) (sum_value self.now.symbols.now self.now.line self.now.here target.now) }
-        ensures within { IfOk result (IsDistance (2 ^ 20)) }
-    {
-        let target = self.known(target)?;
-        jump_distance(self.here, target).ok_or(FaultKind::OutOfRange)
-    }
-
-    /// How far the target of a branch is from here.
-    fn branch(&self, target: &Expression) -> Result<i32, FaultKind>
-        ensures value { result ≡ wanted (distance (2 ^ 12) self.now.here) (sum_value self.now.symbols.now self.now.line self.now.here target.now) }
-        ensures within { IfOk result (IsDistance (2 ^ 12)) }
-    {
-        let target = self.known(target)?;
-        branch_distance(self.here, target).ok_or(FaultKind::OutOfRange)
-    }
-
-    /// How far a target is from here, as a word.
-    fn far(&self, target: &Expression) -> Result<u32, FaultKind>
-        ensures { result ≡ wanted (far self.now.here) (sum_value self.now.symbols.now self.now.line self.now.here target.now) }
-    {
-        let target = self.known(target)?;
-        far(self.here, target).ok_or(FaultKind::OutOfRange)
-    }
-
-    /// AUIPC into `scratch` with the high part of how far a target is from here, and what takes the low part.
-    fn pair(
-        &self,
-        scratch: Reg,
-        second: ImmediateTaker,
-        target: &Expression,
-    ) -> Result<Instructions, FaultKind>
-        ensures { result ≡ pair self.now.here scratch second (sum_value self.now.symbols.now self.now.line self.now.here target.now) }
-    {
-        let far = self.far(target)?;
-        let second = with_immediate(second, lo(far));
-        Ok(Instructions::two(auipc(scratch, hi(far)), second))
     }
 
     /// The instructions of what takes a value: none where it isn't placed as instructions.
@@ -138,60 +150,18 @@ impl<'a> Scope<'a> {
         taker: ValueTaker,
         value: &Expression,
     ) -> Result<Instructions, FaultKind>
-        ensures { result ≡ with_value self.now.here constant taker (sum_value self.now.symbols.now self.now.line self.now.here value.now) }
+        ensures { result ≡ valued self.now.here constant taker (sum_value self.now.symbols.now self.now.line self.now.here value.now) }
     {
-        match taker {
-            ValueTaker::Auipc { rd } => {
-                let imm = self.upper_immediate(value)?;
-                Ok(Instructions::one(auipc(rd, imm)))
-            }
-            ValueTaker::Jal { rd } => {
-                let offset = self.jump(value)?;
-                Ok(Instructions::one(jal(rd, offset)))
-            }
-            ValueTaker::Branch { cond, rs1, rs2 } => {
-                let offset = self.branch(value)?;
-                Ok(Instructions::one(branch(cond, rs1, rs2, offset)))
-            }
-            ValueTaker::Shift { op, rd, rs1 } => {
-                let amount = self.five_bits(value)?;
-                Ok(Instructions::one(shift(op, rd, rs1, amount)))
-            }
-            ValueTaker::CsrImm { op, rd, csr } => {
-                let imm = self.five_bits(value)?;
-                Ok(Instructions::one(csr_imm(op, rd, imm, csr)))
-            }
-            ValueTaker::Li { rd } => Ok(loading(rd, bits(constant))),
-            ValueTaker::La { rd } => {
-                let op = ImmOp::Addi;
-                self.pair(rd, ImmediateTaker::OpImm { op, rd, rs1: rd }, value)
-            }
-            ValueTaker::Call { link, scratch } => {
-                let (rd, base) = (link, scratch);
-                self.pair(scratch, ImmediateTaker::Jalr { rd, base }, value)
-            }
-            ValueTaker::LoadFrom { op, rd } => {
-                self.pair(rd, ImmediateTaker::Load { op, rd, base: rd }, value)
-            }
-            ValueTaker::StoreTo {
-                width,
-                source,
-                scratch,
-            } => {
-                let base = scratch;
-                let second = ImmediateTaker::Store {
-                    width,
-                    source,
-                    base,
-                };
-                self.pair(scratch, second, value)
-            }
-            ValueTaker::Align | ValueTaker::Balign => Ok(Instructions::none()),
+        match self.value(value) {
+            Some(value) => with_known(self.here, constant, taker, value).ok_or(
+                FaultKind::OutOfRange,
+            ),
+            None => with_unknown(constant, taker),
         }
     }
 
     /// The instructions of a statement, with its values put in: none where it isn't placed as instructions.
-    #[tactic(auto, unfolding(crate::specs::Listing::instructions))]
+    #[tactic(auto, unfolding(crate::specs::Listing::instructions, crate::specs::Kept::valued))]
     pub fn instructions(
         &self,
         constant: i64,
@@ -212,6 +182,20 @@ impl<'a> Scope<'a> {
             Statement::WithValue { taker, value } => self.with_value(constant, *taker, value),
             _ => Ok(Instructions::none()),
         }
+    }
+
+    /// Appends the words of a statement that is placed as instructions.
+    pub fn write_instructions(
+        &self,
+        constant: i64,
+        statement: &Statement,
+        out: &mut Vec<u8>,
+    ) -> Result<(), FaultKind>
+        ensures { KindBecomes out.new.items result (appended out.old.items (words_of (instructions (sum_value self.now.symbols.now self.now.line self.now.here) self.now.here constant statement.now))) }
+    {
+        let instructions = self.instructions(constant, statement)?;
+        instructions.write(out)?;
+        Ok(())
     }
 
     /// Appends values, each in as many bytes as the width has. One that isn't defined comes before one out of range.
@@ -242,7 +226,7 @@ impl<'a> Scope<'a> {
     }
 
     /// The byte that fills a space: 0 where none is written.
-    pub fn fill(&self, fill: &Option<Expression>) -> Result<u8, FaultKind>
+    fn fill(&self, fill: &Option<Expression>) -> Result<u8, FaultKind>
         ensures { result ≡ fill_of (sum_value self.now.symbols.now self.now.line self.now.here) fill.now }
     {
         match fill {
@@ -256,5 +240,19 @@ impl<'a> Scope<'a> {
                 }
             }
         }
+    }
+
+    /// Appends a space: the byte that fills it again and again.
+    pub fn write_space(
+        &self,
+        size: u32,
+        fill: &Option<Expression>,
+        out: &mut Vec<u8>,
+    ) -> Result<(), FaultKind>
+        ensures { KindBecomes out.new.items result (appended out.old.items (filled size (fill_of (sum_value self.now.symbols.now self.now.line self.now.here) fill.now))) }
+    {
+        let byte = self.fill(fill)?;
+        data::fill(size, byte, out)?;
+        Ok(())
     }
 }

@@ -4,12 +4,12 @@ ghost use Rattle.rv_asm.specs.Layout.{renames};
 ghost use Rattle.rv_asm.specs.Steps.{IsAlways};
 
 use crate::FaultKind;
-use crate::asked::{constant, end_of, is_instruction};
+use crate::asked::{constant, end_of, is_instruction, multiple_of};
 use crate::data::{self, pad};
 use crate::emission::Scope;
 use crate::instructions::Instructions;
 use crate::symbols::Symbols;
-use crate::values::{bits, gap};
+use crate::values::bits;
 use rv_isa::Instr;
 use rv_source::{Statement, ValueTaker, read_line};
 use std::alloc::Global;
@@ -42,7 +42,7 @@ impl<'a> Model for Placed<'a> {
 
     ghost invariant = { λ p.
         let item : Item = record { line = p.line; address = p.address; constant = p.constant; statement = stated_in p.text.now } in
-        IsTaken item × (p.end ≡ end_of item) × (p.end ≤ 0x81000000) × IfSome p.instr (IsAlways item) };
+        IsTaken item.constant item.statement × (p.end ≡ end_of item) × (p.end ≤ 0x81000000) × IfSome p.instr (IsAlways item) };
 }
 
 /// Whether `.equ` defines a name that was defined before.
@@ -85,7 +85,7 @@ impl<'a> Placed<'a> {
     ghost use Rattle.rv_asm.specs.Steps.{placed, statement_in, end_of, definition_in, item_bytes, appended};
 
     /// The place of the statement of a line, where its fault in phase two is none.
-    #[tactic(auto, unfolding(crate::specs::Steps::placed, crate::specs::Layout::statement_fault))]
+    #[tactic(auto, unfolding(crate::specs::Steps::placed, crate::specs::Layout::statement_fault, crate::specs::Steps::constant_in, crate::specs::Steps::size_in))]
     pub fn new(
         alloc: Global,
         scope: Scope,
@@ -140,6 +140,7 @@ impl<'a> Placed<'a> {
     }
 
     /// The name that `.equ` defines, and its value.
+    #[tactic(auto, unfolding(crate::specs::Steps::definition_in, crate::specs::Steps::IsTaken))]
     pub fn definition<'s>(&self, statement: &Statement<'s>) -> Option<(&'s [u8], i64)>
         requires { statement.now ≡ self.now.statement }
         ensures value { option_map (λ d. (d.0.now, d.1)) result ≡ definition_in self.now }
@@ -192,29 +193,13 @@ impl<'a> Placed<'a> {
         };
         match statement {
             Statement::Data { width, values } => scope.write_values(*width, values.as_slice(), out),
-            Statement::Bytes(bytes) => Ok(out.extend_from_slice(bytes.as_slice())?),
-            Statement::Space { fill, .. } => {
-                let byte = scope.fill(fill)?;
-                Ok(data::fill(bits(self.constant), byte, out)?)
-            }
+            Statement::Bytes(bytes) => data::append(bytes.as_slice(), out),
+            Statement::Space { fill, .. } => scope.write_space(bits(self.constant), fill, out),
             Statement::WithValue {
-                taker: ValueTaker::Align,
+                taker: ValueTaker::Align | ValueTaker::Balign,
                 ..
-            } => {
-                let count = gap(self.address, 1 << bits(self.constant));
-                Ok(pad(self.address, count, out)?)
-            }
-            Statement::WithValue {
-                taker: ValueTaker::Balign,
-                ..
-            } => {
-                let count = gap(self.address, bits(self.constant));
-                Ok(pad(self.address, count, out)?)
-            }
-            statement => {
-                let instructions = scope.instructions(self.constant, statement)?;
-                Ok(instructions.write(out)?)
-            }
+            } => pad(self.address, multiple_of(self.constant, statement), out),
+            statement => scope.write_instructions(self.constant, statement, out),
         }
     }
 }

@@ -1,7 +1,8 @@
 //! Values in the places of a statement.
 ghost use Rattle.std.specs.Prelude.{◌≡◌, ◌==◌, ◌<◌, ◌≤◌, ◌^◌, IfSome};
 ghost use Rattle.rv_isa.specs.Number.{IsWithin, IsDistance, modulo};
-ghost use Rattle.rv_asm.specs.Values.{is_between, is_word, fits, immediate, upper_immediate, five_bits, distance, hi, lo, as_word, far, loading, gap};
+ghost use Rattle.rv_asm.specs.Values.{is_between, is_word, fits, immediate, upper_immediate, five_bits, distance, hi, lo, far, loading, gap};
+ghost use Rattle.rv_asm.specs.Listing.{part_of};
 
 use crate::instructions::{Instructions, lui, op_imm, zero};
 use rv_isa::{ImmOp, Reg, Width};
@@ -134,12 +135,25 @@ pub fn lo(word: u32) -> i32
     if low < 2048 { low } else { low - 4096 }
 }
 
-/// The word that a value stands for.
-pub fn as_word(value: i64) -> Option<u32>
-    ensures { result ≡ as_word value }
+/// The low part of the word that a value stands for.
+pub fn low(value: i64) -> Option<i32>
+    ensures value { result ≡ part_of lo value }
+    ensures within { IfSome result (IsWithin (2 ^ 11)) }
 {
     if is_word(value) {
-        Some(bits(value))
+        Some(lo(bits(value)))
+    } else {
+        None
+    }
+}
+
+/// The upper part of the word that a value stands for.
+pub fn high(value: i64) -> Option<u32>
+    ensures value { result ≡ part_of hi value }
+    ensures below { IfSome result (λ imm. imm < 2 ^ 20) }
+{
+    if is_word(value) {
+        Some(hi(bits(value)))
     } else {
         None
     }
