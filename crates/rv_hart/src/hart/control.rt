@@ -1,5 +1,5 @@
 //! The instructions on control registers, the return from a trap, and waiting.
-ghost use Rattle.std.specs.Prelude.{◌≡◌, OnErr};
+ghost use Rattle.std.specs.Prelude.{◌≡◌};
 ghost use Rattle.rv_isa.specs.Word as spec;
 ghost use Rattle.rv_isa.specs.declared.kind.Kind.{Kind};
 ghost use Rattle.rv_csr.specs.Registers.{Writes};
@@ -37,9 +37,7 @@ impl<M: ByteMemory, C: Decoded> Hart<M, C> {
         rs1: Reg,
         csr: u16,
     ) -> Result<(), Trap>
-        ensures does { Does self.new.machine result (csr_effect instr self.old.machine op rs1 (reg self.old.machine rs1) rd csr) }
-        ensures err { OnErr result (self.new.machine ≡ self.old.machine) }
-        ensures cache { self.new.cache ≡ self.old.cache }
+        ensures { Does self.old self.new result (csr_effect instr self.old.machine op rs1 (reg self.old.machine rs1) rd csr) }
     {
         let exchange = Exchange {
             op,
@@ -62,9 +60,7 @@ impl<M: ByteMemory, C: Decoded> Hart<M, C> {
         number: u8,
         csr: u16,
     ) -> Result<(), Trap>
-        ensures does { Does self.new.machine result (csr_effect instr self.old.machine op number number rd csr) }
-        ensures err { OnErr result (self.new.machine ≡ self.old.machine) }
-        ensures cache { self.new.cache ≡ self.old.cache }
+        ensures { Does self.old self.new result (csr_effect instr self.old.machine op number number rd csr) }
     {
         let exchange = Exchange {
             op,
@@ -81,9 +77,7 @@ impl<M: ByteMemory, C: Decoded> Hart<M, C> {
     #[inline(never)]
     #[tactic(auto, unfolding(crate::specs::Effect::csr_effect))]
     fn exchange(&mut self, instr: Instr, exchange: Exchange) -> Result<(), Trap>
-        ensures does { Does self.new.machine result (csr_effect instr self.old.machine exchange.op exchange.field exchange.operand exchange.rd exchange.csr) }
-        ensures err { OnErr result (self.new.machine ≡ self.old.machine) }
-        ensures cache { self.new.cache ≡ self.old.cache }
+        ensures { Does self.old self.new result (csr_effect instr self.old.machine exchange.op exchange.field exchange.operand exchange.rd exchange.csr) }
     {
         let Some(old) = self.csrs.read(exchange.csr, self.mode, self.bus.lines()) else {
             return Err(illegal(instr));
@@ -116,9 +110,7 @@ impl<M: ByteMemory, C: Decoded> Hart<M, C> {
     #[tactic(auto, unfolding(crate::specs::Effect::return_effect))]
     pub(super) fn leave(&mut self, word: u32) -> Result<(), Trap>
         requires { word ≡ spec.word Kind.Mret }
-        ensures does { Does self.new.machine result (return_effect self.old.machine self.old.machine.mode) }
-        ensures err { OnErr result (self.new.machine ≡ self.old.machine) }
-        ensures cache { self.new.cache ≡ self.old.cache }
+        ensures { Does self.old self.new result (return_effect self.old.machine self.old.machine.mode) }
     {
         match self.mode {
             Mode::User => {
@@ -141,9 +133,7 @@ impl<M: ByteMemory, C: Decoded> Hart<M, C> {
     #[tactic(auto, unfolding(crate::specs::Effect::wait_effect))]
     pub(super) fn wait(&mut self, word: u32) -> Result<(), Trap>
         requires { word ≡ spec.word Kind.Wfi }
-        ensures does { Does self.new.machine result (wait_effect self.old.machine) }
-        ensures err { OnErr result (self.new.machine ≡ self.old.machine) }
-        ensures cache { self.new.cache ≡ self.old.cache }
+        ensures { Does self.old self.new result (wait_effect self.old.machine) }
     {
         if self.mode == Mode::User && self.csrs.traps_wfi() {
             return Err(Trap {
