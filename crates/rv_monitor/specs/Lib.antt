@@ -5,6 +5,7 @@ pub mod Stops
 pub mod Laws
 pub mod Asked
 pub mod Commands
+pub mod Answered
 pub mod Marks
 pub mod Bare
 pub mod Numbers

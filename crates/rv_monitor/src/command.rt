@@ -6,6 +6,8 @@ ghost use Rattle.rv_monitor.specs.Views.{line, stop_text};
 ghost use Rattle.rv_program.specs.Program.{value_of};
 ghost use Rattle.rv_commands.specs.Commands.{IsNamed};
 ghost use Rattle.rv_monitor.specs.State.{with_break, without_break};
+ghost use Rattle.rv_commands.specs.declared.command.Command.{Command};
+ghost use Rattle.rv_monitor.specs.Answered.{Answered};
 ghost use Rattle.rv_monitor.specs.Commands.{Took, WasRefused, HadNoRoom, WasNotSet, Leaves, LeavesRefused, going_for, steps_text, cleared_text, answer, next_of, word_of, command_in};
 
 use crate::session::Session;
@@ -47,6 +49,16 @@ fn stop_word(stop: Stop) -> &'static str
     }
 }
 
+/// What comes behind a command.
+fn next_behind<'a>(command: &Command<'a>) -> Next
+    ensures { result ≡ next_of (Some command.now) }
+{
+    match command {
+        Command::Quit => Next::Quit,
+        _ => Next::More,
+    }
+}
+
 /// Appends a line of an address behind a word, to a text that has room for it.
 fn append_address(text: &mut Vec<u8>, word: &[u8], addr: u32)
     requires { vec_len text.old + length word.now + 9 ≤ vec_capacity text.old }
@@ -72,10 +84,7 @@ impl<'a> Symbols for Names<'a> {
 impl<M: ByteMemory, C: Decoded> Session<M, C> {
     /// Takes steps, and says why they ended.
     fn answer_step(&mut self, count: u64, text: &mut Vec<u8>) -> Result<(), NoMemory>
-        ensures ok { OnOk result (Took set.empty count self.old self.new) }
-        ensures text { OnOk result (text.new.items ≡ text.old.items ++ steps_text set.empty self.old self.new) }
-        ensures err { OnErr result (HadNoRoom 58 (vec_capacity text.old - vec_len text.old) self.old self.new ⊎ WasRefused set.empty count self.old self.new) }
-        ensures unwritten { OnErr result (text.new.items ≡ text.old.items) }
+        ensures { Answered (Some (Command.Step count)) (vec_capacity text.old - vec_len text.old) self.old self.new text.old.items text.new.items result }
     {
         text.reserve(WORD_BYTES + STOP_BYTES)?;
         let stop = self.step(count)?;
@@ -84,10 +93,7 @@ impl<M: ByteMemory, C: Decoded> Session<M, C> {
 
     /// Takes steps up to a breakpoint, or all that are left, and says why they ended.
     fn answer_go(&mut self, count: Option<u64>, text: &mut Vec<u8>) -> Result<(), NoMemory>
-        ensures ok { OnOk result (Took self.old.breakpoints (going_for self.old count) self.old self.new) }
-        ensures text { OnOk result (text.new.items ≡ text.old.items ++ steps_text self.old.breakpoints self.old self.new) }
-        ensures err { OnErr result (HadNoRoom 58 (vec_capacity text.old - vec_len text.old) self.old self.new ⊎ WasRefused self.old.breakpoints (going_for self.old count) self.old self.new) }
-        ensures unwritten { OnErr result (text.new.items ≡ text.old.items) }
+        ensures { Answered (Some (Command.Go count)) (vec_capacity text.old - vec_len text.old) self.old self.new text.old.items text.new.items result }
     {
         text.reserve(WORD_BYTES + STOP_BYTES)?;
         let most = count.unwrap_or(self.limit() - self.taken());
@@ -97,10 +103,7 @@ impl<M: ByteMemory, C: Decoded> Session<M, C> {
 
     /// Sets a breakpoint, and says where.
     fn answer_set(&mut self, addr: u32, text: &mut Vec<u8>) -> Result<(), NoMemory>
-        ensures ok { OnOk result (self.new ≡ with_break self.old addr) }
-        ensures text { OnOk result (text.new.items ≡ text.old.items ++ line (codes "break " ++ hex 8 addr)) }
-        ensures err { OnErr result (WasNotSet addr (vec_capacity text.old - vec_len text.old) self.old self.new) }
-        ensures unwritten { OnErr result (text.new.items ≡ text.old.items) }
+        ensures { Answered (Some (Command.SetBreak addr)) (vec_capacity text.old - vec_len text.old) self.old self.new text.old.items text.new.items result }
     {
         text.reserve(BREAK_BYTES)?;
         self.set_break(addr)?;
@@ -110,10 +113,7 @@ impl<M: ByteMemory, C: Decoded> Session<M, C> {
 
     /// Clears a breakpoint, and says where it was.
     fn answer_clear(&mut self, addr: u32, text: &mut Vec<u8>) -> Result<(), NoMemory>
-        ensures ok { OnOk result (self.new ≡ without_break self.old addr) }
-        ensures text { OnOk result (text.new.items ≡ text.old.items ++ cleared_text self.old.breakpoints addr) }
-        ensures err { OnErr result (HadNoRoom 15 (vec_capacity text.old - vec_len text.old) self.old self.new) }
-        ensures unwritten { OnErr result (text.new.items ≡ text.old.items) }
+        ensures { Answered (Some (Command.ClearBreak addr)) (vec_capacity text.old - vec_len text.old) self.old self.new text.old.items text.new.items result }
     {
         text.reserve(BREAK_BYTES)?;
         if self.clear_break(addr) {
@@ -125,31 +125,25 @@ impl<M: ByteMemory, C: Decoded> Session<M, C> {
     }
 
     /// Does a command and appends its answer.
-    fn answer<'a>(&mut self, command: Command<'a>, text: &mut Vec<u8>) -> Result<Next, NoMemory>
+    fn answer<'a>(&mut self, command: Command<'a>, text: &mut Vec<u8>) -> Result<(), NoMemory>
         requires { IsNamed command }
-        ensures next { IfOk result (λ next. next ≡ next_of (Some command.entry)) }
-        ensures ok { OnOk result (Leaves (Some command.entry) self.old self.new) }
-        ensures text { OnOk result (text.new.items ≡ text.old.items ++ answer (Some command.entry) self.old self.new) }
-        ensures err { OnErr result (LeavesRefused (Some command.entry) (vec_capacity text.old - vec_len text.old) self.old self.new) }
-        ensures unwritten { OnErr result (text.new.items ≡ text.old.items) }
+        ensures { Answered (Some command.entry) (vec_capacity text.old - vec_len text.old) self.old self.new text.old.items text.new.items result }
     {
         match command {
-            Command::Step { count } => self.answer_step(count, text)?,
-            Command::Go { count } => self.answer_go(count, text)?,
-            Command::SetBreak { addr } => self.answer_set(addr, text)?,
-            Command::ClearBreak { addr } => self.answer_clear(addr, text)?,
-            Command::Registers => write_registers(self.board(), text)?,
+            Command::Step { count } => self.answer_step(count, text),
+            Command::Go { count } => self.answer_go(count, text),
+            Command::SetBreak { addr } => self.answer_set(addr, text),
+            Command::ClearBreak { addr } => self.answer_clear(addr, text),
+            Command::Registers => write_registers(self.board(), text),
             Command::ControlRegister { name, csr } => {
-                write_control_register(self.board(), name.bytes(), csr, text)?
+                write_control_register(self.board(), name.bytes(), csr, text)
             }
-            Command::Memory { addr, count } => write_memory(self.board(), addr, count, text)?,
-            Command::Instruction { addr } => write_instruction(self.board(), addr, text)?,
-            Command::Traps => write_traps(self.board(), text)?,
-            Command::Edges { source } => write_edges(self.board(), source, text)?,
-            Command::Quit => return Ok(Next::Quit),
-            Command::Nothing => (),
+            Command::Memory { addr, count } => write_memory(self.board(), addr, count, text),
+            Command::Instruction { addr } => write_instruction(self.board(), addr, text),
+            Command::Traps => write_traps(self.board(), text),
+            Command::Edges { source } => write_edges(self.board(), source, text),
+            Command::Quit | Command::Nothing => Ok(()),
         }
-        Ok(Next::More)
     }
 
     /// Does what a command line says, and appends its answer to a text.
@@ -168,6 +162,8 @@ impl<M: ByteMemory, C: Decoded> Session<M, C> {
             text.extend_from_slice(b"?\n")?;
             return Ok(Next::More);
         };
-        self.answer(command, text)
+        let next = next_behind(&command);
+        self.answer(command, text)?;
+        Ok(next)
     }
 }
