@@ -1,14 +1,12 @@
 //! Commands over a session.
-ghost use Rattle.std.specs.Prelude.{◌≡◌, ◌⊎◌, ◌++◌, ◌+◌, ◌-◌, ◌≤◌, Some, length, IfOk, OnOk, OnErr, codes, vec_len, vec_capacity};
-ghost use Rattle.std.specs.FinSet as set;
+ghost use Rattle.std.specs.Prelude.{◌≡◌, ◌++◌, ◌+◌, ◌-◌, ◌≤◌, Some, length, IfOk, OnOk, OnErr, vec_len, vec_capacity};
 ghost use Rattle.rv_monitor.specs.Numbers.{hex};
-ghost use Rattle.rv_monitor.specs.Views.{line, stop_text};
+ghost use Rattle.rv_monitor.specs.Views.{line};
 ghost use Rattle.rv_program.specs.Program.{value_of};
 ghost use Rattle.rv_commands.specs.Commands.{IsNamed};
-ghost use Rattle.rv_monitor.specs.State.{with_break, without_break};
 ghost use Rattle.rv_commands.specs.declared.command.Command.{Command};
 ghost use Rattle.rv_monitor.specs.Answered.{Answered};
-ghost use Rattle.rv_monitor.specs.Commands.{Took, WasRefused, HadNoRoom, WasNotSet, Leaves, LeavesRefused, going_for, steps_text, cleared_text, answer, next_of, word_of, command_in};
+ghost use Rattle.rv_monitor.specs.Commands.{Leaves, LeavesRefused, answer, next_of, word_of, command_in};
 
 use crate::session::Session;
 use crate::stop::Stop;

@@ -1,5 +1,6 @@
 //! Memory, as it is printed.
 ghost use Rattle.std.specs.Prelude.{◌≡◌, ◌++◌, ◌+◌, ◌-◌, ◌*◌, ◌%◌, ◌^◌, ◌<◌, ◌≤◌, min, OnOk, OnErr, vec_len, vec_capacity};
+ghost use Rattle.rv_monitor.specs.Appended.{Appended};
 ghost use Rattle.rv_monitor.specs.Room.{memory_room, instruction_room};
 ghost use Rattle.rv_monitor.specs.Views.{pieces, byte_behind, byte_text, byte_in_line, bytes_line, memory_line, memory_text, word_of, word_text, instruction_text};
 
@@ -28,9 +29,7 @@ fn append_byte<M: ByteMemory, C: Decoded>(
     text: &mut Vec<u8>,
 )
     requires { vec_len text.old + 3 ≤ vec_capacity text.old }
-    ensures items { text.new.items ≡ text.old.items ++ byte_in_line board.now addr offset }
-    ensures len { vec_len text.new ≡ vec_len text.old + 3 }
-    ensures capacity { vec_capacity text.old ≤ vec_capacity text.new }
+    ensures { Appended text.old text.new (byte_in_line board.now addr offset) 3 }
 {
     append_within(text, b" ");
     match byte_behind(board, addr, offset) {
@@ -48,9 +47,7 @@ fn append_bytes<M: ByteMemory, C: Decoded>(
     text: &mut Vec<u8>,
 )
     requires { vec_len text.old + 3 * count ≤ vec_capacity text.old }
-    ensures items { text.new.items ≡ text.old.items ++ pieces (byte_in_line board.now addr) count }
-    ensures len { vec_len text.new ≡ vec_len text.old + 3 * count }
-    ensures capacity { vec_capacity text.old ≤ vec_capacity text.new }
+    ensures { Appended text.old text.new (pieces (byte_in_line board.now addr) count) (3 * count) }
 {
     for offset in 0..count {
         append_byte(board, addr, offset, text);
@@ -66,9 +63,7 @@ fn append_bytes_line<M: ByteMemory, C: Decoded>(
     text: &mut Vec<u8>,
 )
     requires { vec_len text.old + 10 + 3 * count ≤ vec_capacity text.old }
-    ensures items { text.new.items ≡ text.old.items ++ bytes_line board.now addr count }
-    ensures len { vec_len text.new ≡ vec_len text.old + 10 + 3 * count }
-    ensures capacity { vec_capacity text.old ≤ vec_capacity text.new }
+    ensures { Appended text.old text.new (bytes_line board.now addr count) (10 + 3 * count) }
 {
     append_within(text, &eight_digits(addr));
     append_within(text, b":");
@@ -87,9 +82,7 @@ fn append_line<M: ByteMemory, C: Decoded>(
 )
     requires begins { 16 * number < count }
     requires room { vec_len text.old + 10 + 3 * min 16 (count - 16 * number) ≤ vec_capacity text.old }
-    ensures items { text.new.items ≡ text.old.items ++ memory_line board.now addr count number }
-    ensures len { vec_len text.new ≡ vec_len text.old + 10 + 3 * min 16 (count - 16 * number) }
-    ensures capacity { vec_capacity text.old ≤ vec_capacity text.new }
+    ensures { Appended text.old text.new (memory_line board.now addr count number) (10 + 3 * min 16 (count - 16 * number)) }
 {
     let offset = LINE_BYTES * number;
     let line_count = LINE_BYTES.min(count - offset);

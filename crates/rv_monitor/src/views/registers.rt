@@ -2,6 +2,7 @@
 ghost use Rattle.std.specs.Prelude.{◌≡◌, ◌++◌, ◌+◌, ◌<◌, ◌≤◌, length, Some, IsSome, OnOk, OnErr, vec_len, vec_capacity};
 ghost use Rattle.rv_isa.specs.Names.{lookup, csr_names};
 ghost use Rattle.rv_board.specs.State.{csr_of};
+ghost use Rattle.rv_monitor.specs.Appended.{Appended};
 ghost use Rattle.rv_monitor.specs.Room.{registers_room, control_register_room};
 ghost use Rattle.rv_monitor.specs.Views as spec;
 ghost use Rattle.rv_monitor.specs.Views.{pieces, registers_text, place_text, control_register_text, register_text, register_in_line};
@@ -31,9 +32,7 @@ const PLACE_BYTES: usize = 18;
 #[tactic(auto, unfolding(crate::specs::Views::place_text))]
 pub(crate) fn append_place<M: ByteMemory, C: Decoded>(board: &Board<M, C>, text: &mut Vec<u8>)
     requires { vec_len text.old + PLACE_BYTES ≤ vec_capacity text.old }
-    ensures items { text.new.items ≡ text.old.items ++ place_text board.now }
-    ensures len { vec_len text.new ≡ vec_len text.old + PLACE_BYTES }
-    ensures capacity { vec_capacity text.old ≤ vec_capacity text.new }
+    ensures { Appended text.old text.new (place_text board.now) PLACE_BYTES }
 {
     append_within(text, b"pc=");
     append_within(text, &eight_digits(board.pc()));
@@ -55,9 +54,7 @@ fn append_register<M: ByteMemory, C: Decoded>(
     text: &mut Vec<u8>,
 )
     requires { vec_len text.old + 12 ≤ vec_capacity text.old }
-    ensures items { text.new.items ≡ text.old.items ++ register_text board.now register }
-    ensures len { vec_len text.new ≡ vec_len text.old + 12 }
-    ensures capacity { vec_capacity text.old ≤ vec_capacity text.new }
+    ensures { Appended text.old text.new (register_text board.now register) 12 }
 {
     append_within(text, b"x");
     append_within(text, &two_decimals(register.number()));
@@ -69,9 +66,7 @@ fn append_register<M: ByteMemory, C: Decoded>(
 #[tactic(auto, unfolding(crate::specs::Views::register_in_line))]
 fn append_in_line<M: ByteMemory, C: Decoded>(board: &Board<M, C>, register: Reg, text: &mut Vec<u8>)
     requires { vec_len text.old + REGISTER_BYTES ≤ vec_capacity text.old }
-    ensures items { text.new.items ≡ text.old.items ++ register_in_line board.now register }
-    ensures len { vec_len text.new ≡ vec_len text.old + REGISTER_BYTES }
-    ensures capacity { vec_capacity text.old ≤ vec_capacity text.new }
+    ensures { Appended text.old text.new (register_in_line board.now register) REGISTER_BYTES }
 {
     append_register(board, register, text);
     if register.number() % 4 == 3 {
@@ -85,9 +80,7 @@ fn append_in_line<M: ByteMemory, C: Decoded>(board: &Board<M, C>, register: Reg,
 #[tactic(auto, using(crate::proofs::Pieces::no_piece_behind, crate::proofs::Pieces::one_more_behind))]
 fn append_registers<M: ByteMemory, C: Decoded>(board: &Board<M, C>, text: &mut Vec<u8>)
     requires { vec_len text.old + 416 ≤ vec_capacity text.old }
-    ensures items { text.new.items ≡ text.old.items ++ pieces (register_in_line board.now) 32 }
-    ensures len { vec_len text.new ≡ vec_len text.old + 416 }
-    ensures capacity { vec_capacity text.old ≤ vec_capacity text.new }
+    ensures { Appended text.old text.new (pieces (register_in_line board.now) 32) 416 }
 {
     for number in 0..REGISTERS {
         // Each number below 32 has a register.

@@ -1,5 +1,6 @@
 //! Traps, as they are printed.
 ghost use Rattle.std.specs.Prelude.{◌≡◌, ◌++◌, ◌+◌, ◌*◌, ◌<◌, ◌≤◌, length, OnOk, OnErr, vec_len, vec_capacity};
+ghost use Rattle.rv_monitor.specs.Appended.{Appended};
 ghost use Rattle.rv_monitor.specs.Room.{traps_room};
 ghost use Rattle.rv_monitor.specs.Views.{labelled, trap_text, traps_text};
 
@@ -16,9 +17,7 @@ const TRAP_BYTES: usize = 47;
 #[tactic(auto, unfolding(crate::specs::Views::labelled))]
 fn append_labelled(label: &[u8], word: u32, text: &mut Vec<u8>)
     requires { vec_len text.old + length label.now + 8 ≤ vec_capacity text.old }
-    ensures items { text.new.items ≡ text.old.items ++ labelled label.now word }
-    ensures len { vec_len text.new ≡ vec_len text.old + length label.now + 8 }
-    ensures capacity { vec_capacity text.old ≤ vec_capacity text.new }
+    ensures { Appended text.old text.new (labelled label.now word) (length label.now + 8) }
 {
     append_within(text, label);
     append_within(text, &eight_digits(word));
@@ -28,9 +27,7 @@ fn append_labelled(label: &[u8], word: u32, text: &mut Vec<u8>)
 #[tactic(auto, unfolding(crate::specs::Views::trap_text, crate::specs::Views::labelled))]
 fn append_trap(trap: TrapRecord, text: &mut Vec<u8>)
     requires { vec_len text.old + TRAP_BYTES ≤ vec_capacity text.old }
-    ensures items { text.new.items ≡ text.old.items ++ trap_text trap }
-    ensures len { vec_len text.new ≡ vec_len text.old + TRAP_BYTES }
-    ensures capacity { vec_capacity text.old ≤ vec_capacity text.new }
+    ensures { Appended text.old text.new (trap_text trap) TRAP_BYTES }
 {
     append_labelled(b"trap cause=", trap.cause, text);
     append_labelled(b" epc=", trap.epc, text);

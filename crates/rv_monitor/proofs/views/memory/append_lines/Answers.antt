@@ -8,5 +8,5 @@ loop-number-preserved g c =
     let appended : c.append_line.new.text.items ≡ c.loop-number.text.items ++ memory_line c.args.board.now c.args.addr c.args.count c.loop-number.number = search rules in (
       piece_behind c.args.text.now.items c.loop-number.text.items c.append_line.new.text.items (memory_line c.args.board.now c.args.addr c.args.count) c.loop-number.number
           c.loop-number.invariant.0 appended,
-      omega (arith, c.loop-number.invariant.1, c.append_line.ensures.len, c.append_line.ensures.capacity),
+      omega (arith, c.loop-number.invariant.1, c.append_line.ensures.1, c.append_line.ensures.2),
     )

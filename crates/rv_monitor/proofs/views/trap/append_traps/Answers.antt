@@ -15,8 +15,8 @@ pub loop-index-preserved : goal.loop-index-preserved
 loop-index-preserved g c =
     let here : Some c.unwrap-trap.result ≡ slice_get c.args.board.now.traps c.loop-index.index = search rules in (
       trap_behind c.args.text.now.items c.loop-index.text.items c.append_trap.new.text.items c.args.board.now.traps c.loop-index.index c.unwrap-trap.result
-          here c.loop-index.invariant.0 c.append_trap.ensures.items,
-      omega (arith, c.loop-index.invariant.1, c.append_trap.ensures.len, c.append_trap.ensures.capacity),
+          here c.loop-index.invariant.0 c.append_trap.ensures.0,
+      omega (arith, c.loop-index.invariant.1, c.append_trap.ensures.1, c.append_trap.ensures.2),
     )
 
 pub returns : goal.returns
