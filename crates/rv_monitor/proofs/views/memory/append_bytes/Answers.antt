@@ -1,0 +1,13 @@
+use Rattle.std.proofs.Common.{arith}
+use Rattle.rv_monitor.specs.Views.{byte_in_line}
+use Rattle.rv_monitor.proofs.Pieces.{piece_behind}
+use Rattle.rv_monitor.proofs.views.memory.append_bytes.Goals as goal
+
+pub loop-offset-preserved : goal.loop-offset-preserved
+loop-offset-preserved g c =
+    let grown = c.append_byte.ensures in (
+      piece_behind c.args.text.now.items c.loop-offset.text.items c.append_byte.new.text.items (byte_in_line c.args.board.now c.args.addr) c.loop-offset.offset
+          c.loop-offset.invariant.0 grown.0,
+      omega (arith, c.loop-offset.invariant.1, grown.1),
+      omega (arith, c.loop-offset.invariant.2, grown.2),
+    )
