@@ -1,7 +1,6 @@
 //! The entries that match addresses, which alone an access asks.
-ghost use Rattle.std.specs.Prelude.{◌≡◌, ◌<◌, ◌^◌, ◌∷◌, ◌++◌, [], length};
+ghost use Rattle.std.specs.Prelude.{◌≡◌, ◌<◌, ◌∷◌, ◌++◌, [], length};
 ghost use Rattle.rv_pmp.specs.declared.pmp.TheConstants.{ENTRIES};
-ghost use Rattle.rv_pmp.specs.Entry.{is_between};
 ghost use Rattle.rv_pmp.specs.Free as spec;
 ghost use Rattle.rv_pmp.specs.Kept.{answered, active_of, actives_from};
 
@@ -15,7 +14,7 @@ use std::marker::Model;
 #[derive(Clone, Copy)]
 pub(crate) struct Active {
     entry: Entry,
-    span: Span,
+    pub(crate) span: Span,
 }
 
 impl Active {
@@ -44,14 +43,6 @@ impl Active {
         Some(self.span.holds(first, end) && self.entry.grants(mode, access))
     }
 
-    /// Whether the byte at an address is in the entry's region.
-    pub(crate) fn has(&self, addr: u64) -> bool
-        ensures value { result ≡ is_between self.now.span.first self.now.span.end addr }
-        ensures small { self.now.span.end < 2 ^ 64 }
-    {
-        self.span.has(addr)
-    }
-
     /// The bytes that user mode may access so, of those that no entry before has.
     pub(crate) fn leaves(&self, access: Access, free: Span) -> Span
         ensures { result ≡ spec.left_by self.now access free }
@@ -61,13 +52,6 @@ impl Active {
         } else {
             Span::NO_BYTES
         }
-    }
-
-    /// The free bytes on the side of an address up to the entry's region, which doesn't have it.
-    pub(crate) fn beside(&self, free: Span, addr: u64) -> Span
-        ensures { result ≡ spec.beside free self.now.span addr }
-    {
-        free.beside(self.span, addr)
     }
 }
 

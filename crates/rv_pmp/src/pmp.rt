@@ -307,10 +307,10 @@ fn window(actives: &[Active], access: Access, addr: u64) -> Span
 {
     let mut free = Span::ALL_BYTES;
     for active in actives {
-        if active.has(addr) {
+        if active.span.has(addr) {
             return active.leaves(access, free);
         }
-        free = active.beside(free, addr);
+        free = free.beside(active.span, addr);
     }
     Span::NO_BYTES
 }
