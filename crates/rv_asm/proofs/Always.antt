@@ -14,7 +14,7 @@ use Rattle.rv_source.specs.declared.statement.Upper.TheVariants as u
 use Rattle.rv_source.specs.declared.statement.ValueTaker.TheVariants as takes
 use Rattle.rv_source.specs.declared.statement.Statement.{Statement}
 use Rattle.rv_source.specs.declared.statement.Statement.TheVariants as s
-use Rattle.rv_asm.specs.declared.fault.FaultKind.{FaultKind}
+use Rattle.rv_program.specs.declared.fault.FaultKind.{FaultKind}
 use Rattle.rv_asm.specs.Symbols.{Definitions, added, atom_value, sum_value}
 use Rattle.rv_asm.specs.Listing.{Valuation, ◌>>=◌, wanted, bytes, immediate_of, upper_of, instructions, statement_bytes}
 use Rattle.rv_asm.specs.Steps.{IsAlways}

@@ -5,7 +5,7 @@ use Rattle.std.specs.List.{All}
 use Rattle.std.proofs.lemmas.List.Elements.{All-push}
 use Rattle.rv_source.specs.declared.line.Label.{Label}
 use Rattle.rv_source.specs.declared.line.Label.TheVariants as label
-use Rattle.rv_asm.specs.declared.fault.FaultKind.TheVariants.{DuplicateSymbol}
+use Rattle.rv_program.specs.declared.fault.FaultKind.TheVariants.{DuplicateSymbol}
 use Rattle.rv_asm.specs.declared.locals.LocalLabel.{LocalLabel}
 use Rattle.rv_asm.specs.Symbols.{value_of}
 use Rattle.rv_asm.specs.Layout.{Known, labelled}

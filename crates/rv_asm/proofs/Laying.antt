@@ -8,9 +8,9 @@ use Rattle.rv_source.specs.Said.{Said}
 use Rattle.rv_source.specs.declared.line.Label.{Label}
 use Rattle.rv_source.specs.declared.line.Label.TheVariants as label
 use Rattle.rv_source.specs.declared.statement.Statement.{Statement}
-use Rattle.rv_asm.specs.declared.fault.FaultKind.{FaultKind}
-use Rattle.rv_asm.specs.declared.fault.FaultKind.TheVariants.{DuplicateSymbol}
-use Rattle.rv_asm.specs.declared.fault.AsmFault.{AsmFault}
+use Rattle.rv_program.specs.declared.fault.FaultKind.{FaultKind}
+use Rattle.rv_program.specs.declared.fault.FaultKind.TheVariants.{DuplicateSymbol}
+use Rattle.rv_program.specs.declared.fault.AsmFault.{AsmFault}
 use Rattle.rv_asm.specs.declared.locals.LocalLabel.{LocalLabel}
 use Rattle.rv_asm.specs.Symbols.{value_of}
 use Rattle.rv_asm.specs.Layout.{Known, first, joined, line_at, size_of, constant_of, name_in, labelled, with_labels, stated, with_statement, known_before, relabels, statement_fault, phase_two_fault}

@@ -4,8 +4,8 @@ use Rattle.std.specs.Prelude.{Option, None, Some, is_some, Result, Ok, Err, nat_
 use Rattle.std.specs.Option.{option_map, unwrap_or}
 use Rattle.std.proofs.lemmas.Bool.Decides.{nat_tests}
 use Rattle.rv_source.specs.declared.statement.Statement.{Statement}
-use Rattle.rv_asm.specs.declared.fault.FaultKind.{FaultKind}
-use Rattle.rv_asm.specs.declared.fault.FaultKind.TheVariants.{DuplicateSymbol, NotConstant, Misplaced, TooLarge}
+use Rattle.rv_program.specs.declared.fault.FaultKind.{FaultKind}
+use Rattle.rv_program.specs.declared.fault.FaultKind.TheVariants.{DuplicateSymbol, NotConstant, Misplaced, TooLarge}
 use Rattle.rv_asm.specs.Symbols.{value_of}
 use Rattle.rv_asm.specs.Layout.{Known, base, limit, constant_of, size_of, name_in, renames, stated, statement_fault}
 use Rattle.rv_asm.specs.Steps.{Item, size_in, placed, end_of, definition_in, newly_stated}

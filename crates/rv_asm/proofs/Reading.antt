@@ -8,10 +8,10 @@ use Rattle.rv_source.specs.Reading.{said}
 use Rattle.rv_tokens.specs.Faults.{Fails as LineFails}
 use Rattle.rv_tokens.specs.declared.fault.LineFault.{LineFault}
 use Rattle.rv_tokens.specs.declared.fault.LineFault.TheVariants as line
-use Rattle.rv_asm.specs.declared.fault.FaultKind.{FaultKind}
-use Rattle.rv_asm.specs.declared.fault.FaultKind.TheVariants.{OutOfMemory}
-use Rattle.rv_asm.specs.declared.fault.AsmFault.{AsmFault}
-use Rattle.rv_asm.specs.Faults.{Fails, Gives, IsFaultAt, kind_of}
+use Rattle.rv_program.specs.declared.fault.FaultKind.{FaultKind}
+use Rattle.rv_program.specs.declared.fault.FaultKind.TheVariants.{OutOfMemory}
+use Rattle.rv_program.specs.declared.fault.AsmFault.{AsmFault}
+use Rattle.rv_program.specs.Faults.{Fails, Gives, IsFaultAt, kind_of}
 use Rattle.rv_asm.specs.Layout.{first, joined, line_at, blank, known_before}
 use Rattle.rv_asm.specs.Assembly.{first_fault, phase_one_fault, all_said}
 use Rattle.rv_asm.specs.Steps.{State, nothing, unless, state_at, laid_out, lines_laid_out, extended}

@@ -3,10 +3,10 @@ use Rattle.std.proofs.Common.{◌≡◌, ℕ, suc, ◌+◌, ◌<◌, ◌≤◌, 
 use Rattle.std.specs.Prelude.{Result, Ok, Err}
 use Rattle.std.proofs.Math.Seq.{drop-cons}
 use Rattle.std.proofs.lemmas.List.{drop_all}
-use Rattle.rv_asm.specs.declared.fault.FaultKind.{FaultKind}
-use Rattle.rv_asm.specs.declared.fault.FaultKind.TheVariants.{BadByte, LineTooLong, Syntax, UnknownWord, BadOperands, DuplicateSymbol, NotConstant, Misplaced, TooLarge, Undefined, OutOfRange, OutOfMemory}
-use Rattle.rv_asm.specs.declared.fault.AsmFault.{AsmFault}
-use Rattle.rv_asm.specs.Faults.{Fails, FailsBy, IsFaultAt}
+use Rattle.rv_program.specs.declared.fault.FaultKind.{FaultKind}
+use Rattle.rv_program.specs.declared.fault.FaultKind.TheVariants.{BadByte, LineTooLong, Syntax, UnknownWord, BadOperands, DuplicateSymbol, NotConstant, Misplaced, TooLarge, Undefined, OutOfRange, OutOfMemory}
+use Rattle.rv_program.specs.declared.fault.AsmFault.{AsmFault}
+use Rattle.rv_program.specs.Faults.{Fails, FailsBy, IsFaultAt}
 use Rattle.rv_asm.specs.Kept.{KindFails}
 use Rattle.rv_asm.specs.Listing.{◌>>=◌}
 use Rattle.rv_asm.specs.Steps.{at_line, run}

@@ -11,7 +11,7 @@ use Rattle.rv_source.specs.declared.expression.Term.{Term}
 use Rattle.rv_source.specs.declared.statement.ValueTaker.TheVariants as takes
 use Rattle.rv_source.specs.declared.statement.Statement.{Statement}
 use Rattle.rv_source.specs.declared.statement.Statement.TheVariants as s
-use Rattle.rv_asm.specs.declared.fault.FaultKind.{FaultKind}
+use Rattle.rv_program.specs.declared.fault.FaultKind.{FaultKind}
 use Rattle.rv_asm.specs.Values.{fits, far, loading}
 use Rattle.rv_asm.specs.Listing.{Valuation, ◌>>=◌, wanted, one, bytes, immediate_of, upper_of, values_of, data_bytes, value_bytes, sums_bytes, fill_of, instructions, statement_bytes}
 use Rattle.rv_asm.specs.Layout.{size_of}

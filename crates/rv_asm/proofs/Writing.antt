@@ -8,8 +8,8 @@ use Rattle.rv_source.specs.declared.expression.Term.{Term}
 use Rattle.rv_source.specs.declared.statement.ValueTaker.TheVariants as takes
 use Rattle.rv_source.specs.declared.statement.Statement.{Statement}
 use Rattle.rv_source.specs.declared.statement.Statement.TheVariants as s
-use Rattle.rv_asm.specs.declared.fault.FaultKind.{FaultKind}
-use Rattle.rv_asm.specs.declared.fault.FaultKind.TheVariants.{Undefined, OutOfRange}
+use Rattle.rv_program.specs.declared.fault.FaultKind.{FaultKind}
+use Rattle.rv_program.specs.declared.fault.FaultKind.TheVariants.{Undefined, OutOfRange}
 use Rattle.rv_asm.specs.Kept.{KindBecomes, words_of}
 use Rattle.rv_asm.specs.Values.{fits}
 use Rattle.rv_asm.specs.Listing.{Valuation, ◌>>=◌, instructions, statement_bytes, values_of, data_bytes, value_bytes, sums_bytes}

@@ -7,9 +7,9 @@ pub use Rattle.rv_program.specs.Program.{Assembly}
 use Rattle.rv_source.specs.Said.{Said}
 use Rattle.rv_source.specs.Reading.{said}
 use Rattle.rv_tokens.specs.Lines.{lines}
-use Rattle.rv_asm.specs.declared.fault.FaultKind.{FaultKind}
-use Rattle.rv_asm.specs.declared.fault.AsmFault.{AsmFault}
-use Rattle.rv_asm.specs.Faults.{kind_of}
+use Rattle.rv_program.specs.declared.fault.FaultKind.{FaultKind}
+use Rattle.rv_program.specs.declared.fault.AsmFault.{AsmFault}
+use Rattle.rv_program.specs.Faults.{kind_of}
 use Rattle.rv_asm.specs.Symbols.{sum_value}
 use Rattle.rv_asm.specs.Layout.{first, joined, blank, line_at, known_at, constant_of, definitions, phase_two_fault}
 use Rattle.rv_asm.specs.Listing.{statement_bytes}

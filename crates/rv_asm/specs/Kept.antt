@@ -3,8 +3,8 @@
 -- Not to audit: private contracts alone cite this.
 use Rattle.std.specs.Prelude.{◌≡◌, ℕ, List, [], ◌∷◌, ℤ, pos, ◌+ℤ◌, ◌≤ℤ◌, ◌==◌, if◌then◌else◌, ◌≤◌, ◌<◌, get_or, length, replicate, Option, Result, Ok, Err}
 use Rattle.std.specs.List.{AllByRecursion}
-use Rattle.rv_asm.specs.declared.fault.FaultKind.{FaultKind}
-use Rattle.rv_asm.specs.declared.fault.FaultKind.TheVariants.{OutOfMemory}
+use Rattle.rv_program.specs.declared.fault.FaultKind.{FaultKind}
+use Rattle.rv_program.specs.declared.fault.FaultKind.TheVariants.{OutOfMemory}
 use Rattle.rv_asm.specs.declared.locals.LocalLabel.{LocalLabel}
 use Rattle.rv_isa.specs.declared.kind.Kind.{Kind}
 use Rattle.rv_source.specs.declared.statement.ValueTaker.{ValueTaker}

@@ -1,4 +1,3 @@
-pub mod Faults
 pub mod Symbols
 pub mod Values
 pub mod Kept

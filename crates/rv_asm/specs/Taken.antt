@@ -5,8 +5,8 @@ use Rattle.std.specs.Prelude.{ℕ, ◌+◌, List, Option, Some, None, Result, Ok
 use Rattle.rv_source.specs.Reading.{said}
 use Rattle.rv_tokens.specs.declared.fault.LineFault.{LineFault}
 use Rattle.rv_tokens.specs.Faults.{Fails as LineFails}
-use Rattle.rv_asm.specs.declared.fault.AsmFault.{AsmFault}
-use Rattle.rv_asm.specs.Faults.{IsFaultAt, kind_of}
+use Rattle.rv_program.specs.declared.fault.AsmFault.{AsmFault}
+use Rattle.rv_program.specs.Faults.{IsFaultAt, kind_of}
 use Rattle.rv_asm.specs.Steps.{State}
 
 -- what was laid out, or the first fault in phase two

@@ -3,8 +3,8 @@ ghost use Rattle.std.specs.Prelude.{◌≡◌, ◌≤◌, ◌<◌, Result, Ok, I
 ghost use Rattle.std.specs.List.{All};
 ghost use Rattle.rv_tokens.specs.Lines.{lines};
 ghost use Rattle.rv_source.specs.Reading.{said};
-ghost use Rattle.rv_asm.specs.declared.fault.AsmFault.{AsmFault};
-ghost use Rattle.rv_asm.specs.Faults.{Gives};
+ghost use Rattle.rv_program.specs.declared.fault.AsmFault.{AsmFault};
+ghost use Rattle.rv_program.specs.Faults.{Gives};
 ghost use Rattle.rv_asm.specs.Assembly.{assembled};
 ghost use Rattle.rv_asm.specs.Steps.{State, nothing, extended, lines_laid_out, image_of};
 ghost use Rattle.rv_asm.specs.Taken.{so_far, IsUnread};

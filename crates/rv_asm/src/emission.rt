@@ -3,7 +3,7 @@ ghost use Rattle.std.specs.Prelude.{◌≡◌, ◌<◌, ◌^◌, ℕ, None, Some
 ghost use Rattle.std.specs.Option.{ok_or};
 ghost use Rattle.rv_isa.specs.Number.{IsWithin};
 ghost use Rattle.rv_asm.specs.Kept.{KindBecomes, words_of, filled, valued};
-ghost use Rattle.rv_asm.specs.declared.fault.FaultKind.TheVariants.{OutOfRange};
+ghost use Rattle.rv_program.specs.declared.fault.FaultKind.TheVariants.{OutOfRange};
 ghost use Rattle.rv_asm.specs.Steps.{appended};
 ghost use Rattle.rv_asm.specs.Symbols.{sum_value};
 ghost use Rattle.rv_asm.specs.Values.{immediate, upper_immediate, five_bits, distance, hi, lo, far};

@@ -7,7 +7,6 @@ mod asked;
 mod assembler;
 mod data;
 mod emission;
-mod fault;
 mod instructions;
 mod layout;
 mod locals;
@@ -16,6 +15,5 @@ mod symbols;
 mod values;
 
 pub use assembler::assemble;
-pub use fault::{AsmFault, FaultKind};
 pub use locals::LocalLabel;
-pub use rv_program::Program;
+pub use rv_program::{AsmFault, FaultKind, Program};

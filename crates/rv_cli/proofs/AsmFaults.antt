@@ -1,9 +1,9 @@
 -- A fault of the assembler.
 use Rattle.std.proofs.Common.{◌≡◌, ℕ, Result, Err, refl}
-use Rattle.rv_asm.specs.Faults.{Gives}
-use Rattle.rv_asm.specs.declared.fault.AsmFault.{AsmFault}
-use Rattle.rv_asm.specs.declared.fault.FaultKind.{FaultKind}
-use Rattle.rv_asm.specs.declared.fault.FaultKind.TheVariants.{BadByte, LineTooLong, Syntax, UnknownWord, BadOperands, DuplicateSymbol, NotConstant, Misplaced, TooLarge, Undefined, OutOfRange, OutOfMemory}
+use Rattle.rv_program.specs.Faults.{Gives}
+use Rattle.rv_program.specs.declared.fault.AsmFault.{AsmFault}
+use Rattle.rv_program.specs.declared.fault.FaultKind.{FaultKind}
+use Rattle.rv_program.specs.declared.fault.FaultKind.TheVariants.{BadByte, LineTooLong, Syntax, UnknownWord, BadOperands, DuplicateSymbol, NotConstant, Misplaced, TooLarge, Undefined, OutOfRange, OutOfMemory}
 
 at_line : {B : Type 0} (line : ℕ) (kind : FaultKind) (meaning : Result B AsmFault) → (kind ≡ OutOfMemory → ⊥)
     → Gives {A = B} (λ p. p) (Err (record { line = line; kind = kind })) meaning → meaning ≡ Err (record { line = line; kind = kind })

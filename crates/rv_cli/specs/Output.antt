@@ -5,7 +5,7 @@ use Rattle.std.specs.FinSet as set
 use Rattle.std.specs.Fmt.{decimal, digits}
 use Rattle.std.specs.List.{ends_with}
 use Rattle.rv_asm.specs.Assembly.{Assembly, assembled}
-use Rattle.rv_asm.specs.declared.fault.AsmFault.{AsmFault}
+use Rattle.rv_program.specs.declared.fault.AsmFault.{AsmFault}
 use Rattle.rv_board.specs.Boot as boot
 use Rattle.rv_board.specs.State.{BoardState, console_of, halted_of, pc_of, steps_of}
 use Rattle.rv_board.specs.declared.event.BootFault.{BootFault}

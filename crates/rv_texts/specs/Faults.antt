@@ -2,8 +2,8 @@
 -- To audit: public contracts cite this.
 use Rattle.std.specs.Prelude.{ℕ, List, [], ◌∷◌, ◌++◌, Result, Ok, Err, codes, zero, suc}
 use Rattle.std.specs.Fmt.{decimal}
-use Rattle.rv_asm.specs.Faults.{name_of, number_of}
-use Rattle.rv_asm.specs.declared.fault.AsmFault.{AsmFault}
+use Rattle.rv_program.specs.Faults.{name_of, number_of}
+use Rattle.rv_program.specs.declared.fault.AsmFault.{AsmFault}
 use Rattle.rv_texts.specs.declared.fault.CliFault.{CliFault}
 use Rattle.rv_texts.specs.declared.fault.CliFault.TheVariants.{ReadSource, ReadInput, ReadCommands, Source, Input, BadPages, BadSlots, ImageTooLarge, OutOfMemory, Write}
 use Rattle.rv_texts.specs.declared.fault.TextName.{TextName}

@@ -3,8 +3,8 @@ ghost use Rattle.std.specs.Prelude.{◌≡◌, ◌++◌, Err, IfErr, IfOk, Ok, O
 ghost use Rattle.rv_texts.specs.Faults.{ended, input_line_of, line_of, read_fault_of, source_line_of, status_of};
 ghost use Rattle.rv_texts.specs.Numbered.{has_number};
 
-use rv_asm::AsmFault;
 use rv_isa::NoMemory;
+use rv_program::AsmFault;
 use std::{fmt, io};
 use thiserror::Error;
 

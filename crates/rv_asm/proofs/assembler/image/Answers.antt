@@ -1,6 +1,6 @@
 use Rattle.std.proofs.Common.{◌≡◌, ◌∙◌, ◌+◌, sym, arith, refl}
 use Rattle.std.specs.Prelude.{Ok}
-use Rattle.rv_asm.specs.Faults.{Fails, IsFaultAt}
+use Rattle.rv_program.specs.Faults.{Fails, IsFaultAt}
 use Rattle.rv_asm.specs.Steps.{item_step, item_bytes, appended}
 use Rattle.rv_asm.proofs.Runs.{run_more, run_end, run_fails_at, fails_at_line}
 use Rattle.rv_asm.proofs.assembler.image.Goals as goal

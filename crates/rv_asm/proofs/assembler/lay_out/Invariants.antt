@@ -1,6 +1,6 @@
 use Rattle.std.proofs.Common.{◌≤◌, ◌+◌, length}
 use Rattle.rv_tokens.specs.Lines.{lines}
-use Rattle.rv_asm.specs.Faults.{Gives}
+use Rattle.rv_program.specs.Faults.{Gives}
 use Rattle.rv_asm.specs.Assembly.{all_said}
 use Rattle.rv_asm.specs.Steps.{laid_out}
 use Rattle.rv_asm.specs.Taken.{so_far}

@@ -1,6 +1,6 @@
 //! Why a source can't be assembled.
 ghost use Rattle.std.specs.Prelude.{◌≡◌};
-ghost use Rattle.rv_asm.specs.Faults.{number_of, name_of};
+ghost use Rattle.rv_program.specs.Faults.{number_of, name_of};
 
 use rv_tokens::LineFault;
 use std::alloc::{AllocError, AllocFailed};
@@ -78,7 +78,7 @@ impl FaultKind {
 
 impl From<LineFault> for FaultKind {
     ghost use Rattle.std.specs.Prelude.{◌≡◌};
-    ghost use Rattle.rv_asm.specs.Faults.{kind_of};
+    ghost use Rattle.rv_program.specs.Faults.{kind_of};
 
     ghost from_gives = { λ fault kind. kind ≡ kind_of fault };
 
@@ -96,7 +96,7 @@ impl From<LineFault> for FaultKind {
 
 impl From<AllocError> for FaultKind {
     ghost use Rattle.std.specs.Prelude.{◌≡◌};
-    ghost use Rattle.rv_asm.specs.declared.fault.FaultKind.TheVariants.{OutOfMemory};
+    ghost use Rattle.rv_program.specs.declared.fault.FaultKind.TheVariants.{OutOfMemory};
 
     ghost from_gives = { λ _ kind. kind ≡ OutOfMemory };
 
@@ -107,7 +107,7 @@ impl From<AllocError> for FaultKind {
 
 impl<T: Drop> From<AllocFailed<T>> for FaultKind {
     ghost use Rattle.std.specs.Prelude.{◌≡◌};
-    ghost use Rattle.rv_asm.specs.declared.fault.FaultKind.TheVariants.{OutOfMemory};
+    ghost use Rattle.rv_program.specs.declared.fault.FaultKind.TheVariants.{OutOfMemory};
 
     ghost from_gives = { λ _ kind. kind ≡ OutOfMemory };
 
@@ -124,10 +124,10 @@ pub struct AsmFault {
 }
 
 impl AsmFault {
-    ghost use Rattle.rv_asm.specs.Faults.{IsFaultAt};
+    ghost use Rattle.rv_program.specs.Faults.{IsFaultAt};
 
     /// A fault of this line, or want of memory, which is of none.
-    pub(crate) fn at(line: usize, kind: FaultKind) -> Self
+    pub fn at(line: usize, kind: FaultKind) -> Self
         ensures { IsFaultAt line kind result }
     {
         let line = if kind == FaultKind::OutOfMemory {
@@ -141,7 +141,7 @@ impl AsmFault {
 
 impl From<AllocError> for AsmFault {
     ghost use Rattle.std.specs.Prelude.{◌≡◌};
-    ghost use Rattle.rv_asm.specs.declared.fault.FaultKind.TheVariants.{OutOfMemory};
+    ghost use Rattle.rv_program.specs.declared.fault.FaultKind.TheVariants.{OutOfMemory};
 
     ghost from_gives = { λ _ fault. fault ≡ record { line = 0; kind = OutOfMemory } };
 
