@@ -1,5 +1,5 @@
 //! Memory, as it is printed.
-ghost use Rattle.std.specs.Prelude.{◌≡◌, ◌++◌, ◌+◌, ◌-◌, ◌*◌, ◌%◌, ◌^◌, ◌<◌, ◌≤◌, min, OnOk, OnErr, vec_len, vec_capacity};
+ghost use Rattle.std.specs.Prelude.{◌≡◌, ◌++◌, ◌+◌, ◌-◌, ◌*◌, ◌%◌, ◌^◌, ◌<◌, ◌≤◌, codes, min, OnOk, OnErr, vec_len, vec_capacity};
 ghost use Rattle.rv_monitor.specs.Appended.{Appended};
 ghost use Rattle.rv_monitor.specs.Room.{memory_room, instruction_room};
 ghost use Rattle.rv_monitor.specs.Views.{pieces, byte_behind, byte_text, byte_in_line, bytes_line, memory_line, memory_text, word_of, word_text, instruction_text};
@@ -21,25 +21,19 @@ fn byte_behind<M: ByteMemory, C: Decoded>(board: &Board<M, C>, addr: u32, offset
 }
 
 /// Appends a space and a byte, or `--` where none is.
-#[tactic(auto, unfolding(crate::specs::Views::byte_in_line))]
-fn append_byte<M: ByteMemory, C: Decoded>(
-    board: &Board<M, C>,
-    addr: u32,
-    offset: u32,
-    text: &mut Vec<u8>,
-)
+fn append_byte(byte: Option<u8>, text: &mut Vec<u8>)
     requires { vec_len text.old + 3 ≤ vec_capacity text.old }
-    ensures { Appended text.old text.new (byte_in_line board.now addr offset) 3 }
+    ensures { Appended text.old text.new (codes " " ++ byte_text byte) 3 }
 {
     append_within(text, b" ");
-    match byte_behind(board, addr, offset) {
+    match byte {
         Some(byte) => append_within(text, &two_digits(byte)),
         None => append_within(text, b"--"),
     }
 }
 
 /// Appends so many bytes.
-#[tactic(auto, using(crate::proofs::Pieces::no_piece_behind, crate::proofs::Pieces::one_more_behind))]
+#[tactic(auto, using(crate::proofs::Pieces::no_piece_behind, crate::proofs::Pieces::one_more_behind), unfolding(crate::specs::Views::byte_in_line))]
 fn append_bytes<M: ByteMemory, C: Decoded>(
     board: &Board<M, C>,
     addr: u32,
@@ -50,7 +44,7 @@ fn append_bytes<M: ByteMemory, C: Decoded>(
     ensures { Appended text.old text.new (pieces (byte_in_line board.now addr) count) (3 * count) }
 {
     for offset in 0..count {
-        append_byte(board, addr, offset, text);
+        append_byte(byte_behind(board, addr, offset), text);
     }
 }
 

@@ -1,11 +1,12 @@
 //! Registers, as they are printed.
-ghost use Rattle.std.specs.Prelude.{◌≡◌, ◌++◌, ◌+◌, ◌<◌, ◌≤◌, length, Some, IsSome, OnOk, OnErr, vec_len, vec_capacity};
+ghost use Rattle.std.specs.Prelude.{◌≡◌, ◌++◌, ◌+◌, ◌%◌, ◌==◌, ◌<◌, ◌≤◌, if◌then◌else◌, codes, length, Some, IsSome, OnOk, OnErr, vec_len, vec_capacity};
 ghost use Rattle.rv_isa.specs.Names.{lookup, csr_names};
 ghost use Rattle.rv_board.specs.State.{csr_of};
 ghost use Rattle.rv_monitor.specs.Appended.{Appended};
 ghost use Rattle.rv_monitor.specs.Room.{registers_room, control_register_room};
 ghost use Rattle.rv_monitor.specs.Views as spec;
-ghost use Rattle.rv_monitor.specs.Views.{pieces, registers_text, place_text, control_register_text, register_text, register_in_line};
+ghost use Rattle.rv_monitor.specs.Views.{pieces, registers_text, control_register_text, register_in_line};
+ghost use Rattle.rv_monitor.specs.Numbers.{hex, two_decimals};
 
 use super::number::{eight_digits, two_decimals};
 use rv_board::Board;
@@ -28,16 +29,15 @@ pub fn mode_letter(mode: Mode) -> &'static str
 /// How many bytes the pc and the mode have.
 const PLACE_BYTES: usize = 18;
 
-/// Appends the pc and the mode to a text that has room for them.
-#[tactic(auto, unfolding(crate::specs::Views::place_text))]
-pub(crate) fn append_place<M: ByteMemory, C: Decoded>(board: &Board<M, C>, text: &mut Vec<u8>)
+/// Appends a pc and a mode to a text that has room for them.
+pub(crate) fn append_place(pc: u32, mode: Mode, text: &mut Vec<u8>)
     requires { vec_len text.old + PLACE_BYTES ≤ vec_capacity text.old }
-    ensures { Appended text.old text.new (place_text board.now) PLACE_BYTES }
+    ensures { Appended text.old text.new (codes "pc=" ++ hex 8 pc ++ codes " mode=" ++ spec.mode_letter mode) PLACE_BYTES }
 {
     append_within(text, b"pc=");
-    append_within(text, &eight_digits(board.pc()));
+    append_within(text, &eight_digits(pc));
     append_within(text, b" mode=");
-    append_within(text, mode_letter(board.mode()).as_bytes());
+    append_within(text, mode_letter(mode).as_bytes());
 }
 
 /// How many bytes a register has in its line.
@@ -46,29 +46,23 @@ const REGISTER_BYTES: usize = 13;
 /// How many registers there are.
 const REGISTERS: u8 = 32;
 
-/// Appends a register.
-#[tactic(auto, unfolding(crate::specs::Views::register_text))]
-fn append_register<M: ByteMemory, C: Decoded>(
-    board: &Board<M, C>,
-    register: Reg,
-    text: &mut Vec<u8>,
-)
+/// Appends a register with its value.
+fn append_register(register: Reg, value: u32, text: &mut Vec<u8>)
     requires { vec_len text.old + 12 ≤ vec_capacity text.old }
-    ensures { Appended text.old text.new (register_text board.now register) 12 }
+    ensures { Appended text.old text.new (codes "x" ++ two_decimals register ++ codes "=" ++ hex 8 value) 12 }
 {
     append_within(text, b"x");
     append_within(text, &two_decimals(register.number()));
     append_within(text, b"=");
-    append_within(text, &eight_digits(board.reg(register)));
+    append_within(text, &eight_digits(value));
 }
 
-/// Appends a register, and a line end behind the last of four or else a space.
-#[tactic(auto, unfolding(crate::specs::Views::register_in_line))]
-fn append_in_line<M: ByteMemory, C: Decoded>(board: &Board<M, C>, register: Reg, text: &mut Vec<u8>)
+/// Appends a register with its value, and a line end behind the last of four or else a space.
+fn append_in_line(register: Reg, value: u32, text: &mut Vec<u8>)
     requires { vec_len text.old + REGISTER_BYTES ≤ vec_capacity text.old }
-    ensures { Appended text.old text.new (register_in_line board.now register) REGISTER_BYTES }
+    ensures { Appended text.old text.new ((codes "x" ++ two_decimals register ++ codes "=" ++ hex 8 value) ++ (if register % 4 == 3 then codes "\n" else codes " ")) REGISTER_BYTES }
 {
-    append_register(board, register, text);
+    append_register(register, value, text);
     if register.number() % 4 == 3 {
         append_within(text, b"\n");
     } else {
@@ -77,7 +71,7 @@ fn append_in_line<M: ByteMemory, C: Decoded>(board: &Board<M, C>, register: Reg,
 }
 
 /// Appends the lines of all registers.
-#[tactic(auto, using(crate::proofs::Pieces::no_piece_behind, crate::proofs::Pieces::one_more_behind))]
+#[tactic(auto, using(crate::proofs::Pieces::no_piece_behind, crate::proofs::Pieces::one_more_behind), unfolding(crate::specs::Views::register_in_line, crate::specs::Views::register_text))]
 fn append_registers<M: ByteMemory, C: Decoded>(board: &Board<M, C>, text: &mut Vec<u8>)
     requires { vec_len text.old + 416 ≤ vec_capacity text.old }
     ensures { Appended text.old text.new (pieces (register_in_line board.now) 32) 416 }
@@ -85,12 +79,12 @@ fn append_registers<M: ByteMemory, C: Decoded>(board: &Board<M, C>, text: &mut V
     for number in 0..REGISTERS {
         // Each number below 32 has a register.
         let register = Reg::new(number).unwrap();
-        append_in_line(board, register, text);
+        append_in_line(register, board.reg(register), text);
     }
 }
 
 /// Appends all 32 registers, four in a line, and then a line of the pc and the mode.
-#[tactic(auto, unfolding(crate::specs::Views::registers_text))]
+#[tactic(auto, unfolding(crate::specs::Views::registers_text, crate::specs::Views::place_text))]
 pub fn write_registers<M: ByteMemory, C: Decoded>(
     board: &Board<M, C>,
     text: &mut Vec<u8>,
@@ -101,7 +95,7 @@ pub fn write_registers<M: ByteMemory, C: Decoded>(
 {
     text.reserve(REGISTER_BYTES * usize::from(REGISTERS) + PLACE_BYTES + 1)?;
     append_registers(board, text);
-    append_place(board, text);
+    append_place(board.pc(), board.mode(), text);
     append_within(text, b"\n");
     Ok(())
 }

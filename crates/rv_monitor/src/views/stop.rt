@@ -15,7 +15,7 @@ pub const STOP_BYTES: usize = 52;
 
 /// Appends the line of a stop: why the steps ended, the pc, the mode, and how many steps the board has done. Memory is
 /// asked for only where the text has no room for the word and `STOP_BYTES` more.
-#[tactic(auto, unfolding(crate::specs::Views::stop_text))]
+#[tactic(auto, unfolding(crate::specs::Views::stop_text, crate::specs::Views::place_text))]
 pub fn write_stop<M: ByteMemory, C: Decoded>(
     board: &Board<M, C>,
     word: &str,
@@ -31,7 +31,7 @@ pub fn write_stop<M: ByteMemory, C: Decoded>(
     append_within(text, b"stop ");
     append_within(text, word.as_bytes());
     append_within(text, b" ");
-    append_place(board, text);
+    append_place(board.pc(), board.mode(), text);
     append_within(text, b" steps=");
     append_within(text, steps.as_bytes());
     append_within(text, b"\n");

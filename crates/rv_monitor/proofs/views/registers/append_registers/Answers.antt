@@ -1,9 +1,10 @@
 use Rattle.std.proofs.Common.{◌≡◌, ◌++◌, rules, arith}
-use Rattle.rv_monitor.specs.Views.{register_in_line}
+use Rattle.rv_monitor.specs.Views.{register_in_line, register_text}
 use Rattle.rv_monitor.proofs.Pieces.{piece_behind}
 use Rattle.rv_monitor.proofs.views.registers.append_registers.Goals as goal
 
 pub loop-number-preserved : goal.loop-number-preserved
+unfolding register_in_line register_text
 loop-number-preserved g c =
     let grown = c.append_in_line.ensures in
     let appended : c.append_in_line.new.text.items ≡ c.loop-number.text.items ++ register_in_line c.args.board.now c.loop-number.number = search rules in (
