@@ -1,4 +1,3 @@
 pub mod AsmFaults
 pub mod Obeyed
-pub mod Digits
 pub mod Refusals

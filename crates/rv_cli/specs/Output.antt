@@ -1,8 +1,7 @@
 -- What a run of a source text prints and how it ends (this project's own: docs/BOARD.md).
 -- To audit: public contracts cite this.
-use Rattle.std.specs.Prelude.{◌≡◌, ℕ, ◌-◌, ◌==◌, ◌||◌, false, List, [], ◌∷◌, ◌++◌, Option, Some, None, Result, Ok, Err, codes, if◌then◌else◌, length, nat_eq, replicate}
+use Rattle.std.specs.Prelude.{◌≡◌, ℕ, ◌==◌, ◌||◌, List, [], ◌∷◌, ◌++◌, Option, Some, None, Result, Ok, Err, if◌then◌else◌, length, nat_eq}
 use Rattle.std.specs.FinSet as set
-use Rattle.std.specs.Fmt.{decimal, digits}
 use Rattle.std.specs.List.{ends_with}
 use Rattle.rv_asm.specs.Assembly.{Assembly, assembled}
 use Rattle.rv_program.specs.declared.fault.AsmFault.{AsmFault}
@@ -23,26 +22,13 @@ use Rattle.rv_tokens.specs.Lines.{lines}
 use Rattle.rv_words.specs.declared.Options.{Options}
 use Rattle.rv_texts.specs.Faults.{ended}
 use Rattle.rv_texts.specs.Readers.{Texts}
+use Rattle.rv_texts.specs.Status.{status_text}
 use Rattle.rv_texts.specs.declared.fault.CliFault.{CliFault}
 use Rattle.rv_texts.specs.declared.fault.CliFault.TheVariants.{Source, Input, BadPages, BadSlots, ImageTooLarge}
 use Rattle.rv_texts.specs.declared.fault.Ending.{Ending}
 use Rattle.rv_texts.specs.declared.fault.Ending.TheVariants.{Halted, Running}
 
 -- ---- the text of a board
-
--- a number in hexadecimal, with zeros in front up to eight digits
-abbrev pub eight_digits : ℕ → List ℕ
-eight_digits n = replicate (8 - length (digits 16 false n)) 48 ++ digits 16 false n
-
--- halted with a code, or running at a pc
-abbrev pub stand_of : Option ℕ → ℕ → List ℕ
-stand_of (Some code) pc = codes "halted " ++ decimal code
-stand_of None pc = codes "running at " ++ eight_digits pc
-
--- how a board stands after its steps
-abbrev pub status_text : Option ℕ → ℕ → ℕ → List ℕ
-status_text halted pc steps =
-    stand_of halted pc ++ codes " after " ++ decimal steps ++ codes " steps"
 
 -- a text with a line end, unless it is empty or has one at its end
 abbrev pub with_line_end : List ℕ → List ℕ

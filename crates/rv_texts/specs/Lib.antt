@@ -2,5 +2,6 @@ pub mod Faults
 pub mod Memory
 pub mod Numbered
 pub mod Readers
+pub mod Status
 pub mod Texts
 pub mod Unread

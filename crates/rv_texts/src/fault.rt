@@ -146,7 +146,7 @@ fn plain_line(fault: CliFault) -> &'static str
 }
 
 /// Appends a text. Refused, it leaves what is there as it was.
-fn append(text: &str, line: &mut Vec<u8>) -> Result<(), NoMemory>
+pub(crate) fn append(text: &str, line: &mut Vec<u8>) -> Result<(), NoMemory>
     ensures ok { OnOk result (line.new.items ≡ line.old.items ++ text.now) }
     ensures err { OnErr result (line.new.items ≡ line.old.items) }
 {
