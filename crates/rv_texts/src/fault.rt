@@ -1,6 +1,7 @@
 //! How a run ends, why one gives no text, the line that says so, and what the program exits with.
 ghost use Rattle.std.specs.Prelude.{◌≡◌, ◌++◌, Err, IfErr, IfOk, Ok, OnErr, OnOk, Some, false};
-ghost use Rattle.rv_texts.specs.Faults.{ended, input_line_of, line_of, read_fault_of, source_line_of, status_of};
+ghost use Rattle.rv_texts.specs.Shown.{StandsBehind};
+ghost use Rattle.rv_texts.specs.Faults.{input_line_of, line_of, read_fault_of, source_line_of, status_of};
 ghost use Rattle.rv_texts.specs.Numbered.{has_number};
 
 use rv_isa::NoMemory;
@@ -146,7 +147,7 @@ fn plain_line(fault: CliFault) -> &'static str
 }
 
 /// Appends a text. Refused, it leaves what is there as it was.
-pub(crate) fn append(text: &str, line: &mut Vec<u8>) -> Result<(), NoMemory>
+fn append(text: &str, line: &mut Vec<u8>) -> Result<(), NoMemory>
     ensures ok { OnOk result (line.new.items ≡ line.old.items ++ text.now) }
     ensures err { OnErr result (line.new.items ≡ line.old.items) }
 {
@@ -154,21 +155,12 @@ pub(crate) fn append(text: &str, line: &mut Vec<u8>) -> Result<(), NoMemory>
     Ok(())
 }
 
-/// Appends the line of a source that can't be assembled.
-fn append_source_line(fault: AsmFault, line: &mut Vec<u8>) -> Result<(), NoMemory>
-    ensures ok { OnOk result (line.new.items ≡ line.old.items ++ ended (source_line_of fault)) }
+/// Appends what is shown, with a line end. Refused, it leaves what is there as it was.
+pub(crate) fn append_line<D: fmt::Display>(shown: &D, line: &mut Vec<u8>) -> Result<(), NoMemory>
+    ensures ok { OnOk result (StandsBehind (D.output shown.now) line.old.items line.new.items) }
     ensures err { OnErr result (line.new.items ≡ line.old.items) }
 {
-    let text = format!(in *line.allocator(); "{}\n", SourceLine(fault))?;
-    append(&text, line)
-}
-
-/// Appends the line of a timed list that is refused.
-fn append_input_line(number: usize, line: &mut Vec<u8>) -> Result<(), NoMemory>
-    ensures ok { OnOk result (line.new.items ≡ line.old.items ++ ended (input_line_of number)) }
-    ensures err { OnErr result (line.new.items ≡ line.old.items) }
-{
-    let text = format!(in *line.allocator(); "{}\n", InputLine(number))?;
+    let text = format!(in *line.allocator(); "{shown}\n")?;
     append(&text, line)
 }
 
@@ -178,8 +170,8 @@ pub fn fault_line(fault: &CliFault, line: &mut Vec<u8>) -> Result<(), NoMemory>
     ensures err { OnErr result (line.new.items ≡ line.old.items) }
 {
     match *fault {
-        CliFault::Source(fault) => append_source_line(fault, line),
-        CliFault::Input(number) => append_input_line(number, line),
+        CliFault::Source(fault) => append_line(&SourceLine(fault), line),
+        CliFault::Input(number) => append_line(&InputLine(number), line),
         other => append(plain_line(other), line),
     }
 }

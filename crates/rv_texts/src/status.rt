@@ -3,7 +3,7 @@ ghost use Rattle.std.specs.Prelude.{◌≡◌, ◌++◌, OnErr, OnOk, Some};
 ghost use Rattle.rv_texts.specs.Faults.{ended};
 ghost use Rattle.rv_texts.specs.Status.{eight_digits, status_text};
 
-use crate::fault::append;
+use crate::fault::append_line;
 use rv_isa::NoMemory;
 use std::fmt;
 
@@ -52,6 +52,5 @@ pub fn status_line(status: Status, line: &mut Vec<u8>) -> Result<(), NoMemory>
     ensures ok { OnOk result (line.new.items ≡ line.old.items ++ ended (status_text status.halted status.pc status.steps)) }
     ensures err { OnErr result (line.new.items ≡ line.old.items) }
 {
-    let text = format!(in *line.allocator(); "{status}\n")?;
-    append(&text, line)
+    append_line(&status, line)
 }
