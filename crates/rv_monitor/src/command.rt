@@ -127,19 +127,20 @@ impl<M: ByteMemory, C: Decoded> Session<M, C> {
         requires { IsNamed command }
         ensures { Answered (Some command.entry) (vec_capacity text.old - vec_len text.old) self.old self.new text.old.items text.new.items result }
     {
+        let board = self.board();
         match command {
             Command::Step { count } => self.answer_step(count, text),
             Command::Go { count } => self.answer_go(count, text),
             Command::SetBreak { addr } => self.answer_set(addr, text),
             Command::ClearBreak { addr } => self.answer_clear(addr, text),
-            Command::Registers => write_registers(self.board(), text),
+            Command::Registers => write_registers(board, text),
             Command::ControlRegister { name, csr } => {
-                write_control_register(self.board(), name.bytes(), csr, text)
+                write_control_register(board, name.bytes(), csr, text)
             }
-            Command::Memory { addr, count } => write_memory(self.board(), addr, count, text),
-            Command::Instruction { addr } => write_instruction(self.board(), addr, text),
-            Command::Traps => write_traps(self.board(), text),
-            Command::Edges { source } => write_edges(self.board(), source, text),
+            Command::Memory { addr, count } => write_memory(board, addr, count, text),
+            Command::Instruction { addr } => write_instruction(board, addr, text),
+            Command::Traps => write_traps(board, text),
+            Command::Edges { source } => write_edges(board, source, text),
             Command::Quit | Command::Nothing => Ok(()),
         }
     }
