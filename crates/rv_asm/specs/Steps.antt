@@ -1,7 +1,7 @@
 -- What the program keeps from line to line, and how it goes on. That the whole is what
 -- Assembly.antt says is proved in proofs/.
 -- Not to audit: private contracts alone cite this.
-use Rattle.std.specs.Prelude.{◌≡◌, ℕ, suc, ◌+◌, List, [], ◌∷◌, ◌++◌, length, ℤ, pos, true, Option, Some, None, is_some, if◌then◌else◌, Result, Ok, Err}
+use Rattle.std.specs.Prelude.{◌≡◌, ◌<◌, ◌≤◌, ℕ, suc, ◌+◌, List, [], ◌∷◌, ◌++◌, length, ℤ, pos, true, Option, Some, None, is_some, if◌then◌else◌, Result, Ok, Err}
 use Rattle.std.specs.Option.{option_map, unwrap_or}
 use Rattle.rv_isa.specs.declared.kind.Kind.{Kind}
 use Rattle.rv_source.specs.Said.{Said}
@@ -52,6 +52,11 @@ placed k known statement = elim (statement_fault k known statement) as (λ _. Re
   | Some kind ↦ Err kind
   | None ↦ Ok (record { line = k; address = known.address; constant = unwrap_or (constant_of k known statement) (pos 0); statement = statement })
 ]
+
+-- the address of what follows, or None where it is past the last byte that an image may have
+abbrev pub Ends : Option ℕ → ℕ → Type 0
+Ends None end = 0x81000000 < end
+Ends (Some e) end = (e ≡ end) × (e ≤ 0x81000000)
 
 -- the address of what follows an item
 abbrev pub end_of : Item → ℕ
