@@ -194,8 +194,7 @@ impl<'a> Scope<'a> {
         ensures { KindBecomes out.new.items result (appended out.old.items (words_of (instructions (sum_value self.now.symbols.now self.now.line self.now.here) self.now.here constant statement.now))) }
     {
         let instructions = self.instructions(constant, statement)?;
-        instructions.write(out)?;
-        Ok(())
+        instructions.write(out)
     }
 
     /// Appends values, each in as many bytes as the width has. One that isn't defined comes before one out of range.

@@ -7,7 +7,7 @@ use crate::FaultKind;
 use crate::asked::{constant, end_of, is_instruction, multiple_of};
 use crate::data::{self, pad};
 use crate::emission::Scope;
-use crate::instructions::Instructions;
+use crate::instructions::write_instr;
 use crate::symbols::Symbols;
 use crate::values::bits;
 use rv_isa::Instr;
@@ -163,7 +163,7 @@ impl<'a> Placed<'a> {
         ensures { KindBecomes out.new.items result (appended out.old.items (item_bytes symbols.now self.now)) }
     {
         if let Some(instr) = self.instr {
-            return Ok(Instructions::one(instr).write(out)?);
+            return write_instr(instr, out);
         }
         // The line was read before, so that only memory can be missing.
         let Ok(line) = read_line(alloc, self.text) else {
