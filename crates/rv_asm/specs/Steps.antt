@@ -104,12 +104,12 @@ pub record State : Type 0 where
   pub known : Known
   pub items : List Item
 
-abbrev pub nothing : State
-nothing = record { known = start; items = [] }
+abbrev pub laid : Known → List Item → State
+laid known items = record { known = known; items = items }
 
 abbrev pub after_statement : ℕ → Known → List Item → Option Statement → Result State FaultKind
-after_statement k known items None = Ok (record { known = known; items = items })
-after_statement k known items (Some statement) = newly_stated k known statement >>= λ p. Ok (record { known = p.0; items = items ++ p.1 ∷ [] })
+after_statement k known items None = Ok (laid known items)
+after_statement k known items (Some statement) = newly_stated k known statement >>= λ p. Ok (laid p.0 (items ++ p.1 ∷ []))
 
 -- one more line, which is line k
 unfoldable pub after_line : ℕ → State → Said → Result State FaultKind
