@@ -66,8 +66,7 @@ impl Known {
                     line,
                     address: self.address,
                 };
-                self.symbols.locals.define(alloc, label)?;
-                return Ok(());
+                self.symbols.locals.define(alloc, label)
             }
         }
     }
