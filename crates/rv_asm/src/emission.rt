@@ -4,12 +4,13 @@ ghost use Rattle.std.specs.Option.{ok_or};
 ghost use Rattle.rv_isa.specs.Number.{IsWithin};
 ghost use Rattle.rv_asm.specs.Kept.{KindBecomes, words_of, filled, valued};
 ghost use Rattle.rv_program.specs.declared.fault.FaultKind.TheVariants.{OutOfRange};
-ghost use Rattle.rv_asm.specs.Steps.{appended};
+ghost use Rattle.rv_asm.specs.Steps.{IsTaken, appended};
 ghost use Rattle.rv_asm.specs.Symbols.{sum_value};
 ghost use Rattle.rv_asm.specs.Values.{immediate, upper_immediate, five_bits, distance, hi, lo, far};
-ghost use Rattle.rv_asm.specs.Listing.{wanted, part_of, immediate_of, upper_of, pair, fill_of, sums_bytes, instructions};
+ghost use Rattle.rv_asm.specs.Listing.{wanted, part_of, immediate_of, upper_of, pair, fill_of, sums_bytes, instructions, statement_bytes};
 
-use crate::data::{self, write_value};
+use crate::asked::multiple_of;
+use crate::data::{self, pad, write_value};
 use crate::instructions::{Instructions, auipc, branch, csr_imm, jal, lui, shift, with_immediate};
 use crate::symbols::Symbols;
 use crate::values::{
@@ -185,7 +186,7 @@ impl<'a> Scope<'a> {
     }
 
     /// Appends the words of a statement that is placed as instructions.
-    pub fn write_instructions(
+    fn write_instructions(
         &self,
         constant: i64,
         statement: &Statement,
@@ -198,7 +199,7 @@ impl<'a> Scope<'a> {
     }
 
     /// Appends values, each in as many bytes as the width has. One that isn't defined comes before one out of range.
-    pub fn write_values(
+    fn write_values(
         &self,
         width: Width,
         values: &[Expression],
@@ -242,7 +243,7 @@ impl<'a> Scope<'a> {
     }
 
     /// Appends a space: the byte that fills it again and again.
-    pub fn write_space(
+    fn write_space(
         &self,
         size: u32,
         fill: &Option<Expression>,
@@ -253,5 +254,28 @@ impl<'a> Scope<'a> {
         let byte = self.fill(fill)?;
         data::fill(size, byte, out)?;
         Ok(())
+    }
+
+    /// Appends the bytes of a statement, with its values put in.
+    #[tactic(auto, unfolding(crate::specs::Listing::statement_bytes))]
+    pub fn write(
+        &self,
+        constant: i64,
+        statement: &Statement,
+        out: &mut Vec<u8>,
+    ) -> Result<(), FaultKind>
+        requires { IsTaken constant statement.now }
+        ensures { KindBecomes out.new.items result (appended out.old.items (statement_bytes (sum_value self.now.symbols.now self.now.line self.now.here) self.now.here constant statement.now)) }
+    {
+        match statement {
+            Statement::Data { width, values } => self.write_values(*width, values.as_slice(), out),
+            Statement::Bytes(bytes) => data::append(bytes.as_slice(), out),
+            Statement::Space { fill, .. } => self.write_space(bits(constant), fill, out),
+            Statement::WithValue {
+                taker: ValueTaker::Align | ValueTaker::Balign,
+                ..
+            } => pad(self.here, multiple_of(constant, statement), out),
+            statement => self.write_instructions(constant, statement, out),
+        }
     }
 }
