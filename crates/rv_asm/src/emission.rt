@@ -14,7 +14,7 @@ use crate::data::{self, pad, write_value};
 use crate::instructions::{Instructions, auipc, branch, csr_imm, jal, lui, shift, with_immediate};
 use crate::symbols::Symbols;
 use crate::values::{
-    bits, branch_distance, far, fits, five_bits, hi, high, jump_distance, lo, loading, low,
+    bits, branch_distance, byte, far, fits, five_bits, hi, high, jump_distance, lo, loading, low,
     upper_immediate,
 };
 use crate::{FaultKind, values};
@@ -114,13 +114,6 @@ impl<'a> Scope<'a> {
         self.symbols.sum(expression, self.line, self.here)
     }
 
-    /// The value of an expression that has to be defined.
-    fn known(&self, expression: &Expression) -> Result<i64, FaultKind>
-        ensures { result ≡ wanted (λ v. Some v) (sum_value self.now.symbols.now self.now.line self.now.here expression.now) }
-    {
-        self.value(expression).ok_or(FaultKind::Undefined)
-    }
-
     /// An immediate of twelve bits.
     fn immediate(&self, immediate: &Immediate) -> Result<i32, FaultKind>
         ensures value { result ≡ immediate_of (sum_value self.now.symbols.now self.now.line self.now.here) immediate.now }
@@ -128,8 +121,14 @@ impl<'a> Scope<'a> {
     {
         match immediate {
             Immediate::Zero => Ok(0),
-            Immediate::Sum(sum) => values::immediate(self.known(sum)?).ok_or(FaultKind::OutOfRange),
-            Immediate::Low(sum) => low(self.known(sum)?).ok_or(FaultKind::OutOfRange),
+            Immediate::Sum(sum) => match self.value(sum) {
+                Some(value) => values::immediate(value).ok_or(FaultKind::OutOfRange),
+                None => Err(FaultKind::Undefined),
+            },
+            Immediate::Low(sum) => match self.value(sum) {
+                Some(value) => low(value).ok_or(FaultKind::OutOfRange),
+                None => Err(FaultKind::Undefined),
+            },
         }
     }
 
@@ -139,8 +138,14 @@ impl<'a> Scope<'a> {
         ensures within { IfOk result (λ imm. imm < 2 ^ 20) }
     {
         match upper {
-            Upper::Sum(sum) => upper_immediate(self.known(sum)?).ok_or(FaultKind::OutOfRange),
-            Upper::High(sum) => high(self.known(sum)?).ok_or(FaultKind::OutOfRange),
+            Upper::Sum(sum) => match self.value(sum) {
+                Some(value) => upper_immediate(value).ok_or(FaultKind::OutOfRange),
+                None => Err(FaultKind::Undefined),
+            },
+            Upper::High(sum) => match self.value(sum) {
+                Some(value) => high(value).ok_or(FaultKind::OutOfRange),
+                None => Err(FaultKind::Undefined),
+            },
         }
     }
 
@@ -231,14 +236,10 @@ impl<'a> Scope<'a> {
     {
         match fill {
             None => Ok(0),
-            Some(sum) => {
-                let value = self.known(sum)?;
-                if fits(Width::One, value) {
-                    Ok(value.rem_euclid(0x100) as u8)
-                } else {
-                    Err(FaultKind::OutOfRange)
-                }
-            }
+            Some(sum) => match self.value(sum) {
+                Some(value) => byte(value).ok_or(FaultKind::OutOfRange),
+                None => Err(FaultKind::Undefined),
+            },
         }
     }
 

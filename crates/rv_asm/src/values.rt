@@ -1,5 +1,6 @@
 //! Values in the places of a statement.
-ghost use Rattle.std.specs.Prelude.{◌≡◌, ◌==◌, ◌<◌, ◌≤◌, ◌^◌, IfSome};
+ghost use Rattle.std.specs.Prelude.{◌≡◌, ◌==◌, ◌<◌, ◌≤◌, ◌^◌, Some, None, IfSome, if◌then◌else◌};
+ghost use Rattle.rv_isa.specs.declared.op.Width.TheVariants.{One};
 ghost use Rattle.rv_isa.specs.Number.{IsWithin, IsDistance, modulo};
 ghost use Rattle.rv_asm.specs.Values.{is_between, is_word, fits, immediate, upper_immediate, five_bits, distance, hi, lo, far, loading, gap};
 ghost use Rattle.rv_asm.specs.Listing.{part_of};
@@ -43,6 +44,17 @@ pub fn bits(value: i64) -> u32
     ensures { result ≡ modulo value (2 ^ 32) }
 {
     value.rem_euclid(0x1_0000_0000) as u32
+}
+
+/// The byte that a value stands for.
+pub fn byte(value: i64) -> Option<u8>
+    ensures { result ≡ (if fits One value then Some (modulo value (2 ^ 8)) else None) }
+{
+    if fits(Width::One, value) {
+        Some(value.rem_euclid(0x100) as u8)
+    } else {
+        None
+    }
 }
 
 /// The immediate of an I-type or S-type instruction that a value stands for.
