@@ -57,8 +57,10 @@ impl Known {
                     return Err(FaultKind::DuplicateSymbol);
                 }
                 let address = i64::from(self.address);
-                self.symbols.names.define(alloc, name.bytes(), address)?;
-                return Ok(());
+                match self.symbols.names.define(alloc, name.bytes(), address) {
+                    Ok(()) => Ok(()),
+                    Err(_) => Err(FaultKind::OutOfMemory),
+                }
             }
             Label::Local(number) => {
                 let label = LocalLabel {
