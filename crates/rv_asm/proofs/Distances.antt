@@ -1,5 +1,5 @@
 -- Distances of jumps and branches, which are even.
-use Rattle.std.proofs.Common.{◌≡◌, ℕ, ◌<◌, ◌^◌, ◌==◌, ◌&&◌, Bool, true, false, ℤ, pos, negsuc, refl, arith}
+use Rattle.std.proofs.Common.{◌≡◌, ℕ, ◌^◌, ◌==◌, ◌&&◌, Bool, true, false, ℤ, pos, negsuc, refl, arith}
 use Rattle.std.proofs.lemmas.Bool.Decides.{nat_tests}
 use Rattle.rv_isa.specs.Number.{IsWithin, IsDistance, modulo}
 use Rattle.rv_asm.specs.Values.{is_between}

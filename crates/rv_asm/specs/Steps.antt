@@ -14,7 +14,7 @@ use Rattle.rv_program.specs.declared.fault.FaultKind.{FaultKind}
 use Rattle.rv_program.specs.declared.fault.FaultKind.TheVariants.{DuplicateSymbol}
 use Rattle.rv_program.specs.declared.fault.AsmFault.{AsmFault}
 use Rattle.rv_asm.specs.Symbols.{Definitions, value_of, sum_value}
-use Rattle.rv_asm.specs.Layout.{Known, joined, line_at, start, labelled, stated, known_before, known_at, asked, constant, size_of, name_in, constant_of, statement_fault, phase_two_fault}
+use Rattle.rv_asm.specs.Layout.{Known, joined, line_at, labelled, stated, known_before, known_at, asked, constant, size_of, name_in, constant_of, statement_fault, phase_two_fault}
 use Rattle.rv_asm.specs.Listing.{◌>>=◌, bytes, statement_bytes}
 use Rattle.rv_asm.specs.Assembly.{first_fault, phase_one_fault, all_said}
 
