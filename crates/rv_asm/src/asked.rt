@@ -58,7 +58,7 @@ pub fn constant(symbols: &Symbols, line: usize, here: u32, statement: &Statement
         Statement::Constant { value, .. } => {
             between(-0x8000_0000, 0xffff_ffff, symbols.sum(value, line, here))
         }
-        Statement::Space { size, .. } => { between(0, LIMIT as i64, symbols.sum(size, line, here)) }
+        Statement::Space { size, .. } => between(0, LIMIT as i64, symbols.sum(size, line, here)),
         Statement::WithValue {
             taker: ValueTaker::Align,
             value: power,
