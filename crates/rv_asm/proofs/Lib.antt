@@ -1,4 +1,5 @@
 pub mod Sums
+pub mod Distances
 pub mod Nops
 pub mod Always
 pub mod Writing

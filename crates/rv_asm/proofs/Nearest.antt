@@ -1,10 +1,9 @@
 -- Local labels, looked up among those of their number.
-use Rattle.std.proofs.Common.{◌≡◌, ◌∙◌, ℕ, zero, suc, ◌<◌, ◌≤◌, Bool, true, false, ◌==◌, List, [], ◌∷◌, ◌++◌, length, get_or, set, ap, sym, refl, cond, arith}
-use Rattle.std.specs.Prelude.{Option, Some, None, ◌&&◌, nat_lt, nat_le, ◌≢◌}
+use Rattle.std.proofs.Common.{◌≡◌, ◌∙◌, ℕ, zero, suc, ◌<◌, ◌≤◌, Bool, true, false, ◌==◌, List, [], ◌∷◌, ◌++◌, length, get_or, ap, sym, refl, cond, arith}
+use Rattle.std.specs.Prelude.{Option, Some, None, ◌&&◌, nat_lt, nat_le}
 use Rattle.std.specs.Option.{option_or}
 use Rattle.std.specs.List.{AllByRecursion}
 use Rattle.std.proofs.lemmas.Bool.Decides.{nat_tests}
-use Rattle.std.proofs.lemmas.List.{get_or-set_same, get_or-set_other}
 use Rattle.rv_tokens.specs.declared.token.Direction.{Direction}
 use Rattle.rv_tokens.specs.declared.token.Direction.TheVariants.{Backward, Forward}
 use Rattle.rv_asm.specs.declared.locals.LocalLabel.{LocalLabel}
@@ -146,25 +145,17 @@ rises_push : (ds : List LocalLabel) (d : LocalLabel) → Rises ds → AllByRecur
 rises_push [] d r h = (tt, tt)
 rises_push (x ∷ ds) d r h = (all_push (λ e. x.line ≤ e.line) ds d r.0 h.0, rises_push ds d r.1 h.1)
 
-module _ (lists : List (List LocalLabel)) (ds : List LocalLabel) (d : LocalLabel) (listed : AreListed lists ds) (room : d.number < length lists) where
-  each_if : (n : ℕ) (b : Bool) → (d.number == n) ≡ b → get_or (set lists d.number (get_or lists d.number [] ++ d ∷ [])) n [] ≡ cond b (of_number n ds ++ d ∷ []) (of_number n ds)
-  each_if n true e =
-      let is : n ≡ d.number = grind (arith, nat_tests) in
-      rw is (get_or-set_same lists d.number (get_or lists d.number [] ++ d ∷ []) [] room ∙ ap (λ es. es ++ d ∷ []) (listed.each d.number))
-  each_if n false e =
-      let other : n ≢ d.number = λ is. grind (arith, nat_tests) in
-      get_or-set_other lists d.number n (get_or lists d.number [] ++ d ∷ []) [] other ∙ listed.each n
-
-  pub listed_push : AllByRecursion (λ e. e.line ≤ d.line) ds → AreListed (set lists d.number (get_or lists d.number [] ++ d ∷ [])) (ds ++ d ∷ [])
-  listed_push h =
-      record {
-        each = λ n. each_if n (d.number == n) refl ∙ sym (of_push ds d n);
-        rises = rises_push ds d listed.rises h;
-      }
+pub listed_push : (lists new : List (List LocalLabel)) (ds : List LocalLabel) (d : LocalLabel) → AreListed lists ds
+    → ((n : ℕ) → get_or new n [] ≡ cond (d.number == n) (get_or lists n [] ++ d ∷ []) (get_or lists n [])) → AllByRecursion (λ e. e.line ≤ d.line) ds → AreListed new (ds ++ d ∷ [])
+listed_push lists new ds d listed files h =
+    record {
+      each = λ n. files n ∙ ap (λ es. cond (d.number == n) (es ++ d ∷ []) es) (listed.each n) ∙ sym (of_push ds d n);
+      rises = rises_push ds d listed.rises h;
+    }
 
 -- ---- among all numbers
 
-pub get_or_any : (xs : List (List LocalLabel)) (i : ℕ) (d e : List LocalLabel) → i < length xs → get_or xs i d ≡ get_or xs i e
+get_or_any : (xs : List (List LocalLabel)) (i : ℕ) (d e : List LocalLabel) → i < length xs → get_or xs i d ≡ get_or xs i e
 get_or_any [] i d e h = absurd (omega arith)
 get_or_any (x ∷ xs) zero d e h = refl
 get_or_any (x ∷ xs) (suc i) d e h = get_or_any xs i d e (omega arith)

@@ -12,9 +12,9 @@ use Rattle.rv_program.specs.declared.fault.FaultKind.{FaultKind}
 use Rattle.rv_program.specs.declared.fault.FaultKind.TheVariants.{OutOfMemory}
 use Rattle.rv_program.specs.declared.fault.AsmFault.{AsmFault}
 use Rattle.rv_program.specs.Faults.{Fails, Gives, IsFaultAt, kind_of}
-use Rattle.rv_asm.specs.Layout.{first, joined, line_at, blank, known_before}
+use Rattle.rv_asm.specs.Layout.{start, first, joined, line_at, blank, known_before}
 use Rattle.rv_asm.specs.Assembly.{first_fault, phase_one_fault, all_said}
-use Rattle.rv_asm.specs.Steps.{State, nothing, unless, state_at, laid_out, lines_laid_out, extended}
+use Rattle.rv_asm.specs.Steps.{State, laid, unless, state_at, laid_out, lines_laid_out, extended}
 use Rattle.rv_asm.proofs.Labels.{IsUpTo}
 use Rattle.rv_asm.proofs.Laying.{extended_line, up_to_before}
 use Rattle.rv_asm.proofs.Listed.{items_below}
@@ -30,7 +30,7 @@ pub begun : (texts : List (List ℕ)) → SoFar texts texts 0
 unfolding first
 begun texts = record { left = refl; none = refl; within = omega arith }
 
-pub laid_out-zero : (ls : List Said) → laid_out ls 0 ≡ Ok nothing
+pub laid_out-zero : (ls : List Said) → laid_out ls 0 ≡ Ok (laid start [])
 unfolding laid_out first joined known_before
 laid_out-zero ls = refl
 

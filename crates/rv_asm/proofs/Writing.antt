@@ -13,7 +13,7 @@ use Rattle.rv_program.specs.declared.fault.FaultKind.TheVariants.{Undefined, Out
 use Rattle.rv_asm.specs.Kept.{KindBecomes, words_of}
 use Rattle.rv_asm.specs.Values.{fits}
 use Rattle.rv_asm.specs.Listing.{Valuation, ◌>>=◌, instructions, statement_bytes, values_of, data_bytes, value_bytes, sums_bytes}
-use Rattle.rv_asm.specs.Steps.{Item, IsTaken, appended, item_bytes}
+use Rattle.rv_asm.specs.Steps.{Item, appended, item_bytes}
 use Rattle.rv_asm.specs.Symbols.{Definitions, sum_value}
 
 -- one of the values was out of range
@@ -63,15 +63,14 @@ as_words value here c (s.Space size fill) h = absurd cc
 as_words value here c (s.Constant name v) h = refl
 as_words value here c s.Marker h = refl
 
-pub words_written : {A : Type 0} (new out : List ℕ) (result : Result A FaultKind) (ds : Definitions) (item seen : Item) (statement : Statement) → seen ≡ item → statement ≡ item.statement → are_words statement ≡ true
-    → KindBecomes new result (appended out (words_of (instructions (sum_value ds seen.line seen.address) seen.address seen.constant statement))) → KindBecomes new result (appended out (item_bytes ds item))
-words_written new out result ds item seen statement same said h written =
-    let words : are_words item.statement ≡ true = rw said at h in
-    rw (as_words (sum_value ds item.line item.address) item.address item.constant item.statement words) (rw (same, said) at written)
+pub words_written : {A : Type 0} (new out : List ℕ) (result : Result A FaultKind) (value : Valuation) (here : ℕ) (c : ℤ) (statement : Statement) → are_words statement ≡ true
+    → KindBecomes new result (appended out (words_of (instructions value here c statement))) → KindBecomes new result (appended out (statement_bytes value here c statement))
+words_written new out result value here c statement words h = rw (as_words value here c statement words) h
 
--- what a placed statement asked for is what the same statement asks for, read again
-pub taken_again : (item seen : Item) (statement : Statement) → seen ≡ item → statement ≡ item.statement → IsTaken seen.constant seen.statement → IsTaken seen.constant statement
-taken_again item seen statement same said taken = rw (said, sym same) taken
+-- what is written of a statement is what is written of its item
+pub written : {A : Type 0} (new out : List ℕ) (result : Result A FaultKind) (ds : Definitions) (item seen : Item) (statement : Statement) → seen ≡ item → statement ≡ item.statement
+    → KindBecomes new result (appended out (statement_bytes (sum_value ds seen.line seen.address) seen.address seen.constant statement)) → KindBecomes new result (appended out (item_bytes ds item))
+written new out result ds item seen statement same said h = rw (same, said) at h
 
 module _ (value : Valuation) (width : Width) where
   two_appended : (out bs : List ℕ) (r : Result (List ℕ) FaultKind) → appended out (r >>= λ cs. Ok (bs ++ cs)) ≡ appended (out ++ bs) r

@@ -1,7 +1,7 @@
 -- Answers that don't know their line, and what is kept of local labels.
 -- Own language; see docs/ASSEMBLER.md.
 -- Not to audit: private contracts alone cite this.
-use Rattle.std.specs.Prelude.{◌≡◌, ℕ, List, [], ◌∷◌, ℤ, pos, ◌+ℤ◌, ◌≤ℤ◌, ◌==◌, if◌then◌else◌, ◌≤◌, ◌<◌, get_or, length, replicate, Option, Result, Ok, Err}
+use Rattle.std.specs.Prelude.{◌≡◌, ℕ, List, [], ◌∷◌, ◌++◌, ℤ, pos, ◌+ℤ◌, ◌≤ℤ◌, ◌==◌, if◌then◌else◌, ◌≤◌, ◌<◌, get_or, length, replicate, Option, Result, Ok, Err}
 use Rattle.std.specs.List.{AllByRecursion}
 use Rattle.rv_program.specs.declared.fault.FaultKind.{FaultKind}
 use Rattle.rv_program.specs.declared.fault.FaultKind.TheVariants.{OutOfMemory}
@@ -54,6 +54,11 @@ of_number n (d ∷ ds) = if d.number == n then d ∷ of_number n ds else of_numb
 -- all are of one number
 abbrev pub AreOf : ℕ → List LocalLabel → Type 0
 AreOf n ds = AllByRecursion (λ d. d.number ≡ n) ds
+
+-- one more definition at the place of its number, or none where memory ran out
+abbrev pub Files : {A E : Type 0} → List (List LocalLabel) → List (List LocalLabel) → LocalLabel → Result A E → Type 0
+Files old new d (Ok x) = (n : ℕ) → get_or new n [] ≡ (if d.number == n then get_or old n [] ++ d ∷ [] else get_or old n [])
+Files old new d (Err e) = (n : ℕ) → get_or new n [] ≡ get_or old n []
 
 -- no line is before that of an earlier definition
 abbrev pub Rises : List LocalLabel → Type 0

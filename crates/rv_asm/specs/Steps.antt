@@ -1,7 +1,7 @@
 -- What the program keeps from line to line, and how it goes on. That the whole is what
 -- Assembly.antt says is proved in proofs/.
 -- Not to audit: private contracts alone cite this.
-use Rattle.std.specs.Prelude.{◌≡◌, ℕ, suc, ◌+◌, List, [], ◌∷◌, ◌++◌, length, ℤ, pos, true, Option, Some, None, is_some, if◌then◌else◌, Result, Ok, Err}
+use Rattle.std.specs.Prelude.{◌≡◌, ◌<◌, ◌≤◌, ℕ, suc, ◌+◌, List, [], ◌∷◌, ◌++◌, length, ℤ, pos, true, Option, Some, None, is_some, if◌then◌else◌, Result, Ok, Err}
 use Rattle.std.specs.Option.{option_map, unwrap_or}
 use Rattle.rv_isa.specs.declared.kind.Kind.{Kind}
 use Rattle.rv_source.specs.Said.{Said}
@@ -14,7 +14,7 @@ use Rattle.rv_program.specs.declared.fault.FaultKind.{FaultKind}
 use Rattle.rv_program.specs.declared.fault.FaultKind.TheVariants.{DuplicateSymbol}
 use Rattle.rv_program.specs.declared.fault.AsmFault.{AsmFault}
 use Rattle.rv_asm.specs.Symbols.{Definitions, value_of, sum_value}
-use Rattle.rv_asm.specs.Layout.{Known, joined, line_at, start, labelled, stated, known_before, known_at, asked, constant, size_of, name_in, constant_of, statement_fault, phase_two_fault}
+use Rattle.rv_asm.specs.Layout.{Known, joined, line_at, labelled, stated, known_before, known_at, asked, constant, size_of, name_in, constant_of, statement_fault, phase_two_fault}
 use Rattle.rv_asm.specs.Listing.{◌>>=◌, bytes, statement_bytes}
 use Rattle.rv_asm.specs.Assembly.{first_fault, phase_one_fault, all_said}
 
@@ -52,6 +52,11 @@ placed k known statement = elim (statement_fault k known statement) as (λ _. Re
   | Some kind ↦ Err kind
   | None ↦ Ok (record { line = k; address = known.address; constant = unwrap_or (constant_of k known statement) (pos 0); statement = statement })
 ]
+
+-- the address of what follows, or None where it is past the last byte that an image may have
+abbrev pub Ends : Option ℕ → ℕ → Type 0
+Ends None end = 0x81000000 < end
+Ends (Some e) end = (e ≡ end) × (e ≤ 0x81000000)
 
 -- the address of what follows an item
 abbrev pub end_of : Item → ℕ
@@ -99,12 +104,12 @@ pub record State : Type 0 where
   pub known : Known
   pub items : List Item
 
-abbrev pub nothing : State
-nothing = record { known = start; items = [] }
+abbrev pub laid : Known → List Item → State
+laid known items = record { known = known; items = items }
 
 abbrev pub after_statement : ℕ → Known → List Item → Option Statement → Result State FaultKind
-after_statement k known items None = Ok (record { known = known; items = items })
-after_statement k known items (Some statement) = newly_stated k known statement >>= λ p. Ok (record { known = p.0; items = items ++ p.1 ∷ [] })
+after_statement k known items None = Ok (laid known items)
+after_statement k known items (Some statement) = newly_stated k known statement >>= λ p. Ok (laid p.0 (items ++ p.1 ∷ []))
 
 -- one more line, which is line k
 unfoldable pub after_line : ℕ → State → Said → Result State FaultKind

@@ -1,11 +1,15 @@
 //! What a statement asks for when it is placed, and how many bytes it has.
 ghost use Rattle.std.specs.Prelude.{◌≡◌, ◌≤◌, ◌<◌, ◌+◌, ◌^◌, true, None, IfSome};
-ghost use Rattle.rv_asm.specs.Layout.{is_instruction, is_multiple};
+ghost use Rattle.std.specs.Prelude.{◌*◌, min, option_and_then};
+ghost use Rattle.rv_asm.specs.Values.{is_between};
+ghost use Rattle.rv_asm.specs.Layout.{is_instruction, is_multiple, taken};
 ghost use Rattle.rv_asm.specs.Listing.{multiple_of};
-ghost use Rattle.rv_asm.specs.Steps.{IsTaken, constant_in, size_in};
+ghost use Rattle.rv_isa.specs.Width.{bytes_of};
+ghost use Rattle.rv_asm.specs.Steps.{IsTaken, Ends, constant_in, size_in};
 
 use crate::symbols::Symbols;
-use crate::values::{bits, gap, is_between, is_word, loading};
+use crate::values::{bits, gap, is_between, loading};
+use rv_isa::Width;
 use rv_source::{Statement, ValueTaker};
 
 /// Where the image lies.
@@ -21,6 +25,24 @@ fn is_multiple(value: i64) -> bool
     is_between(1, 4096, value) && 4096 % value == 0
 }
 
+/// A value that is known and lies between two bounds.
+fn between(low: i64, high: i64, value: Option<i64>) -> Option<i64>
+    ensures value { result ≡ option_and_then (taken (is_between low high)) value }
+    ensures taken { IfSome result (λ v. is_between low high v ≡ true) }
+{
+    let value = value?;
+    is_between(low, high, value).then_some(value)
+}
+
+/// A value that is known and a power of two, from 1 to 4096.
+fn multiple(value: Option<i64>) -> Option<i64>
+    ensures value { result ≡ option_and_then (taken is_multiple) value }
+    ensures taken { IfSome result (λ v. is_multiple v ≡ true) }
+{
+    let value = value?;
+    is_multiple(value).then_some(value)
+}
+
 /// The value that has to be known where the statement stands, or 0 where it asks for none; None where the value isn't
 /// known or isn't one that the statement takes.
 #[tactic(auto, unfolding(crate::specs::Steps::constant_in, crate::specs::Steps::IsTaken))]
@@ -32,32 +54,19 @@ pub fn constant(symbols: &Symbols, line: usize, here: u32, statement: &Statement
         Statement::WithValue {
             taker: ValueTaker::Li { .. },
             value,
-        } => {
-            let value = symbols.sum(value, line, here)?;
-            is_word(value).then_some(value)
-        }
+        } => between(-0x8000_0000, 0xffff_ffff, symbols.sum(value, line, here)),
         Statement::Constant { value, .. } => {
-            let value = symbols.sum(value, line, here)?;
-            is_word(value).then_some(value)
+            between(-0x8000_0000, 0xffff_ffff, symbols.sum(value, line, here))
         }
-        Statement::Space { size, .. } => {
-            let size = symbols.sum(size, line, here)?;
-            is_between(0, i64::from(LIMIT), size).then_some(size)
-        }
+        Statement::Space { size, .. } => between(0, LIMIT as i64, symbols.sum(size, line, here)),
         Statement::WithValue {
             taker: ValueTaker::Align,
             value: power,
-        } => {
-            let power = symbols.sum(power, line, here)?;
-            is_between(0, 12, power).then_some(power)
-        }
+        } => between(0, 12, symbols.sum(power, line, here)),
         Statement::WithValue {
             taker: ValueTaker::Balign,
-            value: multiple,
-        } => {
-            let multiple = symbols.sum(multiple, line, here)?;
-            is_multiple(multiple).then_some(multiple)
-        }
+            value,
+        } => multiple(symbols.sum(value, line, here)),
         _ => Some(0),
     }
 }
@@ -82,58 +91,61 @@ pub fn multiple_of(constant: i64, statement: &Statement) -> u32
     }
 }
 
-/// How many bytes a statement has at an address, with the value that it asked for; None where they are more than 32
-/// bits can count.
+/// A count, or the largest number of 32 bits where it is more.
+fn at_most(count: usize) -> u32
+    ensures { result ≡ min count 0xffffffff }
+{
+    count.min(0xffff_ffff) as u32
+}
+
+/// How many bytes values of a width have, or the largest number of 32 bits where they are more.
+fn data_size(width: Width, count: usize) -> u32
+    ensures { result ≡ min (bytes_of width * count) 0xffffffff }
+{
+    match width {
+        Width::One => at_most(count),
+        Width::Two => at_most(count).saturating_mul(2),
+        Width::Four => at_most(count).saturating_mul(4),
+    }
+}
+
+/// How many bytes a statement has at an address, with the value that it asked for, or the largest number of 32 bits
+/// where they are more.
 #[tactic(auto, unfolding(crate::specs::Values::loading, crate::specs::Steps::size_in))]
-pub fn size_of(here: u32, constant: i64, statement: &Statement) -> Option<u32>
+pub fn size_of(here: u32, constant: i64, statement: &Statement) -> u32
     requires { IsTaken constant statement.now }
-    ensures some { IfSome result (λ size. size ≡ size_in here constant statement.now) }
-    ensures none { result ≡ None → 2 ^ 32 ≤ size_in here constant statement.now }
+    ensures { result ≡ min (size_in here constant statement.now) 0xffffffff }
 {
     match statement {
         Statement::WithValue {
             taker: ValueTaker::Li { rd },
             ..
-        } => Some(loading(*rd, bits(constant)).size()),
+        } => loading(*rd, bits(constant)).size(),
         Statement::WithValue {
-            taker: ValueTaker::La { .. },
+            taker: ValueTaker::La { .. }
+            | ValueTaker::Call { .. }
+            | ValueTaker::LoadFrom { .. }
+            | ValueTaker::StoreTo { .. },
             ..
-        } => Some(8),
-        Statement::WithValue {
-            taker: ValueTaker::Call { .. },
-            ..
-        } => Some(8),
-        Statement::WithValue {
-            taker: ValueTaker::LoadFrom { .. },
-            ..
-        } => Some(8),
-        Statement::WithValue {
-            taker: ValueTaker::StoreTo { .. },
-            ..
-        } => Some(8),
-        Statement::Data { width, values } => {
-            let count = u32::try_from(values.as_slice().len()).ok()?;
-            count.checked_mul(width.bytes())
-        }
-        Statement::Bytes(bytes) => u32::try_from(bytes.as_slice().len()).ok(),
-        Statement::Space { .. } => Some(bits(constant)),
+        } => 8,
+        Statement::Data { width, values } => data_size(*width, values.as_slice().len()),
+        Statement::Bytes(bytes) => at_most(bytes.as_slice().len()),
+        Statement::Space { .. } => bits(constant),
         Statement::WithValue {
             taker: ValueTaker::Align | ValueTaker::Balign,
             ..
-        } => Some(gap(here, multiple_of(constant, statement))),
-        Statement::Constant { .. } => Some(0),
-        Statement::Marker => Some(0),
-        _ => Some(4),
+        } => gap(here, multiple_of(constant, statement)),
+        Statement::Constant { .. } | Statement::Marker => 0,
+        _ => 4,
     }
 }
 
 /// The address of what follows a statement; None where it is past the last byte that an image may have.
 pub fn end_of(here: u32, constant: i64, statement: &Statement) -> Option<u32>
     requires { IsTaken constant statement.now }
-    ensures some { IfSome result (λ end. (end ≡ here + size_in here constant statement.now) × (end ≤ 0x81000000)) }
-    ensures none { result ≡ None → 0x81000000 < here + size_in here constant statement.now }
+    ensures { Ends result (here + size_in here constant statement.now) }
 {
-    let end = here.checked_add(size_of(here, constant, statement)?)?;
+    let end = here.saturating_add(size_of(here, constant, statement));
     (end <= BASE + LIMIT).then_some(end)
 }
 

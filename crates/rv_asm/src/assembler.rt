@@ -1,15 +1,16 @@
 //! From source to image.
-ghost use Rattle.std.specs.Prelude.{◌≡◌, ◌≤◌, ◌<◌, Result, Ok, IfOk, IfErr, OnOk, length};
+ghost use Rattle.std.specs.Prelude.{◌≡◌, ◌≤◌, ◌<◌, [], Result, Ok, IfOk, IfErr, OnOk, length};
 ghost use Rattle.std.specs.List.{All};
 ghost use Rattle.rv_tokens.specs.Lines.{lines};
 ghost use Rattle.rv_source.specs.Reading.{said};
 ghost use Rattle.rv_program.specs.declared.fault.AsmFault.{AsmFault};
 ghost use Rattle.rv_program.specs.Faults.{Gives};
 ghost use Rattle.rv_asm.specs.Assembly.{assembled};
-ghost use Rattle.rv_asm.specs.Steps.{State, nothing, extended, lines_laid_out, image_of};
+ghost use Rattle.rv_asm.specs.Layout.{start};
+ghost use Rattle.rv_asm.specs.Steps.{State, laid, extended, lines_laid_out, image_of};
 ghost use Rattle.rv_asm.specs.Taken.{so_far, IsUnread};
 
-use crate::layout::Layout;
+use crate::layout::Known;
 use crate::placed::Placed;
 use crate::symbols::Symbols;
 use crate::{AsmFault, FaultKind, Program};
@@ -35,34 +36,40 @@ fn add<'a>(
     number: usize,
     text: &'a [u8],
     line: &Line,
-    layout: &mut Layout<'a>,
+    known: &mut Known,
+    items: &mut Vec<Placed<'a>>,
     fault: &mut Option<AsmFault>,
 )
-    requires up_to { IfOk (so_far fault.old layout.old) (λ l. All (λ d. d.line ≤ number) l.known.definitions.locals) }
+    requires up_to { IfOk (so_far fault.old (laid known.old items.old.items)) (λ l. All (λ d. d.line ≤ number) l.known.definitions.locals) }
     requires counted { number < 0xffffffffffffffff }
     requires read { said text.now ≡ Ok line.now }
-    ensures { (m : Result State AsmFault) → Gives (λ l. l) (so_far fault.old layout.old) m → Gives (λ l. l) (so_far fault.new layout.new) (extended number line.now m) }
+    ensures { (m : Result State AsmFault) → Gives (λ l. l) (so_far fault.old (laid known.old items.old.items)) m → Gives (λ l. l) (so_far fault.new (laid known.new items.new.items)) (extended number line.now m) }
 {
     if fault.is_some() {
         return;
     }
-    if let Err(kind) = layout.add(alloc, number, text, line) {
+    if let Err(kind) = known.add(alloc, number, text, line, items) {
         *fault = Some(AsmFault::at(number + 1, kind));
     }
 }
 
 /// Reads the lines, and lays them out up to the first that has a fault in phase two: a later line that can't be read
 /// comes before that fault.
-fn lay_out<'a>(alloc: Global, source: &'a [u8], layout: &mut Layout<'a>) -> Result<(), AsmFault>
-    requires { layout.old ≡ nothing }
-    ensures layout { Gives (λ _. layout.new) result (lines_laid_out (lines source.now)) }
-    ensures within { OnOk result (All (λ i. i.line < length source.now) layout.new.items) }
+fn lay_out<'a>(
+    alloc: Global,
+    source: &'a [u8],
+    known: &mut Known,
+    items: &mut Vec<Placed<'a>>,
+) -> Result<(), AsmFault>
+    requires { laid known.old items.old.items ≡ laid start [] }
+    ensures layout { Gives (λ _. laid known.new items.new.items) result (lines_laid_out (lines source.now)) }
+    ensures within { OnOk result (All (λ i. i.line < length source.now) items.new.items) }
 {
     let mut fault = None;
     let mut number: usize = 0;
     for text in cut_lines(source) {
         match read(alloc, number, text) {
-            Ok(line) => add(alloc, number, text, &line, layout, &mut fault),
+            Ok(line) => add(alloc, number, text, &line, known, items, &mut fault),
             Err(unread) => return Err(unread),
         }
         number += 1;
@@ -92,8 +99,9 @@ fn image(alloc: Global, items: &[Placed], symbols: &Symbols) -> Result<Vec<u8>, 
 pub fn assemble(alloc: Global, source: &[u8]) -> Result<Program, AsmFault>
     ensures { Gives (λ p. p) result (assembled source.now) }
 {
-    let mut layout = Layout::new(alloc);
-    lay_out(alloc, source, &mut layout)?;
-    let bytes = image(alloc, layout.items(), layout.symbols())?;
-    Ok(Program::new(bytes, layout.into_names()))
+    let mut known = Known::new(alloc);
+    let mut items = Vec::new(alloc);
+    lay_out(alloc, source, &mut known, &mut items)?;
+    let bytes = image(alloc, &items, known.symbols())?;
+    Ok(Program::new(bytes, known.into_names()))
 }

@@ -32,8 +32,8 @@ pub fn fill(count: u32, byte: u8, out: &mut Vec<u8>) -> Result<(), AllocError>
 }
 
 /// Appends words of `nop`.
-fn write_nops(count: u32, out: &mut Vec<u8>) -> Result<(), AllocError>
-    ensures { OnOk result (out.new.items ≡ out.old.items ++ bytes (nops count)) }
+fn write_nops(count: u32, out: &mut Vec<u8>) -> Result<(), FaultKind>
+    ensures { KindBecomes out.new.items result (Ok (out.old.items ++ bytes (nops count))) }
 {
     let nop = encode(op_imm(ImmOp::Addi, zero(), zero(), 0));
     for _ in 0..count {
@@ -50,8 +50,7 @@ pub fn pad(here: u32, multiple: u32, out: &mut Vec<u8>) -> Result<(), FaultKind>
     let count = gap(here, multiple);
     let zeros = count.min(gap(here, 4));
     fill(zeros, 0, out)?;
-    write_nops((count - zeros) / 4, out)?;
-    Ok(())
+    write_nops((count - zeros) / 4, out)
 }
 
 /// Appends bytes.

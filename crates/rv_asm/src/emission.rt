@@ -4,16 +4,17 @@ ghost use Rattle.std.specs.Option.{ok_or};
 ghost use Rattle.rv_isa.specs.Number.{IsWithin};
 ghost use Rattle.rv_asm.specs.Kept.{KindBecomes, words_of, filled, valued};
 ghost use Rattle.rv_program.specs.declared.fault.FaultKind.TheVariants.{OutOfRange};
-ghost use Rattle.rv_asm.specs.Steps.{appended};
+ghost use Rattle.rv_asm.specs.Steps.{IsTaken, appended};
 ghost use Rattle.rv_asm.specs.Symbols.{sum_value};
 ghost use Rattle.rv_asm.specs.Values.{immediate, upper_immediate, five_bits, distance, hi, lo, far};
-ghost use Rattle.rv_asm.specs.Listing.{wanted, part_of, immediate_of, upper_of, pair, fill_of, sums_bytes, instructions};
+ghost use Rattle.rv_asm.specs.Listing.{wanted, part_of, immediate_of, upper_of, pair, fill_of, sums_bytes, instructions, statement_bytes};
 
-use crate::data::{self, write_value};
+use crate::asked::multiple_of;
+use crate::data::{self, pad, write_value};
 use crate::instructions::{Instructions, auipc, branch, csr_imm, jal, lui, shift, with_immediate};
 use crate::symbols::Symbols;
 use crate::values::{
-    bits, branch_distance, far, fits, five_bits, hi, high, jump_distance, lo, loading, low,
+    bits, branch_distance, byte, far, fits, five_bits, hi, high, jump_distance, lo, loading, low,
     upper_immediate,
 };
 use crate::{FaultKind, values};
@@ -113,13 +114,6 @@ impl<'a> Scope<'a> {
         self.symbols.sum(expression, self.line, self.here)
     }
 
-    /// The value of an expression that has to be defined.
-    fn known(&self, expression: &Expression) -> Result<i64, FaultKind>
-        ensures { result ≡ wanted (λ v. Some v) (sum_value self.now.symbols.now self.now.line self.now.here expression.now) }
-    {
-        self.value(expression).ok_or(FaultKind::Undefined)
-    }
-
     /// An immediate of twelve bits.
     fn immediate(&self, immediate: &Immediate) -> Result<i32, FaultKind>
         ensures value { result ≡ immediate_of (sum_value self.now.symbols.now self.now.line self.now.here) immediate.now }
@@ -127,8 +121,14 @@ impl<'a> Scope<'a> {
     {
         match immediate {
             Immediate::Zero => Ok(0),
-            Immediate::Sum(sum) => values::immediate(self.known(sum)?).ok_or(FaultKind::OutOfRange),
-            Immediate::Low(sum) => low(self.known(sum)?).ok_or(FaultKind::OutOfRange),
+            Immediate::Sum(sum) => match self.value(sum) {
+                Some(value) => values::immediate(value).ok_or(FaultKind::OutOfRange),
+                None => Err(FaultKind::Undefined),
+            },
+            Immediate::Low(sum) => match self.value(sum) {
+                Some(value) => low(value).ok_or(FaultKind::OutOfRange),
+                None => Err(FaultKind::Undefined),
+            },
         }
     }
 
@@ -138,8 +138,14 @@ impl<'a> Scope<'a> {
         ensures within { IfOk result (λ imm. imm < 2 ^ 20) }
     {
         match upper {
-            Upper::Sum(sum) => upper_immediate(self.known(sum)?).ok_or(FaultKind::OutOfRange),
-            Upper::High(sum) => high(self.known(sum)?).ok_or(FaultKind::OutOfRange),
+            Upper::Sum(sum) => match self.value(sum) {
+                Some(value) => upper_immediate(value).ok_or(FaultKind::OutOfRange),
+                None => Err(FaultKind::Undefined),
+            },
+            Upper::High(sum) => match self.value(sum) {
+                Some(value) => high(value).ok_or(FaultKind::OutOfRange),
+                None => Err(FaultKind::Undefined),
+            },
         }
     }
 
@@ -185,7 +191,7 @@ impl<'a> Scope<'a> {
     }
 
     /// Appends the words of a statement that is placed as instructions.
-    pub fn write_instructions(
+    fn write_instructions(
         &self,
         constant: i64,
         statement: &Statement,
@@ -194,12 +200,11 @@ impl<'a> Scope<'a> {
         ensures { KindBecomes out.new.items result (appended out.old.items (words_of (instructions (sum_value self.now.symbols.now self.now.line self.now.here) self.now.here constant statement.now))) }
     {
         let instructions = self.instructions(constant, statement)?;
-        instructions.write(out)?;
-        Ok(())
+        instructions.write(out)
     }
 
     /// Appends values, each in as many bytes as the width has. One that isn't defined comes before one out of range.
-    pub fn write_values(
+    fn write_values(
         &self,
         width: Width,
         values: &[Expression],
@@ -231,19 +236,15 @@ impl<'a> Scope<'a> {
     {
         match fill {
             None => Ok(0),
-            Some(sum) => {
-                let value = self.known(sum)?;
-                if fits(Width::One, value) {
-                    Ok(value.rem_euclid(0x100) as u8)
-                } else {
-                    Err(FaultKind::OutOfRange)
-                }
-            }
+            Some(sum) => match self.value(sum) {
+                Some(value) => byte(value).ok_or(FaultKind::OutOfRange),
+                None => Err(FaultKind::Undefined),
+            },
         }
     }
 
     /// Appends a space: the byte that fills it again and again.
-    pub fn write_space(
+    fn write_space(
         &self,
         size: u32,
         fill: &Option<Expression>,
@@ -254,5 +255,28 @@ impl<'a> Scope<'a> {
         let byte = self.fill(fill)?;
         data::fill(size, byte, out)?;
         Ok(())
+    }
+
+    /// Appends the bytes of a statement, with its values put in.
+    #[tactic(auto, unfolding(crate::specs::Listing::statement_bytes))]
+    pub fn write(
+        &self,
+        constant: i64,
+        statement: &Statement,
+        out: &mut Vec<u8>,
+    ) -> Result<(), FaultKind>
+        requires { IsTaken constant statement.now }
+        ensures { KindBecomes out.new.items result (appended out.old.items (statement_bytes (sum_value self.now.symbols.now self.now.line self.now.here) self.now.here constant statement.now)) }
+    {
+        match statement {
+            Statement::Data { width, values } => self.write_values(*width, values.as_slice(), out),
+            Statement::Bytes(bytes) => data::append(bytes.as_slice(), out),
+            Statement::Space { fill, .. } => self.write_space(bits(constant), fill, out),
+            Statement::WithValue {
+                taker: ValueTaker::Align | ValueTaker::Balign,
+                ..
+            } => pad(self.here, multiple_of(constant, statement), out),
+            statement => self.write_instructions(constant, statement, out),
+        }
     }
 }

@@ -1,13 +1,14 @@
 //! The instructions of a statement.
-ghost use Rattle.std.specs.Prelude.{◌≡◌, ◌<◌, ◌^◌};
+ghost use Rattle.std.specs.Prelude.{◌≡◌, ◌<◌, ◌^◌, ◌++◌, [], ◌∷◌, Ok};
 ghost use Rattle.rv_isa.specs.Number.{IsWithin, IsDistance};
 ghost use Rattle.rv_isa.specs.Word.{IsInRange};
-ghost use Rattle.rv_asm.specs.Listing.{with_immediate};
+ghost use Rattle.rv_asm.specs.Kept.{KindBecomes};
+ghost use Rattle.rv_asm.specs.Listing.{bytes, with_immediate};
 ghost use Rattle.rv_isa.specs.declared.kind.Kind.TheVariants.{Lui, Auipc, Jal, Jalr, Branch, Load, Store, OpImm, Shift, CsrImm};
 
+use crate::FaultKind;
 use rv_isa::{Cond, CsrOp, ImmOp, Instr, Kind, LoadOp, Reg, ShiftOp, Width, encode};
 use rv_source::{Csr, ImmediateTaker};
-use std::alloc::AllocError;
 use std::marker::Model;
 
 /// At most two instructions.
@@ -37,7 +38,8 @@ impl Model for Instructions {
 }
 
 impl Instructions {
-    ghost use Rattle.std.specs.Prelude.{◌≡◌, ◌++◌, ◌*◌, length, [], ◌∷◌, OnOk, IfSome};
+    ghost use Rattle.std.specs.Prelude.{◌≡◌, ◌++◌, ◌*◌, length, [], ◌∷◌, Ok, IfSome};
+    ghost use Rattle.rv_asm.specs.Kept.{KindBecomes};
     ghost use Rattle.rv_asm.specs.Listing.{bytes};
 
     pub fn none() -> Self
@@ -85,17 +87,25 @@ impl Instructions {
     }
 
     /// Appends the words of the instructions, each with its low byte first.
-    pub fn write(&self, out: &mut Vec<u8>) -> Result<(), AllocError>
-        ensures { OnOk result (out.new.items ≡ out.old.items ++ bytes self.now) }
+    pub fn write(&self, out: &mut Vec<u8>) -> Result<(), FaultKind>
+        ensures { KindBecomes out.new.items result (Ok (out.old.items ++ bytes self.now)) }
     {
         if let Some(first) = self.first {
-            out.extend_from_slice(&encode(first).to_le_bytes())?;
+            write_instr(first, out)?;
         }
-        if let Some(second) = self.second {
-            out.extend_from_slice(&encode(second).to_le_bytes())?;
+        match self.second {
+            Some(second) => write_instr(second, out),
+            None => Ok(()),
         }
-        Ok(())
     }
+}
+
+/// Appends the word of an instruction, its low byte first.
+pub fn write_instr(instr: Instr, out: &mut Vec<u8>) -> Result<(), FaultKind>
+    ensures { KindBecomes out.new.items result (Ok (out.old.items ++ bytes (instr ∷ []))) }
+{
+    out.extend_from_slice(&encode(instr).to_le_bytes())?;
+    Ok(())
 }
 
 /// The register x0.

@@ -15,7 +15,7 @@ use std::marker::Model;
 
 /// What is known in front of a statement: its address, and what was defined so far.
 #[derive(Drop)]
-struct Known {
+pub struct Known {
     address: u32,
     symbols: Symbols,
 }
@@ -29,13 +29,14 @@ impl Model for Known {
 }
 
 impl Known {
-    ghost use Rattle.std.specs.Prelude.{◌≡◌, ◌≤◌, Some};
+    ghost use Rattle.std.specs.Prelude.{◌≡◌, ◌≤◌, Some, Ok};
     ghost use Rattle.std.specs.List.{All};
-    ghost use Rattle.rv_asm.specs.Kept.{KindBecomes, KindGives};
+    ghost use Rattle.rv_source.specs.Reading.{said};
+    ghost use Rattle.rv_asm.specs.Kept.{KindBecomes};
     ghost use Rattle.rv_asm.specs.Layout.{start};
-    ghost use Rattle.rv_asm.specs.Steps.{newly_labelled, all_labelled, newly_stated, statement_in};
+    ghost use Rattle.rv_asm.specs.Steps.{newly_labelled, all_labelled, laid, after_statement, after_line, statement_in};
 
-    fn new(alloc: Global) -> Self
+    pub fn new(alloc: Global) -> Self
         ensures { result ≡ start }
     {
         Known {
@@ -56,8 +57,10 @@ impl Known {
                     return Err(FaultKind::DuplicateSymbol);
                 }
                 let address = i64::from(self.address);
-                self.symbols.names.define(alloc, name.bytes(), address)?;
-                return Ok(());
+                match self.symbols.names.define(alloc, name.bytes(), address) {
+                    Ok(()) => Ok(()),
+                    Err(_) => Err(FaultKind::OutOfMemory),
+                }
             }
             Label::Local(number) => {
                 let label = LocalLabel {
@@ -65,8 +68,7 @@ impl Known {
                     line,
                     address: self.address,
                 };
-                self.symbols.locals.define(alloc, label)?;
-                return Ok(());
+                self.symbols.locals.define(alloc, label)
             }
         }
     }
@@ -82,7 +84,8 @@ impl Known {
         Ok(())
     }
 
-    fn symbols(&self) -> &Symbols
+    /// What was defined.
+    pub fn symbols(&self) -> &Symbols
         ensures { result.now ≡ self.now.definitions }
     {
         &self.symbols
@@ -96,9 +99,10 @@ impl Known {
         line: usize,
         text: &'a [u8],
         statement: &Statement,
-    ) -> Result<Placed<'a>, FaultKind>
+        items: &mut Vec<Placed<'a>>,
+    ) -> Result<(), FaultKind>
         requires { statement_in text.now ≡ Some statement.now }
-        ensures { KindGives (λ item. (self.new, item)) result (newly_stated line self.old statement.now) }
+        ensures { KindBecomes (laid self.new items.new.items) result (after_statement line self.old items.old.items (Some statement.now)) }
     {
         let scope = Scope {
             symbols: self.symbols(),
@@ -110,80 +114,37 @@ impl Known {
             self.symbols.names.define(alloc, name, value)?;
         }
         self.address = item.end();
-        Ok(item)
-    }
-}
-
-/// What is known after some lines, and the statements that they placed.
-#[derive(Drop)]
-pub struct Layout<'a> {
-    known: Known,
-    items: Vec<Placed<'a>>,
-}
-
-impl<'a> Model for Layout<'a> {
-    ghost use Rattle.rv_asm.specs.Steps.{State};
-
-    ghost Value = { State };
-
-    ghost view = { λ l. record { known = l.known; items = l.items.items } };
-}
-
-impl<'a> Layout<'a> {
-    ghost use Rattle.std.specs.Prelude.{◌≡◌, ◌≤◌, Ok};
-    ghost use Rattle.std.specs.List.{All};
-    ghost use Rattle.rv_source.specs.Reading.{said};
-    ghost use Rattle.rv_asm.specs.Kept.{KindBecomes};
-    ghost use Rattle.rv_asm.specs.Steps.{nothing, after_line};
-
-    pub fn new(alloc: Global) -> Self
-        ensures { result ≡ nothing }
-    {
-        Layout {
-            known: Known::new(alloc),
-            items: Vec::new(alloc),
+        if items.push(item).is_err() {
+            return Err(FaultKind::OutOfMemory);
         }
+        Ok(())
     }
 
-    /// Takes one more line, as it is written and as it was read. Its number counts from 0.
+    /// Takes one more line, as it is written and as it was read, and places its statement. Its number counts from 0.
     #[tactic(auto, unfolding(crate::specs::Steps::after_line))]
-    pub fn add(
+    pub fn add<'a>(
         &mut self,
         alloc: Global,
         number: usize,
         text: &'a [u8],
         line: &Line,
+        items: &mut Vec<Placed<'a>>,
     ) -> Result<(), FaultKind>
-        requires up_to { All (λ d. d.line ≤ number) self.old.known.definitions.locals }
+        requires up_to { All (λ d. d.line ≤ number) self.old.definitions.locals }
         requires read { said text.now ≡ Ok line.now }
-        ensures { KindBecomes self.new result (after_line number self.old line.now) }
+        ensures { KindBecomes (laid self.new items.new.items) result (after_line number (laid self.old items.old.items) line.now) }
     {
-        self.known.labels(alloc, number, line.labels())?;
-        if let Some(statement) = line.statement() {
-            let item = self.known.place(alloc, number, text, statement)?;
-            self.items.push(item)?;
+        self.labels(alloc, number, line.labels())?;
+        match line.statement() {
+            Some(statement) => self.place(alloc, number, text, statement, items),
+            None => Ok(()),
         }
-        Ok(())
-    }
-
-    /// The statements in their order.
-    pub fn items(&self) -> &[Placed<'a>]
-        ensures { result.now ≡ self.now.items }
-    {
-        self.items.as_slice()
-    }
-
-    /// What was defined.
-    pub fn symbols(&self) -> &Symbols
-        ensures { result.now ≡ self.now.known.definitions }
-    {
-        &self.known.symbols
     }
 
     /// The names alone.
     pub fn into_names(self) -> Names
-        ensures { result ≡ self.entry.known.definitions.names }
+        ensures { result ≡ self.definitions.names }
     {
-        self.known.symbols.names
+        self.symbols.names
     }
 }

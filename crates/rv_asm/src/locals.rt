@@ -1,7 +1,8 @@
 //! Local labels, which may be defined again and again.
 ghost use Rattle.std.specs.Prelude.{◌≡◌, ◌<◌, ℕ, [], get_or, length, OnOk};
-ghost use Rattle.rv_asm.specs.Kept.{Rises, IsCut};
+ghost use Rattle.rv_asm.specs.Kept.{Rises, IsCut, Files};
 
+use crate::FaultKind;
 use rv_tokens::Direction;
 use std::alloc::{AllocError, Global};
 use std::marker::Model;
@@ -110,6 +111,18 @@ fn make_room(alloc: Global, lists: &mut Vec<Repeated>, number: usize) -> Result<
     Ok(())
 }
 
+/// Adds a definition to those of its number.
+fn file(alloc: Global, lists: &mut Vec<Repeated>, label: LocalLabel) -> Result<(), AllocError>
+    ensures { Files lists.old.items lists.new.items label result }
+{
+    let number = usize::from(label.number);
+    make_room(alloc, lists, number)?;
+    if lists[number].push(label).is_err() {
+        return Err(AllocError);
+    }
+    Ok(())
+}
+
 /// The definitions of local labels, in order.
 pub struct Locals {
     labels: Vec<LocalLabel>,
@@ -140,8 +153,9 @@ impl Model for Locals {
 }
 
 impl Locals {
-    ghost use Rattle.std.specs.Prelude.{◌≡◌, ◌≤◌, [], ◌∷◌, ◌++◌, OnOk, OnErr};
+    ghost use Rattle.std.specs.Prelude.{◌≡◌, ◌≤◌, [], ◌∷◌, ◌++◌, Ok};
     ghost use Rattle.std.specs.List.{All};
+    ghost use Rattle.rv_asm.specs.Kept.{KindBecomes};
     ghost use Rattle.rv_asm.specs.Symbols.{nearest};
 
     pub fn new(alloc: Global) -> Self
@@ -154,21 +168,20 @@ impl Locals {
     }
 
     /// Defines a label, on a line that isn't before those of the others.
-    pub fn define(&mut self, alloc: Global, label: LocalLabel) -> Result<(), AllocError>
+    pub fn define(&mut self, alloc: Global, label: LocalLabel) -> Result<(), FaultKind>
         requires { All (λ d. d.line ≤ label.line) self.old }
-        ensures ok { OnOk result (self.new ≡ self.old ++ label ∷ []) }
-        ensures err { OnErr result (self.new ≡ self.old) }
+        ensures { KindBecomes self.new result (Ok (self.old ++ label ∷ [])) }
     {
-        let number = usize::from(label.number);
-        make_room(alloc, &mut self.by_number, number)?;
         if self.labels.push(label).is_err() {
-            return Err(AllocError);
+            return Err(FaultKind::OutOfMemory);
         }
-        if self.by_number[number].push(label).is_err() {
-            self.labels.truncate(self.labels.len() - 1);
-            return Err(AllocError);
+        match file(alloc, &mut self.by_number, label) {
+            Ok(()) => Ok(()),
+            Err(_) => {
+                self.labels.truncate(self.labels.len() - 1);
+                Err(FaultKind::OutOfMemory)
+            }
         }
-        Ok(())
     }
 
     /// The address that a reference on a line stands for.

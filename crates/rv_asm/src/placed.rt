@@ -4,14 +4,12 @@ ghost use Rattle.rv_asm.specs.Layout.{renames};
 ghost use Rattle.rv_asm.specs.Steps.{IsAlways};
 
 use crate::FaultKind;
-use crate::asked::{constant, end_of, is_instruction, multiple_of};
-use crate::data::{self, pad};
+use crate::asked::{constant, end_of, is_instruction};
 use crate::emission::Scope;
-use crate::instructions::Instructions;
+use crate::instructions::write_instr;
 use crate::symbols::Symbols;
-use crate::values::bits;
 use rv_isa::Instr;
-use rv_source::{Statement, ValueTaker, read_line};
+use rv_source::{Statement, read_line};
 use std::alloc::Global;
 use std::marker::Model;
 
@@ -153,7 +151,7 @@ impl<'a> Placed<'a> {
     }
 
     /// Appends the bytes of the statement, with every name known.
-    #[tactic(auto, using(crate::proofs::Writing::nothing_written))]
+    #[tactic(auto, using(crate::proofs::Writing::nothing_written, crate::proofs::Writing::written))]
     pub fn write(
         &self,
         alloc: Global,
@@ -163,43 +161,20 @@ impl<'a> Placed<'a> {
         ensures { KindBecomes out.new.items result (appended out.old.items (item_bytes symbols.now self.now)) }
     {
         if let Some(instr) = self.instr {
-            return Ok(Instructions::one(instr).write(out)?);
+            return write_instr(instr, out);
         }
         // The line was read before, so that only memory can be missing.
         let Ok(line) = read_line(alloc, self.text) else {
             return Err(FaultKind::OutOfMemory);
         };
-        match line.statement() {
-            Some(statement) => self.write_statement(symbols, statement, out),
-            None => Ok(()),
-        }
-    }
-
-    /// Appends the bytes of the statement, as its line says it.
-    #[tactic(auto, unfolding(crate::specs::Listing::statement_bytes))]
-    fn write_statement(
-        &self,
-        symbols: &Symbols,
-        statement: &Statement,
-        out: &mut Vec<u8>,
-    ) -> Result<(), FaultKind>
-        requires { statement.now ≡ self.now.statement }
-        ensures { KindBecomes out.new.items result (appended out.old.items (item_bytes symbols.now self.now)) }
-    {
         let scope = Scope {
             symbols,
             line: self.line,
             here: self.address,
         };
-        match statement {
-            Statement::Data { width, values } => scope.write_values(*width, values.as_slice(), out),
-            Statement::Bytes(bytes) => data::append(bytes.as_slice(), out),
-            Statement::Space { fill, .. } => scope.write_space(bits(self.constant), fill, out),
-            Statement::WithValue {
-                taker: ValueTaker::Align | ValueTaker::Balign,
-                ..
-            } => pad(self.address, multiple_of(self.constant, statement), out),
-            statement => scope.write_instructions(self.constant, statement, out),
+        match line.statement() {
+            Some(statement) => scope.write(self.constant, statement, out),
+            None => Ok(()),
         }
     }
 }

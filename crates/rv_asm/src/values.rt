@@ -1,5 +1,6 @@
 //! Values in the places of a statement.
-ghost use Rattle.std.specs.Prelude.{◌≡◌, ◌==◌, ◌<◌, ◌≤◌, ◌^◌, IfSome};
+ghost use Rattle.std.specs.Prelude.{◌≡◌, ◌==◌, ◌&&◌, ◌<◌, ◌≤◌, ◌^◌, Some, None, IfSome, if◌then◌else◌};
+ghost use Rattle.rv_isa.specs.declared.op.Width.TheVariants.{One};
 ghost use Rattle.rv_isa.specs.Number.{IsWithin, IsDistance, modulo};
 ghost use Rattle.rv_asm.specs.Values.{is_between, is_word, fits, immediate, upper_immediate, five_bits, distance, hi, lo, far, loading, gap};
 ghost use Rattle.rv_asm.specs.Listing.{part_of};
@@ -13,11 +14,12 @@ pub fn is_between(low: i64, high: i64, value: i64) -> bool
     low <= value && value <= high
 }
 
-/// Whether a value is even. A function of its own, since a remainder of either sign makes a dear goal of each distance.
-fn is_even(value: i64) -> bool
-    ensures { result ≡ (modulo value 2 == 0) }
+/// Whether a value lies between two bounds and is even. A function of its own, since a remainder of either sign makes a
+/// dear goal of each distance.
+fn is_even_between(low: i64, high: i64, value: i64) -> bool
+    ensures { result ≡ (is_between low high value && (modulo value 2 == 0)) }
 {
-    value.rem_euclid(2) == 0
+    is_between(low, high, value) && value.rem_euclid(2) == 0
 }
 
 /// Whether a value is one of 32 bits, with or without a sign.
@@ -45,6 +47,17 @@ pub fn bits(value: i64) -> u32
     value.rem_euclid(0x1_0000_0000) as u32
 }
 
+/// The byte that a value stands for.
+pub fn byte(value: i64) -> Option<u8>
+    ensures { result ≡ (if fits One value then Some (modulo value (2 ^ 8)) else None) }
+{
+    if fits(Width::One, value) {
+        Some(value.rem_euclid(0x100) as u8)
+    } else {
+        None
+    }
+}
+
 /// The immediate of an I-type or S-type instruction that a value stands for.
 pub fn immediate(value: i64) -> Option<i32>
     ensures value { result ≡ immediate value }
@@ -65,8 +78,7 @@ pub fn upper_immediate(value: i64) -> Option<u32>
     ensures within { IfSome result (λ imm. imm < 2 ^ 20) }
 {
     if is_between(-524_288, 1_048_575, value) {
-        let imm = if value < 0 { value + 0x10_0000 } else { value };
-        Some(imm as u32)
+        Some(value.rem_euclid(0x10_0000) as u32)
     } else {
         None
     }
@@ -98,7 +110,7 @@ pub fn jump_distance(here: u32, target: i64) -> Option<i32>
     ensures within { IfSome result (IsDistance (2 ^ 20)) }
 {
     let offset = target.checked_sub(i64::from(here))?;
-    if is_between(-1_048_576, 1_048_574, offset) && is_even(offset) {
+    if is_even_between(-1_048_576, 1_048_574, offset) {
         Some(narrow(offset))
     } else {
         None
@@ -111,7 +123,7 @@ pub fn branch_distance(here: u32, target: i64) -> Option<i32>
     ensures within { IfSome result (IsDistance (2 ^ 12)) }
 {
     let offset = target.checked_sub(i64::from(here))?;
-    if is_between(-4096, 4094, offset) && is_even(offset) {
+    if is_even_between(-4096, 4094, offset) {
         Some(narrow(offset))
     } else {
         None

@@ -2,7 +2,7 @@ use Rattle.std.proofs.Common.{◌≡◌, ◌∙◌, ◌∷◌, length, ap, sym, 
 use Rattle.std.specs.Prelude.{Ok}
 use Rattle.rv_tokens.specs.Lines.{lines}
 use Rattle.rv_asm.specs.Assembly.{all_said}
-use Rattle.rv_asm.specs.Steps.{State, laid_out}
+use Rattle.rv_asm.specs.Steps.{State, laid, laid_out}
 use Rattle.rv_asm.specs.Taken.{so_far}
 use Rattle.rv_asm.proofs.Reading.{begun, laid_out-zero, up_to_laid_out, below_laid_out, read_more, laid_out_more, unread, read_all}
 use Rattle.rv_asm.proofs.assembler.lay_out.Goals as goal
@@ -20,7 +20,7 @@ loop-text-init c =
 
 pub add-requires-clause-up_to : goal.add-requires-clause-up_to
 add-requires-clause-up_to c =
-    up_to_laid_out (all_said (lines c.args.source.now)) c.loop-text.number (so_far c.loop-text.fault c.loop-text.layout) c.loop-text.invariant.layout
+    up_to_laid_out (all_said (lines c.args.source.now)) c.loop-text.number (so_far c.loop-text.fault (laid c.loop-text.known c.loop-text.items.items)) c.loop-text.invariant.layout
 
 pub returns-in-Err-clause-layout : goal.returns-in-Err-clause-layout
 returns-in-Err-clause-layout c =
@@ -52,7 +52,7 @@ returns-in-None-fault-clause-layout c =
 pub returns-in-None-fault-clause-within : goal.returns-in-None-fault-clause-within
 returns-in-None-fault-clause-within c =
     let whole = rw c.in-None-fault.is at c.loop-text.invariant.layout in
-    below_laid_out (all_said (lines c.args.source.now)) c.loop-text.number (length c.args.source.now) (Ok c.loop-text.layout) (omega (arith, c.loop-text.invariant.counted)) whole
+    below_laid_out (all_said (lines c.args.source.now)) c.loop-text.number (length c.args.source.now) (Ok (laid c.loop-text.known c.loop-text.items.items)) (omega (arith, c.loop-text.invariant.counted)) whole
 
 pub returns-in-Some-fault-clause-layout : goal.returns-in-Some-fault-clause-layout
 returns-in-Some-fault-clause-layout c =

@@ -1,0 +1,12 @@
+use Rattle.std.proofs.Common.{rules, ◌≡◌, true}
+use Rattle.std.proofs.lemmas.Int.{to_z-of_z}
+use mir.Syntax.{w64}
+use mir.Val.{SFits}
+use Rattle.rv_asm.proofs.Writing.{are_words, words_written}
+use Rattle.rv_asm.proofs.emission.Scope.write.Goals as goal
+
+pub returns-in_default : goal.returns-in_default
+returns-in_default c =
+    let fits : SFits w64 c.args.constant = search rules in
+    let words : are_words c.args.statement.now ≡ true = search rules in
+    words_written c.write_instructions.new.out.items c.args.out.now.items c.write_instructions.result _ c.args.self.now.here c.args.constant c.args.statement.now words (simp to_z-of_z at c.write_instructions.ensures)
