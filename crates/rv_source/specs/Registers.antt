@@ -12,7 +12,6 @@ is_of_registers p.Seqz = true
 is_of_registers p.Snez = true
 is_of_registers p.Sltz = true
 is_of_registers p.Sgtz = true
-is_of_registers p.JumpRegister = true
 is_of_registers p.CsrRead = true
 is_of_registers (p.CsrChange op) = true
 is_of_registers other = false

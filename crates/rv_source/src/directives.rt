@@ -2,17 +2,15 @@
 ghost use Rattle.std.specs.Prelude.{◌≡◌, ◌≤◌, ◌++◌, length};
 ghost use Rattle.std.specs.Option.{option_map};
 ghost use Rattle.rv_source.specs.declared.form.Directive.TheVariants as d;
-ghost use Rattle.rv_source.specs.declared.statement.Statement.TheVariants as s;
-ghost use Rattle.rv_source.specs.declared.statement.ValueTaker.TheVariants as takes;
 ghost use Rattle.rv_source.specs.Operands.{operands_of};
 ghost use Rattle.rv_source.specs.Partial.{Finds, Becomes};
-ghost use Rattle.rv_source.specs.Expressions.{value};
-ghost use Rattle.rv_source.specs.Statements.{of_some, one, values, string, strings, space, directive};
+ghost use Rattle.rv_source.specs.Statements.{of_some, values, string, strings, space, directive};
 
 use crate::form::Directive;
 use crate::operand::{Operands, are_none, only};
-use crate::places::{both, one};
+use crate::places::both;
 use crate::refusal::Refusal;
+use crate::taker::with_value;
 use crate::terms::read_value;
 use crate::{Bytes, Statement, ValueTaker, Values};
 use rv_isa::Width;
@@ -105,28 +103,6 @@ fn space<'a>(alloc: Global, tokens: &[Token<'a>]) -> Result<Statement<'a>, Refus
     })
 }
 
-fn align<'a>(alloc: Global, tokens: &[Token<'a>]) -> Result<Statement<'a>, Refusal>
-    requires { length tokens.now ≤ 1024 }
-    ensures { Finds (λ s. s) result (one value (λ power. s.WithValue takes.Align power) (operands_of tokens.now)) }
-{
-    let power = one(alloc, tokens)?;
-    Ok(Statement::WithValue {
-        taker: ValueTaker::Align,
-        value: power,
-    })
-}
-
-fn balign<'a>(alloc: Global, tokens: &[Token<'a>]) -> Result<Statement<'a>, Refusal>
-    requires { length tokens.now ≤ 1024 }
-    ensures { Finds (λ s. s) result (one value (λ multiple. s.WithValue takes.Balign multiple) (operands_of tokens.now)) }
-{
-    let multiple = one(alloc, tokens)?;
-    Ok(Statement::WithValue {
-        taker: ValueTaker::Balign,
-        value: multiple,
-    })
-}
-
 #[tactic(auto, unfolding(crate::specs::Statements::directive))]
 fn constant<'a>(alloc: Global, tokens: &[Token<'a>]) -> Result<Statement<'a>, Refusal>
     requires { length tokens.now ≤ 1024 }
@@ -150,8 +126,8 @@ pub fn read_directive<'a>(
         Directive::Data(width) => data(alloc, width, tokens),
         Directive::Text { terminated } => text(alloc, terminated, tokens),
         Directive::Space => space(alloc, tokens),
-        Directive::Align => align(alloc, tokens),
-        Directive::Balign => balign(alloc, tokens),
+        Directive::Align => with_value(alloc, ValueTaker::Align, tokens),
+        Directive::Balign => with_value(alloc, ValueTaker::Balign, tokens),
         Directive::Constant => constant(alloc, tokens),
         Directive::Marker => Ok(Statement::Marker),
     }

@@ -267,8 +267,7 @@ fn offset<'a>(alloc: Global, tokens: &[Token<'a>]) -> Result<Immediate<'a>, Refu
 /// `(E)(name)` behind `%lo`
 fn low_memory<'a>(alloc: Global, tokens: &[Token<'a>]) -> Result<(Immediate<'a>, Reg), Refusal>
     requires { length tokens.now ≤ 1024 }
-    ensures value { Finds (λ m. m) result (based low_offset (part_indexed_of tokens.now)) }
-    ensures below { IfOk result (λ m. m.1 < 32) }
+    ensures { Finds (λ m. m) result (based low_offset (part_indexed_of tokens.now)) }
 {
     let Some((inner, name)) = part_indexed(tokens) else {
         return Err(Refusal::BadOperands);
@@ -283,8 +282,7 @@ fn low_memory<'a>(alloc: Global, tokens: &[Token<'a>]) -> Result<(Immediate<'a>,
 /// `E(name)` or `(name)`
 fn plain_memory<'a>(alloc: Global, tokens: &[Token<'a>]) -> Result<(Immediate<'a>, Reg), Refusal>
     requires { length tokens.now ≤ 1024 }
-    ensures value { Finds (λ m. m) result (based offset (indexed_of tokens.now)) }
-    ensures below { IfOk result (λ m. m.1 < 32) }
+    ensures { Finds (λ m. m) result (based offset (indexed_of tokens.now)) }
 {
     let Some((front, name)) = indexed(tokens) else {
         return Err(Refusal::BadOperands);
@@ -297,15 +295,20 @@ fn plain_memory<'a>(alloc: Global, tokens: &[Token<'a>]) -> Result<(Immediate<'a
 }
 
 /// A register in brackets, with what stands before them: the offset and the base.
-#[tactic(auto, unfolding(crate::specs::Statements::memory))]
-pub fn memory<'a>(alloc: Global, tokens: &[Token<'a>]) -> Result<(Immediate<'a>, Reg), Refusal>
-    requires { length tokens.now ≤ 1024 }
-    ensures value { Finds (λ m. m) result (memory tokens.now) }
-    ensures below { IfOk result (λ m. m.1 < 32) }
-{
-    match tokens {
-        [Token::Low, rest @ ..] => low_memory(alloc, rest),
-        _ => plain_memory(alloc, tokens),
+impl<'a> Place<'a> for (Immediate<'a>, Reg) {
+    ghost use Rattle.std.specs.Prelude.{⊤};
+    ghost use Rattle.rv_source.specs.Statements.{memory};
+
+    ghost meant = { memory };
+
+    ghost fits = { λ _. ⊤ };
+
+    #[tactic(auto, unfolding(crate::specs::Statements::memory))]
+    fn read(alloc: Global, tokens: &[Token<'a>]) -> Result<(Immediate<'a>, Reg), Refusal> {
+        match tokens {
+            [Token::Low, rest @ ..] => low_memory(alloc, rest),
+            _ => plain_memory(alloc, tokens),
+        }
     }
 }
 
