@@ -1,15 +1,17 @@
 -- Answers for operands that a word may not take, and what has been read so far.
 -- Own language; see docs/ASSEMBLER.md.
 -- Not to audit: private contracts alone cite this.
-use Rattle.std.specs.Prelude.{◌≡◌, List, [], ◌∷◌, Option, Some, None, Result, Ok, Err}
+use Rattle.std.specs.Prelude.{◌≡◌, Bool, List, [], ◌∷◌, Option, Some, None, Result, Ok, Err}
 use Rattle.std.specs.Borrow.{Bor}
 use Rattle.rv_tokens.specs.declared.token.Token.{Token}
 use Rattle.rv_source.specs.declared.expression.Term.{Term}
 use Rattle.rv_source.specs.declared.expression.Wanted.{Wanted}
+use Rattle.rv_source.specs.declared.operand.Mark.{Mark}
+use Rattle.rv_source.specs.declared.operand.Mark.TheVariants as mark
 use Rattle.rv_source.specs.declared.refusal.Refusal.{Refusal}
 use Rattle.rv_source.specs.declared.refusal.Refusal.TheVariants.{BadOperands, OutOfMemory}
 use Rattle.rv_source.specs.Expressions.{terms, with_terms}
-use Rattle.rv_source.specs.Operands.{pieces}
+use Rattle.rv_source.specs.Operands.{is_comma, is_open, is_close, pieces}
 
 -- a refusal is that of operands that aren't taken, unless memory ran out
 abbrev pub Refuses : {B : Type 0} → Refusal → Option B → Type 0
@@ -43,3 +45,14 @@ left (Some ts) = pieces ts.now
 abbrev pub Follows : List (List Token) → Option (Bor (List Token)) → List (List Token) → Type 0
 Follows old None new = old ≡ []
 Follows old (Some piece) new = old ≡ piece.now ∷ new
+
+-- whether a token is such a mark
+abbrev pub is_mark : Mark → Token → Bool
+is_mark mark.Comma = is_comma
+is_mark mark.Open = is_open
+is_mark mark.Close = is_close
+
+-- what there is, seen by view, is what is meant, and it fits; nothing where nothing is meant
+abbrev pub Picks : {A B : Type 0} → (A → B) → (A → Type 0) → Option A → Option B → Type 0
+Picks view fits (Some x) meaning = (meaning ≡ Some (view x)) × fits x
+Picks view fits None meaning = meaning ≡ None
