@@ -8,3 +8,4 @@ pub mod Partial
 pub mod Rows
 pub mod Registers
 pub mod Takers
+pub mod Pieced

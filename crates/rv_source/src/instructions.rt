@@ -1,14 +1,15 @@
 //! What the words of instructions and their operands stand for.
-ghost use Rattle.std.specs.Prelude.{◌≡◌, ◌<◌, ◌≤◌, ◌+◌, ◌*◌, length, pos};
+ghost use Rattle.std.specs.Prelude.{◌≡◌, ◌<◌, ◌≤◌, ◌+◌, ◌*◌, length, pos, List, Some};
+ghost use Rattle.rv_tokens.specs.declared.token.Token.{Token};
 ghost use Rattle.rv_isa.specs.Word.{IsInRange};
 ghost use Rattle.rv_isa.specs.declared.kind.Kind.TheVariants as k;
 ghost use Rattle.rv_source.specs.declared.form.Instruction.TheVariants as f;
 ghost use Rattle.rv_source.specs.declared.statement.Statement.TheVariants as s;
 ghost use Rattle.rv_source.specs.declared.statement.ValueTaker.TheVariants as takes;
-ghost use Rattle.rv_source.specs.Operands.{operands_of};
+ghost use Rattle.rv_source.specs.Operands.{operands_of, pair};
 ghost use Rattle.rv_source.specs.Partial.{Finds};
 ghost use Rattle.rv_source.specs.Expressions.{value};
-ghost use Rattle.rv_source.specs.Statements.{register, none, one, two, three, jal, jalr, load, store, fence, instruction};
+ghost use Rattle.rv_source.specs.Statements.{register, none, one, two, three, jal, jalr, load, store, fence_set, fence, instruction};
 
 use crate::form::Instruction;
 use crate::operand::{are_none, only, pair};
@@ -234,6 +235,16 @@ fn change_csr_imm<'a>(
     })
 }
 
+/// A fence between the sets that the tokens spell.
+fn fence_between<'a>(first: &[Token], second: &[Token]) -> Result<Statement<'a>, Refusal>
+    ensures { (operands : List (List Token)) → pair operands ≡ Some (first.now, second.now) → Finds (λ s. s) result (two fence_set fence_set (λ p q. s.Instruction (k.Fence 0 0 (16 * p + q))) operands) }
+{
+    match (fence_set(first), fence_set(second)) {
+        (Some(first), Some(second)) => Ok(ordered(first, second)),
+        _ => Err(Refusal::BadOperands),
+    }
+}
+
 fn fence<'a>(tokens: &[Token<'a>]) -> Result<Statement<'a>, Refusal>
     requires { length tokens.now ≤ 1024 }
     ensures { Finds (λ s. s) result (fence (operands_of tokens.now)) }
@@ -241,12 +252,10 @@ fn fence<'a>(tokens: &[Token<'a>]) -> Result<Statement<'a>, Refusal>
     if are_none(tokens) {
         return Ok(ordered(15, 15));
     }
-    let Some((first, second)) = pair(tokens) else {
-        return Err(Refusal::BadOperands);
-    };
-    let first = fence_set(first)?;
-    let second = fence_set(second)?;
-    Ok(ordered(first, second))
+    match pair(tokens) {
+        Some((first, second)) => fence_between(first, second),
+        None => Err(Refusal::BadOperands),
+    }
 }
 
 /// `fence.i`

@@ -1,11 +1,13 @@
 //! What a place of a statement takes.
 ghost use Rattle.std.specs.Prelude.{◌≡◌, ◌<◌, ◌≤◌, length, IfSome, IfOk};
 ghost use Rattle.std.specs.Prelude.{option_and_then};
+ghost use Rattle.std.specs.Option.{option_map};
 ghost use Rattle.rv_isa.specs.Names.{lookup, csr_names};
 ghost use Rattle.rv_source.specs.Partial.{Finds};
-ghost use Rattle.rv_source.specs.Operands.{indexed_of, part_of, part_indexed_of, operands_of};
+ghost use Rattle.rv_source.specs.Operands.{part_of, operands_of};
 ghost use Rattle.rv_source.specs.Expressions.{value};
-ghost use Rattle.rv_source.specs.Statements.{register_named, register, csr_number, offset, low_offset, based, memory, letter, fence_letters, fence_set, alone, both, all};
+ghost use Rattle.rv_source.specs.Pieced.{immediate_of, offset_of};
+ghost use Rattle.rv_source.specs.Statements.{register_named, register, csr_number, based, letter, fence_letters, fence_set, alone, both, all};
 
 use crate::operand::{indexed, name, number, only, pair, part, part_indexed, triple};
 use crate::refusal::Refusal;
@@ -100,17 +102,6 @@ pub fn register_in(tokens: &[Token]) -> Option<Reg>
     named(&name)
 }
 
-/// A register.
-pub fn register(tokens: &[Token]) -> Result<Reg, Refusal>
-    ensures value { Finds (λ r. r) result (register tokens.now) }
-    ensures below { IfOk result (λ r. r < 32) }
-{
-    match register_in(tokens) {
-        Some(reg) => Ok(reg),
-        None => Err(Refusal::BadOperands),
-    }
-}
-
 /// The control register with a number.
 fn numbered(number: u32) -> Option<Csr>
     ensures { result ≡ csr_number number }
@@ -140,7 +131,7 @@ impl<'a> Place<'a> for Reg {
     ghost fits = { λ r. r < 32 };
 
     fn read(_: Global, tokens: &[Token<'a>]) -> Result<Reg, Refusal> {
-        register(tokens)
+        register_in(tokens).ok_or(Refusal::BadOperands)
     }
 }
 
@@ -194,6 +185,23 @@ fn value_in_brackets<'a>(alloc: Global, tokens: &[Token<'a>]) -> Result<Expressi
     read_value(alloc, inner)
 }
 
+/// A value, or the low part of one.
+fn immediate_of<'a>(
+    alloc: Global,
+    is_low: bool,
+    tokens: &[Token<'a>],
+) -> Result<Immediate<'a>, Refusal>
+    requires { length tokens.now ≤ 1024 }
+    ensures { Finds (λ imm. imm) result (immediate_of is_low tokens.now) }
+{
+    let sum = read_value(alloc, tokens)?;
+    Ok(if is_low {
+        Immediate::Low(sum)
+    } else {
+        Immediate::Sum(sum)
+    })
+}
+
 /// A value or the low part of one.
 impl<'a> Place<'a> for Immediate<'a> {
     ghost use Rattle.std.specs.Prelude.{⊤};
@@ -206,11 +214,12 @@ impl<'a> Place<'a> for Immediate<'a> {
     #[tactic(auto, unfolding(crate::specs::Statements::immediate))]
     fn read(alloc: Global, tokens: &[Token<'a>]) -> Result<Immediate<'a>, Refusal> {
         if let [Token::Low, rest @ ..] = tokens {
-            let sum = value_in_brackets(alloc, rest)?;
-            return Ok(Immediate::Low(sum));
+            return match part(rest) {
+                Some(inner) => immediate_of(alloc, true, inner),
+                None => Err(Refusal::BadOperands),
+            };
         }
-        let sum = read_value(alloc, tokens)?;
-        Ok(Immediate::Sum(sum))
+        immediate_of(alloc, false, tokens)
     }
 }
 
@@ -252,45 +261,34 @@ impl<'a> Place<'a> for Name<'a> {
     }
 }
 
-/// What may stand before a base.
-fn offset<'a>(alloc: Global, tokens: &[Token<'a>]) -> Result<Immediate<'a>, Refusal>
+/// What may stand before a base: in the brackets behind `%lo`, or alone.
+fn offset<'a>(alloc: Global, is_low: bool, tokens: &[Token<'a>]) -> Result<Immediate<'a>, Refusal>
     requires { length tokens.now ≤ 1024 }
-    ensures { Finds (λ imm. imm) result (offset tokens.now) }
+    ensures { Finds (λ imm. imm) result (offset_of is_low tokens.now) }
 {
-    if tokens.is_empty() {
-        return Ok(Immediate::Zero);
+    if !is_low && tokens.is_empty() {
+        Ok(Immediate::Zero)
+    } else {
+        immediate_of(alloc, is_low, tokens)
     }
-    let sum = read_value(alloc, tokens)?;
-    Ok(Immediate::Sum(sum))
 }
 
-/// `(E)(name)` behind `%lo`
-fn low_memory<'a>(alloc: Global, tokens: &[Token<'a>]) -> Result<(Immediate<'a>, Reg), Refusal>
-    requires { length tokens.now ≤ 1024 }
-    ensures { Finds (λ m. m) result (based low_offset (part_indexed_of tokens.now)) }
+/// An offset, as its tokens, and the name of a base.
+fn based<'a>(
+    alloc: Global,
+    is_low: bool,
+    place: Option<(&[Token<'a>], Name<'a>)>,
+) -> Result<(Immediate<'a>, Reg), Refusal>
+    requires { IfSome place (λ p. length p.0.now ≤ 1024) }
+    ensures { Finds (λ m. m) result (based (offset_of is_low) (option_map (λ p. (p.0.now, p.1)) place.entry)) }
 {
-    let Some((inner, name)) = part_indexed(tokens) else {
+    let Some((front, name)) = place else {
         return Err(Refusal::BadOperands);
     };
     let Some(base) = named(&name) else {
         return Err(Refusal::BadOperands);
     };
-    let sum = read_value(alloc, inner)?;
-    Ok((Immediate::Low(sum), base))
-}
-
-/// `E(name)` or `(name)`
-fn plain_memory<'a>(alloc: Global, tokens: &[Token<'a>]) -> Result<(Immediate<'a>, Reg), Refusal>
-    requires { length tokens.now ≤ 1024 }
-    ensures { Finds (λ m. m) result (based offset (indexed_of tokens.now)) }
-{
-    let Some((front, name)) = indexed(tokens) else {
-        return Err(Refusal::BadOperands);
-    };
-    let Some(base) = named(&name) else {
-        return Err(Refusal::BadOperands);
-    };
-    let offset = offset(alloc, front)?;
+    let offset = offset(alloc, is_low, front)?;
     Ok((offset, base))
 }
 
@@ -306,8 +304,8 @@ impl<'a> Place<'a> for (Immediate<'a>, Reg) {
     #[tactic(auto, unfolding(crate::specs::Statements::memory))]
     fn read(alloc: Global, tokens: &[Token<'a>]) -> Result<(Immediate<'a>, Reg), Refusal> {
         match tokens {
-            [Token::Low, rest @ ..] => low_memory(alloc, rest),
-            _ => plain_memory(alloc, tokens),
+            [Token::Low, rest @ ..] => based(alloc, true, part_indexed(rest)),
+            _ => based(alloc, false, indexed(tokens)),
         }
     }
 }
@@ -349,14 +347,10 @@ fn fence_letters(name: &[u8]) -> Option<u16>
 
 /// What a fence orders, below 16.
 #[tactic(auto, unfolding(crate::specs::Statements::fence_set))]
-pub fn fence_set(tokens: &[Token]) -> Result<u16, Refusal>
-    ensures value { Finds (λ set. set) result (fence_set tokens.now) }
-    ensures below { IfOk result (λ n. n < 16) }
+pub fn fence_set(tokens: &[Token]) -> Option<u16>
+    ensures value { result ≡ fence_set tokens.now }
+    ensures below { IfSome result (λ n. n < 16) }
 {
-    if let Some(name) = name(tokens) {
-        if let Some(set) = fence_letters(name.bytes()) {
-            return Ok(set);
-        }
-    }
-    Err(Refusal::BadOperands)
+    let name = name(tokens)?;
+    fence_letters(name.bytes())
 }
