@@ -1,6 +1,5 @@
 //! Words that stand for other instructions.
-ghost use Rattle.std.specs.Prelude.{◌≡◌, ◌≤◌, ◌^◌, length, pos, true};
-ghost use Rattle.rv_isa.specs.Number.{IsWithin};
+ghost use Rattle.std.specs.Prelude.{◌≡◌, ◌<◌, ◌≤◌, length, pos, true};
 ghost use Rattle.rv_isa.specs.declared.kind.Kind.TheVariants as k;
 ghost use Rattle.rv_isa.specs.declared.op.ImmOp.TheVariants.{Addi};
 ghost use Rattle.rv_source.specs.declared.form.Pseudo.TheVariants as p;
@@ -9,7 +8,7 @@ ghost use Rattle.rv_source.specs.declared.statement.ValueTaker.TheVariants as ta
 ghost use Rattle.rv_source.specs.Operands.{operands_of};
 ghost use Rattle.rv_source.specs.Partial.{Finds};
 ghost use Rattle.rv_source.specs.Statements.{register, two, pseudo};
-ghost use Rattle.rv_source.specs.Registers.{is_of_registers};
+ghost use Rattle.rv_source.specs.Registers.{is_of_registers, IsOfTwo, of_two};
 
 use crate::form::Pseudo;
 use crate::instructions::{alone, instr, jump_register, x};
@@ -21,42 +20,54 @@ use rv_isa::{AluOp, CsrOp, ImmOp, Instr, Kind, Reg};
 use rv_tokens::Token;
 use std::alloc::Global;
 
-/// An operation on a register and this immediate.
-fn op_with_imm(alloc: Global, op: ImmOp, imm: i32, tokens: &[Token]) -> Result<Instr, Refusal>
-    requires within { IsWithin (2 ^ 11) imm }
+/// What a word that takes two registers does with them.
+#[derive(Clone, Copy)]
+pub enum OfTwo {
+    /// An operation on the second register and an immediate.
+    Imm(ImmOp, i32),
+    /// An operation on the second register and x0.
+    WithZero(AluOp),
+    /// An operation on x0 and the second register.
+    OnZero(AluOp),
+}
+
+/// The instruction of two registers.
+fn of_two(form: OfTwo, rd: Reg, rs: Reg) -> Instr
+    requires within { IsOfTwo form }
+    requires rd { rd < 32 }
+    requires rs { rs < 32 }
+    ensures { result ≡ of_two form rd rs }
+{
+    match form {
+        OfTwo::Imm(op, imm) => instr(Kind::OpImm {
+            op,
+            rd,
+            rs1: rs,
+            imm,
+        }),
+        OfTwo::WithZero(op) => instr(Kind::Op {
+            op,
+            rd,
+            rs1: rs,
+            rs2: x(0),
+        }),
+        OfTwo::OnZero(op) => instr(Kind::Op {
+            op,
+            rd,
+            rs1: x(0),
+            rs2: rs,
+        }),
+    }
+}
+
+/// `rd,rs`
+fn two_registers(alloc: Global, form: OfTwo, tokens: &[Token]) -> Result<Instr, Refusal>
+    requires within { IsOfTwo form }
     requires short { length tokens.now ≤ 1024 }
-    ensures { Finds s.Instruction result (two register register (λ rd rs. s.Instruction (k.OpImm op rd rs imm)) (operands_of tokens.now)) }
+    ensures { Finds s.Instruction result (two register register (λ rd rs. s.Instruction (of_two form rd rs)) (operands_of tokens.now)) }
 {
-    let (rd, rs1) = both(alloc, tokens)?;
-    Ok(instr(Kind::OpImm { op, rd, rs1, imm }))
-}
-
-/// An operation on a register and x0.
-fn op_with_zero(alloc: Global, op: AluOp, tokens: &[Token]) -> Result<Instr, Refusal>
-    requires { length tokens.now ≤ 1024 }
-    ensures { Finds s.Instruction result (two register register (λ rd rs. s.Instruction (k.Op op rd rs 0)) (operands_of tokens.now)) }
-{
-    let (rd, rs1) = both(alloc, tokens)?;
-    Ok(instr(Kind::Op {
-        op,
-        rd,
-        rs1,
-        rs2: x(0),
-    }))
-}
-
-/// An operation on x0 and a register.
-fn op_on_zero(alloc: Global, op: AluOp, tokens: &[Token]) -> Result<Instr, Refusal>
-    requires { length tokens.now ≤ 1024 }
-    ensures { Finds s.Instruction result (two register register (λ rd rs. s.Instruction (k.Op op rd 0 rs)) (operands_of tokens.now)) }
-{
-    let (rd, rs2) = both(alloc, tokens)?;
-    Ok(instr(Kind::Op {
-        op,
-        rd,
-        rs1: x(0),
-        rs2,
-    }))
+    let (rd, rs) = both(alloc, tokens)?;
+    Ok(of_two(form, rd, rs))
 }
 
 #[tactic(auto, unfolding(crate::specs::Statements::pseudo))]
@@ -141,13 +152,13 @@ fn registers_instr(alloc: Global, form: Pseudo, tokens: &[Token]) -> Result<Inst
     ensures { Finds s.Instruction result (pseudo form (operands_of tokens.now)) }
 {
     match form {
-        Pseudo::Mv => op_with_imm(alloc, ImmOp::Addi, 0, tokens),
-        Pseudo::Not => op_with_imm(alloc, ImmOp::Xori, -1, tokens),
-        Pseudo::Neg => op_on_zero(alloc, AluOp::Sub, tokens),
-        Pseudo::Seqz => op_with_imm(alloc, ImmOp::Sltiu, 1, tokens),
-        Pseudo::Snez => op_on_zero(alloc, AluOp::Sltu, tokens),
-        Pseudo::Sltz => op_with_zero(alloc, AluOp::Slt, tokens),
-        Pseudo::Sgtz => op_on_zero(alloc, AluOp::Slt, tokens),
+        Pseudo::Mv => two_registers(alloc, OfTwo::Imm(ImmOp::Addi, 0), tokens),
+        Pseudo::Not => two_registers(alloc, OfTwo::Imm(ImmOp::Xori, -1), tokens),
+        Pseudo::Neg => two_registers(alloc, OfTwo::OnZero(AluOp::Sub), tokens),
+        Pseudo::Seqz => two_registers(alloc, OfTwo::Imm(ImmOp::Sltiu, 1), tokens),
+        Pseudo::Snez => two_registers(alloc, OfTwo::OnZero(AluOp::Sltu), tokens),
+        Pseudo::Sltz => two_registers(alloc, OfTwo::WithZero(AluOp::Slt), tokens),
+        Pseudo::Sgtz => two_registers(alloc, OfTwo::OnZero(AluOp::Slt), tokens),
         Pseudo::CsrRead => read_csr(alloc, tokens),
         Pseudo::CsrChange(op) => write_csr(alloc, op, tokens),
         _ => unreachable!(),
