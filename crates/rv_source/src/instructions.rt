@@ -9,6 +9,7 @@ ghost use Rattle.rv_source.specs.declared.statement.ValueTaker.TheVariants as ta
 ghost use Rattle.rv_source.specs.Operands.{operands_of, pair};
 ghost use Rattle.rv_source.specs.Partial.{Finds};
 ghost use Rattle.rv_source.specs.Expressions.{value};
+ghost use Rattle.rv_source.specs.Registers.{IsOfTwo, of_two};
 ghost use Rattle.rv_source.specs.Statements.{register, none, one, two, three, jal, jalr, load, store, fence_set, fence, instruction};
 
 use crate::form::Instruction;
@@ -21,7 +22,7 @@ use crate::taker::{
 };
 use crate::terms::is_value;
 use crate::{Csr, Statement, ValueTaker};
-use rv_isa::{AluOp, CsrOp, Instr, Kind, LoadOp, Reg, Width};
+use rv_isa::{AluOp, CsrOp, ImmOp, Instr, Kind, LoadOp, Reg, Width};
 use rv_tokens::Token;
 use std::alloc::Global;
 
@@ -37,7 +38,7 @@ pub fn x(number: u8) -> Reg
 }
 
 /// The instruction whose fields, all in range, are these.
-pub fn instr(kind: Kind) -> Instr
+fn instr(kind: Kind) -> Instr
     requires { IsInRange kind }
     ensures { result ≡ kind }
 {
@@ -48,7 +49,7 @@ pub fn instr(kind: Kind) -> Instr
 }
 
 /// The statement of an instruction whose fields are in range.
-fn instruction<'a>(kind: Kind) -> Statement<'a>
+pub fn instruction<'a>(kind: Kind) -> Statement<'a>
     requires { IsInRange kind }
     ensures { result ≡ s.Instruction kind }
 {
@@ -128,13 +129,61 @@ pub fn jump_register<'a>(
     Ok(jump_to(link, base))
 }
 
-/// `rd,rs1`
-fn jump_and_link<'a>(alloc: Global, tokens: &[Token<'a>]) -> Result<Statement<'a>, Refusal>
-    requires { length tokens.now ≤ 1024 }
-    ensures { Finds (λ s. s) result (two register register (λ rd base. s.Instruction (k.Jalr rd base (pos 0))) (operands_of tokens.now)) }
+/// What a word that takes two registers does with them.
+#[derive(Clone, Copy)]
+pub enum OfTwo {
+    /// An operation on the second register and an immediate.
+    Imm(ImmOp, i32),
+    /// An operation on the second register and x0.
+    WithZero(AluOp),
+    /// An operation on x0 and the second register.
+    OnZero(AluOp),
+    /// A jump to what the second register says.
+    Jump,
+}
+
+/// The instruction of two registers.
+fn of_two<'a>(form: OfTwo, rd: Reg, rs: Reg) -> Statement<'a>
+    requires within { IsOfTwo form }
+    requires rd { rd < 32 }
+    requires rs { rs < 32 }
+    ensures { result ≡ s.Instruction (of_two form rd rs) }
 {
-    let (rd, base) = both(alloc, tokens)?;
-    Ok(jump_to(rd, base))
+    match form {
+        OfTwo::Imm(op, imm) => instruction(Kind::OpImm {
+            op,
+            rd,
+            rs1: rs,
+            imm,
+        }),
+        OfTwo::WithZero(op) => instruction(Kind::Op {
+            op,
+            rd,
+            rs1: rs,
+            rs2: x(0),
+        }),
+        OfTwo::OnZero(op) => instruction(Kind::Op {
+            op,
+            rd,
+            rs1: x(0),
+            rs2: rs,
+        }),
+        OfTwo::Jump => jump_to(rd, rs),
+    }
+}
+
+/// `rd,rs`
+pub fn two_registers<'a>(
+    alloc: Global,
+    form: OfTwo,
+    tokens: &[Token<'a>],
+) -> Result<Statement<'a>, Refusal>
+    requires within { IsOfTwo form }
+    requires short { length tokens.now ≤ 1024 }
+    ensures { Finds (λ s. s) result (two register register (λ rd rs. s.Instruction (of_two form rd rs)) (operands_of tokens.now)) }
+{
+    let (rd, rs) = both(alloc, tokens)?;
+    Ok(of_two(form, rd, rs))
 }
 
 /// `rd,rs1`, `rd,m`, `rd,rs1,i`, or `rs1` with x1 as the link
@@ -144,7 +193,7 @@ fn jalr<'a>(alloc: Global, tokens: &[Token<'a>]) -> Result<Statement<'a>, Refusa
 {
     if let Some((_, place)) = pair(tokens) {
         return match register_in(place) {
-            Some(_) => jump_and_link(alloc, tokens),
+            Some(_) => two_registers(alloc, OfTwo::Jump, tokens),
             None => at_memory(alloc, Based::Jalr, tokens),
         };
     }

@@ -2,7 +2,7 @@
 ghost use Rattle.std.specs.Prelude.{◌≡◌, ◌<◌, ◌≤◌, ◌+◌, length, drop, IfSome};
 ghost use Rattle.std.specs.List.{position, list_all};
 ghost use Rattle.rv_source.specs.Partial.{Picks, is_mark};
-ghost use Rattle.rv_source.specs.Operands.{is_nothing, name_of, number_of, base_of, bracketed, indexed_of, part_of, part_indexed_of, holds, is_value, is_offset, is_operand, operands_of, only, pair, triple};
+ghost use Rattle.rv_source.specs.Operands.{is_nothing, name_of, number_of, base_of, bracketed, indexed_of, part_of, part_indexed_of, holds, is_value, is_offset, is_operand, operands_of, only, pair};
 
 use crate::terms::is_value;
 use rv_tokens::{Name, Token};
@@ -255,7 +255,7 @@ pub fn are_none(tokens: &[Token]) -> bool
 }
 
 /// The operand that is left, where it is the only one.
-fn last<'t, 'a>(mut operands: Operands<'t, 'a>) -> Option<&'t [Token<'a>]>
+pub fn last<'t, 'a>(mut operands: Operands<'t, 'a>) -> Option<&'t [Token<'a>]>
     ensures { Picks (λ ts. ts.now) (λ ts. length ts.now ≤ 1024) result (only operands.entry) }
 {
     let first = operands.next()?;
@@ -273,33 +273,13 @@ pub fn only<'t, 'a>(tokens: &'t [Token<'a>]) -> Option<&'t [Token<'a>]>
     last(Operands::of(tokens))
 }
 
-/// The two operands that are left.
-fn last_two<'t, 'a>(mut operands: Operands<'t, 'a>) -> Option<(&'t [Token<'a>], &'t [Token<'a>])>
-    ensures { Picks (λ p. (p.0.now, p.1.now)) (λ p. (length p.0.now ≤ 1024) × (length p.1.now ≤ 1024)) result (pair operands.entry) }
-{
-    let first = operands.next()?;
-    let second = last(operands)?;
-    Some((first, second))
-}
-
 /// Both of two operands.
 pub fn pair<'t, 'a>(tokens: &'t [Token<'a>]) -> Option<(&'t [Token<'a>], &'t [Token<'a>])>
     requires { length tokens.now ≤ 1024 }
     ensures { Picks (λ p. (p.0.now, p.1.now)) (λ p. (length p.0.now ≤ 1024) × (length p.1.now ≤ 1024)) result (pair (operands_of tokens.now)) }
 {
-    last_two(Operands::of(tokens))
-}
-
-/// The tokens of three operands.
-pub type Triple<'t, 'a> = (&'t [Token<'a>], &'t [Token<'a>], &'t [Token<'a>]);
-
-/// All of three operands.
-pub fn triple<'t, 'a>(tokens: &'t [Token<'a>]) -> Option<Triple<'t, 'a>>
-    requires { length tokens.now ≤ 1024 }
-    ensures { Picks (λ p. (p.0.now, p.1.now, p.2.now)) (λ p. (length p.0.now ≤ 1024) × (length p.1.now ≤ 1024) × (length p.2.now ≤ 1024)) result (triple (operands_of tokens.now)) }
-{
     let mut operands = Operands::of(tokens);
     let first = operands.next()?;
-    let (second, third) = last_two(operands)?;
-    Some((first, second, third))
+    let second = last(operands)?;
+    Some((first, second))
 }

@@ -9,7 +9,7 @@ ghost use Rattle.rv_source.specs.Expressions.{value};
 ghost use Rattle.rv_source.specs.Pieced.{immediate_of, offset_of};
 ghost use Rattle.rv_source.specs.Statements.{register_named, register, csr_number, based, letter, fence_letters, fence_set, alone, both, all};
 
-use crate::operand::{indexed, name, number, only, pair, part, part_indexed, triple};
+use crate::operand::{Operands, indexed, last, name, number, part, part_indexed};
 use crate::refusal::Refusal;
 use crate::terms::{is_symbol, read_value};
 use crate::{Csr, Expression, Immediate, Upper};
@@ -36,16 +36,41 @@ pub trait Place<'a>: Drop {
         ensures fits { IfOk result (λ x. fits x) };
 }
 
+/// The operand that is left.
+fn one_of<'a, A: Place<'a>>(alloc: Global, operands: Operands<'_, 'a>) -> Result<A, Refusal>
+    ensures value { Finds (λ x. x) result (alone A.meant operands.entry) }
+    ensures fits { IfOk result (λ x. A.fits x) }
+{
+    match last(operands) {
+        Some(operand) => A::read(alloc, operand),
+        None => Err(Refusal::BadOperands),
+    }
+}
+
+/// Both of the operands that are left.
+#[tactic(auto, using(crate::proofs::Placed::both_read, crate::proofs::Placed::both_first_refused, crate::proofs::Placed::both_second_refused))]
+fn both_of<'a, A: Place<'a>, B: Place<'a>>(
+    alloc: Global,
+    mut operands: Operands<'_, 'a>,
+) -> Result<(A, B), Refusal>
+    ensures value { Finds (λ p. p) result (both A.meant B.meant operands.entry) }
+    ensures fits { IfOk result (λ p. A.fits p.0 × B.fits p.1) }
+{
+    let Some(first) = operands.next() else {
+        return Err(Refusal::BadOperands);
+    };
+    let first = A::read(alloc, first)?;
+    let second = one_of(alloc, operands)?;
+    Ok((first, second))
+}
+
 /// The only operand.
 pub fn one<'a, A: Place<'a>>(alloc: Global, tokens: &[Token<'a>]) -> Result<A, Refusal>
     requires { length tokens.now ≤ 1024 }
     ensures value { Finds (λ x. x) result (alone A.meant (operands_of tokens.now)) }
     ensures fits { IfOk result (λ x. A.fits x) }
 {
-    let Some(operand) = only(tokens) else {
-        return Err(Refusal::BadOperands);
-    };
-    A::read(alloc, operand)
+    one_of(alloc, Operands::of(tokens))
 }
 
 /// Both of two operands.
@@ -57,13 +82,11 @@ pub fn both<'a, A: Place<'a>, B: Place<'a>>(
     ensures value { Finds (λ p. p) result (both A.meant B.meant (operands_of tokens.now)) }
     ensures fits { IfOk result (λ p. A.fits p.0 × B.fits p.1) }
 {
-    let Some((first, second)) = pair(tokens) else {
-        return Err(Refusal::BadOperands);
-    };
-    Ok((A::read(alloc, first)?, B::read(alloc, second)?))
+    both_of(alloc, Operands::of(tokens))
 }
 
 /// All of three operands.
+#[tactic(auto, using(crate::proofs::Placed::all_read, crate::proofs::Placed::all_first_refused, crate::proofs::Placed::all_rest_refused))]
 pub fn all<'a, A: Place<'a>, B: Place<'a>, C: Place<'a>>(
     alloc: Global,
     tokens: &[Token<'a>],
@@ -72,14 +95,13 @@ pub fn all<'a, A: Place<'a>, B: Place<'a>, C: Place<'a>>(
     ensures value { Finds (λ p. p) result (all A.meant B.meant C.meant (operands_of tokens.now)) }
     ensures fits { IfOk result (λ p. A.fits p.0 × B.fits p.1 × C.fits p.2) }
 {
-    let Some((first, second, third)) = triple(tokens) else {
+    let mut operands = Operands::of(tokens);
+    let Some(first) = operands.next() else {
         return Err(Refusal::BadOperands);
     };
-    Ok((
-        A::read(alloc, first)?,
-        B::read(alloc, second)?,
-        C::read(alloc, third)?,
-    ))
+    let first = A::read(alloc, first)?;
+    let (second, third) = both_of(alloc, operands)?;
+    Ok((first, second, third))
 }
 
 /// The register with a name.

@@ -1,82 +1,30 @@
 //! Words that stand for other instructions.
-ghost use Rattle.std.specs.Prelude.{◌≡◌, ◌<◌, ◌≤◌, length, pos, true};
+ghost use Rattle.std.specs.Prelude.{◌≡◌, ◌≤◌, length, pos};
 ghost use Rattle.rv_isa.specs.declared.kind.Kind.TheVariants as k;
 ghost use Rattle.rv_isa.specs.declared.op.ImmOp.TheVariants.{Addi};
 ghost use Rattle.rv_source.specs.declared.form.Pseudo.TheVariants as p;
-ghost use Rattle.rv_source.specs.declared.statement.Statement.TheVariants as s;
 ghost use Rattle.rv_source.specs.declared.statement.ValueTaker.TheVariants as takes;
 ghost use Rattle.rv_source.specs.Operands.{operands_of};
 ghost use Rattle.rv_source.specs.Partial.{Finds};
-ghost use Rattle.rv_source.specs.Statements.{register, two, pseudo};
-ghost use Rattle.rv_source.specs.Registers.{is_of_registers, IsOfTwo, of_two};
+ghost use Rattle.rv_source.specs.Statements.{pseudo};
 
 use crate::form::Pseudo;
-use crate::instructions::{alone, instr, jump_register, x};
+use crate::instructions::{OfTwo, alone, instruction, jump_register, two_registers, x};
 use crate::places::both;
 use crate::refusal::Refusal;
 use crate::taker::{AfterOne, AfterTwo, with_value, with_value_after_one, with_value_after_two};
 use crate::{Csr, Statement, ValueTaker};
-use rv_isa::{AluOp, CsrOp, ImmOp, Instr, Kind, Reg};
+use rv_isa::{AluOp, CsrOp, ImmOp, Kind, Reg};
 use rv_tokens::Token;
 use std::alloc::Global;
 
-/// What a word that takes two registers does with them.
-#[derive(Clone, Copy)]
-pub enum OfTwo {
-    /// An operation on the second register and an immediate.
-    Imm(ImmOp, i32),
-    /// An operation on the second register and x0.
-    WithZero(AluOp),
-    /// An operation on x0 and the second register.
-    OnZero(AluOp),
-}
-
-/// The instruction of two registers.
-fn of_two(form: OfTwo, rd: Reg, rs: Reg) -> Instr
-    requires within { IsOfTwo form }
-    requires rd { rd < 32 }
-    requires rs { rs < 32 }
-    ensures { result ≡ of_two form rd rs }
-{
-    match form {
-        OfTwo::Imm(op, imm) => instr(Kind::OpImm {
-            op,
-            rd,
-            rs1: rs,
-            imm,
-        }),
-        OfTwo::WithZero(op) => instr(Kind::Op {
-            op,
-            rd,
-            rs1: rs,
-            rs2: x(0),
-        }),
-        OfTwo::OnZero(op) => instr(Kind::Op {
-            op,
-            rd,
-            rs1: x(0),
-            rs2: rs,
-        }),
-    }
-}
-
-/// `rd,rs`
-fn two_registers(alloc: Global, form: OfTwo, tokens: &[Token]) -> Result<Instr, Refusal>
-    requires within { IsOfTwo form }
-    requires short { length tokens.now ≤ 1024 }
-    ensures { Finds s.Instruction result (two register register (λ rd rs. s.Instruction (of_two form rd rs)) (operands_of tokens.now)) }
-{
-    let (rd, rs) = both(alloc, tokens)?;
-    Ok(of_two(form, rd, rs))
-}
-
 #[tactic(auto, unfolding(crate::specs::Statements::pseudo))]
-fn read_csr(alloc: Global, tokens: &[Token]) -> Result<Instr, Refusal>
+fn read_csr<'a>(alloc: Global, tokens: &[Token<'a>]) -> Result<Statement<'a>, Refusal>
     requires { length tokens.now ≤ 1024 }
-    ensures { Finds s.Instruction result (pseudo p.CsrRead (operands_of tokens.now)) }
+    ensures { Finds (λ s. s) result (pseudo p.CsrRead (operands_of tokens.now)) }
 {
     let (rd, csr): (Reg, Csr) = both(alloc, tokens)?;
-    Ok(instr(Kind::Csr {
+    Ok(instruction(Kind::Csr {
         op: CsrOp::Set,
         rd,
         rs1: x(0),
@@ -85,12 +33,12 @@ fn read_csr(alloc: Global, tokens: &[Token]) -> Result<Instr, Refusal>
 }
 
 #[tactic(auto, unfolding(crate::specs::Statements::pseudo))]
-fn write_csr(alloc: Global, op: CsrOp, tokens: &[Token]) -> Result<Instr, Refusal>
+fn write_csr<'a>(alloc: Global, op: CsrOp, tokens: &[Token<'a>]) -> Result<Statement<'a>, Refusal>
     requires { length tokens.now ≤ 1024 }
-    ensures { Finds s.Instruction result (pseudo (p.CsrChange op) (operands_of tokens.now)) }
+    ensures { Finds (λ s. s) result (pseudo (p.CsrChange op) (operands_of tokens.now)) }
 {
     let (csr, rs1): (Csr, Reg) = both(alloc, tokens)?;
-    Ok(instr(Kind::Csr {
+    Ok(instruction(Kind::Csr {
         op,
         rd: x(0),
         rs1,
@@ -144,41 +92,6 @@ fn ret() -> Kind
     }
 }
 
-/// The instruction of a word that stands for one of registers alone.
-#[tactic(auto, unfolding(crate::specs::Statements::pseudo))]
-fn registers_instr(alloc: Global, form: Pseudo, tokens: &[Token]) -> Result<Instr, Refusal>
-    requires registers { is_of_registers form ≡ true }
-    requires short { length tokens.now ≤ 1024 }
-    ensures { Finds s.Instruction result (pseudo form (operands_of tokens.now)) }
-{
-    match form {
-        Pseudo::Mv => two_registers(alloc, OfTwo::Imm(ImmOp::Addi, 0), tokens),
-        Pseudo::Not => two_registers(alloc, OfTwo::Imm(ImmOp::Xori, -1), tokens),
-        Pseudo::Neg => two_registers(alloc, OfTwo::OnZero(AluOp::Sub), tokens),
-        Pseudo::Seqz => two_registers(alloc, OfTwo::Imm(ImmOp::Sltiu, 1), tokens),
-        Pseudo::Snez => two_registers(alloc, OfTwo::OnZero(AluOp::Sltu), tokens),
-        Pseudo::Sltz => two_registers(alloc, OfTwo::WithZero(AluOp::Slt), tokens),
-        Pseudo::Sgtz => two_registers(alloc, OfTwo::OnZero(AluOp::Slt), tokens),
-        Pseudo::CsrRead => read_csr(alloc, tokens),
-        Pseudo::CsrChange(op) => write_csr(alloc, op, tokens),
-        _ => unreachable!(),
-    }
-}
-
-/// What a word that stands for an instruction of registers alone and its operands stand for.
-fn read_registers<'a>(
-    alloc: Global,
-    form: Pseudo,
-    tokens: &[Token<'a>],
-) -> Result<Statement<'a>, Refusal>
-    requires registers { is_of_registers form ≡ true }
-    requires short { length tokens.now ≤ 1024 }
-    ensures { Finds (λ s. s) result (pseudo form (operands_of tokens.now)) }
-{
-    let instr = registers_instr(alloc, form, tokens)?;
-    Ok(Statement::Instruction(instr))
-}
-
 /// What a word that stands for other instructions and its operands stand for.
 #[tactic(auto, unfolding(crate::specs::Statements::pseudo))]
 pub fn read_pseudo<'a>(
@@ -201,13 +114,21 @@ pub fn read_pseudo<'a>(
         }
         Pseudo::Jump => with_value(alloc, ValueTaker::Jal { rd: x(0) }, tokens),
         Pseudo::JumpRegister => jump_register(alloc, x(0), tokens),
+        Pseudo::CsrRead => read_csr(alloc, tokens),
+        Pseudo::CsrChange(op) => write_csr(alloc, op, tokens),
         Pseudo::CsrChangeImm(op) => write_csr_imm(alloc, op, tokens),
         Pseudo::Li => with_value_after_one(alloc, AfterOne::Li, tokens),
         Pseudo::La => with_value_after_one(alloc, AfterOne::La, tokens),
         Pseudo::Call => with_value(alloc, call(x(1), x(1)), tokens),
         Pseudo::Tail => with_value(alloc, call(x(0), x(6)), tokens),
         Pseudo::Nop => alone(nop(), tokens),
+        Pseudo::Mv => two_registers(alloc, OfTwo::Imm(ImmOp::Addi, 0), tokens),
+        Pseudo::Not => two_registers(alloc, OfTwo::Imm(ImmOp::Xori, -1), tokens),
+        Pseudo::Neg => two_registers(alloc, OfTwo::OnZero(AluOp::Sub), tokens),
+        Pseudo::Seqz => two_registers(alloc, OfTwo::Imm(ImmOp::Sltiu, 1), tokens),
+        Pseudo::Snez => two_registers(alloc, OfTwo::OnZero(AluOp::Sltu), tokens),
+        Pseudo::Sltz => two_registers(alloc, OfTwo::WithZero(AluOp::Slt), tokens),
+        Pseudo::Sgtz => two_registers(alloc, OfTwo::OnZero(AluOp::Slt), tokens),
         Pseudo::Return => alone(ret(), tokens),
-        _ => read_registers(alloc, form, tokens),
     }
 }
