@@ -36,6 +36,11 @@ terms_behind (Some p) ts = elim p.0 as (λ _. Option (List Term)) [
   | Some term ↦ with_terms (term ∷ []) (terms p.1 ts)
 ]
 
+-- what a token and those behind it spell, by the terms so far and with its own; nothing where it may not stand here
+abbrev pub Extends : List Term → List Term → Result Wanted Refusal → Option (List Term) → List Token → Type 0
+Extends old new (Ok next) meaning ts = with_terms old meaning ≡ with_terms new (terms next ts)
+Extends old new (Err refusal) meaning ts = Refuses refusal meaning
+
 -- the operands that are left
 abbrev pub left : Option (Bor (List Token)) → List (List Token)
 left None = []
