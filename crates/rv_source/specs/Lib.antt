@@ -8,4 +8,3 @@ pub mod Partial
 pub mod Rows
 pub mod Registers
 pub mod Takers
-pub mod Pieced

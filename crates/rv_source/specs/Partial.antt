@@ -1,7 +1,7 @@
 -- Answers for operands that a word may not take, and what has been read so far.
 -- Own language; see docs/ASSEMBLER.md.
 -- Not to audit: private contracts alone cite this.
-use Rattle.std.specs.Prelude.{◌≡◌, Bool, List, [], ◌∷◌, Option, Some, None, Result, Ok, Err}
+use Rattle.std.specs.Prelude.{◌≡◌, Bool, true, false, List, [], ◌∷◌, Option, Some, None, Result, Ok, Err}
 use Rattle.std.specs.Borrow.{Bor}
 use Rattle.rv_tokens.specs.declared.token.Token.{Token}
 use Rattle.rv_source.specs.declared.expression.Term.{Term}
@@ -10,8 +10,10 @@ use Rattle.rv_source.specs.declared.operand.Mark.{Mark}
 use Rattle.rv_source.specs.declared.operand.Mark.TheVariants as mark
 use Rattle.rv_source.specs.declared.refusal.Refusal.{Refusal}
 use Rattle.rv_source.specs.declared.refusal.Refusal.TheVariants.{BadOperands, OutOfMemory}
+use Rattle.rv_source.specs.declared.statement.Immediate.{Immediate}
 use Rattle.rv_source.specs.Expressions.{terms, with_terms}
 use Rattle.rv_source.specs.Operands.{is_comma, is_open, is_close, pieces}
+use Rattle.rv_source.specs.Statements.{low_offset, offset}
 
 -- a refusal is that of operands that aren't taken, unless memory ran out
 abbrev pub Refuses : {B : Type 0} → Refusal → Option B → Type 0
@@ -61,3 +63,8 @@ is_mark mark.Close = is_close
 abbrev pub Picks : {A B : Type 0} → (A → B) → (A → Type 0) → Option A → Option B → Type 0
 Picks view fits (Some x) meaning = (meaning ≡ Some (view x)) × fits x
 Picks view fits None meaning = meaning ≡ None
+
+-- what stands before a base: in the brackets behind `%lo`, or alone
+abbrev pub offset_of : Bool → List Token → Option Immediate
+offset_of true = low_offset
+offset_of false = offset

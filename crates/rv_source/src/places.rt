@@ -3,10 +3,9 @@ ghost use Rattle.std.specs.Prelude.{◌≡◌, ◌<◌, ◌≤◌, length, IfSom
 ghost use Rattle.std.specs.Prelude.{option_and_then};
 ghost use Rattle.std.specs.Option.{option_map};
 ghost use Rattle.rv_isa.specs.Names.{lookup, csr_names};
-ghost use Rattle.rv_source.specs.Partial.{Finds};
+ghost use Rattle.rv_source.specs.Partial.{Finds, offset_of};
 ghost use Rattle.rv_source.specs.Operands.{part_of, operands_of};
 ghost use Rattle.rv_source.specs.Expressions.{value};
-ghost use Rattle.rv_source.specs.Pieced.{immediate_of, offset_of};
 ghost use Rattle.rv_source.specs.Statements.{register_named, register, csr_number, based, letter, fence_letters, fence_set, alone, both, all};
 
 use crate::operand::{Operands, indexed, last, name, number, part, part_indexed};
@@ -207,23 +206,6 @@ fn value_in_brackets<'a>(alloc: Global, tokens: &[Token<'a>]) -> Result<Expressi
     read_value(alloc, inner)
 }
 
-/// A value, or the low part of one.
-fn immediate_of<'a>(
-    alloc: Global,
-    is_low: bool,
-    tokens: &[Token<'a>],
-) -> Result<Immediate<'a>, Refusal>
-    requires { length tokens.now ≤ 1024 }
-    ensures { Finds (λ imm. imm) result (immediate_of is_low tokens.now) }
-{
-    let sum = read_value(alloc, tokens)?;
-    Ok(if is_low {
-        Immediate::Low(sum)
-    } else {
-        Immediate::Sum(sum)
-    })
-}
-
 /// A value or the low part of one.
 impl<'a> Place<'a> for Immediate<'a> {
     ghost use Rattle.std.specs.Prelude.{⊤};
@@ -235,13 +217,10 @@ impl<'a> Place<'a> for Immediate<'a> {
 
     #[tactic(auto, unfolding(crate::specs::Statements::immediate))]
     fn read(alloc: Global, tokens: &[Token<'a>]) -> Result<Immediate<'a>, Refusal> {
-        if let [Token::Low, rest @ ..] = tokens {
-            return match part(rest) {
-                Some(inner) => immediate_of(alloc, true, inner),
-                None => Err(Refusal::BadOperands),
-            };
+        match tokens {
+            [Token::Low, rest @ ..] => value_in_brackets(alloc, rest).map(Immediate::Low),
+            _ => read_value(alloc, tokens).map(Immediate::Sum),
         }
-        immediate_of(alloc, false, tokens)
     }
 }
 
@@ -256,12 +235,10 @@ impl<'a> Place<'a> for Upper<'a> {
 
     #[tactic(auto, unfolding(crate::specs::Statements::upper))]
     fn read(alloc: Global, tokens: &[Token<'a>]) -> Result<Upper<'a>, Refusal> {
-        if let [Token::High, rest @ ..] = tokens {
-            let sum = value_in_brackets(alloc, rest)?;
-            return Ok(Upper::High(sum));
+        match tokens {
+            [Token::High, rest @ ..] => value_in_brackets(alloc, rest).map(Upper::High),
+            _ => read_value(alloc, tokens).map(Upper::Sum),
         }
-        let sum = read_value(alloc, tokens)?;
-        Ok(Upper::Sum(sum))
     }
 }
 
@@ -288,10 +265,12 @@ fn offset<'a>(alloc: Global, is_low: bool, tokens: &[Token<'a>]) -> Result<Immed
     requires { length tokens.now ≤ 1024 }
     ensures { Finds (λ imm. imm) result (offset_of is_low tokens.now) }
 {
-    if !is_low && tokens.is_empty() {
+    if is_low {
+        read_value(alloc, tokens).map(Immediate::Low)
+    } else if tokens.is_empty() {
         Ok(Immediate::Zero)
     } else {
-        immediate_of(alloc, is_low, tokens)
+        read_value(alloc, tokens).map(Immediate::Sum)
     }
 }
 
