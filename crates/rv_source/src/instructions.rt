@@ -37,23 +37,15 @@ pub fn x(number: u8) -> Reg
     reg
 }
 
-/// The instruction whose fields, all in range, are these.
-fn instr(kind: Kind) -> Instr
-    requires { IsInRange kind }
-    ensures { result ≡ kind }
-{
-    let Some(instr) = Instr::new(kind) else {
-        unreachable!()
-    };
-    instr
-}
-
 /// The statement of an instruction whose fields are in range.
 pub fn instruction<'a>(kind: Kind) -> Statement<'a>
     requires { IsInRange kind }
     ensures { result ≡ s.Instruction kind }
 {
-    Statement::Instruction(instr(kind))
+    let Some(instr) = Instr::new(kind) else {
+        unreachable!()
+    };
+    Statement::Instruction(instr)
 }
 
 /// A jump to what a register says.
@@ -84,8 +76,7 @@ fn ordered<'a>(first: u16, second: u16) -> Statement<'a>
 
 /// An instruction that takes no operands.
 pub fn alone<'a>(kind: Kind, tokens: &[Token<'a>]) -> Result<Statement<'a>, Refusal>
-    requires within { IsInRange kind }
-    requires short { length tokens.now ≤ 1024 }
+    requires { IsInRange kind }
     ensures { Finds (λ s. s) result (none (s.Instruction kind) (operands_of tokens.now)) }
 {
     if are_none(tokens) {

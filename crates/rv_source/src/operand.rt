@@ -246,12 +246,11 @@ pub fn are_operands(tokens: &[Token]) -> bool
 }
 
 /// Whether there is no operand.
+#[tactic(auto, using(crate::proofs::Pieces::no_operand, crate::proofs::Pieces::an_operand))]
 pub fn are_none(tokens: &[Token]) -> bool
-    requires { length tokens.now ≤ 1024 }
     ensures { result ≡ is_nothing (operands_of tokens.now) }
 {
-    let mut operands = Operands::of(tokens);
-    operands.next().is_none()
+    tokens.is_empty()
 }
 
 /// The operand that is left, where it is the only one.
