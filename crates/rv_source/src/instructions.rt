@@ -62,16 +62,16 @@ fn jump_to<'a>(rd: Reg, base: Reg) -> Statement<'a>
 }
 
 /// A fence between two sets.
-fn ordered<'a>(first: u16, second: u16) -> Statement<'a>
+fn ordered(first: u16, second: u16) -> Kind
     requires first { first < 16 }
     requires second { second < 16 }
-    ensures { result ≡ s.Instruction (k.Fence 0 0 (16 * first + second)) }
+    ensures { result ≡ k.Fence 0 0 (16 * first + second) }
 {
-    instruction(Kind::Fence {
+    Kind::Fence {
         rd: x(0),
         rs1: x(0),
         imm: 16 * first + second,
-    })
+    }
 }
 
 /// An instruction that takes no operands.
@@ -280,7 +280,7 @@ fn fence_between<'a>(first: &[Token], second: &[Token]) -> Result<Statement<'a>,
     ensures { (operands : List (List Token)) → pair operands ≡ Some (first.now, second.now) → Finds (λ s. s) result (two fence_set fence_set (λ p q. s.Instruction (k.Fence 0 0 (16 * p + q))) operands) }
 {
     match (fence_set(first), fence_set(second)) {
-        (Some(first), Some(second)) => Ok(ordered(first, second)),
+        (Some(first), Some(second)) => Ok(instruction(ordered(first, second))),
         _ => Err(Refusal::BadOperands),
     }
 }
@@ -289,12 +289,9 @@ fn fence<'a>(tokens: &[Token<'a>]) -> Result<Statement<'a>, Refusal>
     requires { length tokens.now ≤ 1024 }
     ensures { Finds (λ s. s) result (fence (operands_of tokens.now)) }
 {
-    if are_none(tokens) {
-        return Ok(ordered(15, 15));
-    }
     match pair(tokens) {
         Some((first, second)) => fence_between(first, second),
-        None => Err(Refusal::BadOperands),
+        None => alone(ordered(15, 15), tokens),
     }
 }
 
