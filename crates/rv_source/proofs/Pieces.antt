@@ -5,7 +5,7 @@ use Rattle.std.specs.Prelude.{Some, None, nat_lt}
 use Rattle.std.specs.List.{position_or_len, position}
 use Rattle.std.proofs.lemmas.Bool.Decides.{nat_tests}
 use Rattle.rv_tokens.specs.declared.token.Token.{Token}
-use Rattle.rv_source.specs.Operands.{is_comma, before, pieces}
+use Rattle.rv_source.specs.Operands.{is_comma, is_nothing, before, pieces, operands_of}
 
 -- how many tokens stand before the first comma
 abbrev pub until_comma : List Token → ℕ
@@ -49,3 +49,24 @@ cut_pieces ts n e h =
 -- and of tokens without one
 pub one_piece : (ts : List Token) → None ≡ position is_comma ts → pieces ts ≡ ts ∷ []
 one_piece ts e = pieces_last ts (at_end ts (nat_lt (until_comma ts) (length ts)) refl (sym e))
+
+some_step : (b : Bool) (t : Token) (ps qs : List (List Token)) → is_nothing (cond b ([] ∷ qs) (before t ps)) ≡ false
+some_step true t ps qs = refl
+some_step false t [] qs = refl
+some_step false t (p ∷ ps) qs = refl
+
+some_pieces : (ts : List Token) → is_nothing (pieces ts) ≡ false
+unfolding pieces
+some_pieces [] = refl
+some_pieces (t ∷ ts) = some_step (is_comma t) t (pieces ts) (pieces ts)
+
+-- operands without a token, and with one
+pub no_operand : (ts : List Token) → length ts ≡ 0 → is_nothing (operands_of ts) ≡ true
+unfolding operands_of
+no_operand [] h = refl
+no_operand (t ∷ ts) h = absurd (omega arith)
+
+pub an_operand : (ts : List Token) → 0 < length ts → is_nothing (operands_of ts) ≡ false
+unfolding operands_of
+an_operand [] h = absurd (omega arith)
+an_operand (t ∷ ts) h = some_pieces (t ∷ ts)

@@ -1,5 +1,5 @@
 -- Expressions, token by token.
-use Rattle.std.proofs.Common.{◌≡◌, ◌∙◌, ℕ, List, [], ◌∷◌, ◌++◌, ◌≤◌, drop, length, ap, sym, refl, append_assoc, append-nil}
+use Rattle.std.proofs.Common.{◌≡◌, ℕ, List, [], ◌++◌, ◌≤◌, drop, length, ap, sym, refl, append_assoc, append-nil}
 use Rattle.std.specs.Prelude.{Option, Some, None}
 use Rattle.rv_source.specs.declared.expression.Term.{Term}
 use Rattle.rv_source.specs.declared.expression.Wanted.{Wanted}
@@ -7,7 +7,6 @@ use Rattle.rv_source.specs.declared.expression.Wanted.TheVariants.{Sign, Value}
 use Rattle.std.proofs.lemmas.List.{drop_all}
 use Rattle.rv_tokens.specs.declared.token.Token.{Token}
 use Rattle.rv_source.specs.Expressions.{terms, with_terms}
-use Rattle.rv_source.specs.Partial.{terms_behind}
 
 pub with_terms_append : (ts us : List Term) (r : Option (List Term)) → with_terms ts (with_terms us r) ≡ with_terms (ts ++ us) r
 with_terms_append ts us (Some vs) = ap (λ x. Some x) (sym (append_assoc ts us vs))
@@ -30,13 +29,3 @@ terms_end (Value negative more) ts i h = let e : drop i ts ≡ [] = drop_all i t
 -- the terms so far, where the expression ends
 pub finished : (us : List Term) (w : Wanted) (ts : List Token) (i : ℕ) → length ts ≤ i → w ≡ Sign → with_terms us (terms w (drop i ts)) ≡ Some us
 finished us w ts i h e = rw (terms_end w ts i h, e, append-nil) refl
-
--- a token that completes a term, behind the terms so far
-pub one_term : (us : List Term) (w next : Wanted) (t : Token) (ts : List Token) (term : Term) → terms w (t ∷ ts) ≡ terms_behind (Some (Some term, next)) ts
-    → with_terms (us ++ term ∷ []) (terms next ts) ≡ with_terms us (terms w (t ∷ ts))
-one_term us w next t ts term e = sym (with_terms_append us (term ∷ []) (terms next ts)) ∙ ap (with_terms us) (sym e)
-
--- and one that completes none
-pub no_term : (us : List Term) (w next : Wanted) (t : Token) (ts : List Token) → terms w (t ∷ ts) ≡ terms_behind (Some (None, next)) ts
-    → with_terms us (terms next ts) ≡ with_terms us (terms w (t ∷ ts))
-no_term us w next t ts e = ap (with_terms us) (sym e)

@@ -7,3 +7,4 @@ pub mod Reading
 pub mod Partial
 pub mod Rows
 pub mod Registers
+pub mod Takers

@@ -1,15 +1,19 @@
 -- Answers for operands that a word may not take, and what has been read so far.
 -- Own language; see docs/ASSEMBLER.md.
 -- Not to audit: private contracts alone cite this.
-use Rattle.std.specs.Prelude.{◌≡◌, List, [], ◌∷◌, Option, Some, None, Result, Ok, Err}
+use Rattle.std.specs.Prelude.{◌≡◌, Bool, true, false, List, [], ◌∷◌, Option, Some, None, Result, Ok, Err}
 use Rattle.std.specs.Borrow.{Bor}
 use Rattle.rv_tokens.specs.declared.token.Token.{Token}
 use Rattle.rv_source.specs.declared.expression.Term.{Term}
 use Rattle.rv_source.specs.declared.expression.Wanted.{Wanted}
+use Rattle.rv_source.specs.declared.operand.Mark.{Mark}
+use Rattle.rv_source.specs.declared.operand.Mark.TheVariants as mark
 use Rattle.rv_source.specs.declared.refusal.Refusal.{Refusal}
 use Rattle.rv_source.specs.declared.refusal.Refusal.TheVariants.{BadOperands, OutOfMemory}
+use Rattle.rv_source.specs.declared.statement.Immediate.{Immediate}
 use Rattle.rv_source.specs.Expressions.{terms, with_terms}
-use Rattle.rv_source.specs.Operands.{pieces}
+use Rattle.rv_source.specs.Operands.{is_comma, is_open, is_close, pieces}
+use Rattle.rv_source.specs.Statements.{low_offset, offset}
 
 -- a refusal is that of operands that aren't taken, unless memory ran out
 abbrev pub Refuses : {B : Type 0} → Refusal → Option B → Type 0
@@ -34,6 +38,11 @@ terms_behind (Some p) ts = elim p.0 as (λ _. Option (List Term)) [
   | Some term ↦ with_terms (term ∷ []) (terms p.1 ts)
 ]
 
+-- what a token and those behind it spell, by the terms so far and with its own; nothing where it may not stand here
+abbrev pub Extends : List Term → List Term → Result Wanted Refusal → Option (List Term) → List Token → Type 0
+Extends old new (Ok next) meaning ts = with_terms old meaning ≡ with_terms new (terms next ts)
+Extends old new (Err refusal) meaning ts = Refuses refusal meaning
+
 -- the operands that are left
 abbrev pub left : Option (Bor (List Token)) → List (List Token)
 left None = []
@@ -43,3 +52,19 @@ left (Some ts) = pieces ts.now
 abbrev pub Follows : List (List Token) → Option (Bor (List Token)) → List (List Token) → Type 0
 Follows old None new = old ≡ []
 Follows old (Some piece) new = old ≡ piece.now ∷ new
+
+-- whether a token is such a mark
+abbrev pub is_mark : Mark → Token → Bool
+is_mark mark.Comma = is_comma
+is_mark mark.Open = is_open
+is_mark mark.Close = is_close
+
+-- what there is, seen by view, is what is meant, and it fits; nothing where nothing is meant
+abbrev pub Picks : {A B : Type 0} → (A → B) → (A → Type 0) → Option A → Option B → Type 0
+Picks view fits (Some x) meaning = (meaning ≡ Some (view x)) × fits x
+Picks view fits None meaning = meaning ≡ None
+
+-- what stands before a base: in the brackets behind `%lo`, or alone
+abbrev pub offset_of : Bool → List Token → Option Immediate
+offset_of true = low_offset
+offset_of false = offset

@@ -2,17 +2,15 @@
 ghost use Rattle.std.specs.Prelude.{◌≡◌, ◌≤◌, ◌++◌, length};
 ghost use Rattle.std.specs.Option.{option_map};
 ghost use Rattle.rv_source.specs.declared.form.Directive.TheVariants as d;
-ghost use Rattle.rv_source.specs.declared.statement.Statement.TheVariants as s;
-ghost use Rattle.rv_source.specs.declared.statement.ValueTaker.TheVariants as takes;
 ghost use Rattle.rv_source.specs.Operands.{operands_of};
 ghost use Rattle.rv_source.specs.Partial.{Finds, Becomes};
-ghost use Rattle.rv_source.specs.Expressions.{value};
-ghost use Rattle.rv_source.specs.Statements.{of_some, one, values, string, strings, space, directive};
+ghost use Rattle.rv_source.specs.Statements.{string, space, directive};
 
 use crate::form::Directive;
 use crate::operand::{Operands, are_none, only};
-use crate::places::{both, one};
+use crate::places::both;
 use crate::refusal::Refusal;
+use crate::taker::with_value;
 use crate::terms::read_value;
 use crate::{Bytes, Statement, ValueTaker, Values};
 use rv_isa::Width;
@@ -20,10 +18,10 @@ use rv_tokens::Token;
 use std::alloc::Global;
 
 /// The values of one or more operands.
-#[tactic(auto, using(crate::proofs::Listed::values_more, crate::proofs::Listed::values_none, crate::proofs::Listed::values_end, crate::proofs::Listed::some_operands, crate::proofs::Listed::no_operands))]
-fn read_values<'a>(alloc: Global, tokens: &[Token<'a>]) -> Result<Values<'a>, Refusal>
+#[tactic(auto, using(crate::proofs::Listed::values_more, crate::proofs::Listed::values_none, crate::proofs::Listed::values_end, crate::proofs::Listed::some_operands, crate::proofs::Listed::no_operands), unfolding(crate::specs::Statements::directive))]
+fn data<'a>(alloc: Global, width: Width, tokens: &[Token<'a>]) -> Result<Statement<'a>, Refusal>
     requires { length tokens.now ≤ 1024 }
-    ensures { Finds (λ v. v) result (of_some values (operands_of tokens.now)) }
+    ensures { Finds (λ s. s) result (directive (d.Data width) (operands_of tokens.now)) }
 {
     if are_none(tokens) {
         return Err(Refusal::BadOperands);
@@ -34,7 +32,10 @@ fn read_values<'a>(alloc: Global, tokens: &[Token<'a>]) -> Result<Values<'a>, Re
         let value = read_value(alloc, operand)?;
         out.push(value)?;
     }
-    Ok(Values::new(out))
+    Ok(Statement::Data {
+        width,
+        values: Values::new(out),
+    })
 }
 
 /// Appends the bytes of a string, with a byte 0 behind them where it is terminated.
@@ -55,10 +56,10 @@ fn append_string(out: &mut Vec<u8>, terminated: bool, operand: &[Token]) -> Resu
 }
 
 /// The bytes of one or more strings, each with a byte 0 behind it where it is terminated.
-#[tactic(auto, using(crate::proofs::Listed::strings_more, crate::proofs::Listed::strings_none, crate::proofs::Listed::strings_end, crate::proofs::Listed::some_operands, crate::proofs::Listed::no_operands))]
-fn read_strings(alloc: Global, terminated: bool, tokens: &[Token]) -> Result<Bytes, Refusal>
+#[tactic(auto, using(crate::proofs::Listed::strings_more, crate::proofs::Listed::strings_none, crate::proofs::Listed::strings_end, crate::proofs::Listed::some_operands, crate::proofs::Listed::no_operands), unfolding(crate::specs::Statements::directive))]
+fn text<'a>(alloc: Global, terminated: bool, tokens: &[Token<'a>]) -> Result<Statement<'a>, Refusal>
     requires { length tokens.now ≤ 1024 }
-    ensures { Finds (λ b. b) result (of_some (strings terminated) (operands_of tokens.now)) }
+    ensures { Finds (λ s. s) result (directive (d.Text terminated) (operands_of tokens.now)) }
 {
     if are_none(tokens) {
         return Err(Refusal::BadOperands);
@@ -68,25 +69,7 @@ fn read_strings(alloc: Global, terminated: bool, tokens: &[Token]) -> Result<Byt
     while let Some(operand) = operands.next() {
         append_string(&mut out, terminated, operand)?;
     }
-    Ok(Bytes::new(out))
-}
-
-#[tactic(auto, unfolding(crate::specs::Statements::directive))]
-fn data<'a>(alloc: Global, width: Width, tokens: &[Token<'a>]) -> Result<Statement<'a>, Refusal>
-    requires { length tokens.now ≤ 1024 }
-    ensures { Finds (λ s. s) result (directive (d.Data width) (operands_of tokens.now)) }
-{
-    let values = read_values(alloc, tokens)?;
-    Ok(Statement::Data { width, values })
-}
-
-#[tactic(auto, unfolding(crate::specs::Statements::directive))]
-fn text<'a>(alloc: Global, terminated: bool, tokens: &[Token<'a>]) -> Result<Statement<'a>, Refusal>
-    requires { length tokens.now ≤ 1024 }
-    ensures { Finds (λ s. s) result (directive (d.Text terminated) (operands_of tokens.now)) }
-{
-    let bytes = read_strings(alloc, terminated, tokens)?;
-    Ok(Statement::Bytes(bytes))
+    Ok(Statement::Bytes(Bytes::new(out)))
 }
 
 /// `E` or `E,fill`
@@ -102,28 +85,6 @@ fn space<'a>(alloc: Global, tokens: &[Token<'a>]) -> Result<Statement<'a>, Refus
     Ok(Statement::Space {
         size,
         fill: Some(fill),
-    })
-}
-
-fn align<'a>(alloc: Global, tokens: &[Token<'a>]) -> Result<Statement<'a>, Refusal>
-    requires { length tokens.now ≤ 1024 }
-    ensures { Finds (λ s. s) result (one value (λ power. s.WithValue takes.Align power) (operands_of tokens.now)) }
-{
-    let power = one(alloc, tokens)?;
-    Ok(Statement::WithValue {
-        taker: ValueTaker::Align,
-        value: power,
-    })
-}
-
-fn balign<'a>(alloc: Global, tokens: &[Token<'a>]) -> Result<Statement<'a>, Refusal>
-    requires { length tokens.now ≤ 1024 }
-    ensures { Finds (λ s. s) result (one value (λ multiple. s.WithValue takes.Balign multiple) (operands_of tokens.now)) }
-{
-    let multiple = one(alloc, tokens)?;
-    Ok(Statement::WithValue {
-        taker: ValueTaker::Balign,
-        value: multiple,
     })
 }
 
@@ -150,8 +111,8 @@ pub fn read_directive<'a>(
         Directive::Data(width) => data(alloc, width, tokens),
         Directive::Text { terminated } => text(alloc, terminated, tokens),
         Directive::Space => space(alloc, tokens),
-        Directive::Align => align(alloc, tokens),
-        Directive::Balign => balign(alloc, tokens),
+        Directive::Align => with_value(alloc, ValueTaker::Align, tokens),
+        Directive::Balign => with_value(alloc, ValueTaker::Balign, tokens),
         Directive::Constant => constant(alloc, tokens),
         Directive::Marker => Ok(Statement::Marker),
     }

@@ -5,17 +5,24 @@ ghost use Rattle.rv_isa.specs.Word.{IsInRange};
 ghost use Rattle.rv_isa.specs.declared.kind.Kind.TheVariants as k;
 ghost use Rattle.rv_source.specs.declared.form.Instruction.TheVariants as f;
 ghost use Rattle.rv_source.specs.declared.statement.Statement.TheVariants as s;
+ghost use Rattle.rv_source.specs.declared.statement.ValueTaker.TheVariants as takes;
 ghost use Rattle.rv_source.specs.Operands.{operands_of, pair};
 ghost use Rattle.rv_source.specs.Partial.{Finds};
-ghost use Rattle.rv_source.specs.Statements.{none, jal, jalr, load, store, fence, instruction};
+ghost use Rattle.rv_source.specs.Expressions.{value};
+ghost use Rattle.rv_source.specs.Registers.{IsOfTwo, of_two};
+ghost use Rattle.rv_source.specs.Statements.{register, none, one, two, three, jal, jalr, load, store, fence_set, fence, instruction};
 
 use crate::form::Instruction;
-use crate::operand::{are_none, only, pair, triple};
-use crate::places::{all, both, fence_set, memory, register, register_in};
+use crate::operand::{are_none, only, pair};
+use crate::places::{all, both, fence_set, one, register_in};
 use crate::refusal::Refusal;
-use crate::terms::{is_value, read_value};
-use crate::{Csr, ImmediateTaker, Statement, ValueTaker};
-use rv_isa::{AluOp, Cond, CsrOp, ImmOp, Instr, Kind, LoadOp, Reg, ShiftOp, Width};
+use crate::taker::{
+    AfterOne, AfterTwo, Based, at_memory, with_immediate, with_value, with_value_after_one,
+    with_value_after_two,
+};
+use crate::terms::is_value;
+use crate::{Csr, Statement, ValueTaker};
+use rv_isa::{AluOp, CsrOp, ImmOp, Instr, Kind, LoadOp, Reg, Width};
 use rv_tokens::Token;
 use std::alloc::Global;
 
@@ -30,23 +37,15 @@ pub fn x(number: u8) -> Reg
     reg
 }
 
-/// The instruction whose fields, all in range, are these.
-pub fn instr(kind: Kind) -> Instr
+/// The statement of an instruction whose fields are in range.
+pub fn instruction<'a>(kind: Kind) -> Statement<'a>
     requires { IsInRange kind }
-    ensures { result ≡ kind }
+    ensures { result ≡ s.Instruction kind }
 {
     let Some(instr) = Instr::new(kind) else {
         unreachable!()
     };
-    instr
-}
-
-/// The statement of an instruction whose fields are in range.
-fn instruction<'a>(kind: Kind) -> Statement<'a>
-    requires { IsInRange kind }
-    ensures { result ≡ s.Instruction kind }
-{
-    Statement::Instruction(instr(kind))
+    Statement::Instruction(instr)
 }
 
 /// A jump to what a register says.
@@ -63,22 +62,21 @@ fn jump_to<'a>(rd: Reg, base: Reg) -> Statement<'a>
 }
 
 /// A fence between two sets.
-fn ordered<'a>(first: u16, second: u16) -> Statement<'a>
+fn ordered(first: u16, second: u16) -> Kind
     requires first { first < 16 }
     requires second { second < 16 }
-    ensures { result ≡ s.Instruction (k.Fence 0 0 (16 * first + second)) }
+    ensures { result ≡ k.Fence 0 0 (16 * first + second) }
 {
-    instruction(Kind::Fence {
+    Kind::Fence {
         rd: x(0),
         rs1: x(0),
         imm: 16 * first + second,
-    })
+    }
 }
 
 /// An instruction that takes no operands.
 pub fn alone<'a>(kind: Kind, tokens: &[Token<'a>]) -> Result<Statement<'a>, Refusal>
-    requires within { IsInRange kind }
-    requires short { length tokens.now ≤ 1024 }
+    requires { IsInRange kind }
     ensures { Finds (λ s. s) result (none (s.Instruction kind) (operands_of tokens.now)) }
 {
     if are_none(tokens) {
@@ -97,55 +95,86 @@ fn lui<'a>(alloc: Global, tokens: &[Token<'a>]) -> Result<Statement<'a>, Refusal
     Ok(Statement::Lui { rd, imm })
 }
 
-#[tactic(auto, unfolding(crate::specs::Statements::instruction))]
-fn auipc<'a>(alloc: Global, tokens: &[Token<'a>]) -> Result<Statement<'a>, Refusal>
-    requires { length tokens.now ≤ 1024 }
-    ensures { Finds (λ s. s) result (instruction f.Auipc (operands_of tokens.now)) }
-{
-    let (rd, imm) = both(alloc, tokens)?;
-    Ok(Statement::WithValue {
-        taker: ValueTaker::Auipc { rd },
-        value: imm,
-    })
-}
-
 /// `rd,target`, or `target` alone with x1 as the link
 fn jal<'a>(alloc: Global, tokens: &[Token<'a>]) -> Result<Statement<'a>, Refusal>
     requires { length tokens.now ≤ 1024 }
     ensures { Finds (λ s. s) result (jal (operands_of tokens.now)) }
 {
-    if let Some(target) = only(tokens) {
-        let target = read_value(alloc, target)?;
-        return Ok(Statement::WithValue {
-            taker: ValueTaker::Jal { rd: x(1) },
-            value: target,
-        });
+    match only(tokens) {
+        Some(_) => with_value(alloc, ValueTaker::Jal { rd: x(1) }, tokens),
+        None => with_value_after_one(alloc, AfterOne::Jal, tokens),
     }
-    let (rd, target) = both(alloc, tokens)?;
-    Ok(Statement::WithValue {
-        taker: ValueTaker::Jal { rd },
-        value: target,
-    })
 }
 
-/// `rd,rs1` or `rd,m`
-fn jump_from<'a>(
+/// `rs1`, with a link
+pub fn jump_register<'a>(
     alloc: Global,
-    rd: &[Token<'a>],
-    place: &[Token<'a>],
+    link: Reg,
+    tokens: &[Token<'a>],
 ) -> Result<Statement<'a>, Refusal>
-    requires { length place.now ≤ 1024 }
-    ensures { (operands : List (List Token)) → pair operands ≡ Some (rd.now, place.now) → Finds (λ s. s) result (jalr operands) }
+    requires link { link < 32 }
+    requires short { length tokens.now ≤ 1024 }
+    ensures { Finds (λ s. s) result (one register (λ base. s.Instruction (k.Jalr link base (pos 0))) (operands_of tokens.now)) }
 {
-    let rd = register(rd)?;
-    if let Some(base) = register_in(place) {
-        return Ok(jump_to(rd, base));
+    let base = one(alloc, tokens)?;
+    Ok(jump_to(link, base))
+}
+
+/// What a word that takes two registers does with them.
+#[derive(Clone, Copy)]
+pub enum OfTwo {
+    /// An operation on the second register and an immediate.
+    Imm(ImmOp, i32),
+    /// An operation on the second register and x0.
+    WithZero(AluOp),
+    /// An operation on x0 and the second register.
+    OnZero(AluOp),
+    /// A jump to what the second register says.
+    Jump,
+}
+
+/// The instruction of two registers.
+fn of_two<'a>(form: OfTwo, rd: Reg, rs: Reg) -> Statement<'a>
+    requires within { IsOfTwo form }
+    requires rd { rd < 32 }
+    requires rs { rs < 32 }
+    ensures { result ≡ s.Instruction (of_two form rd rs) }
+{
+    match form {
+        OfTwo::Imm(op, imm) => instruction(Kind::OpImm {
+            op,
+            rd,
+            rs1: rs,
+            imm,
+        }),
+        OfTwo::WithZero(op) => instruction(Kind::Op {
+            op,
+            rd,
+            rs1: rs,
+            rs2: x(0),
+        }),
+        OfTwo::OnZero(op) => instruction(Kind::Op {
+            op,
+            rd,
+            rs1: x(0),
+            rs2: rs,
+        }),
+        OfTwo::Jump => jump_to(rd, rs),
     }
-    let (offset, base) = memory(alloc, place)?;
-    Ok(Statement::WithImmediate {
-        taker: ImmediateTaker::Jalr { rd, base },
-        imm: offset,
-    })
+}
+
+/// `rd,rs`
+pub fn two_registers<'a>(
+    alloc: Global,
+    form: OfTwo,
+    tokens: &[Token<'a>],
+) -> Result<Statement<'a>, Refusal>
+    requires within { IsOfTwo form }
+    requires short { length tokens.now ≤ 1024 }
+    ensures { Finds (λ s. s) result (two register register (λ rd rs. s.Instruction (of_two form rd rs)) (operands_of tokens.now)) }
+{
+    let (rd, rs) = both(alloc, tokens)?;
+    Ok(of_two(form, rd, rs))
 }
 
 /// `rd,rs1`, `rd,m`, `rd,rs1,i`, or `rs1` with x1 as the link
@@ -153,30 +182,16 @@ fn jalr<'a>(alloc: Global, tokens: &[Token<'a>]) -> Result<Statement<'a>, Refusa
     requires { length tokens.now ≤ 1024 }
     ensures { Finds (λ s. s) result (jalr (operands_of tokens.now)) }
 {
-    if let Some(base) = only(tokens) {
-        let base = register(base)?;
-        return Ok(jump_to(x(1), base));
+    if let Some((_, place)) = pair(tokens) {
+        return match register_in(place) {
+            Some(_) => two_registers(alloc, OfTwo::Jump, tokens),
+            None => at_memory(alloc, Based::Jalr, tokens),
+        };
     }
-    if let Some((rd, place)) = pair(tokens) {
-        return jump_from(alloc, rd, place);
+    match only(tokens) {
+        Some(_) => jump_register(alloc, x(1), tokens),
+        None => with_immediate(alloc, Based::Jalr, tokens),
     }
-    let (rd, base, offset) = all(alloc, tokens)?;
-    Ok(Statement::WithImmediate {
-        taker: ImmediateTaker::Jalr { rd, base },
-        imm: offset,
-    })
-}
-
-#[tactic(auto, unfolding(crate::specs::Statements::instruction))]
-fn branch<'a>(alloc: Global, cond: Cond, tokens: &[Token<'a>]) -> Result<Statement<'a>, Refusal>
-    requires { length tokens.now ≤ 1024 }
-    ensures { Finds (λ s. s) result (instruction (f.Branch cond) (operands_of tokens.now)) }
-{
-    let (rs1, rs2, target) = all(alloc, tokens)?;
-    Ok(Statement::WithValue {
-        taker: ValueTaker::Branch { cond, rs1, rs2 },
-        value: target,
-    })
 }
 
 /// `rd,m` or `rd,E`
@@ -184,60 +199,22 @@ fn load<'a>(alloc: Global, op: LoadOp, tokens: &[Token<'a>]) -> Result<Statement
     requires { length tokens.now ≤ 1024 }
     ensures { Finds (λ s. s) result (load op (operands_of tokens.now)) }
 {
-    let Some((rd, place)) = pair(tokens) else {
+    let Some((_, place)) = pair(tokens) else {
         return Err(Refusal::BadOperands);
     };
-    let rd = register(rd)?;
     if is_value(place) {
-        let target = read_value(alloc, place)?;
-        return Ok(Statement::WithValue {
-            taker: ValueTaker::LoadFrom { op, rd },
-            value: target,
-        });
+        with_value_after_one(alloc, AfterOne::LoadFrom(op), tokens)
+    } else {
+        at_memory(alloc, Based::Load(op), tokens)
     }
-    let (offset, base) = memory(alloc, place)?;
-    Ok(Statement::WithImmediate {
-        taker: ImmediateTaker::Load { op, rd, base },
-        imm: offset,
-    })
 }
 
-/// `rs2,m`
-fn store_at<'a>(
-    alloc: Global,
-    width: Width,
-    source: &[Token<'a>],
-    place: &[Token<'a>],
-) -> Result<Statement<'a>, Refusal>
-    requires { length place.now ≤ 1024 }
-    ensures { (operands : List (List Token)) → pair operands ≡ Some (source.now, place.now) → Finds (λ s. s) result (store width operands) }
-{
-    let source = register(source)?;
-    let (offset, base) = memory(alloc, place)?;
-    Ok(Statement::WithImmediate {
-        taker: ImmediateTaker::Store {
-            width,
-            source,
-            base,
-        },
-        imm: offset,
-    })
-}
-
-/// `rs2,m` or `rs,E,rt`
-fn store<'a>(alloc: Global, width: Width, tokens: &[Token<'a>]) -> Result<Statement<'a>, Refusal>
+/// `rs,E,rt`
+fn store_to<'a>(alloc: Global, width: Width, tokens: &[Token<'a>]) -> Result<Statement<'a>, Refusal>
     requires { length tokens.now ≤ 1024 }
-    ensures { Finds (λ s. s) result (store width (operands_of tokens.now)) }
+    ensures { Finds (λ s. s) result (three register value register (λ source target scratch. s.WithValue (takes.StoreTo width source scratch) target) (operands_of tokens.now)) }
 {
-    if let Some((source, place)) = pair(tokens) {
-        return store_at(alloc, width, source, place);
-    }
-    let Some((source, target, scratch)) = triple(tokens) else {
-        return Err(Refusal::BadOperands);
-    };
-    let source = register(source)?;
-    let scratch = register(scratch)?;
-    let target = read_value(alloc, target)?;
+    let (source, target, scratch) = all(alloc, tokens)?;
     Ok(Statement::WithValue {
         taker: ValueTaker::StoreTo {
             width,
@@ -248,28 +225,15 @@ fn store<'a>(alloc: Global, width: Width, tokens: &[Token<'a>]) -> Result<Statem
     })
 }
 
-#[tactic(auto, unfolding(crate::specs::Statements::instruction))]
-fn op_imm<'a>(alloc: Global, op: ImmOp, tokens: &[Token<'a>]) -> Result<Statement<'a>, Refusal>
+/// `rs2,m` or `rs,E,rt`
+fn store<'a>(alloc: Global, width: Width, tokens: &[Token<'a>]) -> Result<Statement<'a>, Refusal>
     requires { length tokens.now ≤ 1024 }
-    ensures { Finds (λ s. s) result (instruction (f.OpImm op) (operands_of tokens.now)) }
+    ensures { Finds (λ s. s) result (store width (operands_of tokens.now)) }
 {
-    let (rd, rs1, imm) = all(alloc, tokens)?;
-    Ok(Statement::WithImmediate {
-        taker: ImmediateTaker::OpImm { op, rd, rs1 },
-        imm,
-    })
-}
-
-#[tactic(auto, unfolding(crate::specs::Statements::instruction))]
-fn shift<'a>(alloc: Global, op: ShiftOp, tokens: &[Token<'a>]) -> Result<Statement<'a>, Refusal>
-    requires { length tokens.now ≤ 1024 }
-    ensures { Finds (λ s. s) result (instruction (f.Shift op) (operands_of tokens.now)) }
-{
-    let (rd, rs1, amount) = all(alloc, tokens)?;
-    Ok(Statement::WithValue {
-        taker: ValueTaker::Shift { op, rd, rs1 },
-        value: amount,
-    })
+    match pair(tokens) {
+        Some(_) => at_memory(alloc, Based::Store(width), tokens),
+        None => store_to(alloc, width, tokens),
+    }
 }
 
 #[tactic(auto, unfolding(crate::specs::Statements::instruction))]
@@ -311,19 +275,24 @@ fn change_csr_imm<'a>(
     })
 }
 
+/// A fence between the sets that the tokens spell.
+fn fence_between<'a>(first: &[Token], second: &[Token]) -> Result<Statement<'a>, Refusal>
+    ensures { (operands : List (List Token)) → pair operands ≡ Some (first.now, second.now) → Finds (λ s. s) result (two fence_set fence_set (λ p q. s.Instruction (k.Fence 0 0 (16 * p + q))) operands) }
+{
+    match (fence_set(first), fence_set(second)) {
+        (Some(first), Some(second)) => Ok(instruction(ordered(first, second))),
+        _ => Err(Refusal::BadOperands),
+    }
+}
+
 fn fence<'a>(tokens: &[Token<'a>]) -> Result<Statement<'a>, Refusal>
     requires { length tokens.now ≤ 1024 }
     ensures { Finds (λ s. s) result (fence (operands_of tokens.now)) }
 {
-    if are_none(tokens) {
-        return Ok(ordered(15, 15));
+    match pair(tokens) {
+        Some((first, second)) => fence_between(first, second),
+        None => alone(ordered(15, 15), tokens),
     }
-    let Some((first, second)) = pair(tokens) else {
-        return Err(Refusal::BadOperands);
-    };
-    let first = fence_set(first)?;
-    let second = fence_set(second)?;
-    Ok(ordered(first, second))
 }
 
 /// `fence.i`
@@ -349,14 +318,14 @@ pub fn read_instruction<'a>(
 {
     match form {
         Instruction::Lui => lui(alloc, tokens),
-        Instruction::Auipc => auipc(alloc, tokens),
+        Instruction::Auipc => with_value_after_one(alloc, AfterOne::Auipc, tokens),
         Instruction::Jal => jal(alloc, tokens),
         Instruction::Jalr => jalr(alloc, tokens),
-        Instruction::Branch(cond) => branch(alloc, cond, tokens),
+        Instruction::Branch(cond) => with_value_after_two(alloc, AfterTwo::Branch(cond), tokens),
         Instruction::Load(op) => load(alloc, op, tokens),
         Instruction::Store(width) => store(alloc, width, tokens),
-        Instruction::OpImm(op) => op_imm(alloc, op, tokens),
-        Instruction::Shift(op) => shift(alloc, op, tokens),
+        Instruction::OpImm(op) => with_immediate(alloc, Based::OpImm(op), tokens),
+        Instruction::Shift(op) => with_value_after_two(alloc, AfterTwo::Shift(op), tokens),
         Instruction::Op(kind) => op(alloc, kind, tokens),
         Instruction::Csr(op) => change_csr(alloc, op, tokens),
         Instruction::CsrImm(op) => change_csr_imm(alloc, op, tokens),

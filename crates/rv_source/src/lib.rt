@@ -15,6 +15,7 @@ mod reader;
 mod refusal;
 mod statement;
 mod table;
+mod taker;
 mod terms;
 
 pub use expression::{Atom, Expression, Term, Wanted};

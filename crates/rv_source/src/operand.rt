@@ -1,35 +1,38 @@
 //! Operands: the tokens of each, and the shapes that they may have.
 ghost use Rattle.std.specs.Prelude.{◌≡◌, ◌<◌, ◌≤◌, ◌+◌, length, drop, IfSome};
 ghost use Rattle.std.specs.List.{position, list_all};
-ghost use Rattle.std.specs.Option.{option_map};
-ghost use Rattle.rv_source.specs.Operands.{is_nothing, is_comma, is_open, is_close, name_of, number_of, base_of, bracketed, indexed_of, part_of, part_indexed_of, holds, is_value, is_offset, is_operand, operands_of, only, pair, triple};
+ghost use Rattle.rv_source.specs.Partial.{Picks, is_mark};
+ghost use Rattle.rv_source.specs.Operands.{is_nothing, name_of, number_of, base_of, bracketed, indexed_of, part_of, part_indexed_of, holds, is_value, is_offset, is_operand, operands_of, only, pair};
 
 use crate::terms::is_value;
 use rv_tokens::{Name, Token};
 use std::marker::Model;
 
-/// The place of the first comma.
-fn comma(tokens: &[Token]) -> Option<usize>
-    ensures value { result ≡ position is_comma tokens.now }
-    ensures below { IfSome result (λ n. n < length tokens.now) }
-{
-    tokens.iter().position(|t| matches!(t, Token::Comma))
+/// What parts operands, and what encloses a part of one.
+#[derive(Clone, Copy)]
+pub enum Mark {
+    Comma,
+    Open,
+    Close,
 }
 
-/// The place of the first `(`.
-fn open(tokens: &[Token]) -> Option<usize>
-    ensures value { result ≡ position is_open tokens.now }
-    ensures below { IfSome result (λ n. n < length tokens.now) }
+/// Whether a token is such a mark.
+fn is_mark(mark: Mark, token: &Token) -> bool
+    ensures { result ≡ is_mark mark token.now }
 {
-    tokens.iter().position(|t| matches!(t, Token::Open))
+    match mark {
+        Mark::Comma => matches!(token, Token::Comma),
+        Mark::Open => matches!(token, Token::Open),
+        Mark::Close => matches!(token, Token::Close),
+    }
 }
 
-/// The place of the first `)`.
-fn close(tokens: &[Token]) -> Option<usize>
-    ensures value { result ≡ position is_close tokens.now }
+/// The place of the first such mark.
+fn place(mark: Mark, tokens: &[Token]) -> Option<usize>
+    ensures value { result ≡ position (is_mark mark) tokens.now }
     ensures below { IfSome result (λ n. n < length tokens.now) }
 {
-    tokens.iter().position(|t| matches!(t, Token::Close))
+    tokens.iter().position(|t| is_mark(mark, t))
 }
 
 /// What stands behind a token.
@@ -84,7 +87,7 @@ impl<'t, 'a> Operands<'t, 'a> {
         ensures short { IfSome result (λ ts. length ts.now ≤ 1024) }
     {
         let tokens = self.rest?;
-        match comma(tokens) {
+        match place(Mark::Comma, tokens) {
             Some(n) => {
                 self.rest = Some(behind(tokens, n));
                 Some(&tokens[..n])
@@ -140,25 +143,23 @@ fn base<'a>(tokens: &[Token<'a>]) -> Option<Name<'a>>
 /// `E(name)` or `(name)`: what stands before the first bracket, and the name.
 #[tactic(auto, unfolding(crate::specs::Operands::indexed_of))]
 pub fn indexed<'t, 'a>(tokens: &'t [Token<'a>]) -> Option<(&'t [Token<'a>], Name<'a>)>
-    ensures value { option_map (λ p. (p.0.now, p.1)) result ≡ indexed_of tokens.now }
-    ensures short { IfSome result (λ p. length p.0.now ≤ length tokens.now) }
+    ensures { Picks (λ p. (p.0.now, p.1)) (λ p. length p.0.now ≤ length tokens.now) result (indexed_of tokens.now) }
 {
-    let (front, rest) = tokens.split_at(open(tokens)?);
+    let (front, rest) = tokens.split_at(place(Mark::Open, tokens)?);
     let name = base(rest)?;
     Some((front, name))
 }
 
 /// The tokens in the brackets that come first, and those behind them.
 fn bracketed<'t, 'a>(tokens: &'t [Token<'a>]) -> Option<(&'t [Token<'a>], &'t [Token<'a>])>
-    ensures value { option_map (λ p. (p.0.now, p.1.now)) result ≡ bracketed tokens.now }
-    ensures short { IfSome result (λ p. length p.0.now ≤ length tokens.now) }
+    ensures { Picks (λ p. (p.0.now, p.1.now)) (λ p. length p.0.now ≤ length tokens.now) result (bracketed tokens.now) }
 {
     let [first, inner @ ..] = tokens else {
         return None;
     };
     match first {
         Token::Open => {
-            let n = close(inner)?;
+            let n = place(Mark::Close, inner)?;
             Some((&inner[..n], behind(inner, n)))
         }
         _ => None,
@@ -168,8 +169,7 @@ fn bracketed<'t, 'a>(tokens: &'t [Token<'a>]) -> Option<(&'t [Token<'a>], &'t [T
 /// `(E)` behind `%hi` or `%lo`: the tokens in the brackets.
 #[tactic(auto, unfolding(crate::specs::Operands::part_of))]
 pub fn part<'t, 'a>(tokens: &'t [Token<'a>]) -> Option<&'t [Token<'a>]>
-    ensures value { option_map (λ ts. ts.now) result ≡ part_of tokens.now }
-    ensures short { IfSome result (λ ts. length ts.now ≤ length tokens.now) }
+    ensures { Picks (λ ts. ts.now) (λ ts. length ts.now ≤ length tokens.now) result (part_of tokens.now) }
 {
     let (inner, rest) = bracketed(tokens)?;
     if rest.is_empty() { Some(inner) } else { None }
@@ -178,8 +178,7 @@ pub fn part<'t, 'a>(tokens: &'t [Token<'a>]) -> Option<&'t [Token<'a>]>
 /// `(E)(name)` behind `%lo`: the tokens in the first brackets, and the name.
 #[tactic(auto, unfolding(crate::specs::Operands::part_indexed_of))]
 pub fn part_indexed<'t, 'a>(tokens: &'t [Token<'a>]) -> Option<(&'t [Token<'a>], Name<'a>)>
-    ensures value { option_map (λ p. (p.0.now, p.1)) result ≡ part_indexed_of tokens.now }
-    ensures short { IfSome result (λ p. length p.0.now ≤ length tokens.now) }
+    ensures { Picks (λ p. (p.0.now, p.1)) (λ p. length p.0.now ≤ length tokens.now) result (part_indexed_of tokens.now) }
 {
     let (inner, rest) = bracketed(tokens)?;
     let name = base(rest)?;
@@ -247,24 +246,17 @@ pub fn are_operands(tokens: &[Token]) -> bool
 }
 
 /// Whether there is no operand.
+#[tactic(auto, using(crate::proofs::Pieces::no_operand, crate::proofs::Pieces::an_operand))]
 pub fn are_none(tokens: &[Token]) -> bool
-    requires { length tokens.now ≤ 1024 }
     ensures { result ≡ is_nothing (operands_of tokens.now) }
 {
-    let mut operands = Operands::of(tokens);
-    match operands.next() {
-        None => true,
-        Some(_) => false,
-    }
+    tokens.is_empty()
 }
 
-/// The only operand.
-pub fn only<'t, 'a>(tokens: &'t [Token<'a>]) -> Option<&'t [Token<'a>]>
-    requires { length tokens.now ≤ 1024 }
-    ensures value { option_map (λ ts. ts.now) result ≡ only (operands_of tokens.now) }
-    ensures short { IfSome result (λ ts. length ts.now ≤ 1024) }
+/// The operand that is left, where it is the only one.
+pub fn last<'t, 'a>(mut operands: Operands<'t, 'a>) -> Option<&'t [Token<'a>]>
+    ensures { Picks (λ ts. ts.now) (λ ts. length ts.now ≤ 1024) result (only operands.entry) }
 {
-    let mut operands = Operands::of(tokens);
     let first = operands.next()?;
     match operands.next() {
         None => Some(first),
@@ -272,36 +264,21 @@ pub fn only<'t, 'a>(tokens: &'t [Token<'a>]) -> Option<&'t [Token<'a>]>
     }
 }
 
+/// The only operand.
+pub fn only<'t, 'a>(tokens: &'t [Token<'a>]) -> Option<&'t [Token<'a>]>
+    requires { length tokens.now ≤ 1024 }
+    ensures { Picks (λ ts. ts.now) (λ ts. length ts.now ≤ 1024) result (only (operands_of tokens.now)) }
+{
+    last(Operands::of(tokens))
+}
+
 /// Both of two operands.
 pub fn pair<'t, 'a>(tokens: &'t [Token<'a>]) -> Option<(&'t [Token<'a>], &'t [Token<'a>])>
     requires { length tokens.now ≤ 1024 }
-    ensures value { option_map (λ p. (p.0.now, p.1.now)) result ≡ pair (operands_of tokens.now) }
-    ensures short { IfSome result (λ p. (length p.0.now ≤ 1024) × (length p.1.now ≤ 1024)) }
+    ensures { Picks (λ p. (p.0.now, p.1.now)) (λ p. (length p.0.now ≤ 1024) × (length p.1.now ≤ 1024)) result (pair (operands_of tokens.now)) }
 {
     let mut operands = Operands::of(tokens);
     let first = operands.next()?;
-    let second = operands.next()?;
-    match operands.next() {
-        None => Some((first, second)),
-        Some(_) => None,
-    }
-}
-
-/// The tokens of three operands.
-pub type Triple<'t, 'a> = (&'t [Token<'a>], &'t [Token<'a>], &'t [Token<'a>]);
-
-/// All of three operands.
-pub fn triple<'t, 'a>(tokens: &'t [Token<'a>]) -> Option<Triple<'t, 'a>>
-    requires { length tokens.now ≤ 1024 }
-    ensures value { option_map (λ p. (p.0.now, p.1.now, p.2.now)) result ≡ triple (operands_of tokens.now) }
-    ensures short { IfSome result (λ p. (length p.0.now ≤ 1024) × (length p.1.now ≤ 1024) × (length p.2.now ≤ 1024)) }
-{
-    let mut operands = Operands::of(tokens);
-    let first = operands.next()?;
-    let second = operands.next()?;
-    let third = operands.next()?;
-    match operands.next() {
-        None => Some((first, second, third)),
-        Some(_) => None,
-    }
+    let second = last(operands)?;
+    Some((first, second))
 }

@@ -1,13 +1,14 @@
 //! What a place of a statement takes.
 ghost use Rattle.std.specs.Prelude.{◌≡◌, ◌<◌, ◌≤◌, length, IfSome, IfOk};
 ghost use Rattle.std.specs.Prelude.{option_and_then};
+ghost use Rattle.std.specs.Option.{option_map};
 ghost use Rattle.rv_isa.specs.Names.{lookup, csr_names};
-ghost use Rattle.rv_source.specs.Partial.{Finds};
-ghost use Rattle.rv_source.specs.Operands.{indexed_of, part_of, part_indexed_of, operands_of};
+ghost use Rattle.rv_source.specs.Partial.{Finds, offset_of};
+ghost use Rattle.rv_source.specs.Operands.{part_of, operands_of};
 ghost use Rattle.rv_source.specs.Expressions.{value};
-ghost use Rattle.rv_source.specs.Statements.{register_named, register, csr_number, offset, low_offset, based, memory, letter, fence_letters, fence_set, alone, both, all};
+ghost use Rattle.rv_source.specs.Statements.{register_named, register, csr_number, based, letter, fence_letters, fence_set, alone, both, all};
 
-use crate::operand::{indexed, name, number, only, pair, part, part_indexed, triple};
+use crate::operand::{Operands, indexed, last, name, number, part, part_indexed};
 use crate::refusal::Refusal;
 use crate::terms::{is_symbol, read_value};
 use crate::{Csr, Expression, Immediate, Upper};
@@ -34,16 +35,41 @@ pub trait Place<'a>: Drop {
         ensures fits { IfOk result (λ x. fits x) };
 }
 
+/// The operand that is left.
+fn one_of<'a, A: Place<'a>>(alloc: Global, operands: Operands<'_, 'a>) -> Result<A, Refusal>
+    ensures value { Finds (λ x. x) result (alone A.meant operands.entry) }
+    ensures fits { IfOk result (λ x. A.fits x) }
+{
+    match last(operands) {
+        Some(operand) => A::read(alloc, operand),
+        None => Err(Refusal::BadOperands),
+    }
+}
+
+/// Both of the operands that are left.
+#[tactic(auto, using(crate::proofs::Placed::both_read, crate::proofs::Placed::both_first_refused, crate::proofs::Placed::both_second_refused))]
+fn both_of<'a, A: Place<'a>, B: Place<'a>>(
+    alloc: Global,
+    mut operands: Operands<'_, 'a>,
+) -> Result<(A, B), Refusal>
+    ensures value { Finds (λ p. p) result (both A.meant B.meant operands.entry) }
+    ensures fits { IfOk result (λ p. A.fits p.0 × B.fits p.1) }
+{
+    let Some(first) = operands.next() else {
+        return Err(Refusal::BadOperands);
+    };
+    let first = A::read(alloc, first)?;
+    let second = one_of(alloc, operands)?;
+    Ok((first, second))
+}
+
 /// The only operand.
 pub fn one<'a, A: Place<'a>>(alloc: Global, tokens: &[Token<'a>]) -> Result<A, Refusal>
     requires { length tokens.now ≤ 1024 }
     ensures value { Finds (λ x. x) result (alone A.meant (operands_of tokens.now)) }
     ensures fits { IfOk result (λ x. A.fits x) }
 {
-    let Some(operand) = only(tokens) else {
-        return Err(Refusal::BadOperands);
-    };
-    A::read(alloc, operand)
+    one_of(alloc, Operands::of(tokens))
 }
 
 /// Both of two operands.
@@ -55,13 +81,11 @@ pub fn both<'a, A: Place<'a>, B: Place<'a>>(
     ensures value { Finds (λ p. p) result (both A.meant B.meant (operands_of tokens.now)) }
     ensures fits { IfOk result (λ p. A.fits p.0 × B.fits p.1) }
 {
-    let Some((first, second)) = pair(tokens) else {
-        return Err(Refusal::BadOperands);
-    };
-    Ok((A::read(alloc, first)?, B::read(alloc, second)?))
+    both_of(alloc, Operands::of(tokens))
 }
 
 /// All of three operands.
+#[tactic(auto, using(crate::proofs::Placed::all_read, crate::proofs::Placed::all_first_refused, crate::proofs::Placed::all_rest_refused))]
 pub fn all<'a, A: Place<'a>, B: Place<'a>, C: Place<'a>>(
     alloc: Global,
     tokens: &[Token<'a>],
@@ -70,14 +94,13 @@ pub fn all<'a, A: Place<'a>, B: Place<'a>, C: Place<'a>>(
     ensures value { Finds (λ p. p) result (all A.meant B.meant C.meant (operands_of tokens.now)) }
     ensures fits { IfOk result (λ p. A.fits p.0 × B.fits p.1 × C.fits p.2) }
 {
-    let Some((first, second, third)) = triple(tokens) else {
+    let mut operands = Operands::of(tokens);
+    let Some(first) = operands.next() else {
         return Err(Refusal::BadOperands);
     };
-    Ok((
-        A::read(alloc, first)?,
-        B::read(alloc, second)?,
-        C::read(alloc, third)?,
-    ))
+    let first = A::read(alloc, first)?;
+    let (second, third) = both_of(alloc, operands)?;
+    Ok((first, second, third))
 }
 
 /// The register with a name.
@@ -98,17 +121,6 @@ pub fn register_in(tokens: &[Token]) -> Option<Reg>
 {
     let name = name(tokens)?;
     named(&name)
-}
-
-/// A register.
-pub fn register(tokens: &[Token]) -> Result<Reg, Refusal>
-    ensures value { Finds (λ r. r) result (register tokens.now) }
-    ensures below { IfOk result (λ r. r < 32) }
-{
-    match register_in(tokens) {
-        Some(reg) => Ok(reg),
-        None => Err(Refusal::BadOperands),
-    }
 }
 
 /// The control register with a number.
@@ -140,7 +152,7 @@ impl<'a> Place<'a> for Reg {
     ghost fits = { λ r. r < 32 };
 
     fn read(_: Global, tokens: &[Token<'a>]) -> Result<Reg, Refusal> {
-        register(tokens)
+        register_in(tokens).ok_or(Refusal::BadOperands)
     }
 }
 
@@ -205,12 +217,10 @@ impl<'a> Place<'a> for Immediate<'a> {
 
     #[tactic(auto, unfolding(crate::specs::Statements::immediate))]
     fn read(alloc: Global, tokens: &[Token<'a>]) -> Result<Immediate<'a>, Refusal> {
-        if let [Token::Low, rest @ ..] = tokens {
-            let sum = value_in_brackets(alloc, rest)?;
-            return Ok(Immediate::Low(sum));
+        match tokens {
+            [Token::Low, rest @ ..] => value_in_brackets(alloc, rest).map(Immediate::Low),
+            _ => read_value(alloc, tokens).map(Immediate::Sum),
         }
-        let sum = read_value(alloc, tokens)?;
-        Ok(Immediate::Sum(sum))
     }
 }
 
@@ -225,12 +235,10 @@ impl<'a> Place<'a> for Upper<'a> {
 
     #[tactic(auto, unfolding(crate::specs::Statements::upper))]
     fn read(alloc: Global, tokens: &[Token<'a>]) -> Result<Upper<'a>, Refusal> {
-        if let [Token::High, rest @ ..] = tokens {
-            let sum = value_in_brackets(alloc, rest)?;
-            return Ok(Upper::High(sum));
+        match tokens {
+            [Token::High, rest @ ..] => value_in_brackets(alloc, rest).map(Upper::High),
+            _ => read_value(alloc, tokens).map(Upper::Sum),
         }
-        let sum = read_value(alloc, tokens)?;
-        Ok(Upper::Sum(sum))
     }
 }
 
@@ -252,60 +260,54 @@ impl<'a> Place<'a> for Name<'a> {
     }
 }
 
-/// What may stand before a base.
-fn offset<'a>(alloc: Global, tokens: &[Token<'a>]) -> Result<Immediate<'a>, Refusal>
+/// What may stand before a base: in the brackets behind `%lo`, or alone.
+fn offset<'a>(alloc: Global, is_low: bool, tokens: &[Token<'a>]) -> Result<Immediate<'a>, Refusal>
     requires { length tokens.now ≤ 1024 }
-    ensures { Finds (λ imm. imm) result (offset tokens.now) }
+    ensures { Finds (λ imm. imm) result (offset_of is_low tokens.now) }
 {
-    if tokens.is_empty() {
-        return Ok(Immediate::Zero);
+    if is_low {
+        read_value(alloc, tokens).map(Immediate::Low)
+    } else if tokens.is_empty() {
+        Ok(Immediate::Zero)
+    } else {
+        read_value(alloc, tokens).map(Immediate::Sum)
     }
-    let sum = read_value(alloc, tokens)?;
-    Ok(Immediate::Sum(sum))
 }
 
-/// `(E)(name)` behind `%lo`
-fn low_memory<'a>(alloc: Global, tokens: &[Token<'a>]) -> Result<(Immediate<'a>, Reg), Refusal>
-    requires { length tokens.now ≤ 1024 }
-    ensures value { Finds (λ m. m) result (based low_offset (part_indexed_of tokens.now)) }
-    ensures below { IfOk result (λ m. m.1 < 32) }
+/// An offset, as its tokens, and the name of a base.
+fn based<'a>(
+    alloc: Global,
+    is_low: bool,
+    place: Option<(&[Token<'a>], Name<'a>)>,
+) -> Result<(Immediate<'a>, Reg), Refusal>
+    requires { IfSome place (λ p. length p.0.now ≤ 1024) }
+    ensures { Finds (λ m. m) result (based (offset_of is_low) (option_map (λ p. (p.0.now, p.1)) place.entry)) }
 {
-    let Some((inner, name)) = part_indexed(tokens) else {
+    let Some((front, name)) = place else {
         return Err(Refusal::BadOperands);
     };
     let Some(base) = named(&name) else {
         return Err(Refusal::BadOperands);
     };
-    let sum = read_value(alloc, inner)?;
-    Ok((Immediate::Low(sum), base))
-}
-
-/// `E(name)` or `(name)`
-fn plain_memory<'a>(alloc: Global, tokens: &[Token<'a>]) -> Result<(Immediate<'a>, Reg), Refusal>
-    requires { length tokens.now ≤ 1024 }
-    ensures value { Finds (λ m. m) result (based offset (indexed_of tokens.now)) }
-    ensures below { IfOk result (λ m. m.1 < 32) }
-{
-    let Some((front, name)) = indexed(tokens) else {
-        return Err(Refusal::BadOperands);
-    };
-    let Some(base) = named(&name) else {
-        return Err(Refusal::BadOperands);
-    };
-    let offset = offset(alloc, front)?;
+    let offset = offset(alloc, is_low, front)?;
     Ok((offset, base))
 }
 
 /// A register in brackets, with what stands before them: the offset and the base.
-#[tactic(auto, unfolding(crate::specs::Statements::memory))]
-pub fn memory<'a>(alloc: Global, tokens: &[Token<'a>]) -> Result<(Immediate<'a>, Reg), Refusal>
-    requires { length tokens.now ≤ 1024 }
-    ensures value { Finds (λ m. m) result (memory tokens.now) }
-    ensures below { IfOk result (λ m. m.1 < 32) }
-{
-    match tokens {
-        [Token::Low, rest @ ..] => low_memory(alloc, rest),
-        _ => plain_memory(alloc, tokens),
+impl<'a> Place<'a> for (Immediate<'a>, Reg) {
+    ghost use Rattle.std.specs.Prelude.{⊤};
+    ghost use Rattle.rv_source.specs.Statements.{memory};
+
+    ghost meant = { memory };
+
+    ghost fits = { λ _. ⊤ };
+
+    #[tactic(auto, unfolding(crate::specs::Statements::memory))]
+    fn read(alloc: Global, tokens: &[Token<'a>]) -> Result<(Immediate<'a>, Reg), Refusal> {
+        match tokens {
+            [Token::Low, rest @ ..] => based(alloc, true, part_indexed(rest)),
+            _ => based(alloc, false, indexed(tokens)),
+        }
     }
 }
 
@@ -346,14 +348,10 @@ fn fence_letters(name: &[u8]) -> Option<u16>
 
 /// What a fence orders, below 16.
 #[tactic(auto, unfolding(crate::specs::Statements::fence_set))]
-pub fn fence_set(tokens: &[Token]) -> Result<u16, Refusal>
-    ensures value { Finds (λ set. set) result (fence_set tokens.now) }
-    ensures below { IfOk result (λ n. n < 16) }
+pub fn fence_set(tokens: &[Token]) -> Option<u16>
+    ensures value { result ≡ fence_set tokens.now }
+    ensures below { IfSome result (λ n. n < 16) }
 {
-    if let Some(name) = name(tokens) {
-        if let Some(set) = fence_letters(name.bytes()) {
-            return Ok(set);
-        }
-    }
-    Err(Refusal::BadOperands)
+    let name = name(tokens)?;
+    fence_letters(name.bytes())
 }

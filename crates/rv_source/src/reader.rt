@@ -1,12 +1,13 @@
 //! Reads a line.
-ghost use Rattle.std.specs.Prelude.{◌≡◌, ◌<◌, ◌≤◌, length, IfSome};
+ghost use Rattle.std.specs.Prelude.{◌≡◌, ◌<◌, ◌≤◌, length, ◌∷◌, IfSome};
 ghost use Rattle.std.specs.Option.{option_map};
 ghost use Rattle.rv_tokens.specs.Faults.{Gives};
+ghost use Rattle.rv_tokens.specs.declared.token.Token.TheVariants as t;
 ghost use Rattle.rv_tokens.specs.Parts.{IsCutInto};
 ghost use Rattle.rv_tokens.specs.Tokens.{tokens};
 ghost use Rattle.rv_source.specs.Operands.{operands_of};
 ghost use Rattle.rv_source.specs.Partial.{Finds};
-ghost use Rattle.rv_source.specs.Reading.{label_of, statement_of, rest_of, before_colon, line_of, said};
+ghost use Rattle.rv_source.specs.Reading.{label_of, rest_of, before_colon, line_of, said};
 ghost use Rattle.rv_source.specs.Statements.{meaning};
 
 use crate::directives::read_directive;
@@ -39,13 +40,13 @@ fn read_statement<'a>(
     alloc: Global,
     word: &Name,
     tokens: &[Token<'a>],
-) -> Result<Statement<'a>, LineFault>
+) -> Result<Option<Statement<'a>>, LineFault>
     requires { length tokens.now ≤ 1024 }
-    ensures { Gives (λ s. s) result (statement_of word.now tokens.now) }
+    ensures { Gives (λ s. s) result (rest_of (t.Name word.now ∷ tokens.now)) }
 {
     let form = form_of(word.bytes());
     if let Some(Form::Directive(Directive::Marker)) = form {
-        return Ok(Statement::Marker);
+        return Ok(Some(Statement::Marker));
     }
     if !are_operands(tokens) {
         return Err(LineFault::Syntax);
@@ -54,7 +55,7 @@ fn read_statement<'a>(
         return Err(LineFault::UnknownWord);
     };
     match read_form(alloc, form, tokens) {
-        Ok(statement) => Ok(statement),
+        Ok(statement) => Ok(Some(statement)),
         Err(Refusal::BadOperands) => Err(LineFault::BadOperands),
         Err(Refusal::OutOfMemory) => Err(LineFault::OutOfMemory),
     }
@@ -100,10 +101,7 @@ fn read_rest<'a>(alloc: Global, tokens: &[Token<'a>]) -> Result<Option<Statement
         return Ok(None);
     };
     match first {
-        Token::Name(word) => {
-            let statement = read_statement(alloc, word, operands)?;
-            Ok(Some(statement))
-        }
+        Token::Name(word) => read_statement(alloc, word, operands),
         _ => Err(LineFault::Syntax),
     }
 }

@@ -1,7 +1,7 @@
 //! Reads expressions.
-ghost use Rattle.std.specs.Prelude.{◌≡◌, ◌≤◌, ◌∷◌, List, is_some, length};
+ghost use Rattle.std.specs.Prelude.{◌≡◌, ◌≤◌, ◌+◌, ◌∷◌, List, IfOk, is_some, length};
 ghost use Rattle.rv_tokens.specs.declared.token.Token.{Token};
-ghost use Rattle.rv_source.specs.Partial.{Finds, terms_behind};
+ghost use Rattle.rv_source.specs.Partial.{Extends, Finds, terms_behind};
 ghost use Rattle.rv_source.specs.Expressions.{atom_of, is_symbol, sign_of, terms, times, value};
 
 use crate::refusal::Refusal;
@@ -111,6 +111,25 @@ pub fn is_value(tokens: &[Token]) -> bool
     matches!(wanted, Wanted::Sign)
 }
 
+/// Reads one token more, and appends the term that it completes: what may stand behind it.
+#[tactic(auto, using(crate::proofs::Sums::with_terms_append))]
+fn take_token<'a>(
+    out: &mut Vec<Term<'a>>,
+    wanted: Wanted,
+    token: &Token<'a>,
+) -> Result<Wanted, Refusal>
+    ensures reads { (ts : List Token) → Extends out.old.items out.new.items result (terms wanted (token.now ∷ ts)) ts }
+    ensures one { IfOk result (λ _. length out.new.items ≤ length out.old.items + 1) }
+{
+    let Some((term, next)) = read_token(wanted, token) else {
+        return Err(Refusal::BadOperands);
+    };
+    if let Some(term) = term {
+        out.push(term)?;
+    }
+    Ok(next)
+}
+
 /// The expression that all of the tokens spell.
 #[tactic(auto, using(crate::proofs::Sums::terms_end, crate::proofs::Sums::with_terms_nothing), unfolding(crate::specs::Expressions::value))]
 pub fn read_value<'a>(alloc: Global, tokens: &[Token<'a>]) -> Result<Expression<'a>, Refusal>
@@ -120,13 +139,7 @@ pub fn read_value<'a>(alloc: Global, tokens: &[Token<'a>]) -> Result<Expression<
     let mut wanted = START;
     let mut terms = Vec::new(alloc);
     for token in tokens {
-        let Some((term, next)) = read_token(wanted, token) else {
-            return Err(Refusal::BadOperands);
-        };
-        if let Some(term) = term {
-            terms.push(term)?;
-        }
-        wanted = next;
+        wanted = take_token(&mut terms, wanted, token)?;
     }
     match wanted {
         Wanted::Sign => Ok(Expression::new(terms)),
