@@ -82,7 +82,6 @@ jump_length : (z : ℤ) → IsWithin (2 ^ 20) z → length (target z) ≤ 9
 jump_length (pos n) h = omega (arith, length-decimal-le 7 n (omega arith) (omega arith) (omega arith))
 jump_length (negsuc n) h = omega (arith, length-decimal-le 7 (suc n) (omega arith) (omega arith) (omega arith))
 
-
 -- ---- lines
 
 pub text_length : (k : Kind) → IsInRange k → length (text k) ≤ 19
