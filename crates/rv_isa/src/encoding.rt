@@ -66,17 +66,25 @@ pub fn encode(instr: Instr) -> u32
     }
 }
 
+/// A word with what stands in bits 11:7 and in 31:25 beside the fields that the R, S and B formats share.
+fn word_of(opcode: u32, low: u32, funct3: u32, rs1: Reg, rs2: u8, high: u32) -> u32
+    requires { (opcode < 2 ^ 7) × (low < 2 ^ 5) × (funct3 < 2 ^ 3) × (rs2 < 2 ^ 5) × (high < 2 ^ 7) }
+    ensures { result ≡ spec.r_type opcode low funct3 rs1 rs2 high }
+{
+    opcode
+        + (low << 7)
+        + (funct3 << 12)
+        + ((rs1.number() as u32) << 15)
+        + ((rs2 as u32) << 20)
+        + (high << 25)
+}
+
 /// A word of the R format: bits 24:20 are a register, or the amount of a shift.
 fn r_type(opcode: u32, rd: Reg, funct3: u32, rs1: Reg, rs2: u8, funct7: u32) -> u32
     requires { (opcode < 2 ^ 7) × (funct3 < 2 ^ 3) × (rs2 < 2 ^ 5) × (funct7 < 2 ^ 7) }
     ensures { result ≡ spec.r_type opcode rd funct3 rs1 rs2 funct7 }
 {
-    opcode
-        + ((rd.number() as u32) << 7)
-        + (funct3 << 12)
-        + ((rs1.number() as u32) << 15)
-        + ((rs2 as u32) << 20)
-        + (funct7 << 25)
+    word_of(opcode, rd.number() as u32, funct3, rs1, rs2, funct7)
 }
 
 /// A word of the I format with a signed immediate.
@@ -105,12 +113,7 @@ fn s_type(opcode: u32, funct3: u32, rs1: Reg, rs2: Reg, offset: i32) -> u32
     ensures { result ≡ spec.s_type opcode funct3 rs1 rs2 (modulo offset (2 ^ 12)) }
 {
     let imm = low_12(offset) as u32;
-    opcode
-        + (imm % 32 << 7)
-        + (funct3 << 12)
-        + ((rs1.number() as u32) << 15)
-        + ((rs2.number() as u32) << 20)
-        + (imm >> 5 << 25)
+    word_of(opcode, imm % 32, funct3, rs1, rs2.number(), imm >> 5)
 }
 
 /// A word of the B format: the lowest bit of the distance is 0 and has no place.
@@ -119,14 +122,9 @@ fn b_type(opcode: u32, funct3: u32, rs1: Reg, rs2: Reg, offset: i32) -> u32
     ensures { result ≡ spec.b_type opcode funct3 rs1 rs2 (modulo offset (2 ^ 13)) }
 {
     let imm = offset.cast_unsigned() % (1 << 13);
-    opcode
-        + ((imm >> 11) % 2 << 7)
-        + ((imm >> 1) % 16 << 8)
-        + (funct3 << 12)
-        + ((rs1.number() as u32) << 15)
-        + ((rs2.number() as u32) << 20)
-        + ((imm >> 5) % 64 << 25)
-        + (imm >> 12 << 31)
+    let low = (imm >> 11) % 2 + ((imm >> 1) % 16 << 1);
+    let high = (imm >> 5) % 64 + (imm >> 12 << 6);
+    word_of(opcode, low, funct3, rs1, rs2.number(), high)
 }
 
 /// A word of the U format.
