@@ -1,13 +1,13 @@
 -- How long the text of an instruction is.
-use Rattle.std.proofs.Common.{ℕ, suc, ◌+◌, ◌^◌, ◌<◌, ◌≤◌, List, ◌++◌, length, arith, length-append}
+use Rattle.std.proofs.Common.{ℕ, suc, ◌^◌, ◌<◌, ◌≤◌, length, arith, length-append}
 use Rattle.std.proofs.lemmas.Fmt.{length-decimal-le, length_signed_le}
-use Rattle.std.specs.Prelude.{ℤ, pos, negsuc, codes}
+use Rattle.std.specs.Prelude.{ℤ, pos, negsuc}
 use Rattle.std.specs.Fmt.{decimal, signed_decimal}
 use Rattle.rv_isa.specs.Number.{IsWithin}
-use Rattle.rv_isa.specs.Text.{hex, target, register, address, line_of_2, line_of_3, text, cond_name, load_op_name, width_name, imm_op_name, shift_op_name, csr_op_name, alu_op_name}
+use Rattle.rv_isa.specs.Text.{hex, target, register, text, cond_name, load_op_name, width_name, imm_op_name, shift_op_name, csr_op_name, alu_op_name}
 use Rattle.rv_isa.specs.Word.{IsInRange}
 use Rattle.rv_isa.specs.declared.kind.Kind.{Kind}
-use Rattle.rv_isa.specs.declared.kind.Kind.TheVariants.{Lui, Auipc, Jal, Jalr, Branch, Load, Store, OpImm, Shift, Op, Fence, FenceI, Csr, CsrImm, Ecall, Ebreak, Mret, Wfi}
+use Rattle.rv_isa.specs.declared.kind.Kind.TheVariants.{Lui, Auipc, Jal, Jalr, Branch, Load, Store, OpImm, Shift, Op, Csr, CsrImm}
 use Rattle.rv_isa.specs.declared.op.Cond.{Cond}
 use Rattle.rv_isa.specs.declared.op.Cond.TheVariants.{Eq}
 use Rattle.rv_isa.specs.declared.op.LoadOp.{LoadOp}
