@@ -1,31 +1,101 @@
--- How long the operands of an instruction's text are.
-use Rattle.std.proofs.Common.{ℕ, suc, ◌^◌, ◌<◌, ◌≤◌, length, arith}
+-- How long the text of an instruction is.
+use Rattle.std.proofs.Common.{ℕ, suc, ◌^◌, ◌<◌, ◌≤◌, length, arith, length-append}
 use Rattle.std.proofs.lemmas.Fmt.{length-decimal-le, length_signed_le}
 use Rattle.std.specs.Prelude.{ℤ, pos, negsuc}
 use Rattle.std.specs.Fmt.{decimal, signed_decimal}
 use Rattle.rv_isa.specs.Number.{IsWithin}
-use Rattle.rv_isa.specs.Text.{hex, target}
+use Rattle.rv_isa.specs.Text.{hex, target, register, text, cond_name, load_op_name, width_name, imm_op_name, shift_op_name, csr_op_name, alu_op_name}
+use Rattle.rv_isa.specs.Word.{IsInRange}
+use Rattle.rv_isa.specs.declared.kind.Kind.{Kind}
+use Rattle.rv_isa.specs.declared.kind.Kind.TheVariants.{Lui, Auipc, Jal, Jalr, Branch, Load, Store, OpImm, Shift, Op, Csr, CsrImm}
+use Rattle.rv_isa.specs.declared.op.Cond.{Cond}
+use Rattle.rv_isa.specs.declared.op.Cond.TheVariants.{Eq}
+use Rattle.rv_isa.specs.declared.op.LoadOp.{LoadOp}
+use Rattle.rv_isa.specs.declared.op.LoadOp.TheVariants.{Lb}
+use Rattle.rv_isa.specs.declared.op.Width.{Width}
+use Rattle.rv_isa.specs.declared.op.Width.TheVariants.{One}
+use Rattle.rv_isa.specs.declared.op.ImmOp.{ImmOp}
+use Rattle.rv_isa.specs.declared.op.ImmOp.TheVariants.{Addi}
+use Rattle.rv_isa.specs.declared.op.ShiftOp.{ShiftOp}
+use Rattle.rv_isa.specs.declared.op.ShiftOp.TheVariants.{Slli}
+use Rattle.rv_isa.specs.declared.op.CsrOp.{CsrOp}
+use Rattle.rv_isa.specs.declared.op.CsrOp.TheVariants.{Write}
+use Rattle.rv_isa.specs.declared.op.AluOp.{AluOp}
+use Rattle.rv_isa.specs.declared.op.AluOp.TheVariants.{Add}
 use Rattle.rv_isa.proofs.Hexadecimal.{hex_length}
 
--- numbers of five bits, as those of registers
-pub small_length : (n : ℕ) → n < 32 → length (decimal n) ≤ 2
+-- ---- mnemonics
+
+cond_length : (op : Cond) → length (cond_name op) ≤ 4
+cond_length Eq = omega arith
+cond_length op = omega arith
+
+load_length : (op : LoadOp) → length (load_op_name op) ≤ 3
+load_length Lb = omega arith
+load_length op = omega arith
+
+width_length : (op : Width) → length (width_name op) ≤ 2
+width_length One = omega arith
+width_length op = omega arith
+
+imm_op_length : (op : ImmOp) → length (imm_op_name op) ≤ 5
+imm_op_length Addi = omega arith
+imm_op_length op = omega arith
+
+shift_length : (op : ShiftOp) → length (shift_op_name op) ≤ 4
+shift_length Slli = omega arith
+shift_length op = omega arith
+
+csr_op_length : (op : CsrOp) → length (csr_op_name op) ≤ 5
+csr_op_length Write = omega arith
+csr_op_length op = omega arith
+
+alu_length : (op : AluOp) → length (alu_op_name op) ≤ 6
+alu_length Add = omega arith
+alu_length op = omega arith
+
+-- ---- operands
+
+-- numbers of five bits
+small_length : (n : ℕ) → n < 32 → length (decimal n) ≤ 2
 small_length n h = length-decimal-le 2 n (omega arith) (omega arith) (omega arith)
 
+register_length : (n : ℕ) → n < 32 → length (register n) ≤ 3
+register_length n h = omega (arith, small_length n h)
+
 -- hexadecimal numbers of twenty and of twelve bits
-pub upper_length : (n : ℕ) → n < 2 ^ 20 → length (hex n) ≤ 7
+upper_length : (n : ℕ) → n < 2 ^ 20 → length (hex n) ≤ 7
 upper_length n h = omega (arith, hex_length 4 n (omega arith) (omega arith))
 
-pub csr_length : (n : ℕ) → n < 2 ^ 12 → length (hex n) ≤ 5
+csr_length : (n : ℕ) → n < 2 ^ 12 → length (hex n) ≤ 5
 csr_length n h = omega (arith, hex_length 2 n (omega arith) (omega arith))
 
-pub immediate_length : (z : ℤ) → IsWithin (2 ^ 11) z → length (signed_decimal z) ≤ 5
+immediate_length : (z : ℤ) → IsWithin (2 ^ 11) z → length (signed_decimal z) ≤ 5
 immediate_length (pos n) h = length_signed_le 4 (pos n) (omega arith) (omega arith)
 immediate_length (negsuc n) h = length_signed_le 4 (negsuc n) (omega arith) (omega arith)
 
-pub branch_length : (z : ℤ) → IsWithin (2 ^ 12) z → length (target z) ≤ 6
+branch_length : (z : ℤ) → IsWithin (2 ^ 12) z → length (target z) ≤ 6
 branch_length (pos n) h = omega (arith, length-decimal-le 4 n (omega arith) (omega arith) (omega arith))
 branch_length (negsuc n) h = omega (arith, length-decimal-le 4 (suc n) (omega arith) (omega arith) (omega arith))
 
-pub jump_length : (z : ℤ) → IsWithin (2 ^ 20) z → length (target z) ≤ 9
+jump_length : (z : ℤ) → IsWithin (2 ^ 20) z → length (target z) ≤ 9
 jump_length (pos n) h = omega (arith, length-decimal-le 7 n (omega arith) (omega arith) (omega arith))
 jump_length (negsuc n) h = omega (arith, length-decimal-le 7 (suc n) (omega arith) (omega arith) (omega arith))
+
+-- ---- lines
+
+pub text_length : (k : Kind) → IsInRange k → length (text k) ≤ 19
+unfolding text
+text_length (Lui rd imm) r = simp length-append (omega (arith, register_length rd r.0, upper_length imm r.1))
+text_length (Auipc rd imm) r = simp length-append (omega (arith, register_length rd r.0, upper_length imm r.1))
+text_length (Jal rd offset) r = simp length-append (omega (arith, register_length rd r.0, jump_length offset r.1.0))
+text_length (Jalr rd base offset) r = simp length-append (omega (arith, register_length rd r.0, immediate_length offset r.2, register_length base r.1))
+text_length (Branch cond rs1 rs2 offset) r = simp length-append (omega (arith, cond_length cond, register_length rs1 r.0, register_length rs2 r.1, branch_length offset r.2.0))
+text_length (Load op rd base offset) r = simp length-append (omega (arith, load_length op, register_length rd r.0, immediate_length offset r.2, register_length base r.1))
+text_length (Store width source base offset) r = simp length-append (omega (arith, width_length width, register_length source r.0, immediate_length offset r.2, register_length base r.1))
+text_length (OpImm op rd rs1 imm) r = simp length-append (omega (arith, imm_op_length op, register_length rd r.0, register_length rs1 r.1, immediate_length imm r.2))
+text_length (Shift op rd rs1 amount) r = simp length-append (omega (arith, shift_length op, register_length rd r.0, register_length rs1 r.1, small_length amount r.2))
+text_length (Op op rd rs1 rs2) r = simp length-append (omega (arith, alu_length op, register_length rd r.0, register_length rs1 r.1, register_length rs2 r.2))
+text_length (Csr op rd rs1 csr) r = simp length-append (omega (arith, csr_op_length op, register_length rd r.0, register_length rs1 r.1, csr_length csr r.2))
+text_length (CsrImm op rd imm csr) r = simp length-append (omega (arith, csr_op_length op, register_length rd r.0, small_length imm r.1, csr_length csr r.2))
+text_length k r = omega arith

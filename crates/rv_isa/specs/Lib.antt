@@ -1,4 +1,5 @@
 pub mod Alu
+pub mod Line
 pub mod Meaning
 pub mod Names
 pub mod Number

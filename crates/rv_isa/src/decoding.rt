@@ -190,23 +190,23 @@ fn system(word: u32) -> Option<Instr>
             _ => None,
         },
         // Each operation stands once with a register, and 4 codes above with an immediate.
-        funct3 if funct3 < 4 => {
-            let op = CsrOp::from_funct3(funct3)?;
-            Some(Instr::of(Kind::Csr {
-                op,
-                rd: rd(word),
-                rs1: rs1(word),
-                csr: high_12(word),
-            }))
-        }
         funct3 => {
-            let op = CsrOp::from_funct3(funct3 - 4)?;
-            Some(Instr::of(Kind::CsrImm {
-                op,
-                rd: rd(word),
-                imm: rs1(word).number(),
-                csr: high_12(word),
-            }))
+            let op = CsrOp::from_funct3(funct3 % 4)?;
+            if funct3 < 4 {
+                Some(Instr::of(Kind::Csr {
+                    op,
+                    rd: rd(word),
+                    rs1: rs1(word),
+                    csr: high_12(word),
+                }))
+            } else {
+                Some(Instr::of(Kind::CsrImm {
+                    op,
+                    rd: rd(word),
+                    imm: rs1(word).number(),
+                    csr: high_12(word),
+                }))
+            }
         }
     }
 }

@@ -66,27 +66,30 @@ pub fn encode(instr: Instr) -> u32
     }
 }
 
-/// A word of the R format: bits 24:20 are a register, or the amount of a shift.
-fn r_type(opcode: u32, rd: Reg, funct3: u32, rs1: Reg, rs2: u8, funct7: u32) -> u32
-    requires opcode { opcode < 2 ^ 7 }
-    requires funct3 { funct3 < 2 ^ 3 }
-    requires rs2 { rs2 < 2 ^ 5 }
-    requires funct7 { funct7 < 2 ^ 7 }
-    ensures { result ≡ spec.r_type opcode rd funct3 rs1 rs2 funct7 }
+/// A word with what stands in bits 11:7 and in 31:25 beside the fields that the R, S and B formats share.
+fn word_of(opcode: u32, low: u32, funct3: u32, rs1: Reg, rs2: u8, high: u32) -> u32
+    requires { (opcode < 2 ^ 7) × (low < 2 ^ 5) × (funct3 < 2 ^ 3) × (rs2 < 2 ^ 5) × (high < 2 ^ 7) }
+    ensures { result ≡ spec.r_type opcode low funct3 rs1 rs2 high }
 {
     opcode
-        + ((rd.number() as u32) << 7)
+        + (low << 7)
         + (funct3 << 12)
         + ((rs1.number() as u32) << 15)
         + ((rs2 as u32) << 20)
-        + (funct7 << 25)
+        + (high << 25)
+}
+
+/// A word of the R format: bits 24:20 are a register, or the amount of a shift.
+fn r_type(opcode: u32, rd: Reg, funct3: u32, rs1: Reg, rs2: u8, funct7: u32) -> u32
+    requires { (opcode < 2 ^ 7) × (funct3 < 2 ^ 3) × (rs2 < 2 ^ 5) × (funct7 < 2 ^ 7) }
+    ensures { result ≡ spec.r_type opcode rd funct3 rs1 rs2 funct7 }
+{
+    word_of(opcode, rd.number() as u32, funct3, rs1, rs2, funct7)
 }
 
 /// A word of the I format with a signed immediate.
 fn i_signed(opcode: u32, rd: Reg, funct3: u32, rs1: Reg, imm: i32) -> u32
-    requires opcode { opcode < 2 ^ 7 }
-    requires funct3 { funct3 < 2 ^ 3 }
-    requires imm { IsWithin (2 ^ 11) imm }
+    requires { (opcode < 2 ^ 7) × (funct3 < 2 ^ 3) × IsWithin (2 ^ 11) imm }
     ensures { result ≡ spec.i_type opcode rd funct3 rs1 (modulo imm (2 ^ 12)) }
 {
     i_plain(opcode, rd, funct3, rs1.number(), low_12(imm))
@@ -94,10 +97,7 @@ fn i_signed(opcode: u32, rd: Reg, funct3: u32, rs1: Reg, imm: i32) -> u32
 
 /// A word of the I format whose high twelve bits stand as they are; bits 19:15 are a register, or a small number.
 fn i_plain(opcode: u32, rd: Reg, funct3: u32, rs1: u8, imm: u16) -> u32
-    requires opcode { opcode < 2 ^ 7 }
-    requires funct3 { funct3 < 2 ^ 3 }
-    requires rs1 { rs1 < 2 ^ 5 }
-    requires imm { imm < 2 ^ 12 }
+    requires { (opcode < 2 ^ 7) × (funct3 < 2 ^ 3) × (rs1 < 2 ^ 5) × (imm < 2 ^ 12) }
     ensures { result ≡ spec.i_type opcode rd funct3 rs1 imm }
 {
     opcode
@@ -109,42 +109,27 @@ fn i_plain(opcode: u32, rd: Reg, funct3: u32, rs1: u8, imm: u16) -> u32
 
 /// A word of the S format.
 fn s_type(opcode: u32, funct3: u32, rs1: Reg, rs2: Reg, offset: i32) -> u32
-    requires opcode { opcode < 2 ^ 7 }
-    requires funct3 { funct3 < 2 ^ 3 }
-    requires offset { IsWithin (2 ^ 11) offset }
+    requires { (opcode < 2 ^ 7) × (funct3 < 2 ^ 3) × IsWithin (2 ^ 11) offset }
     ensures { result ≡ spec.s_type opcode funct3 rs1 rs2 (modulo offset (2 ^ 12)) }
 {
     let imm = low_12(offset) as u32;
-    opcode
-        + (imm % 32 << 7)
-        + (funct3 << 12)
-        + ((rs1.number() as u32) << 15)
-        + ((rs2.number() as u32) << 20)
-        + (imm >> 5 << 25)
+    word_of(opcode, imm % 32, funct3, rs1, rs2.number(), imm >> 5)
 }
 
 /// A word of the B format: the lowest bit of the distance is 0 and has no place.
 fn b_type(opcode: u32, funct3: u32, rs1: Reg, rs2: Reg, offset: i32) -> u32
-    requires opcode { opcode < 2 ^ 7 }
-    requires funct3 { funct3 < 2 ^ 3 }
-    requires offset { IsWithin (2 ^ 12) offset }
+    requires { (opcode < 2 ^ 7) × (funct3 < 2 ^ 3) × IsWithin (2 ^ 12) offset }
     ensures { result ≡ spec.b_type opcode funct3 rs1 rs2 (modulo offset (2 ^ 13)) }
 {
     let imm = offset.cast_unsigned() % (1 << 13);
-    opcode
-        + ((imm >> 11) % 2 << 7)
-        + ((imm >> 1) % 16 << 8)
-        + (funct3 << 12)
-        + ((rs1.number() as u32) << 15)
-        + ((rs2.number() as u32) << 20)
-        + ((imm >> 5) % 64 << 25)
-        + (imm >> 12 << 31)
+    let low = (imm >> 11) % 2 + ((imm >> 1) % 16 << 1);
+    let high = (imm >> 5) % 64 + (imm >> 12 << 6);
+    word_of(opcode, low, funct3, rs1, rs2.number(), high)
 }
 
 /// A word of the U format.
 fn u_type(opcode: u32, rd: Reg, imm: u32) -> u32
-    requires opcode { opcode < 2 ^ 7 }
-    requires imm { imm < 2 ^ 20 }
+    requires { (opcode < 2 ^ 7) × (imm < 2 ^ 20) }
     ensures { result ≡ spec.u_type opcode rd imm }
 {
     opcode + ((rd.number() as u32) << 7) + (imm << 12)
@@ -152,8 +137,7 @@ fn u_type(opcode: u32, rd: Reg, imm: u32) -> u32
 
 /// A word of the J format: the lowest bit of the distance is 0 and has no place.
 fn j_type(opcode: u32, rd: Reg, offset: i32) -> u32
-    requires opcode { opcode < 2 ^ 7 }
-    requires offset { IsWithin (2 ^ 20) offset }
+    requires { (opcode < 2 ^ 7) × IsWithin (2 ^ 20) offset }
     ensures { result ≡ spec.j_type opcode rd (modulo offset (2 ^ 21)) }
 {
     let imm = offset.cast_unsigned() % (1 << 21);

@@ -4,13 +4,14 @@
 
 ghost use Rattle.std.specs.Prelude.{◌≡◌, All, codes, IfErr, IfOk, false, map, true};
 ghost use Rattle.clap.specs.Words.{FailsBy, app_of, fault_of, kind_of, matches_of, rule_of, takes};
-ghost use Rattle.rv_words.specs.Board.{board_app, file_rule, number_rule, source_rule, texts_of};
-ghost use Rattle.rv_words.specs.Chain.{IsLocal, board_rules};
+ghost use Rattle.rv_words.specs.Board.{board_app, file_rule, source_rule, texts_of};
+ghost use Rattle.rv_words.specs.Chain.{HasRule, IsLocal, board_rules, parsed_rule};
 ghost use Rattle.rv_words.specs.Parse.{IsBoardParse};
 ghost use Rattle.rv_words.specs.Read.{IsReadFrom};
 
 mod ends;
 
+use clap::builder::ValueParser;
 use clap::error::ErrorKind;
 use clap::{Arg, ArgAction, ArgMatches, Command, Error, value_parser};
 pub use ends::{NoRun, Place};
@@ -41,8 +42,7 @@ pub struct Words<'a> {
 }
 
 fn source_arg<'a>(alloc: Global) -> Arg<'a>
-    ensures rule { rule_of result ≡ source_rule }
-    ensures local { result.global ≡ false }
+    ensures { HasRule result source_rule }
 {
     Arg::new(alloc, "source")
         .value_name("SOURCE")
@@ -53,8 +53,7 @@ fn source_arg<'a>(alloc: Global) -> Arg<'a>
 
 /// An option that takes a value, which the help calls `value_name`.
 fn option_arg<'a>(alloc: Global, name: &'a str, value_name: &'a str, help: &'a str) -> Arg<'a>
-    ensures rule { rule_of result ≡ file_rule name.entry.now }
-    ensures local { result.global ≡ false }
+    ensures { HasRule result (file_rule name.entry.now) }
 {
     Arg::new(alloc, name)
         .long(name)
@@ -63,33 +62,20 @@ fn option_arg<'a>(alloc: Global, name: &'a str, value_name: &'a str, help: &'a s
         .action(ArgAction::Set)
 }
 
-fn steps_arg<'a>(alloc: Global) -> Arg<'a>
-    ensures rule { rule_of result ≡ number_rule (codes "steps") (codes "1000000") 0 1000000000 }
-    ensures local { result.global ≡ false }
+/// An option that takes a number, and where it is left out `default`.
+fn number_arg<'a>(
+    alloc: Global,
+    name: &'a str,
+    value_name: &'a str,
+    help: &'a str,
+    default: &'a str,
+    range: ValueParser<'a>,
+) -> Arg<'a>
+    ensures { HasRule result (parsed_rule name.entry.now default.entry.now range.entry) }
 {
-    option_arg(alloc, "steps", "N", "the most steps, 0 to 1000000000")
-        .default_value("1000000")
-        .value_parser(value_parser!(u32).range(0..=1_000_000_000))
-}
-
-fn pages_arg<'a>(alloc: Global) -> Arg<'a>
-    ensures rule { rule_of result ≡ number_rule (codes "pages") (codes "256") 1 4096 }
-    ensures local { result.global ≡ false }
-{
-    let help = "the pages of RAM of 4096 bytes each, 1 to 4096";
-    option_arg(alloc, "pages", "P", help)
-        .default_value("256")
-        .value_parser(value_parser!(u16).range(1..=4096))
-}
-
-fn slots_arg<'a>(alloc: Global) -> Arg<'a>
-    ensures rule { rule_of result ≡ number_rule (codes "slots") (codes "1024") 64 4096 }
-    ensures local { result.global ≡ false }
-{
-    let help = "the slots of the instruction cache, a power of two from 64 to 4096";
-    option_arg(alloc, "slots", "S", help)
-        .default_value("1024")
-        .value_parser(value_parser!(u16).range(64..=4096))
+    option_arg(alloc, name, value_name, help)
+        .default_value(default)
+        .value_parser(range)
 }
 
 /// The arguments of the command, in their order.
@@ -99,13 +85,19 @@ fn board_args<'a>(alloc: Global) -> Result<Vec<Arg<'a>>, AllocError>
 {
     let input = "the timed serial bytes and interrupt lines, a file";
     let commands = "the monitor's commands, a file";
+    let steps = "the most steps, 0 to 1000000000";
+    let most_steps = value_parser!(u32).range(0..=1_000_000_000);
+    let pages = "the pages of RAM of 4096 bytes each, 1 to 4096";
+    let page_counts = value_parser!(u16).range(1..=4096);
+    let slots = "the slots of the instruction cache, a power of two from 64 to 4096";
+    let slot_counts = value_parser!(u16).range(64..=4096);
     let args = vec![in alloc;
         source_arg(alloc),
         option_arg(alloc, "input", "F", input),
         option_arg(alloc, "commands", "F", commands),
-        steps_arg(alloc),
-        pages_arg(alloc),
-        slots_arg(alloc),
+        number_arg(alloc, "steps", "N", steps, "1000000", most_steps),
+        number_arg(alloc, "pages", "P", pages, "256", page_counts),
+        number_arg(alloc, "slots", "S", slots, "1024", slot_counts),
     ]?;
     Ok(args)
 }
