@@ -8,51 +8,30 @@ use Rattle.rv_isa.specs.Text.{hex, target, register, text, cond_name, load_op_na
 use Rattle.rv_isa.specs.Word.{IsInRange}
 use Rattle.rv_isa.specs.declared.kind.Kind.{Kind}
 use Rattle.rv_isa.specs.declared.kind.Kind.TheVariants.{Lui, Auipc, Jal, Jalr, Branch, Load, Store, OpImm, Shift, Op, Csr, CsrImm}
-use Rattle.rv_isa.specs.declared.op.Cond.{Cond}
-use Rattle.rv_isa.specs.declared.op.Cond.TheVariants.{Eq}
-use Rattle.rv_isa.specs.declared.op.LoadOp.{LoadOp}
-use Rattle.rv_isa.specs.declared.op.LoadOp.TheVariants.{Lb}
-use Rattle.rv_isa.specs.declared.op.Width.{Width}
-use Rattle.rv_isa.specs.declared.op.Width.TheVariants.{One}
-use Rattle.rv_isa.specs.declared.op.ImmOp.{ImmOp}
-use Rattle.rv_isa.specs.declared.op.ImmOp.TheVariants.{Addi}
-use Rattle.rv_isa.specs.declared.op.ShiftOp.{ShiftOp}
-use Rattle.rv_isa.specs.declared.op.ShiftOp.TheVariants.{Slli}
-use Rattle.rv_isa.specs.declared.op.CsrOp.{CsrOp}
-use Rattle.rv_isa.specs.declared.op.CsrOp.TheVariants.{Write}
-use Rattle.rv_isa.specs.declared.op.AluOp.{AluOp}
-use Rattle.rv_isa.specs.declared.op.AluOp.TheVariants.{Add}
 use Rattle.rv_isa.proofs.Hexadecimal.{hex_length}
 
 -- ---- mnemonics
 
-cond_length : (op : Cond) → length (cond_name op) ≤ 4
-cond_length Eq = omega arith
-cond_length op = omega arith
+cond_length : (op : _) → length (cond_name op) ≤ 4
+cond_length op = grind arith
 
-load_length : (op : LoadOp) → length (load_op_name op) ≤ 3
-load_length Lb = omega arith
-load_length op = omega arith
+load_length : (op : _) → length (load_op_name op) ≤ 3
+load_length op = grind arith
 
-width_length : (op : Width) → length (width_name op) ≤ 2
-width_length One = omega arith
-width_length op = omega arith
+width_length : (op : _) → length (width_name op) ≤ 2
+width_length op = grind arith
 
-imm_op_length : (op : ImmOp) → length (imm_op_name op) ≤ 5
-imm_op_length Addi = omega arith
-imm_op_length op = omega arith
+imm_op_length : (op : _) → length (imm_op_name op) ≤ 5
+imm_op_length op = grind arith
 
-shift_length : (op : ShiftOp) → length (shift_op_name op) ≤ 4
-shift_length Slli = omega arith
-shift_length op = omega arith
+shift_length : (op : _) → length (shift_op_name op) ≤ 4
+shift_length op = grind arith
 
-csr_op_length : (op : CsrOp) → length (csr_op_name op) ≤ 5
-csr_op_length Write = omega arith
-csr_op_length op = omega arith
+csr_op_length : (op : _) → length (csr_op_name op) ≤ 5
+csr_op_length op = grind arith
 
-alu_length : (op : AluOp) → length (alu_op_name op) ≤ 6
-alu_length Add = omega arith
-alu_length op = omega arith
+alu_length : (op : _) → length (alu_op_name op) ≤ 6
+alu_length op = grind arith
 
 -- ---- operands
 

@@ -3,7 +3,6 @@
 use Rattle.std.specs.Prelude.{◌≡◌, ℕ, ◌+◌, ◌≤◌, List, ◌++◌, length, Vec, vec_len, vec_capacity}
 use Rattle.std.specs.Fmt.{signed_decimal}
 use Rattle.rv_isa.specs.Text.{register, hex, target, address, line_of_2, line_of_3}
-use Rattle.rv_isa.specs.declared.text.Line.{Line}
 use Rattle.rv_isa.specs.declared.text.Operand.{Operand}
 use Rattle.rv_isa.specs.declared.text.Operand.TheVariants.{Register, Hex, Number, Target, Address}
 use Rattle.rv_isa.specs.declared.text.Operands.{Operands}
@@ -20,9 +19,6 @@ abbrev pub behind : List ℕ → Operands → List ℕ
 behind mnemonic operands.None = mnemonic
 behind mnemonic (operands.Two a b) = line_of_2 mnemonic (register a) (operand b)
 behind mnemonic (operands.Three a b c) = line_of_3 mnemonic (register a) (operand b) (operand c)
-
-abbrev pub line : Line → List ℕ
-line l = behind l.mnemonic.now l.operands
 
 -- the text has room for a piece
 abbrev pub HasRoom : {Z : Type 0} → Vec ℕ Z → List ℕ → Type 0
