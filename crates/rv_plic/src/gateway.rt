@@ -184,21 +184,3 @@ fn less(count: u32) -> u32
 {
     count.saturating_sub(1)
 }
-
-#[cfg(test)]
-mod tests {
-    use super::Gateways;
-    use crate::Source;
-    use std::test::Fail;
-
-    /// No run of a board counts so far, so the count is set here.
-    #[test]
-    fn a_full_count_stays(rt: HostRuntime) -> Result<(), Fail> {
-        let source = Source::new(24).ok_or("no such source")?;
-        let mut gateways = Gateways::new();
-        gateways.set_count(source, u32::MAX);
-        gateways.set_line(source, true);
-        assert_eq!(rt; gateways.edges(source), u32::MAX);
-        Ok(())
-    }
-}
