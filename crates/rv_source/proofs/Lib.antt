@@ -1,5 +1,7 @@
 pub mod Sums
 pub mod Pieces
+pub mod Placed
+pub mod Rowed
+pub mod Fronts
 pub mod Listed
 pub mod Labelling
-pub mod Placed

@@ -1,11 +1,15 @@
 -- Values and strings, operand by operand.
-use Rattle.std.proofs.Common.{◌≡◌, ℕ, Bool, true, false, List, [], ◌∷◌, ◌++◌, ap, sym, refl, append_assoc, append-nil}
+use Rattle.std.proofs.Common.{◌≡◌, ℕ, Bool, true, false, List, [], ◌∷◌, ◌++◌, ap, sym, refl, append_assoc, append-nil, length}
 use Rattle.std.specs.Prelude.{Option, Some, None}
 use Rattle.std.specs.Option.{option_map}
 use Rattle.rv_source.specs.declared.expression.Term.{Term}
 use Rattle.rv_tokens.specs.declared.token.Token.{Token}
 use Rattle.rv_source.specs.Expressions.{value}
-use Rattle.rv_source.specs.Operands.{is_nothing}
+use Rattle.rv_source.specs.declared.refusal.Refusal.{Refusal}
+use Rattle.rv_source.specs.declared.refusal.Refusal.TheVariants.{BadOperands, OutOfMemory}
+use Rattle.rv_source.specs.Operands.{is_nothing, operands_of}
+use Rattle.rv_source.specs.Partial.{Refuses}
+use Rattle.rv_source.proofs.Pieces.{no_operand}
 use Rattle.rv_source.specs.Statements.{values, strings, string, of_some}
 
 -- those so far, and those of the rest
@@ -57,6 +61,32 @@ pub some_operands : {A : Type 0} (f : List (List Token) → Option A) (xs : List
 some_operands f [] h = cc
 some_operands f (x ∷ xs) h = refl
 
-pub no_operands : {A : Type 0} (f : List (List Token) → Option A) (xs : List (List Token)) → is_nothing xs ≡ true → of_some f xs ≡ None
+no_operands : {A : Type 0} (f : List (List Token) → Option A) (xs : List (List Token)) → is_nothing xs ≡ true → of_some f xs ≡ None
 no_operands f [] h = refl
 no_operands f (x ∷ xs) h = cc
+
+pub no_tokens : {A : Type 0} (f : List (List Token) → Option A) (ts : List Token) → length ts ≡ 0 → of_some f (operands_of ts) ≡ None
+no_tokens f ts h = no_operands f (operands_of ts) (no_operand ts h)
+
+-- what is made of all of one or more operands
+pub listed : {A B : Type 0} (f : List (List Token) → Option (List A)) (make : List A → B) (operands rest : List (List Token)) (out new : List A)
+    → is_nothing operands ≡ false → with_items out (f rest) ≡ f operands → rest ≡ [] → with_items out (f []) ≡ Some out → new ≡ out
+    → option_map make (of_some f operands) ≡ Some (make new)
+listed f make operands rest out new some so_far none end made =
+    rw (some_operands f operands some, ← so_far, none, end, made) refl
+
+-- an operand that is refused
+pub not_listed : {A B : Type 0} (refusal : Refusal) (f : List (List Token) → Option (List A)) (make : List A → B) (operands old : List (List Token)) (x : List Token) (rest : List (List Token)) (out : List A)
+    → is_nothing operands ≡ false → with_items out (f old) ≡ f operands → old ≡ x ∷ rest → Refuses refusal (with_items out (f (x ∷ rest)))
+    → Refuses refusal (option_map make (of_some f operands))
+not_listed BadOperands f make operands old x rest out some so_far next refused =
+    rw (some_operands f operands some, ← so_far, next, refused) refl
+not_listed OutOfMemory f make operands old x rest out some so_far next refused = tt
+
+pub value_refused : (refusal : Refusal) (out : List (List Term)) (x : List Token) (xs : List (List Token)) → Refuses refusal (value x) → Refuses refusal (with_items out (values (x ∷ xs)))
+value_refused BadOperands out x xs h = values_none out x xs h
+value_refused OutOfMemory out x xs h = tt
+
+pub string_refused : (refusal : Refusal) (terminated : Bool) (out : List ℕ) (x : List Token) (xs : List (List Token)) → Refuses refusal (option_map (λ bs. out ++ bs) (string terminated x)) → Refuses refusal (with_items out (strings terminated (x ∷ xs)))
+string_refused BadOperands terminated out x xs h = strings_none terminated out x xs h
+string_refused OutOfMemory terminated out x xs h = tt

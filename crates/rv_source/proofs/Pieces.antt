@@ -1,7 +1,7 @@
 -- Operands, piece by piece.
 use Rattle.std.proofs.Common.{◌≡◌, ℕ, suc, ◌+◌, ◌<◌, ◌≤◌, Bool, true, false, cond, List, [], ◌∷◌, length, take, drop, refl, sym, ap, arith, add-one}
 use Rattle.std.proofs.Math.Numerals.{one-add}
-use Rattle.std.specs.Prelude.{Some, None, nat_lt}
+use Rattle.std.specs.Prelude.{◌==◌, Some, None, nat_lt}
 use Rattle.std.specs.List.{position_or_len, position}
 use Rattle.std.proofs.lemmas.Bool.Decides.{nat_tests}
 use Rattle.rv_tokens.specs.declared.token.Token.{Token}
@@ -70,3 +70,6 @@ pub an_operand : (ts : List Token) → 0 < length ts → is_nothing (operands_of
 unfolding operands_of
 an_operand [] h = absurd (omega arith)
 an_operand (t ∷ ts) h = some_pieces (t ∷ ts)
+
+pub some_operand : (ts : List Token) → false ≡ (length ts == 0) → is_nothing (operands_of ts) ≡ false
+some_operand ts h = an_operand ts (grind (arith, h))

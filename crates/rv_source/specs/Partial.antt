@@ -1,7 +1,9 @@
 -- Answers for operands that a word may not take, and what has been read so far.
 -- Own language; see docs/ASSEMBLER.md.
 -- Not to audit: private contracts alone cite this.
-use Rattle.std.specs.Prelude.{◌≡◌, Bool, true, false, List, [], ◌∷◌, Option, Some, None, Result, Ok, Err}
+use Rattle.std.specs.Prelude.{◌≡◌, ℕ, Bool, true, false, List, [], ◌∷◌, Option, Some, None, Result, Ok, Err, take, drop, option_and_then}
+use Rattle.std.specs.List.{position}
+use Rattle.std.specs.Option.{option_map}
 use Rattle.std.specs.Borrow.{Bor}
 use Rattle.rv_tokens.specs.declared.token.Token.{Token}
 use Rattle.rv_source.specs.declared.expression.Term.{Term}
@@ -12,7 +14,7 @@ use Rattle.rv_source.specs.declared.refusal.Refusal.{Refusal}
 use Rattle.rv_source.specs.declared.refusal.Refusal.TheVariants.{BadOperands, OutOfMemory}
 use Rattle.rv_source.specs.declared.statement.Immediate.{Immediate}
 use Rattle.rv_source.specs.Expressions.{terms, with_terms}
-use Rattle.rv_source.specs.Operands.{is_comma, is_open, is_close, pieces}
+use Rattle.rv_source.specs.Operands.{is_comma, is_open, is_close, is_value, is_offset, base_of, bracketed, part_indexed_of, indexed_of, pieces}
 use Rattle.rv_source.specs.Statements.{low_offset, offset}
 
 -- a refusal is that of operands that aren't taken, unless memory ran out
@@ -68,3 +70,23 @@ Picks view fits None meaning = meaning ≡ None
 abbrev pub offset_of : Bool → List Token → Option Immediate
 offset_of true = low_offset
 offset_of false = offset
+
+-- what stands before a base, and the tokens of the base: the brackets that come first and what is behind them, or what
+-- stands before the first bracket
+abbrev pub front_of : Bool → List Token → Option (List Token × List Token)
+front_of true ts = bracketed ts
+front_of false ts = option_map (λ n. (take n ts, drop n ts)) (position is_open ts)
+
+-- what stands before a base, and the name that the base is
+abbrev pub with_base : Option (List Token × List Token) → Option (List Token × List ℕ)
+with_base place = option_and_then (λ p. option_map (λ name. (p.0, name)) (base_of p.1)) place
+
+-- (E)(name) behind `%lo`, or E(name) or (name)
+abbrev pub indexed_by : Bool → List Token → Option (List Token × List ℕ)
+indexed_by true = part_indexed_of
+indexed_by false = indexed_of
+
+-- whether tokens may stand before a base
+abbrev pub may_be_offset : Bool → List Token → Bool
+may_be_offset true = is_value
+may_be_offset false = is_offset

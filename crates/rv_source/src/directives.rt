@@ -4,13 +4,13 @@ ghost use Rattle.std.specs.Option.{option_map};
 ghost use Rattle.rv_source.specs.declared.form.Directive.TheVariants as d;
 ghost use Rattle.rv_source.specs.Operands.{operands_of};
 ghost use Rattle.rv_source.specs.Partial.{Finds, Becomes};
-ghost use Rattle.rv_source.specs.Statements.{string, space, directive};
+ghost use Rattle.rv_source.specs.Statements.{string, directive};
 
 use crate::form::Directive;
-use crate::operand::{Operands, are_none, only};
-use crate::places::both;
+use crate::operand::{Operands, only};
+use crate::places::{one, two};
 use crate::refusal::Refusal;
-use crate::taker::with_value;
+use crate::taker::{Constant, Space};
 use crate::terms::read_value;
 use crate::{Bytes, Statement, ValueTaker, Values};
 use rv_isa::Width;
@@ -18,12 +18,12 @@ use rv_tokens::Token;
 use std::alloc::Global;
 
 /// The values of one or more operands.
-#[tactic(auto, using(crate::proofs::Listed::values_more, crate::proofs::Listed::values_none, crate::proofs::Listed::values_end, crate::proofs::Listed::some_operands, crate::proofs::Listed::no_operands), unfolding(crate::specs::Statements::directive))]
+#[tactic(auto, using(crate::proofs::Listed::no_tokens), unfolding(crate::specs::Statements::directive))]
 fn data<'a>(alloc: Global, width: Width, tokens: &[Token<'a>]) -> Result<Statement<'a>, Refusal>
     requires { length tokens.now ≤ 1024 }
     ensures { Finds (λ s. s) result (directive (d.Data width) (operands_of tokens.now)) }
 {
-    if are_none(tokens) {
+    if tokens.is_empty() {
         return Err(Refusal::BadOperands);
     }
     let mut out = Vec::new(alloc);
@@ -56,12 +56,12 @@ fn append_string(out: &mut Vec<u8>, terminated: bool, operand: &[Token]) -> Resu
 }
 
 /// The bytes of one or more strings, each with a byte 0 behind it where it is terminated.
-#[tactic(auto, using(crate::proofs::Listed::strings_more, crate::proofs::Listed::strings_none, crate::proofs::Listed::strings_end, crate::proofs::Listed::some_operands, crate::proofs::Listed::no_operands), unfolding(crate::specs::Statements::directive))]
+#[tactic(auto, using(crate::proofs::Listed::no_tokens), unfolding(crate::specs::Statements::directive))]
 fn text<'a>(alloc: Global, terminated: bool, tokens: &[Token<'a>]) -> Result<Statement<'a>, Refusal>
     requires { length tokens.now ≤ 1024 }
     ensures { Finds (λ s. s) result (directive (d.Text terminated) (operands_of tokens.now)) }
 {
-    if are_none(tokens) {
+    if tokens.is_empty() {
         return Err(Refusal::BadOperands);
     }
     let mut out = Vec::new(alloc);
@@ -70,31 +70,6 @@ fn text<'a>(alloc: Global, terminated: bool, tokens: &[Token<'a>]) -> Result<Sta
         append_string(&mut out, terminated, operand)?;
     }
     Ok(Statement::Bytes(Bytes::new(out)))
-}
-
-/// `E` or `E,fill`
-fn space<'a>(alloc: Global, tokens: &[Token<'a>]) -> Result<Statement<'a>, Refusal>
-    requires { length tokens.now ≤ 1024 }
-    ensures { Finds (λ s. s) result (space (operands_of tokens.now)) }
-{
-    if let Some(size) = only(tokens) {
-        let size = read_value(alloc, size)?;
-        return Ok(Statement::Space { size, fill: None });
-    }
-    let (size, fill) = both(alloc, tokens)?;
-    Ok(Statement::Space {
-        size,
-        fill: Some(fill),
-    })
-}
-
-#[tactic(auto, unfolding(crate::specs::Statements::directive))]
-fn constant<'a>(alloc: Global, tokens: &[Token<'a>]) -> Result<Statement<'a>, Refusal>
-    requires { length tokens.now ≤ 1024 }
-    ensures { Finds (λ s. s) result (directive d.Constant (operands_of tokens.now)) }
-{
-    let (name, value) = both(alloc, tokens)?;
-    Ok(Statement::Constant { name, value })
 }
 
 /// What a directive and its operands stand for.
@@ -110,10 +85,13 @@ pub fn read_directive<'a>(
     match form {
         Directive::Data(width) => data(alloc, width, tokens),
         Directive::Text { terminated } => text(alloc, terminated, tokens),
-        Directive::Space => space(alloc, tokens),
-        Directive::Align => with_value(alloc, ValueTaker::Align, tokens),
-        Directive::Balign => with_value(alloc, ValueTaker::Balign, tokens),
-        Directive::Constant => constant(alloc, tokens),
+        Directive::Space => match only(tokens) {
+            Some(_) => one(alloc, Space, tokens),
+            None => two(alloc, Space, tokens),
+        },
+        Directive::Align => one(alloc, ValueTaker::Align, tokens),
+        Directive::Balign => one(alloc, ValueTaker::Balign, tokens),
+        Directive::Constant => two(alloc, Constant, tokens),
         Directive::Marker => Ok(Statement::Marker),
     }
 }

@@ -1,25 +1,19 @@
 //! What the words of instructions and their operands stand for.
-ghost use Rattle.std.specs.Prelude.{◌≡◌, ◌<◌, ◌≤◌, ◌+◌, ◌*◌, length, pos, List, Some};
-ghost use Rattle.rv_tokens.specs.declared.token.Token.{Token};
+ghost use Rattle.std.specs.Prelude.{◌≡◌, ◌<◌, ◌≤◌, ◌^◌, length, pos};
+ghost use Rattle.rv_isa.specs.Number.{IsWithin};
 ghost use Rattle.rv_isa.specs.Word.{IsInRange};
 ghost use Rattle.rv_isa.specs.declared.kind.Kind.TheVariants as k;
-ghost use Rattle.rv_source.specs.declared.form.Instruction.TheVariants as f;
 ghost use Rattle.rv_source.specs.declared.statement.Statement.TheVariants as s;
-ghost use Rattle.rv_source.specs.declared.statement.ValueTaker.TheVariants as takes;
-ghost use Rattle.rv_source.specs.Operands.{operands_of, pair};
+ghost use Rattle.rv_source.specs.Operands.{operands_of};
 ghost use Rattle.rv_source.specs.Partial.{Finds};
-ghost use Rattle.rv_source.specs.Expressions.{value};
-ghost use Rattle.rv_source.specs.Registers.{IsOfTwo, of_two};
-ghost use Rattle.rv_source.specs.Statements.{register, none, one, two, three, jal, jalr, load, store, fence_set, fence, instruction};
+ghost use Rattle.rv_source.specs.Statements.{none, jal, jalr, load, store, fence, instruction};
 
+use crate::fence::{Fence, ordered};
 use crate::form::Instruction;
-use crate::operand::{are_none, only, pair};
-use crate::places::{all, both, fence_set, one, register_in};
+use crate::operand::{only, pair};
+use crate::places::{OfOne, OfThree, OfTwo, one, register_in, three, two};
 use crate::refusal::Refusal;
-use crate::taker::{
-    AfterOne, AfterTwo, Based, at_memory, with_immediate, with_value, with_value_after_one,
-    with_value_after_two,
-};
+use crate::taker::{AfterOne, AfterTwo, Based, CsrByValue, Lui, StoreTo};
 use crate::terms::is_value;
 use crate::{Csr, Statement, ValueTaker};
 use rv_isa::{AluOp, CsrOp, ImmOp, Instr, Kind, LoadOp, Reg, Width};
@@ -50,10 +44,9 @@ pub fn instruction<'a>(kind: Kind) -> Statement<'a>
 
 /// A jump to what a register says.
 fn jump_to<'a>(rd: Reg, base: Reg) -> Statement<'a>
-    requires link { rd < 32 }
-    requires base { base < 32 }
     ensures { result ≡ s.Instruction (k.Jalr rd base (pos 0)) }
 {
+    let _ = (rd.number(), base.number());
     instruction(Kind::Jalr {
         rd,
         base,
@@ -61,38 +54,47 @@ fn jump_to<'a>(rd: Reg, base: Reg) -> Statement<'a>
     })
 }
 
-/// A fence between two sets.
-fn ordered(first: u16, second: u16) -> Kind
-    requires first { first < 16 }
-    requires second { second < 16 }
-    ensures { result ≡ k.Fence 0 0 (16 * first + second) }
+/// An operation on a register and an immediate of twelve bits.
+fn op_imm<'a>(op: ImmOp, rd: Reg, rs1: Reg, imm: i32) -> Statement<'a>
+    requires { IsWithin (2 ^ 11) imm }
+    ensures { result ≡ s.Instruction (k.OpImm op rd rs1 imm) }
 {
-    Kind::Fence {
-        rd: x(0),
-        rs1: x(0),
-        imm: 16 * first + second,
-    }
+    let _ = (rd.number(), rs1.number());
+    instruction(Kind::OpImm { op, rd, rs1, imm })
+}
+
+/// An operation on two registers.
+fn op<'a>(op: AluOp, rd: Reg, rs1: Reg, rs2: Reg) -> Statement<'a>
+    ensures { result ≡ s.Instruction (k.Op op rd rs1 rs2) }
+{
+    let _ = (rd.number(), rs1.number(), rs2.number());
+    instruction(Kind::Op { op, rd, rs1, rs2 })
+}
+
+/// A change of a control register by a register.
+fn csr_op<'a>(op: CsrOp, rd: Reg, rs1: Reg, csr: Csr) -> Statement<'a>
+    ensures { result ≡ s.Instruction (k.Csr op rd rs1 csr) }
+{
+    let _ = (rd.number(), rs1.number());
+    instruction(Kind::Csr {
+        op,
+        rd,
+        rs1,
+        csr: csr.number(),
+    })
 }
 
 /// An instruction that takes no operands.
+#[tactic(auto, using(crate::proofs::Pieces::no_operand, crate::proofs::Pieces::an_operand))]
 pub fn alone<'a>(kind: Kind, tokens: &[Token<'a>]) -> Result<Statement<'a>, Refusal>
     requires { IsInRange kind }
     ensures { Finds (λ s. s) result (none (s.Instruction kind) (operands_of tokens.now)) }
 {
-    if are_none(tokens) {
+    if tokens.is_empty() {
         Ok(instruction(kind))
     } else {
         Err(Refusal::BadOperands)
     }
-}
-
-#[tactic(auto, unfolding(crate::specs::Statements::instruction))]
-fn lui<'a>(alloc: Global, tokens: &[Token<'a>]) -> Result<Statement<'a>, Refusal>
-    requires { length tokens.now ≤ 1024 }
-    ensures { Finds (λ s. s) result (instruction f.Lui (operands_of tokens.now)) }
-{
-    let (rd, imm) = both(alloc, tokens)?;
-    Ok(Statement::Lui { rd, imm })
 }
 
 /// `rd,target`, or `target` alone with x1 as the link
@@ -101,30 +103,44 @@ fn jal<'a>(alloc: Global, tokens: &[Token<'a>]) -> Result<Statement<'a>, Refusal
     ensures { Finds (λ s. s) result (jal (operands_of tokens.now)) }
 {
     match only(tokens) {
-        Some(_) => with_value(alloc, ValueTaker::Jal { rd: x(1) }, tokens),
-        None => with_value_after_one(alloc, AfterOne::Jal, tokens),
+        Some(_) => one(alloc, ValueTaker::Jal { rd: x(1) }, tokens),
+        None => two(alloc, AfterOne::Jal, tokens),
     }
 }
 
-/// `rs1`, with a link
-pub fn jump_register<'a>(
-    alloc: Global,
-    link: Reg,
-    tokens: &[Token<'a>],
-) -> Result<Statement<'a>, Refusal>
-    requires link { link < 32 }
-    requires short { length tokens.now ≤ 1024 }
-    ensures { Finds (λ s. s) result (one register (λ base. s.Instruction (k.Jalr link base (pos 0))) (operands_of tokens.now)) }
-{
-    let base = one(alloc, tokens)?;
-    Ok(jump_to(link, base))
+/// A jump to what a register says, by how it links.
+#[derive(Clone, Copy)]
+pub enum JumpTo {
+    /// With no link.
+    Plain,
+    /// With x1 as the link.
+    Linked,
+}
+
+/// `rs1`
+impl<'a> OfOne<'a, Reg> for JumpTo {
+    ghost use Rattle.rv_source.specs.Registers.{jump_of_one};
+    ghost use Rattle.rv_source.specs.declared.statement.Statement.TheVariants as s;
+
+    ghost makes = { λ form base. s.Instruction (jump_of_one form base) };
+
+    fn make(self, base: Reg) -> Statement<'a> {
+        match self {
+            JumpTo::Plain => jump_to(x(0), base),
+            JumpTo::Linked => jump_to(x(1), base),
+        }
+    }
 }
 
 /// What a word that takes two registers does with them.
 #[derive(Clone, Copy)]
-pub enum OfTwo {
-    /// An operation on the second register and an immediate.
-    Imm(ImmOp, i32),
+pub enum OnTwo {
+    /// `addi` of 0
+    Move,
+    /// `xori` of -1
+    Not,
+    /// `sltiu` of 1
+    IsZero,
     /// An operation on the second register and x0.
     WithZero(AluOp),
     /// An operation on x0 and the second register.
@@ -133,48 +149,71 @@ pub enum OfTwo {
     Jump,
 }
 
-/// The instruction of two registers.
-fn of_two<'a>(form: OfTwo, rd: Reg, rs: Reg) -> Statement<'a>
-    requires within { IsOfTwo form }
-    requires rd { rd < 32 }
-    requires rs { rs < 32 }
-    ensures { result ≡ s.Instruction (of_two form rd rs) }
-{
-    match form {
-        OfTwo::Imm(op, imm) => instruction(Kind::OpImm {
-            op,
-            rd,
-            rs1: rs,
-            imm,
-        }),
-        OfTwo::WithZero(op) => instruction(Kind::Op {
-            op,
-            rd,
-            rs1: rs,
-            rs2: x(0),
-        }),
-        OfTwo::OnZero(op) => instruction(Kind::Op {
-            op,
-            rd,
-            rs1: x(0),
-            rs2: rs,
-        }),
-        OfTwo::Jump => jump_to(rd, rs),
+/// `rd,rs`
+impl<'a> OfTwo<'a, Reg, Reg> for OnTwo {
+    ghost use Rattle.rv_source.specs.Registers.{of_two};
+    ghost use Rattle.rv_source.specs.declared.statement.Statement.TheVariants as s;
+
+    ghost makes = { λ form rd rs. s.Instruction (of_two form rd rs) };
+
+    fn make(self, rd: Reg, rs: Reg) -> Statement<'a> {
+        match self {
+            OnTwo::Move => op_imm(ImmOp::Addi, rd, rs, 0),
+            OnTwo::Not => op_imm(ImmOp::Xori, rd, rs, -1),
+            OnTwo::IsZero => op_imm(ImmOp::Sltiu, rd, rs, 1),
+            OnTwo::WithZero(kind) => op(kind, rd, rs, x(0)),
+            OnTwo::OnZero(kind) => op(kind, rd, x(0), rs),
+            OnTwo::Jump => jump_to(rd, rs),
+        }
     }
 }
 
-/// `rd,rs`
-pub fn two_registers<'a>(
-    alloc: Global,
-    form: OfTwo,
-    tokens: &[Token<'a>],
-) -> Result<Statement<'a>, Refusal>
-    requires within { IsOfTwo form }
-    requires short { length tokens.now ≤ 1024 }
-    ensures { Finds (λ s. s) result (two register register (λ rd rs. s.Instruction (of_two form rd rs)) (operands_of tokens.now)) }
-{
-    let (rd, rs) = both(alloc, tokens)?;
-    Ok(of_two(form, rd, rs))
+/// `rd,rs1,rs2`
+impl<'a> OfThree<'a, Reg, Reg> for AluOp {
+    ghost use Rattle.rv_isa.specs.declared.kind.Kind.TheVariants as k;
+    ghost use Rattle.rv_source.specs.declared.statement.Statement.TheVariants as s;
+
+    ghost makes = { λ op rd rs1 rs2. s.Instruction (k.Op op rd rs1 rs2) };
+
+    fn make(self, rd: Reg, rs1: Reg, rs2: Reg) -> Statement<'a> {
+        op(self, rd, rs1, rs2)
+    }
+}
+
+/// `rd,csr,rs1`
+impl<'a> OfThree<'a, Csr, Reg> for CsrOp {
+    ghost use Rattle.rv_isa.specs.declared.kind.Kind.TheVariants as k;
+    ghost use Rattle.rv_source.specs.declared.statement.Statement.TheVariants as s;
+
+    ghost makes = { λ op rd csr rs1. s.Instruction (k.Csr op rd rs1 csr) };
+
+    fn make(self, rd: Reg, csr: Csr, rs1: Reg) -> Statement<'a> {
+        csr_op(self, rd, rs1, csr)
+    }
+}
+
+/// `csr,rs1`
+impl<'a> OfTwo<'a, Csr, Reg> for CsrOp {
+    ghost use Rattle.rv_isa.specs.declared.kind.Kind.TheVariants as k;
+    ghost use Rattle.rv_source.specs.declared.statement.Statement.TheVariants as s;
+
+    ghost makes = { λ op csr rs1. s.Instruction (k.Csr op 0 rs1 csr) };
+
+    fn make(self, csr: Csr, rs1: Reg) -> Statement<'a> {
+        csr_op(self, x(0), rs1, csr)
+    }
+}
+
+/// `rd,csr`, without a change
+impl<'a> OfTwo<'a, Reg, Csr> for CsrOp {
+    ghost use Rattle.rv_isa.specs.declared.kind.Kind.TheVariants as k;
+    ghost use Rattle.rv_source.specs.declared.statement.Statement.TheVariants as s;
+
+    ghost makes = { λ op rd csr. s.Instruction (k.Csr op rd 0 csr) };
+
+    fn make(self, rd: Reg, csr: Csr) -> Statement<'a> {
+        csr_op(self, rd, x(0), csr)
+    }
 }
 
 /// `rd,rs1`, `rd,m`, `rd,rs1,i`, or `rs1` with x1 as the link
@@ -184,13 +223,13 @@ fn jalr<'a>(alloc: Global, tokens: &[Token<'a>]) -> Result<Statement<'a>, Refusa
 {
     if let Some((_, place)) = pair(tokens) {
         return match register_in(place) {
-            Some(_) => two_registers(alloc, OfTwo::Jump, tokens),
-            None => at_memory(alloc, Based::Jalr, tokens),
+            Some(_) => two(alloc, OnTwo::Jump, tokens),
+            None => two(alloc, Based::Jalr, tokens),
         };
     }
     match only(tokens) {
-        Some(_) => jump_register(alloc, x(1), tokens),
-        None => with_immediate(alloc, Based::Jalr, tokens),
+        Some(_) => one(alloc, JumpTo::Linked, tokens),
+        None => three(alloc, Based::Jalr, tokens),
     }
 }
 
@@ -203,26 +242,10 @@ fn load<'a>(alloc: Global, op: LoadOp, tokens: &[Token<'a>]) -> Result<Statement
         return Err(Refusal::BadOperands);
     };
     if is_value(place) {
-        with_value_after_one(alloc, AfterOne::LoadFrom(op), tokens)
+        two(alloc, AfterOne::LoadFrom(op), tokens)
     } else {
-        at_memory(alloc, Based::Load(op), tokens)
+        two(alloc, Based::Load(op), tokens)
     }
-}
-
-/// `rs,E,rt`
-fn store_to<'a>(alloc: Global, width: Width, tokens: &[Token<'a>]) -> Result<Statement<'a>, Refusal>
-    requires { length tokens.now ≤ 1024 }
-    ensures { Finds (λ s. s) result (three register value register (λ source target scratch. s.WithValue (takes.StoreTo width source scratch) target) (operands_of tokens.now)) }
-{
-    let (source, target, scratch) = all(alloc, tokens)?;
-    Ok(Statement::WithValue {
-        taker: ValueTaker::StoreTo {
-            width,
-            source,
-            scratch,
-        },
-        value: target,
-    })
 }
 
 /// `rs2,m` or `rs,E,rt`
@@ -231,78 +254,19 @@ fn store<'a>(alloc: Global, width: Width, tokens: &[Token<'a>]) -> Result<Statem
     ensures { Finds (λ s. s) result (store width (operands_of tokens.now)) }
 {
     match pair(tokens) {
-        Some(_) => at_memory(alloc, Based::Store(width), tokens),
-        None => store_to(alloc, width, tokens),
+        Some(_) => two(alloc, Based::Store(width), tokens),
+        None => three(alloc, StoreTo(width), tokens),
     }
 }
 
-#[tactic(auto, unfolding(crate::specs::Statements::instruction))]
-fn op<'a>(alloc: Global, op: AluOp, tokens: &[Token<'a>]) -> Result<Statement<'a>, Refusal>
-    requires { length tokens.now ≤ 1024 }
-    ensures { Finds (λ s. s) result (instruction (f.Op op) (operands_of tokens.now)) }
-{
-    let (rd, rs1, rs2) = all(alloc, tokens)?;
-    Ok(instruction(Kind::Op { op, rd, rs1, rs2 }))
-}
-
-#[tactic(auto, unfolding(crate::specs::Statements::instruction))]
-fn change_csr<'a>(alloc: Global, op: CsrOp, tokens: &[Token<'a>]) -> Result<Statement<'a>, Refusal>
-    requires { length tokens.now ≤ 1024 }
-    ensures { Finds (λ s. s) result (instruction (f.Csr op) (operands_of tokens.now)) }
-{
-    let (rd, csr, rs1): (Reg, Csr, Reg) = all(alloc, tokens)?;
-    Ok(instruction(Kind::Csr {
-        op,
-        rd,
-        rs1,
-        csr: csr.number(),
-    }))
-}
-
-#[tactic(auto, unfolding(crate::specs::Statements::instruction))]
-fn change_csr_imm<'a>(
-    alloc: Global,
-    op: CsrOp,
-    tokens: &[Token<'a>],
-) -> Result<Statement<'a>, Refusal>
-    requires { length tokens.now ≤ 1024 }
-    ensures { Finds (λ s. s) result (instruction (f.CsrImm op) (operands_of tokens.now)) }
-{
-    let (rd, csr, imm) = all(alloc, tokens)?;
-    Ok(Statement::WithValue {
-        taker: ValueTaker::CsrImm { op, rd, csr },
-        value: imm,
-    })
-}
-
-/// A fence between the sets that the tokens spell.
-fn fence_between<'a>(first: &[Token], second: &[Token]) -> Result<Statement<'a>, Refusal>
-    ensures { (operands : List (List Token)) → pair operands ≡ Some (first.now, second.now) → Finds (λ s. s) result (two fence_set fence_set (λ p q. s.Instruction (k.Fence 0 0 (16 * p + q))) operands) }
-{
-    match (fence_set(first), fence_set(second)) {
-        (Some(first), Some(second)) => Ok(instruction(ordered(first, second))),
-        _ => Err(Refusal::BadOperands),
-    }
-}
-
-fn fence<'a>(tokens: &[Token<'a>]) -> Result<Statement<'a>, Refusal>
+/// Two sets, or none
+fn fence<'a>(alloc: Global, tokens: &[Token<'a>]) -> Result<Statement<'a>, Refusal>
     requires { length tokens.now ≤ 1024 }
     ensures { Finds (λ s. s) result (fence (operands_of tokens.now)) }
 {
     match pair(tokens) {
-        Some((first, second)) => fence_between(first, second),
+        Some(_) => two(alloc, Fence, tokens),
         None => alone(ordered(15, 15), tokens),
-    }
-}
-
-/// `fence.i`
-fn fence_i() -> Kind
-    ensures { result ≡ k.FenceI 0 0 0 }
-{
-    Kind::FenceI {
-        rd: x(0),
-        rs1: x(0),
-        imm: 0,
     }
 }
 
@@ -317,20 +281,27 @@ pub fn read_instruction<'a>(
     ensures { Finds (λ s. s) result (instruction form (operands_of tokens.now)) }
 {
     match form {
-        Instruction::Lui => lui(alloc, tokens),
-        Instruction::Auipc => with_value_after_one(alloc, AfterOne::Auipc, tokens),
+        Instruction::Lui => two(alloc, Lui, tokens),
+        Instruction::Auipc => two(alloc, AfterOne::Auipc, tokens),
         Instruction::Jal => jal(alloc, tokens),
         Instruction::Jalr => jalr(alloc, tokens),
-        Instruction::Branch(cond) => with_value_after_two(alloc, AfterTwo::Branch(cond), tokens),
+        Instruction::Branch(cond) => three(alloc, AfterTwo::Branch(cond), tokens),
         Instruction::Load(op) => load(alloc, op, tokens),
         Instruction::Store(width) => store(alloc, width, tokens),
-        Instruction::OpImm(op) => with_immediate(alloc, Based::OpImm(op), tokens),
-        Instruction::Shift(op) => with_value_after_two(alloc, AfterTwo::Shift(op), tokens),
-        Instruction::Op(kind) => op(alloc, kind, tokens),
-        Instruction::Csr(op) => change_csr(alloc, op, tokens),
-        Instruction::CsrImm(op) => change_csr_imm(alloc, op, tokens),
-        Instruction::Fence => fence(tokens),
-        Instruction::FenceI => alone(fence_i(), tokens),
+        Instruction::OpImm(op) => three(alloc, Based::OpImm(op), tokens),
+        Instruction::Shift(op) => three(alloc, AfterTwo::Shift(op), tokens),
+        Instruction::Op(kind) => three(alloc, kind, tokens),
+        Instruction::Csr(op) => three(alloc, op, tokens),
+        Instruction::CsrImm(op) => three(alloc, CsrByValue(op), tokens),
+        Instruction::Fence => fence(alloc, tokens),
+        Instruction::FenceI => {
+            let kind = Kind::FenceI {
+                rd: x(0),
+                rs1: x(0),
+                imm: 0,
+            };
+            alone(kind, tokens)
+        }
         Instruction::Ecall => alone(Kind::Ecall, tokens),
         Instruction::Ebreak => alone(Kind::Ebreak, tokens),
         Instruction::Mret => alone(Kind::Mret, tokens),

@@ -5,6 +5,7 @@
 
 mod directives;
 mod expression;
+mod fence;
 mod form;
 mod instructions;
 mod line;

@@ -1,8 +1,8 @@
 //! Operands: the tokens of each, and the shapes that they may have.
 ghost use Rattle.std.specs.Prelude.{◌≡◌, ◌<◌, ◌≤◌, ◌+◌, length, drop, IfSome};
 ghost use Rattle.std.specs.List.{position, list_all};
-ghost use Rattle.rv_source.specs.Partial.{Picks, is_mark};
-ghost use Rattle.rv_source.specs.Operands.{is_nothing, name_of, number_of, base_of, bracketed, indexed_of, part_of, part_indexed_of, holds, is_value, is_offset, is_operand, operands_of, only, pair};
+ghost use Rattle.rv_source.specs.Partial.{Picks, front_of, indexed_by, is_mark, may_be_offset};
+ghost use Rattle.rv_source.specs.Operands.{name_of, base_of, bracketed, part_of, holds, is_value, is_operand, operands_of, only, pair, triple};
 
 use crate::terms::is_value;
 use rv_tokens::{Name, Token};
@@ -81,12 +81,13 @@ impl<'t, 'a> Operands<'t, 'a> {
     }
 
     /// Takes the next operand.
-    #[tactic(auto, using(crate::proofs::Pieces::cut_pieces, crate::proofs::Pieces::one_piece))]
     pub fn next(&mut self) -> Option<&'t [Token<'a>]>
         ensures value { Follows self.old result self.new }
         ensures short { IfSome result (λ ts. length ts.now ≤ 1024) }
     {
-        let tokens = self.rest?;
+        let Some(tokens) = self.rest else {
+            return None;
+        };
         match place(Mark::Comma, tokens) {
             Some(n) => {
                 self.rest = Some(behind(tokens, n));
@@ -113,22 +114,8 @@ pub fn name<'a>(tokens: &[Token<'a>]) -> Option<Name<'a>>
     }
 }
 
-/// The number that the tokens are.
-pub fn number(tokens: &[Token]) -> Option<u32>
-    ensures { result ≡ number_of tokens.now }
-{
-    let [token] = tokens else {
-        return None;
-    };
-    match token {
-        Token::Digits(n) => Some(u32::from(*n)),
-        Token::Number(n) => Some(*n),
-        _ => None,
-    }
-}
-
 /// The name in brackets that the tokens are.
-fn base<'a>(tokens: &[Token<'a>]) -> Option<Name<'a>>
+pub fn base<'a>(tokens: &[Token<'a>]) -> Option<Name<'a>>
     ensures { result ≡ base_of tokens.now }
 {
     let [open, name, close] = tokens else {
@@ -140,16 +127,6 @@ fn base<'a>(tokens: &[Token<'a>]) -> Option<Name<'a>>
     }
 }
 
-/// `E(name)` or `(name)`: what stands before the first bracket, and the name.
-#[tactic(auto, unfolding(crate::specs::Operands::indexed_of))]
-pub fn indexed<'t, 'a>(tokens: &'t [Token<'a>]) -> Option<(&'t [Token<'a>], Name<'a>)>
-    ensures { Picks (λ p. (p.0.now, p.1)) (λ p. length p.0.now ≤ length tokens.now) result (indexed_of tokens.now) }
-{
-    let (front, rest) = tokens.split_at(place(Mark::Open, tokens)?);
-    let name = base(rest)?;
-    Some((front, name))
-}
-
 /// The tokens in the brackets that come first, and those behind them.
 fn bracketed<'t, 'a>(tokens: &'t [Token<'a>]) -> Option<(&'t [Token<'a>], &'t [Token<'a>])>
     ensures { Picks (λ p. (p.0.now, p.1.now)) (λ p. length p.0.now ≤ length tokens.now) result (bracketed tokens.now) }
@@ -159,7 +136,9 @@ fn bracketed<'t, 'a>(tokens: &'t [Token<'a>]) -> Option<(&'t [Token<'a>], &'t [T
     };
     match first {
         Token::Open => {
-            let n = place(Mark::Close, inner)?;
+            let Some(n) = place(Mark::Close, inner) else {
+                return None;
+            };
             Some((&inner[..n], behind(inner, n)))
         }
         _ => None,
@@ -171,18 +150,27 @@ fn bracketed<'t, 'a>(tokens: &'t [Token<'a>]) -> Option<(&'t [Token<'a>], &'t [T
 pub fn part<'t, 'a>(tokens: &'t [Token<'a>]) -> Option<&'t [Token<'a>]>
     ensures { Picks (λ ts. ts.now) (λ ts. length ts.now ≤ length tokens.now) result (part_of tokens.now) }
 {
-    let (inner, rest) = bracketed(tokens)?;
-    if rest.is_empty() { Some(inner) } else { None }
+    match bracketed(tokens) {
+        Some((inner, rest)) if rest.is_empty() => Some(inner),
+        _ => None,
+    }
 }
 
-/// `(E)(name)` behind `%lo`: the tokens in the first brackets, and the name.
-#[tactic(auto, unfolding(crate::specs::Operands::part_indexed_of))]
-pub fn part_indexed<'t, 'a>(tokens: &'t [Token<'a>]) -> Option<(&'t [Token<'a>], Name<'a>)>
-    ensures { Picks (λ p. (p.0.now, p.1)) (λ p. length p.0.now ≤ length tokens.now) result (part_indexed_of tokens.now) }
+/// What stands before a base, and the tokens of the base: the brackets that come first and what is behind them, as in
+/// `%lo`, or what stands before the first bracket.
+pub fn front<'t, 'a>(
+    is_low: bool,
+    tokens: &'t [Token<'a>],
+) -> Option<(&'t [Token<'a>], &'t [Token<'a>])>
+    ensures { Picks (λ p. (p.0.now, p.1.now)) (λ p. length p.0.now ≤ length tokens.now) result (front_of is_low tokens.now) }
 {
-    let (inner, rest) = bracketed(tokens)?;
-    let name = base(rest)?;
-    Some((inner, name))
+    if is_low {
+        return bracketed(tokens);
+    }
+    match place(Mark::Open, tokens) {
+        Some(n) => Some(tokens.split_at(n)),
+        None => None,
+    }
 }
 
 /// Whether the tokens are `(E)`.
@@ -195,22 +183,26 @@ fn is_part(tokens: &[Token]) -> bool
     }
 }
 
-/// Whether the tokens are `(E)(name)`.
-fn is_part_indexed(tokens: &[Token]) -> bool
-    ensures { result ≡ holds (λ p. is_value p.0) (part_indexed_of tokens.now) }
+/// Whether the tokens may stand before a base.
+fn is_offset(is_low: bool, tokens: &[Token]) -> bool
+    ensures { result ≡ may_be_offset is_low tokens.now }
 {
-    match part_indexed(tokens) {
-        Some((sum, _)) => is_value(sum),
-        None => false,
+    if is_low {
+        return is_value(tokens);
     }
+    tokens.is_empty() || is_value(tokens)
 }
 
-/// Whether the tokens are `E(name)` or `(name)`.
-fn is_indexed(tokens: &[Token]) -> bool
-    ensures { result ≡ holds (λ p. is_offset p.0) (indexed_of tokens.now) }
+/// Whether the tokens are `E(name)` or `(name)`, or `(E)(name)` behind `%lo`.
+#[tactic(auto, using(crate::proofs::Fronts::front_is))]
+fn is_indexed(is_low: bool, tokens: &[Token]) -> bool
+    ensures { result ≡ holds (λ p. may_be_offset is_low p.0) (indexed_by is_low tokens.now) }
 {
-    match indexed(tokens) {
-        Some((offset, _)) => offset.is_empty() || is_value(offset),
+    let Some((offset, rest)) = front(is_low, tokens) else {
+        return false;
+    };
+    match base(rest) {
+        Some(_) => is_offset(is_low, offset),
         None => false,
     }
 }
@@ -226,8 +218,8 @@ fn is_operand(tokens: &[Token]) -> bool
     match first {
         Token::Text(_) => rest.is_empty(),
         Token::High => is_part(rest),
-        Token::Low => is_part(rest) || is_part_indexed(rest),
-        _ => is_value(tokens) || is_indexed(tokens),
+        Token::Low => is_part(rest) || is_indexed(true, rest),
+        _ => is_value(tokens) || is_indexed(false, tokens),
     }
 }
 
@@ -245,19 +237,13 @@ pub fn are_operands(tokens: &[Token]) -> bool
     true
 }
 
-/// Whether there is no operand.
-#[tactic(auto, using(crate::proofs::Pieces::no_operand, crate::proofs::Pieces::an_operand))]
-pub fn are_none(tokens: &[Token]) -> bool
-    ensures { result ≡ is_nothing (operands_of tokens.now) }
-{
-    tokens.is_empty()
-}
-
 /// The operand that is left, where it is the only one.
 pub fn last<'t, 'a>(mut operands: Operands<'t, 'a>) -> Option<&'t [Token<'a>]>
     ensures { Picks (λ ts. ts.now) (λ ts. length ts.now ≤ 1024) result (only operands.entry) }
 {
-    let first = operands.next()?;
+    let Some(first) = operands.next() else {
+        return None;
+    };
     match operands.next() {
         None => Some(first),
         Some(_) => None,
@@ -278,7 +264,31 @@ pub fn pair<'t, 'a>(tokens: &'t [Token<'a>]) -> Option<(&'t [Token<'a>], &'t [To
     ensures { Picks (λ p. (p.0.now, p.1.now)) (λ p. (length p.0.now ≤ 1024) × (length p.1.now ≤ 1024)) result (pair (operands_of tokens.now)) }
 {
     let mut operands = Operands::of(tokens);
-    let first = operands.next()?;
-    let second = last(operands)?;
-    Some((first, second))
+    let Some(first) = operands.next() else {
+        return None;
+    };
+    match last(operands) {
+        Some(second) => Some((first, second)),
+        None => None,
+    }
+}
+
+/// All of three operands.
+pub fn triple<'t, 'a>(
+    tokens: &'t [Token<'a>],
+) -> Option<(&'t [Token<'a>], &'t [Token<'a>], &'t [Token<'a>])>
+    requires { length tokens.now ≤ 1024 }
+    ensures { Picks (λ p. (p.0.now, p.1.now, p.2.now)) (λ p. (length p.0.now ≤ 1024) × (length p.1.now ≤ 1024) × (length p.2.now ≤ 1024)) result (triple (operands_of tokens.now)) }
+{
+    let mut operands = Operands::of(tokens);
+    let Some(first) = operands.next() else {
+        return None;
+    };
+    let Some(second) = operands.next() else {
+        return None;
+    };
+    match last(operands) {
+        Some(third) => Some((first, second, third)),
+        None => None,
+    }
 }

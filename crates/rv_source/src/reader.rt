@@ -1,8 +1,7 @@
 //! Reads a line.
-ghost use Rattle.std.specs.Prelude.{◌≡◌, ◌<◌, ◌≤◌, length, ◌∷◌, IfSome};
+ghost use Rattle.std.specs.Prelude.{◌≡◌, ◌<◌, ◌≤◌, length, IfSome};
 ghost use Rattle.std.specs.Option.{option_map};
 ghost use Rattle.rv_tokens.specs.Faults.{Gives};
-ghost use Rattle.rv_tokens.specs.declared.token.Token.TheVariants as t;
 ghost use Rattle.rv_tokens.specs.Parts.{IsCutInto};
 ghost use Rattle.rv_tokens.specs.Tokens.{tokens};
 ghost use Rattle.rv_source.specs.Operands.{operands_of};
@@ -19,7 +18,7 @@ use crate::refusal::Refusal;
 use crate::table::form_of;
 use crate::terms::is_symbol;
 use crate::{Label, Line, LineFault, Statement};
-use rv_tokens::{Name, Token, cut_line};
+use rv_tokens::{Token, cut_line};
 use std::alloc::Global;
 
 /// What a form and its operands stand for.
@@ -31,33 +30,6 @@ fn read_form<'a>(alloc: Global, form: Form, tokens: &[Token<'a>]) -> Result<Stat
         Form::Instruction(form) => read_instruction(alloc, form, tokens),
         Form::Pseudo(form) => read_pseudo(alloc, form, tokens),
         Form::Directive(form) => read_directive(alloc, form, tokens),
-    }
-}
-
-/// What a word and the tokens behind it say.
-#[tactic(auto, unfolding(crate::specs::Reading::statement_of))]
-fn read_statement<'a>(
-    alloc: Global,
-    word: &Name,
-    tokens: &[Token<'a>],
-) -> Result<Option<Statement<'a>>, LineFault>
-    requires { length tokens.now ≤ 1024 }
-    ensures { Gives (λ s. s) result (rest_of (t.Name word.now ∷ tokens.now)) }
-{
-    let form = form_of(word.bytes());
-    if let Some(Form::Directive(Directive::Marker)) = form {
-        return Ok(Some(Statement::Marker));
-    }
-    if !are_operands(tokens) {
-        return Err(LineFault::Syntax);
-    }
-    let Some(form) = form else {
-        return Err(LineFault::UnknownWord);
-    };
-    match read_form(alloc, form, tokens) {
-        Ok(statement) => Ok(Some(statement)),
-        Err(Refusal::BadOperands) => Err(LineFault::BadOperands),
-        Err(Refusal::OutOfMemory) => Err(LineFault::OutOfMemory),
     }
 }
 
@@ -93,6 +65,7 @@ fn before_colon<'t, 'a>(tokens: &'t [Token<'a>]) -> Option<&'t Token<'a>>
 }
 
 /// The statement that tokens spell, or none where there are no tokens.
+#[tactic(auto, unfolding(crate::specs::Reading::statement_of))]
 fn read_rest<'a>(alloc: Global, tokens: &[Token<'a>]) -> Result<Option<Statement<'a>>, LineFault>
     requires { length tokens.now ≤ 1024 }
     ensures { Gives (λ s. s) result (rest_of tokens.now) }
@@ -100,9 +73,23 @@ fn read_rest<'a>(alloc: Global, tokens: &[Token<'a>]) -> Result<Option<Statement
     let [first, operands @ ..] = tokens else {
         return Ok(None);
     };
-    match first {
-        Token::Name(word) => read_statement(alloc, word, operands),
-        _ => Err(LineFault::Syntax),
+    let Token::Name(word) = first else {
+        return Err(LineFault::Syntax);
+    };
+    let form = form_of(word.bytes());
+    if let Some(Form::Directive(Directive::Marker)) = form {
+        return Ok(Some(Statement::Marker));
+    }
+    if !are_operands(operands) {
+        return Err(LineFault::Syntax);
+    }
+    let Some(form) = form else {
+        return Err(LineFault::UnknownWord);
+    };
+    match read_form(alloc, form, operands) {
+        Ok(statement) => Ok(Some(statement)),
+        Err(Refusal::BadOperands) => Err(LineFault::BadOperands),
+        Err(Refusal::OutOfMemory) => Err(LineFault::OutOfMemory),
     }
 }
 
@@ -120,8 +107,10 @@ fn read_tokens<'a>(alloc: Global, tokens: &[Token<'a>]) -> Result<Line<'a>, Line
         labels.push(label)?;
         rest = behind(rest, 1);
     }
-    let statement = read_rest(alloc, rest)?;
-    Ok(Line::new(labels, statement))
+    match read_rest(alloc, rest) {
+        Ok(statement) => Ok(Line::new(labels, statement)),
+        Err(fault) => Err(fault),
+    }
 }
 
 /// What a line says, or what is wrong with it. It has no LF, nor the CR before one.
@@ -135,6 +124,8 @@ pub fn read_line<'a>(alloc: Global, text: &'a [u8]) -> Result<Line<'a>, LineFaul
     ensures cut { IsCutInto text.now (tokens text.now) }
     ensures says { Gives (λ l. l) result (said text.now) }
 {
-    let tokens = cut_line(alloc, text)?;
-    read_tokens(alloc, &tokens)
+    match cut_line(alloc, text) {
+        Ok(tokens) => read_tokens(alloc, &tokens),
+        Err(fault) => Err(fault),
+    }
 }

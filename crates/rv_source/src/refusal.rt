@@ -1,5 +1,4 @@
 //! Why operands aren't taken.
-use rv_tokens::LineFault;
 use std::alloc::{AllocError, AllocFailed};
 
 /// Why operands aren't taken.

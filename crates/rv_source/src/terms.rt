@@ -2,7 +2,7 @@
 ghost use Rattle.std.specs.Prelude.{◌≡◌, ◌≤◌, ◌+◌, ◌∷◌, List, IfOk, is_some, length};
 ghost use Rattle.rv_tokens.specs.declared.token.Token.{Token};
 ghost use Rattle.rv_source.specs.Partial.{Extends, Finds, terms_behind};
-ghost use Rattle.rv_source.specs.Expressions.{atom_of, is_symbol, sign_of, terms, times, value};
+ghost use Rattle.rv_source.specs.Expressions.{atom_of, is_symbol, sign_of, terms, value};
 
 use crate::refusal::Refusal;
 use crate::{Atom, Expression, Term, Wanted};
@@ -50,13 +50,6 @@ fn sign(token: &Token) -> Option<bool>
     }
 }
 
-/// Whether a value behind two signs is subtracted.
-fn times(sign: bool, other: bool) -> bool
-    ensures { result ≡ times sign other }
-{
-    sign != other
-}
-
 /// What may stand at the front of an expression: at most one sign, and a value.
 const START: Wanted = Wanted::Value {
     negative: false,
@@ -70,20 +63,23 @@ fn read_token<'a>(wanted: Wanted, token: &Token<'a>) -> Option<(Option<Term<'a>>
     ensures { (ts : List Token) → terms wanted (token.now ∷ ts) ≡ terms_behind result ts }
 {
     let Wanted::Value { negative, more } = wanted else {
-        let negative = sign(token)?;
-        return Some((
-            None,
-            Wanted::Value {
-                negative,
-                more: true,
-            },
-        ));
+        return match sign(token) {
+            Some(negative) => Some((
+                None,
+                Wanted::Value {
+                    negative,
+                    more: true,
+                },
+            )),
+            None => None,
+        };
     };
     if let Some(sign) = sign(token) {
         if !more {
             return None;
         }
-        let negative = times(negative, sign);
+        // Two signs multiply.
+        let negative = negative != sign;
         return Some((
             None,
             Wanted::Value {
@@ -92,8 +88,10 @@ fn read_token<'a>(wanted: Wanted, token: &Token<'a>) -> Option<(Option<Term<'a>>
             },
         ));
     }
-    let atom = atom(token)?;
-    Some((Some(Term { negative, atom }), Wanted::Sign))
+    match atom(token) {
+        Some(atom) => Some((Some(Term { negative, atom }), Wanted::Sign)),
+        None => None,
+    }
 }
 
 /// Whether all of the tokens are an expression.

@@ -1,6 +1,6 @@
 -- How far a line has been cut.
 use Rattle.std.proofs.Common.{◌≡◌, ℕ, zero, suc, ◌<◌, true, false, List, [], ◌∷◌, ◌++◌, length, drop, get_or, refl, sym, ap, arith, append_assoc}
-use Rattle.std.specs.Prelude.{None, Some, Result, Ok, Err}
+use Rattle.std.specs.Prelude.{◌==◌, None, Some, Result, Ok, Err}
 use Rattle.rv_tokens.specs.declared.token.Token.{Token}
 use Rattle.rv_tokens.specs.declared.fault.LineFault.{LineFault}
 use Rattle.rv_tokens.specs.declared.fault.LineFault.TheVariants.{BadByte, LineTooLong, Syntax, UnknownWord, BadOperands, OutOfMemory}
@@ -51,3 +51,10 @@ fails Syntax meaning h = h
 fails UnknownWord meaning h = h
 fails BadOperands meaning h = h
 fails OutOfMemory meaning h = record {}
+
+-- whether anything is left
+pub some_left : (n : ℕ) → false ≡ (n == 0) → 0 < n
+some_left n h = grind (arith, h)
+
+pub none_left : (n : ℕ) → true ≡ (n == 0) → n ≡ 0
+none_left n h = grind (arith, h)

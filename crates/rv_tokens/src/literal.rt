@@ -116,8 +116,10 @@ fn byte_in(base: u64, digits: &[u8]) -> Option<u8>
     requires high { base ≤ 16 }
     ensures { result ≡ byte_in base digits.now }
 {
-    let n = number_in(base, digits)?;
-    if n < 256 { Some(n as u8) } else { None }
+    match number_in(base, digits) {
+        Some(n) if n < 256 => Some(n as u8),
+        _ => None,
+    }
 }
 
 /// The byte that an escape stands for, by all that follows its `\`.

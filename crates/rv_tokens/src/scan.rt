@@ -37,8 +37,10 @@ fn local<'a>(text: &[u8]) -> Option<Token<'a>>
         b'f' => Direction::Forward,
         _ => return None,
     };
-    let number = short_decimal(digits)?;
-    Some(Token::Local { number, direction })
+    match short_decimal(digits) {
+        Some(number) => Some(Token::Local { number, direction }),
+        None => None,
+    }
 }
 
 /// The token that a word spells.
