@@ -1,5 +1,6 @@
 -- Distances of jumps and branches, which are even.
 use Rattle.std.proofs.Common.{◌≡◌, ℕ, ◌^◌, ◌==◌, ◌&&◌, Bool, true, false, ℤ, pos, negsuc, refl, arith}
+use Rattle.std.specs.Prelude.{Option, Some, None, IfSome, if◌then◌else◌}
 use Rattle.std.proofs.lemmas.Bool.Decides.{nat_tests}
 use Rattle.rv_isa.specs.Number.{IsWithin, IsDistance, modulo}
 use Rattle.rv_asm.specs.Values.{is_between}
@@ -15,16 +16,24 @@ jump_range : (v : ℤ) → is_between (negsuc 1048575) (pos 1048574) v ≡ true 
 jump_range (pos n) h = grind (arith, nat_tests)
 jump_range (negsuc n) h = grind (arith, nat_tests)
 
-pub jump_within : (v d : ℤ) → (is_between (negsuc 1048575) (pos 1048574) v && (modulo v 2 == 0)) ≡ true → d ≡ v → IsDistance (2 ^ 20) d
-jump_within v d h e =
-    let t = both (is_between (negsuc 1048575) (pos 1048574) v) (modulo v 2 == 0) h in
-    rw e (jump_range v t.0, is_zero (modulo v 2) t.1)
+taken : (b : Bool) (v d : ℤ) → Some d ≡ (if b then Some v else None) → (b ≡ true) × (d ≡ v)
+taken true v d h = (refl, cc)
+taken false v d h = absurd cc
+
+pub jump_within : (o : Option ℤ) (v : ℤ) → o ≡ (if is_between (negsuc 1048575) (pos 1048574) v && (modulo v 2 == 0) then Some v else None) → IfSome o (IsDistance (2 ^ 20))
+jump_within None v h = tt
+jump_within (Some d) v h =
+    let of = taken (is_between (negsuc 1048575) (pos 1048574) v && (modulo v 2 == 0)) v d h in
+    let t = both (is_between (negsuc 1048575) (pos 1048574) v) (modulo v 2 == 0) of.0 in
+    rw (of.1) (jump_range v t.0, is_zero (modulo v 2) t.1)
 
 branch_range : (v : ℤ) → is_between (negsuc 4095) (pos 4094) v ≡ true → IsWithin (2 ^ 12) v
 branch_range (pos n) h = grind (arith, nat_tests)
 branch_range (negsuc n) h = grind (arith, nat_tests)
 
-pub branch_within : (v d : ℤ) → (is_between (negsuc 4095) (pos 4094) v && (modulo v 2 == 0)) ≡ true → d ≡ v → IsDistance (2 ^ 12) d
-branch_within v d h e =
-    let t = both (is_between (negsuc 4095) (pos 4094) v) (modulo v 2 == 0) h in
-    rw e (branch_range v t.0, is_zero (modulo v 2) t.1)
+pub branch_within : (o : Option ℤ) (v : ℤ) → o ≡ (if is_between (negsuc 4095) (pos 4094) v && (modulo v 2 == 0) then Some v else None) → IfSome o (IsDistance (2 ^ 12))
+branch_within None v h = tt
+branch_within (Some d) v h =
+    let of = taken (is_between (negsuc 4095) (pos 4094) v && (modulo v 2 == 0)) v d h in
+    let t = both (is_between (negsuc 4095) (pos 4094) v) (modulo v 2 == 0) of.0 in
+    rw (of.1) (branch_range v t.0, is_zero (modulo v 2) t.1)

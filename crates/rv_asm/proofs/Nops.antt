@@ -1,10 +1,12 @@
 -- Words of `nop`, one more at the end.
-use Rattle.std.proofs.Common.{◌≡◌, ◌∙◌, ℕ, zero, suc, ◌+◌, ◌++◌, ap, sym, append-nil, append_assoc, add-one}
-use Rattle.std.specs.Prelude.{pos}
+use Rattle.std.proofs.Common.{◌≡◌, ◌∙◌, refl, ℕ, zero, suc, ◌+◌, ◌++◌, ap, sym, append-nil, append_assoc, add-one}
+use Rattle.std.specs.Prelude.{pos, List, [], ◌∷◌, Result, Ok, Err}
 use Rattle.std.specs.Int.{to_le_bytes, w32}
 use Rattle.rv_isa.specs.Word.{word}
+use Rattle.rv_isa.specs.declared.kind.Kind.{Kind}
 use Rattle.rv_isa.specs.declared.kind.Kind.TheVariants.{OpImm}
 use Rattle.rv_isa.specs.declared.op.ImmOp.TheVariants.{Addi}
+use Rattle.rv_program.specs.declared.fault.FaultKind.{FaultKind}
 use Rattle.rv_asm.specs.Listing.{bytes, nops}
 
 nops_suc : (n : ℕ) → bytes (nops (suc n)) ≡ bytes (nops n) ++ to_le_bytes w32 (word (OpImm Addi 0 0 (pos 0)))
@@ -15,3 +17,16 @@ nops_suc (suc n) =
 
 pub nops_more : (n : ℕ) → bytes (nops (n + 1)) ≡ bytes (nops n) ++ to_le_bytes w32 (word (OpImm Addi 0 0 (pos 0)))
 nops_more n = rw add-one (nops_suc n)
+
+abbrev written : Result (List ℕ) FaultKind → List ℕ
+written (Ok bs) = bs
+written (Err kind) = []
+
+-- one more behind the first n
+pub nops_behind : (out before new : List ℕ) (n : ℕ) (kind : Kind) → before ≡ out ++ bytes (nops n) → kind ≡ OpImm Addi 0 0 (pos 0)
+    → Path (Result (List ℕ) FaultKind) (Ok (before ++ bytes (kind ∷ []))) (Ok new) → new ≡ out ++ bytes (nops (n + 1))
+nops_behind out before new n kind b k h =
+    let w = to_le_bytes w32 (word (OpImm Addi 0 0 (pos 0))) in
+    let here : bytes (kind ∷ []) ≡ w = rw k (append-nil w) in
+    let behind : before ++ bytes (kind ∷ []) ≡ out ++ bytes (nops (n + 1)) = rw (here, b, nops_more, append_assoc) refl in
+    sym (ap written h) ∙ behind

@@ -11,8 +11,8 @@ use Rattle.rv_source.specs.declared.statement.Statement.TheVariants as s
 use Rattle.rv_program.specs.declared.fault.FaultKind.{FaultKind}
 use Rattle.rv_program.specs.declared.fault.FaultKind.TheVariants.{Undefined, OutOfRange}
 use Rattle.rv_asm.specs.Kept.{KindBecomes, words_of}
-use Rattle.rv_asm.specs.Values.{fits}
-use Rattle.rv_asm.specs.Listing.{Valuation, ◌>>=◌, instructions, statement_bytes, values_of, data_bytes, value_bytes, sums_bytes}
+use Rattle.rv_asm.specs.Values.{fits, gap}
+use Rattle.rv_asm.specs.Listing.{Valuation, ◌>>=◌, instructions, statement_bytes, values_of, data_bytes, value_bytes, sums_bytes, padding, multiple_of}
 use Rattle.rv_asm.specs.Steps.{Item, appended, item_bytes}
 use Rattle.rv_asm.specs.Symbols.{Definitions, sum_value}
 
@@ -66,6 +66,40 @@ as_words value here c s.Marker h = refl
 pub words_written : {A : Type 0} (new out : List ℕ) (result : Result A FaultKind) (value : Valuation) (here : ℕ) (c : ℤ) (statement : Statement) → are_words statement ≡ true
     → KindBecomes new result (appended out (words_of (instructions value here c statement))) → KindBecomes new result (appended out (statement_bytes value here c statement))
 words_written new out result value here c statement words h = rw (as_words value here c statement words) h
+
+-- ---- a statement that pads
+
+abbrev pub pads : Statement → Bool
+pads (s.WithValue takes.Align power) = true
+pads (s.WithValue takes.Balign multiple) = true
+pads statement = false
+
+as_padding : (value : Valuation) (here : ℕ) (c : ℤ) (statement : Statement) → pads statement ≡ true → statement_bytes value here c statement ≡ Ok (padding here (gap here (multiple_of statement c)))
+unfolding statement_bytes
+as_padding value here c (s.WithValue takes.Align power) h = refl
+as_padding value here c (s.WithValue takes.Balign multiple) h = refl
+as_padding value here c (s.WithValue (takes.Auipc rd) v) h = absurd cc
+as_padding value here c (s.WithValue (takes.Jal rd) v) h = absurd cc
+as_padding value here c (s.WithValue (takes.Branch cond rs1 rs2) v) h = absurd cc
+as_padding value here c (s.WithValue (takes.Shift op rd rs1) v) h = absurd cc
+as_padding value here c (s.WithValue (takes.CsrImm op rd csr) v) h = absurd cc
+as_padding value here c (s.WithValue (takes.Li rd) v) h = absurd cc
+as_padding value here c (s.WithValue (takes.La rd) v) h = absurd cc
+as_padding value here c (s.WithValue (takes.Call link scratch) v) h = absurd cc
+as_padding value here c (s.WithValue (takes.LoadFrom op rd) v) h = absurd cc
+as_padding value here c (s.WithValue (takes.StoreTo width source scratch) v) h = absurd cc
+as_padding value here c (s.Instruction k) h = absurd cc
+as_padding value here c (s.Lui rd imm) h = absurd cc
+as_padding value here c (s.WithImmediate taker imm) h = absurd cc
+as_padding value here c (s.Data width values) h = absurd cc
+as_padding value here c (s.Bytes bs) h = absurd cc
+as_padding value here c (s.Space size fill) h = absurd cc
+as_padding value here c (s.Constant name v) h = absurd cc
+as_padding value here c s.Marker h = absurd cc
+
+pub padding_written : {A : Type 0} (new out : List ℕ) (result : Result A FaultKind) (value : Valuation) (here : ℕ) (c : ℤ) (statement : Statement) (multiple : ℕ) → pads statement ≡ true → multiple ≡ multiple_of statement c
+    → KindBecomes new result (Ok (out ++ padding here (gap here multiple))) → KindBecomes new result (appended out (statement_bytes value here c statement))
+padding_written new out result value here c statement multiple padded is h = rw (as_padding value here c statement padded) (rw is at h)
 
 -- what is written of a statement is what is written of its item
 pub written : {A : Type 0} (new out : List ℕ) (result : Result A FaultKind) (ds : Definitions) (item seen : Item) (statement : Statement) → seen ≡ item → statement ≡ item.statement

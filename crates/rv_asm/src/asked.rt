@@ -18,20 +18,15 @@ pub const BASE: u32 = 0x8000_0000;
 /// How many bytes an image has at most.
 const LIMIT: u32 = 16_777_216;
 
-/// Whether a value is a power of two, from 1 to 4096.
-fn is_multiple(value: i64) -> bool
-    ensures { result ≡ is_multiple value }
-{
-    is_between(1, 4096, value) && 4096 % value == 0
-}
-
 /// A value that is known and lies between two bounds.
 fn between(low: i64, high: i64, value: Option<i64>) -> Option<i64>
     ensures value { result ≡ option_and_then (taken (is_between low high)) value }
     ensures taken { IfSome result (λ v. is_between low high v ≡ true) }
 {
-    let value = value?;
-    is_between(low, high, value).then_some(value)
+    match value {
+        Some(value) if is_between(low, high, value) => Some(value),
+        _ => None,
+    }
 }
 
 /// A value that is known and a power of two, from 1 to 4096.
@@ -39,8 +34,10 @@ fn multiple(value: Option<i64>) -> Option<i64>
     ensures value { result ≡ option_and_then (taken is_multiple) value }
     ensures taken { IfSome result (λ v. is_multiple v ≡ true) }
 {
-    let value = value?;
-    is_multiple(value).then_some(value)
+    match value {
+        Some(value) if is_between(1, 4096, value) && 4096 % value == 0 => Some(value),
+        _ => None,
+    }
 }
 
 /// The value that has to be known where the statement stands, or 0 where it asks for none; None where the value isn't
@@ -91,21 +88,15 @@ pub fn multiple_of(constant: i64, statement: &Statement) -> u32
     }
 }
 
-/// A count, or the largest number of 32 bits where it is more.
-fn at_most(count: usize) -> u32
-    ensures { result ≡ min count 0xffffffff }
-{
-    count.min(0xffff_ffff) as u32
-}
-
 /// How many bytes values of a width have, or the largest number of 32 bits where they are more.
 fn data_size(width: Width, count: usize) -> u32
     ensures { result ≡ min (bytes_of width * count) 0xffffffff }
 {
+    let count = count.min(0xffff_ffff) as u32;
     match width {
-        Width::One => at_most(count),
-        Width::Two => at_most(count).saturating_mul(2),
-        Width::Four => at_most(count).saturating_mul(4),
+        Width::One => count,
+        Width::Two => count.saturating_mul(2),
+        Width::Four => count.saturating_mul(4),
     }
 }
 
@@ -129,7 +120,7 @@ pub fn size_of(here: u32, constant: i64, statement: &Statement) -> u32
             ..
         } => 8,
         Statement::Data { width, values } => data_size(*width, values.as_slice().len()),
-        Statement::Bytes(bytes) => at_most(bytes.as_slice().len()),
+        Statement::Bytes(bytes) => data_size(Width::One, bytes.as_slice().len()),
         Statement::Space { .. } => bits(constant),
         Statement::WithValue {
             taker: ValueTaker::Align | ValueTaker::Balign,

@@ -7,9 +7,9 @@ ghost use Rattle.rv_asm.specs.Listing.{value_bytes, padding, bytes, nops};
 ghost use Rattle.rv_asm.specs.Values.{gap};
 
 use crate::FaultKind;
-use crate::instructions::{op_imm, zero};
+use crate::instructions::{op_imm, write_instr, zero};
 use crate::values::{bits, gap};
-use rv_isa::{ImmOp, Width, encode};
+use rv_isa::{ImmOp, Width};
 use std::alloc::AllocError;
 
 /// Appends a value in as many bytes as the width has, the low one first.
@@ -24,20 +24,21 @@ pub fn write_value(width: Width, value: i64, out: &mut Vec<u8>) -> Result<(), Al
 }
 
 /// Appends the same byte again and again.
-pub fn fill(count: u32, byte: u8, out: &mut Vec<u8>) -> Result<(), AllocError>
-    ensures { OnOk result (out.new.items ≡ out.old.items ++ replicate count byte) }
+pub fn fill(count: u32, byte: u8, out: &mut Vec<u8>) -> Result<(), FaultKind>
+    ensures { KindBecomes out.new.items result (Ok (out.old.items ++ replicate count byte)) }
 {
     let end = out.len() + count as usize;
-    out.resize(end, byte)
+    out.resize(end, byte)?;
+    Ok(())
 }
 
 /// Appends words of `nop`.
 fn write_nops(count: u32, out: &mut Vec<u8>) -> Result<(), FaultKind>
     ensures { KindBecomes out.new.items result (Ok (out.old.items ++ bytes (nops count))) }
 {
-    let nop = encode(op_imm(ImmOp::Addi, zero(), zero(), 0));
+    let nop = op_imm(ImmOp::Addi, zero(), zero(), 0);
     for _ in 0..count {
-        out.extend_from_slice(&nop.to_le_bytes())?;
+        write_instr(nop, out)?;
     }
     Ok(())
 }

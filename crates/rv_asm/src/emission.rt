@@ -1,5 +1,5 @@
 //! The bytes of statements, with their values put in.
-ghost use Rattle.std.specs.Prelude.{◌≡◌, ◌<◌, ◌^◌, ℕ, None, Some, IfOk};
+ghost use Rattle.std.specs.Prelude.{◌≡◌, ◌<◌, ◌^◌, None, Some, IfOk};
 ghost use Rattle.std.specs.Option.{ok_or};
 ghost use Rattle.rv_isa.specs.Number.{IsWithin};
 ghost use Rattle.rv_asm.specs.Kept.{KindBecomes, words_of, filled, valued};
@@ -11,14 +11,14 @@ ghost use Rattle.rv_asm.specs.Listing.{wanted, part_of, immediate_of, upper_of, 
 
 use crate::asked::multiple_of;
 use crate::data::{self, pad, write_value};
-use crate::instructions::{Instructions, auipc, branch, csr_imm, jal, lui, shift, with_immediate};
+use crate::instructions::{Instructions, auipc, instr, lui, with_immediate};
 use crate::symbols::Symbols;
 use crate::values::{
     bits, branch_distance, byte, far, fits, five_bits, hi, high, jump_distance, lo, loading, low,
     upper_immediate,
 };
 use crate::{FaultKind, values};
-use rv_isa::{ImmOp, Reg, Width};
+use rv_isa::{ImmOp, Kind, Reg, Width};
 use rv_source::{Expression, Immediate, ImmediateTaker, Statement, Upper, ValueTaker};
 
 /// Where expressions are evaluated: what is defined, and the line, counted from 0, and the address of the statement.
@@ -34,9 +34,13 @@ pub struct Scope<'a> {
 fn pair(here: u32, scratch: Reg, second: ImmediateTaker, target: i64) -> Option<Instructions>
     ensures { ok_or result OutOfRange ≡ pair here scratch second (Some target) }
 {
-    let far = far(here, target)?;
-    let second = with_immediate(second, lo(far));
-    Some(Instructions::two(auipc(scratch, hi(far)), second))
+    match far(here, target) {
+        Some(far) => {
+            let second = with_immediate(second, lo(far));
+            Some(Instructions::two(auipc(scratch, hi(far)), second))
+        }
+        None => None,
+    }
 }
 
 /// The instructions of what takes a value that is defined; None where it is out of range.
@@ -44,27 +48,51 @@ fn pair(here: u32, scratch: Reg, second: ImmediateTaker, target: i64) -> Option<
 fn with_known(here: u32, constant: i64, taker: ValueTaker, value: i64) -> Option<Instructions>
     ensures { ok_or result OutOfRange ≡ valued here constant taker (Some value) }
 {
+    // That a register's number is below 32 is known once it is asked.
     match taker {
-        ValueTaker::Auipc { rd } => {
-            let imm = upper_immediate(value)?;
-            Some(Instructions::one(auipc(rd, imm)))
-        }
-        ValueTaker::Jal { rd } => {
-            let offset = jump_distance(here, value)?;
-            Some(Instructions::one(jal(rd, offset)))
-        }
-        ValueTaker::Branch { cond, rs1, rs2 } => {
-            let offset = branch_distance(here, value)?;
-            Some(Instructions::one(branch(cond, rs1, rs2, offset)))
-        }
-        ValueTaker::Shift { op, rd, rs1 } => {
-            let amount = five_bits(value)?;
-            Some(Instructions::one(shift(op, rd, rs1, amount)))
-        }
-        ValueTaker::CsrImm { op, rd, csr } => {
-            let imm = five_bits(value)?;
-            Some(Instructions::one(csr_imm(op, rd, imm, csr)))
-        }
+        ValueTaker::Auipc { rd } => match upper_immediate(value) {
+            Some(imm) => Some(Instructions::one(auipc(rd, imm))),
+            None => None,
+        },
+        ValueTaker::Jal { rd } => match jump_distance(here, value) {
+            Some(offset) => {
+                let _ = rd.number();
+                Some(Instructions::one(instr(Kind::Jal { rd, offset })))
+            }
+            None => None,
+        },
+        ValueTaker::Branch { cond, rs1, rs2 } => match branch_distance(here, value) {
+            Some(offset) => {
+                let _ = (rs1.number(), rs2.number());
+                Some(Instructions::one(instr(Kind::Branch {
+                    cond,
+                    rs1,
+                    rs2,
+                    offset,
+                })))
+            }
+            None => None,
+        },
+        ValueTaker::Shift { op, rd, rs1 } => match five_bits(value) {
+            Some(amount) => {
+                let _ = (rd.number(), rs1.number());
+                Some(Instructions::one(instr(Kind::Shift {
+                    op,
+                    rd,
+                    rs1,
+                    amount,
+                })))
+            }
+            None => None,
+        },
+        ValueTaker::CsrImm { op, rd, csr } => match five_bits(value) {
+            Some(imm) => {
+                let _ = rd.number();
+                let csr = csr.number();
+                Some(Instructions::one(instr(Kind::CsrImm { op, rd, imm, csr })))
+            }
+            None => None,
+        },
         ValueTaker::La { rd } => {
             let op = ImmOp::Addi;
             pair(here, rd, ImmediateTaker::OpImm { op, rd, rs1: rd }, value)
@@ -91,18 +119,6 @@ fn with_known(here: u32, constant: i64, taker: ValueTaker, value: i64) -> Option
         }
         ValueTaker::Li { rd } => Some(loading(rd, bits(constant))),
         ValueTaker::Align | ValueTaker::Balign => Some(Instructions::none()),
-    }
-}
-
-/// The instructions of what takes a value that isn't defined.
-#[tactic(auto, unfolding(crate::specs::Kept::valued))]
-fn with_unknown(constant: i64, taker: ValueTaker) -> Result<Instructions, FaultKind>
-    ensures { (here : ℕ) → result ≡ valued here constant taker None }
-{
-    match taker {
-        ValueTaker::Li { rd } => Ok(loading(rd, bits(constant))),
-        ValueTaker::Align | ValueTaker::Balign => Ok(Instructions::none()),
-        _ => Err(FaultKind::Undefined),
     }
 }
 
@@ -150,6 +166,7 @@ impl<'a> Scope<'a> {
     }
 
     /// The instructions of what takes a value: none where it isn't placed as instructions.
+    #[tactic(auto, unfolding(crate::specs::Kept::valued))]
     fn with_value(
         &self,
         constant: i64,
@@ -162,7 +179,11 @@ impl<'a> Scope<'a> {
             Some(value) => with_known(self.here, constant, taker, value).ok_or(
                 FaultKind::OutOfRange,
             ),
-            None => with_unknown(constant, taker),
+            None => match taker {
+                ValueTaker::Li { rd } => Ok(loading(rd, bits(constant))),
+                ValueTaker::Align | ValueTaker::Balign => Ok(Instructions::none()),
+                _ => Err(FaultKind::Undefined),
+            },
         }
     }
 
@@ -177,14 +198,14 @@ impl<'a> Scope<'a> {
     {
         match statement {
             Statement::Instruction(instr) => Ok(Instructions::one(*instr)),
-            Statement::Lui { rd, imm } => {
-                let imm = self.upper(imm)?;
-                Ok(Instructions::one(lui(*rd, imm)))
-            }
-            Statement::WithImmediate { taker, imm } => {
-                let imm = self.immediate(imm)?;
-                Ok(Instructions::one(with_immediate(*taker, imm)))
-            }
+            Statement::Lui { rd, imm } => match self.upper(imm) {
+                Ok(imm) => Ok(Instructions::one(lui(*rd, imm))),
+                Err(kind) => Err(kind),
+            },
+            Statement::WithImmediate { taker, imm } => match self.immediate(imm) {
+                Ok(imm) => Ok(Instructions::one(with_immediate(*taker, imm))),
+                Err(kind) => Err(kind),
+            },
             Statement::WithValue { taker, value } => self.with_value(constant, *taker, value),
             _ => Ok(Instructions::none()),
         }
@@ -199,8 +220,10 @@ impl<'a> Scope<'a> {
     ) -> Result<(), FaultKind>
         ensures { KindBecomes out.new.items result (appended out.old.items (words_of (instructions (sum_value self.now.symbols.now self.now.line self.now.here) self.now.here constant statement.now))) }
     {
-        let instructions = self.instructions(constant, statement)?;
-        instructions.write(out)
+        match self.instructions(constant, statement) {
+            Ok(instructions) => instructions.write(out),
+            Err(kind) => Err(kind),
+        }
     }
 
     /// Appends values, each in as many bytes as the width has. One that isn't defined comes before one out of range.
@@ -230,20 +253,7 @@ impl<'a> Scope<'a> {
         }
     }
 
-    /// The byte that fills a space: 0 where none is written.
-    fn fill(&self, fill: &Option<Expression>) -> Result<u8, FaultKind>
-        ensures { result ≡ fill_of (sum_value self.now.symbols.now self.now.line self.now.here) fill.now }
-    {
-        match fill {
-            None => Ok(0),
-            Some(sum) => match self.value(sum) {
-                Some(value) => byte(value).ok_or(FaultKind::OutOfRange),
-                None => Err(FaultKind::Undefined),
-            },
-        }
-    }
-
-    /// Appends a space: the byte that fills it again and again.
+    /// Appends a space: the byte that fills it again and again, which is 0 where none is written.
     fn write_space(
         &self,
         size: u32,
@@ -252,9 +262,16 @@ impl<'a> Scope<'a> {
     ) -> Result<(), FaultKind>
         ensures { KindBecomes out.new.items result (appended out.old.items (filled size (fill_of (sum_value self.now.symbols.now self.now.line self.now.here) fill.now))) }
     {
-        let byte = self.fill(fill)?;
-        data::fill(size, byte, out)?;
-        Ok(())
+        match fill {
+            None => data::fill(size, 0, out),
+            Some(sum) => match self.value(sum) {
+                Some(value) => match byte(value) {
+                    Some(byte) => data::fill(size, byte, out),
+                    None => Err(FaultKind::OutOfRange),
+                },
+                None => Err(FaultKind::Undefined),
+            },
+        }
     }
 
     /// Appends the bytes of a statement, with its values put in.

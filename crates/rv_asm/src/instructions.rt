@@ -1,14 +1,15 @@
 //! The instructions of a statement.
 ghost use Rattle.std.specs.Prelude.{◌≡◌, ◌<◌, ◌^◌, ◌++◌, [], ◌∷◌, Ok};
-ghost use Rattle.rv_isa.specs.Number.{IsWithin, IsDistance};
+ghost use Rattle.rv_isa.specs.Number.{IsWithin};
 ghost use Rattle.rv_isa.specs.Word.{IsInRange};
 ghost use Rattle.rv_asm.specs.Kept.{KindBecomes};
 ghost use Rattle.rv_asm.specs.Listing.{bytes, with_immediate};
-ghost use Rattle.rv_isa.specs.declared.kind.Kind.TheVariants.{Lui, Auipc, Jal, Jalr, Branch, Load, Store, OpImm, Shift, CsrImm};
+ghost use Rattle.rv_isa.specs.declared.kind.Kind.TheVariants.{Lui, Auipc, OpImm};
 
 use crate::FaultKind;
-use rv_isa::{Cond, CsrOp, ImmOp, Instr, Kind, LoadOp, Reg, ShiftOp, Width, encode};
-use rv_source::{Csr, ImmediateTaker};
+use crate::data::append;
+use rv_isa::{ImmOp, Instr, Kind, Reg, encode};
+use rv_source::ImmediateTaker;
 use std::marker::Model;
 
 /// At most two instructions.
@@ -104,8 +105,7 @@ impl Instructions {
 pub fn write_instr(instr: Instr, out: &mut Vec<u8>) -> Result<(), FaultKind>
     ensures { KindBecomes out.new.items result (Ok (out.old.items ++ bytes (instr ∷ []))) }
 {
-    out.extend_from_slice(&encode(instr).to_le_bytes())?;
-    Ok(())
+    append(&encode(instr).to_le_bytes(), out)
 }
 
 /// The register x0.
@@ -119,7 +119,7 @@ pub fn zero() -> Reg
 }
 
 /// The instruction of a kind whose fields are in range.
-fn instr(kind: Kind) -> Instr
+pub fn instr(kind: Kind) -> Instr
     requires { IsInRange kind }
     ensures { result ≡ kind }
 {
@@ -147,65 +147,6 @@ pub fn auipc(rd: Reg, imm: u32) -> Instr
     instr(Kind::Auipc { rd, imm })
 }
 
-pub fn jal(rd: Reg, offset: i32) -> Instr
-    requires { IsDistance (2 ^ 20) offset }
-    ensures { result ≡ Jal rd offset }
-{
-    let _ = rd.number();
-    instr(Kind::Jal { rd, offset })
-}
-
-pub fn jalr(rd: Reg, base: Reg, offset: i32) -> Instr
-    requires { IsWithin (2 ^ 11) offset }
-    ensures { result ≡ Jalr rd base offset }
-{
-    let _ = rd.number();
-    let _ = base.number();
-    instr(Kind::Jalr { rd, base, offset })
-}
-
-pub fn branch(cond: Cond, rs1: Reg, rs2: Reg, offset: i32) -> Instr
-    requires { IsDistance (2 ^ 12) offset }
-    ensures { result ≡ Branch cond rs1 rs2 offset }
-{
-    let _ = rs1.number();
-    let _ = rs2.number();
-    instr(Kind::Branch {
-        cond,
-        rs1,
-        rs2,
-        offset,
-    })
-}
-
-pub fn load(op: LoadOp, rd: Reg, base: Reg, offset: i32) -> Instr
-    requires { IsWithin (2 ^ 11) offset }
-    ensures { result ≡ Load op rd base offset }
-{
-    let _ = rd.number();
-    let _ = base.number();
-    instr(Kind::Load {
-        op,
-        rd,
-        base,
-        offset,
-    })
-}
-
-pub fn store(width: Width, source: Reg, base: Reg, offset: i32) -> Instr
-    requires { IsWithin (2 ^ 11) offset }
-    ensures { result ≡ Store width source base offset }
-{
-    let _ = source.number();
-    let _ = base.number();
-    instr(Kind::Store {
-        width,
-        source,
-        base,
-        offset,
-    })
-}
-
 pub fn op_imm(op: ImmOp, rd: Reg, rs1: Reg, imm: i32) -> Instr
     requires { IsWithin (2 ^ 11) imm }
     ensures { result ≡ OpImm op rd rs1 imm }
@@ -215,46 +156,39 @@ pub fn op_imm(op: ImmOp, rd: Reg, rs1: Reg, imm: i32) -> Instr
     instr(Kind::OpImm { op, rd, rs1, imm })
 }
 
-pub fn shift(op: ShiftOp, rd: Reg, rs1: Reg, amount: u8) -> Instr
-    requires { amount < 32 }
-    ensures { result ≡ Shift op rd rs1 amount }
-{
-    let _ = rd.number();
-    let _ = rs1.number();
-    instr(Kind::Shift {
-        op,
-        rd,
-        rs1,
-        amount,
-    })
-}
-
-pub fn csr_imm(op: CsrOp, rd: Reg, imm: u8, csr: Csr) -> Instr
-    requires { imm < 32 }
-    ensures { result ≡ CsrImm op rd imm csr }
-{
-    let _ = rd.number();
-    instr(Kind::CsrImm {
-        op,
-        rd,
-        imm,
-        csr: csr.number(),
-    })
-}
-
 /// The instruction of what takes an immediate of twelve bits.
 pub fn with_immediate(taker: ImmediateTaker, imm: i32) -> Instr
     requires { IsWithin (2 ^ 11) imm }
     ensures { result ≡ with_immediate taker imm }
 {
     match taker {
-        ImmediateTaker::Jalr { rd, base } => jalr(rd, base, imm),
-        ImmediateTaker::Load { op, rd, base } => load(op, rd, base, imm),
+        ImmediateTaker::Jalr { rd, base } => {
+            let _ = (rd.number(), base.number());
+            let offset = imm;
+            instr(Kind::Jalr { rd, base, offset })
+        }
+        ImmediateTaker::Load { op, rd, base } => {
+            let _ = (rd.number(), base.number());
+            instr(Kind::Load {
+                op,
+                rd,
+                base,
+                offset: imm,
+            })
+        }
         ImmediateTaker::Store {
             width,
             source,
             base,
-        } => store(width, source, base, imm),
+        } => {
+            let _ = (source.number(), base.number());
+            instr(Kind::Store {
+                width,
+                source,
+                base,
+                offset: imm,
+            })
+        }
         ImmediateTaker::OpImm { op, rd, rs1 } => op_imm(op, rd, rs1, imm),
     }
 }

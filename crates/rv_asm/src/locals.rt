@@ -117,10 +117,7 @@ fn file(alloc: Global, lists: &mut Vec<Repeated>, label: LocalLabel) -> Result<(
 {
     let number = usize::from(label.number);
     make_room(alloc, lists, number)?;
-    if lists[number].push(label).is_err() {
-        return Err(AllocError);
-    }
-    Ok(())
+    lists[number].push(label)
 }
 
 /// The definitions of local labels, in order.

@@ -44,8 +44,10 @@ impl Symbols {
             Atom::Number(n) => Some(i64::from(*n)),
             Atom::Symbol(name) => self.names.value(name.bytes()),
             Atom::Local { number, direction } => {
-                let address = self.locals.nearest(*number, *direction, line)?;
-                Some(i64::from(address))
+                match self.locals.nearest(*number, *direction, line) {
+                    Some(address) => Some(i64::from(address)),
+                    None => None,
+                }
             }
             Atom::Here => Some(i64::from(here)),
         }

@@ -14,14 +14,6 @@ pub fn is_between(low: i64, high: i64, value: i64) -> bool
     low <= value && value <= high
 }
 
-/// Whether a value lies between two bounds and is even. A function of its own, since a remainder of either sign makes a
-/// dear goal of each distance.
-fn is_even_between(low: i64, high: i64, value: i64) -> bool
-    ensures { result ≡ (is_between low high value && (modulo value 2 == 0)) }
-{
-    is_between(low, high, value) && value.rem_euclid(2) == 0
-}
-
 /// Whether a value is one of 32 bits, with or without a sign.
 pub fn is_word(value: i64) -> bool
     ensures { result ≡ is_word value }
@@ -96,38 +88,38 @@ pub fn five_bits(value: i64) -> Option<u8>
     }
 }
 
-/// A distance in 32 bits. A function of its own, since a cast makes a dear goal of each clause of a distance.
-fn narrow(offset: i64) -> i32
-    requires { IsWithin (2 ^ 20) offset }
-    ensures { result ≡ offset }
+/// A distance that is even and lies between two bounds. A function of its own, since a remainder and a cast make a dear goal
+/// of each distance.
+fn even_between(low: i64, high: i64, offset: i64) -> Option<i32>
+    requires low { IsWithin (2 ^ 20) low }
+    requires high { IsWithin (2 ^ 20) high }
+    ensures { result ≡ (if is_between low high offset && (modulo offset 2 == 0) then Some offset else None) }
 {
-    offset as i32
+    if is_between(low, high, offset) && offset.rem_euclid(2) == 0 {
+        Some(offset as i32)
+    } else {
+        None
+    }
 }
 
 /// How far the target of `jal` is from it.
+#[tactic(auto, using(crate::proofs::Distances::jump_within))]
 pub fn jump_distance(here: u32, target: i64) -> Option<i32>
     ensures value { result ≡ distance (2 ^ 20) here target }
     ensures within { IfSome result (IsDistance (2 ^ 20)) }
 {
     let offset = target.checked_sub(i64::from(here))?;
-    if is_even_between(-1_048_576, 1_048_574, offset) {
-        Some(narrow(offset))
-    } else {
-        None
-    }
+    even_between(-1_048_576, 1_048_574, offset)
 }
 
 /// How far the target of a branch is from it.
+#[tactic(auto, using(crate::proofs::Distances::branch_within))]
 pub fn branch_distance(here: u32, target: i64) -> Option<i32>
     ensures value { result ≡ distance (2 ^ 12) here target }
     ensures within { IfSome result (IsDistance (2 ^ 12)) }
 {
     let offset = target.checked_sub(i64::from(here))?;
-    if is_even_between(-4096, 4094, offset) {
-        Some(narrow(offset))
-    } else {
-        None
-    }
+    even_between(-4096, 4094, offset)
 }
 
 /// The upper immediate that leaves the rest of a word to the low part.
