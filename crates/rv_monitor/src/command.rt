@@ -85,8 +85,10 @@ impl<M: ByteMemory, C: Decoded> Session<M, C> {
         ensures { Answered (Some (Command.Step count)) (vec_capacity text.old - vec_len text.old) self.old self.new text.old.items text.new.items result }
     {
         text.reserve(WORD_BYTES + STOP_BYTES)?;
-        let stop = self.step(count)?;
-        write_stop(self.board(), stop_word(stop), text)
+        match self.step(count) {
+            Ok(stop) => write_stop(self.board(), stop_word(stop), text),
+            Err(NoMemory) => Err(NoMemory),
+        }
     }
 
     /// Takes steps up to a breakpoint, or all that are left, and says why they ended.
@@ -95,8 +97,10 @@ impl<M: ByteMemory, C: Decoded> Session<M, C> {
     {
         text.reserve(WORD_BYTES + STOP_BYTES)?;
         let most = count.unwrap_or(self.limit() - self.taken());
-        let stop = self.go(most)?;
-        write_stop(self.board(), stop_word(stop), text)
+        match self.go(most) {
+            Ok(stop) => write_stop(self.board(), stop_word(stop), text),
+            Err(NoMemory) => Err(NoMemory),
+        }
     }
 
     /// Sets a breakpoint, and says where.
@@ -162,7 +166,9 @@ impl<M: ByteMemory, C: Decoded> Session<M, C> {
             return Ok(Next::More);
         };
         let next = next_behind(&command);
-        self.answer(command, text)?;
-        Ok(next)
+        match self.answer(command, text) {
+            Ok(()) => Ok(next),
+            Err(NoMemory) => Err(NoMemory),
+        }
     }
 }

@@ -1,5 +1,5 @@
 //! Sessions.
-ghost use Rattle.std.specs.Prelude.{◌≡◌, ◌+◌, ◌-◌, ◌≤◌, ◌<◌, min, false, OnOk, OnErr, IfOk};
+ghost use Rattle.std.specs.Prelude.{◌≡◌, ◌-◌, ◌≤◌, false, OnOk, OnErr, IfOk};
 ghost use Rattle.std.specs.FinSet as set;
 ghost use Rattle.rv_monitor.specs.Laws.{RunsJoin, CallsJoin};
 ghost use Rattle.rv_monitor.specs.State.{TimedState, IsInTime, start, most_of, with_break, without_break};
@@ -134,14 +134,6 @@ impl<M: ByteMemory, C: Decoded> Session<M, C> {
         self.breakpoints.remove(address)
     }
 
-    /// The most steps that a call for so many may take.
-    fn most(&self, n: u64) -> u64
-        ensures value { result ≡ most_of self.now n }
-        ensures within { self.now.timed.taken + result ≤ self.now.limit }
-    {
-        n.min(self.limit - self.timed.taken())
-    }
-
     /// Takes so many steps, whatever the breakpoints, unless the board halts or the limit comes first.
     ///
     /// A refused step leaves the board behind the steps before it and the inputs before it. The next call goes on with
@@ -151,7 +143,7 @@ impl<M: ByteMemory, C: Decoded> Session<M, C> {
         ensures err { OnErr result (IsRefused set.empty (most_of self.old n) self.old.timed self.new.timed) }
         ensures others { self.new ≡ record self.old { timed = self.new.timed } }
     {
-        let most = self.most(n);
+        let most = n.min(self.limit - self.timed.taken());
         self.timed.advance(most, None)
     }
 
@@ -165,7 +157,7 @@ impl<M: ByteMemory, C: Decoded> Session<M, C> {
         ensures err { OnErr result (IsRefused self.old.breakpoints (most_of self.old n) self.old.timed self.new.timed) }
         ensures others { self.new ≡ record self.old { timed = self.new.timed } }
     {
-        let most = self.most(n);
+        let most = n.min(self.limit - self.timed.taken());
         self.timed.advance(most, Some(&self.breakpoints))
     }
 }

@@ -2,7 +2,7 @@
 ghost use Rattle.std.specs.Prelude.{◌≡◌, ◌++◌, ◌+◌, ◌-◌, ◌*◌, ◌%◌, ◌^◌, ◌<◌, ◌≤◌, codes, min, OnOk, OnErr, vec_len, vec_capacity};
 ghost use Rattle.rv_monitor.specs.Appended.{Appended};
 ghost use Rattle.rv_monitor.specs.Room.{memory_room, instruction_room};
-ghost use Rattle.rv_monitor.specs.Views.{pieces, byte_behind, byte_text, byte_in_line, bytes_line, memory_line, memory_text, word_of, word_text, instruction_text};
+ghost use Rattle.rv_monitor.specs.Views.{pieces, byte_behind, byte_text, byte_in_line, memory_line, memory_text, word_of, word_text, instruction_text};
 
 use super::number::{eight_digits, two_digits};
 use rv_board::Board;
@@ -48,25 +48,8 @@ fn append_bytes<M: ByteMemory, C: Decoded>(
     }
 }
 
-/// Appends a line of so many bytes.
-#[tactic(auto, unfolding(crate::specs::Views::bytes_line))]
-fn append_bytes_line<M: ByteMemory, C: Decoded>(
-    board: &Board<M, C>,
-    addr: u32,
-    count: u32,
-    text: &mut Vec<u8>,
-)
-    requires { vec_len text.old + 10 + 3 * count ≤ vec_capacity text.old }
-    ensures { Appended text.old text.new (bytes_line board.now addr count) (10 + 3 * count) }
-{
-    append_within(text, &eight_digits(addr));
-    append_within(text, b":");
-    append_bytes(board, addr, count, text);
-    append_within(text, b"\n");
-}
-
 /// Appends the line of so many bytes in all that begins so far behind an address.
-#[tactic(auto, unfolding(crate::specs::Views::memory_line))]
+#[tactic(auto, unfolding(crate::specs::Views::memory_line, crate::specs::Views::bytes_line))]
 fn append_line<M: ByteMemory, C: Decoded>(
     board: &Board<M, C>,
     addr: u32,
@@ -80,34 +63,16 @@ fn append_line<M: ByteMemory, C: Decoded>(
 {
     let offset = LINE_BYTES * number;
     let line_count = LINE_BYTES.min(count - offset);
-    append_bytes_line(board, addr.wrapping_add(offset), line_count, text);
-}
-
-/// Appends the lines of so many bytes.
-#[tactic(auto, using(crate::proofs::Pieces::no_piece_behind, crate::proofs::Pieces::one_more_behind), unfolding(crate::specs::Views::memory_text))]
-fn append_lines<M: ByteMemory, C: Decoded>(
-    board: &Board<M, C>,
-    addr: u32,
-    count: u32,
-    text: &mut Vec<u8>,
-)
-    requires { vec_len text.old + memory_room count ≤ vec_capacity text.old }
-    ensures { text.new.items ≡ text.old.items ++ memory_text board.now addr count }
-{
-    for number in 0..count.div_ceil(LINE_BYTES) {
-        append_line(board, addr, count, number, text);
-    }
-}
-
-/// How many bytes the lines of so many bytes have.
-fn lines_bytes(count: u32) -> usize
-    ensures { result ≡ memory_room count }
-{
-    10 * count.div_ceil(LINE_BYTES) as usize + 3 * count as usize
+    let begin = addr.wrapping_add(offset);
+    append_within(text, &eight_digits(begin));
+    append_within(text, b":");
+    append_bytes(board, begin, line_count, text);
+    append_within(text, b"\n");
 }
 
 /// Appends lines of the bytes from an address on, 16 in a line, and `--` where the memory has none. Addresses go on
 /// modulo 2^32.
+#[tactic(auto, using(crate::proofs::Pieces::no_piece_behind, crate::proofs::Pieces::one_more_behind), unfolding(crate::specs::Views::memory_text))]
 pub fn write_memory<M: ByteMemory, C: Decoded>(
     board: &Board<M, C>,
     addr: u32,
@@ -118,8 +83,11 @@ pub fn write_memory<M: ByteMemory, C: Decoded>(
     ensures err { OnErr result (text.new.items ≡ text.old.items) }
     ensures room { OnErr result (vec_capacity text.old < vec_len text.old + memory_room count) }
 {
-    text.reserve(lines_bytes(count))?;
-    append_lines(board, addr, count, text);
+    let lines = count.div_ceil(LINE_BYTES);
+    text.reserve(10 * lines as usize + 3 * count as usize)?;
+    for number in 0..lines {
+        append_line(board, addr, count, number, text);
+    }
     Ok(())
 }
 
@@ -128,11 +96,18 @@ pub fn write_memory<M: ByteMemory, C: Decoded>(
 fn word<M: ByteMemory, C: Decoded>(board: &Board<M, C>, addr: u32) -> Option<u32>
     ensures { result ≡ word_of board.now addr }
 {
-    let low = byte_behind(board, addr, 0)?;
-    let second = byte_behind(board, addr, 1)?;
-    let third = byte_behind(board, addr, 2)?;
-    let high = byte_behind(board, addr, 3)?;
-    Some(u32::from_le_bytes([low, second, third, high]))
+    let bytes = (
+        byte_behind(board, addr, 0),
+        byte_behind(board, addr, 1),
+        byte_behind(board, addr, 2),
+        byte_behind(board, addr, 3),
+    );
+    match bytes {
+        (Some(low), Some(second), Some(third), Some(high)) => {
+            Some(u32::from_le_bytes([low, second, third, high]))
+        }
+        _ => None,
+    }
 }
 
 /// How many bytes a word and what it means have at most.

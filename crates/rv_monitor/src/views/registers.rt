@@ -46,23 +46,15 @@ const REGISTER_BYTES: usize = 13;
 /// How many registers there are.
 const REGISTERS: u8 = 32;
 
-/// Appends a register with its value.
+/// Appends a register with its value, and a line end behind the last of four or else a space.
 fn append_register(register: Reg, value: u32, text: &mut Vec<u8>)
-    requires { vec_len text.old + 12 ≤ vec_capacity text.old }
-    ensures { Appended text.old text.new (codes "x" ++ two_decimals register ++ codes "=" ++ hex 8 value) 12 }
+    requires { vec_len text.old + REGISTER_BYTES ≤ vec_capacity text.old }
+    ensures { Appended text.old text.new ((codes "x" ++ two_decimals register ++ codes "=" ++ hex 8 value) ++ (if register % 4 == 3 then codes "\n" else codes " ")) REGISTER_BYTES }
 {
     append_within(text, b"x");
     append_within(text, &two_decimals(register.number()));
     append_within(text, b"=");
     append_within(text, &eight_digits(value));
-}
-
-/// Appends a register with its value, and a line end behind the last of four or else a space.
-fn append_in_line(register: Reg, value: u32, text: &mut Vec<u8>)
-    requires { vec_len text.old + REGISTER_BYTES ≤ vec_capacity text.old }
-    ensures { Appended text.old text.new ((codes "x" ++ two_decimals register ++ codes "=" ++ hex 8 value) ++ (if register % 4 == 3 then codes "\n" else codes " ")) REGISTER_BYTES }
-{
-    append_register(register, value, text);
     if register.number() % 4 == 3 {
         append_within(text, b"\n");
     } else {
@@ -79,7 +71,7 @@ fn append_registers<M: ByteMemory, C: Decoded>(board: &Board<M, C>, text: &mut V
     for number in 0..REGISTERS {
         // Each number below 32 has a register.
         let register = Reg::new(number).unwrap();
-        append_in_line(register, board.reg(register), text);
+        append_register(register, board.reg(register), text);
     }
 }
 

@@ -35,20 +35,8 @@ fn append_trap(trap: TrapRecord, text: &mut Vec<u8>)
     append_within(text, b"\n");
 }
 
-/// Appends the lines of the kept traps.
-#[tactic(auto, using(crate::proofs::Traps::no_trap, crate::proofs::Traps::one_more_trap, crate::proofs::Traps::all_traps))]
-fn append_traps<M: ByteMemory, C: Decoded>(board: &Board<M, C>, text: &mut Vec<u8>)
-    requires { vec_len text.old + traps_room (length board.now.traps) ≤ vec_capacity text.old }
-    ensures { text.new.items ≡ text.old.items ++ traps_text board.now }
-{
-    for index in 0..board.trap_count() {
-        // Each index below the count has a trap.
-        let trap = board.trap(index).unwrap();
-        append_trap(trap, text);
-    }
-}
-
 /// Appends a line for each kept trap, oldest first.
+#[tactic(auto, using(crate::proofs::Traps::no_trap, crate::proofs::Traps::one_more_trap, crate::proofs::Traps::all_traps))]
 pub fn write_traps<M: ByteMemory, C: Decoded>(
     board: &Board<M, C>,
     text: &mut Vec<u8>,
@@ -58,6 +46,10 @@ pub fn write_traps<M: ByteMemory, C: Decoded>(
     ensures room { OnErr result (vec_capacity text.old < vec_len text.old + traps_room (length board.now.traps)) }
 {
     text.reserve(TRAP_BYTES * board.trap_count())?;
-    append_traps(board, text);
+    for index in 0..board.trap_count() {
+        // Each index below the count has a trap.
+        let trap = board.trap(index).unwrap();
+        append_trap(trap, text);
+    }
     Ok(())
 }

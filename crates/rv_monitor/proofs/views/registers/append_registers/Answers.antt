@@ -6,9 +6,9 @@ use Rattle.rv_monitor.proofs.views.registers.append_registers.Goals as goal
 pub loop-number-preserved : goal.loop-number-preserved
 unfolding register_in_line register_text
 loop-number-preserved g c =
-    let grown = c.append_in_line.ensures in
-    let appended : c.append_in_line.new.text.items ≡ c.loop-number.text.items ++ register_in_line c.args.board.now c.loop-number.number = search rules in (
-      piece_behind c.args.text.now.items c.loop-number.text.items c.append_in_line.new.text.items (register_in_line c.args.board.now) c.loop-number.number
+    let grown = c.append_register.ensures in
+    let appended : c.append_register.new.text.items ≡ c.loop-number.text.items ++ register_in_line c.args.board.now c.loop-number.number = search rules in (
+      piece_behind c.args.text.now.items c.loop-number.text.items c.append_register.new.text.items (register_in_line c.args.board.now) c.loop-number.number
           c.loop-number.invariant.0 appended,
       omega (arith, c.loop-number.invariant.1, grown.1),
       omega (arith, c.loop-number.invariant.2, grown.2),

@@ -1,7 +1,7 @@
 use Rattle.std.proofs.Common.{◌≡◌, ◌++◌, rules, arith}
 use Rattle.rv_monitor.specs.Views.{memory_line}
 use Rattle.rv_monitor.proofs.Pieces.{piece_behind}
-use Rattle.rv_monitor.proofs.views.memory.append_lines.Goals as goal
+use Rattle.rv_monitor.proofs.views.memory.write_memory.Goals as goal
 
 pub loop-number-preserved : goal.loop-number-preserved
 loop-number-preserved g c =

@@ -1,7 +1,7 @@
 use Rattle.std.proofs.Common.{◌≡◌, ◌∙◌, ◌<◌, length, rules, arith}
 use Rattle.std.specs.Prelude.{Some, slice_get}
 use Rattle.rv_monitor.proofs.Traps.{has_trap, trap_behind, all_traps}
-use Rattle.rv_monitor.proofs.views.trap.append_traps.Goals as goal
+use Rattle.rv_monitor.proofs.views.trap.write_traps.Goals as goal
 
 pub unwrap-trap-requires : goal.unwrap-trap-requires
 unwrap-trap-requires g c = has_trap c.args.board.now.traps _ _ c.trap.ensures (omega (arith, c.trap_count-index-end.ensures.count))
@@ -19,5 +19,5 @@ loop-index-preserved g c =
       omega (arith, c.loop-index.invariant.1, c.append_trap.ensures.1, c.append_trap.ensures.2),
     )
 
-pub returns : goal.returns
-returns g c = c.loop-index.invariant.0 ∙ all_traps c.args.text.now.items c.args.board.now.traps c.loop-index.index (omega arith)
+pub returns-clause-ok : goal.returns-clause-ok
+returns-clause-ok g c = c.loop-index.invariant.0 ∙ all_traps c.args.text.now.items c.args.board.now.traps c.loop-index.index (omega arith)
