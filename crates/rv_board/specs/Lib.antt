@@ -5,3 +5,4 @@ pub mod Move
 pub mod Agreement
 pub mod Exchange
 pub mod UserRun
+pub mod Steps

@@ -1,23 +1,29 @@
 //! The line that says how a board stands after its steps.
 ghost use Rattle.std.specs.Prelude.{◌≡◌, ◌++◌, OnErr, OnOk, Some};
 ghost use Rattle.rv_texts.specs.Faults.{ended};
-ghost use Rattle.rv_texts.specs.Status.{eight_digits, status_text};
+ghost use Rattle.rv_texts.specs.Status.{stand_of, status_text};
 
 use crate::fault::append_line;
 use rv_isa::NoMemory;
 use std::fmt;
 
-/// A pc, as eight hexadecimal digits.
+/// Whether a board has halted, with which code, or where it runs.
 #[derive(Clone, Copy)]
-struct Pc(u32);
+struct Stand {
+    halted: Option<u16>,
+    pc: u32,
+}
 
-impl fmt::Display for Pc {
-    ghost output = { λ p. Some (eight_digits p.0) };
+impl fmt::Display for Stand {
+    ghost output = { λ s. Some (stand_of s.halted s.pc) };
 
     #[tactic(auto, using(crate::proofs::Digits::padded_pc))]
     fn fmt<W: fmt::Write>(&self, f: &mut fmt::Formatter<W>) -> fmt::Result {
-        let pc = self.0;
-        write!(f, "{pc:08x}")
+        let Stand { halted, pc } = *self;
+        match halted {
+            Some(code) => write!(f, "halted {code}"),
+            None => write!(f, "running at {pc:08x}"),
+        }
     }
 }
 
@@ -37,13 +43,8 @@ impl fmt::Display for Status {
 
     fn fmt<W: fmt::Write>(&self, f: &mut fmt::Formatter<W>) -> fmt::Result {
         let Status { halted, pc, steps } = *self;
-        match halted {
-            Some(code) => write!(f, "halted {code} after {steps} steps"),
-            None => {
-                let pc = Pc(pc);
-                write!(f, "running at {pc} after {steps} steps")
-            }
-        }
+        let stand = Stand { halted, pc };
+        write!(f, "{stand} after {steps} steps")
     }
 }
 

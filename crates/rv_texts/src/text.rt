@@ -1,9 +1,11 @@
 //! A text that comes in pieces, and one that goes out in pieces.
-ghost use Rattle.std.specs.Prelude.{◌≡◌, ◌≤◌, ◌<◌, ◌-◌, [], ◌==◌, ◌&&◌, ◌||◌, ℕ, Bool, List, Option, IfErr, IfOk, OnErr, OnOk, false, length, take, drop, nat_lt, true};
+ghost use Rattle.std.specs.Prelude.{◌≡◌, ◌≤◌, ◌<◌, ◌==◌, ◌&&◌, ◌||◌, ℕ, Bool, List, Option, IfErr, IfOk, OnErr, OnOk, false, length, nat_lt, true};
 ghost use Rattle.std.specs.Io.KnownBytes.{Appends, ReadConsumes, WriteAppends};
-ghost use Rattle.rv_texts.specs.Texts.{GavePart, GaveWhole, IsUnreadable, WroteBeginning};
-ghost use Rattle.rv_texts.specs.declared.text.ReadFault.TheVariants.{NoMemory, Unreadable};
+ghost use Rattle.rv_texts.specs.Calls.{FailsToRead, WroteNone, WroteUpTo};
+ghost use Rattle.rv_texts.specs.Readers.{Gave, side};
+ghost use Rattle.rv_texts.specs.Texts.{WroteBeginning};
 
+use crate::fault::{CliFault, TextName};
 use std::alloc::Global;
 
 /// A read that gave nothing and failed.
@@ -63,42 +65,30 @@ pub trait TextOut {
 /// The most bytes that a text may have.
 const MOST_BYTES: usize = 16_777_216;
 
-/// Why a text was not read.
-#[derive(Clone, Copy)]
-pub(crate) enum ReadFault {
-    /// The reader failed, or gave too many bytes.
-    Unreadable,
-    NoMemory,
-}
-
-/// Reads a text to its end. A reader that gives more than `MOST_BYTES` bytes is left there.
-pub(crate) fn read_whole<R: TextIn>(alloc: Global, reader: &mut R) -> Result<Vec<u8>, ReadFault>
-    ensures ok { IfOk result (λ text. GaveWhole (R.left reader.old) (R.left reader.new) text.items) }
-    ensures sound { OnOk result (R.has_failed reader.new ≡ R.has_failed reader.old) }
-    ensures err { IfErr result (λ e. e ≡ Unreadable →
-        IsUnreadable (R.has_failed reader.new) (R.left reader.old) (R.left reader.new)) }
-
-    // Want of memory is answered only where the reader is in order.
-    ensures memory { IfErr result (λ e. e ≡ NoMemory →
-        R.has_failed reader.new ≡ R.has_failed reader.old) }
-    ensures part { IfErr result (λ e. e ≡ NoMemory →
-        GavePart (R.left reader.old) (R.left reader.new)) }
+/// Reads a text to its end. A reader that gives more than `MOST_BYTES` bytes is left there, and want of memory is
+/// answered only where the reader is in order.
+pub(crate) fn read_text<R: TextIn>(alloc: Global, name: TextName, reader: &mut R) -> Result<Vec<u8>, CliFault>
+    requires { R.has_failed reader.old ≡ false }
+    ensures ok { IfOk result (λ text. Gave
+        (side (R.left reader.old) (R.left reader.new) (R.has_failed reader.new)) text.items) }
+    ensures err { IfErr result (FailsToRead name
+        (side (R.left reader.old) (R.left reader.new) (R.has_failed reader.new))) }
 {
     let mut text = Vec::new(alloc);
     let mut buffer = [0u8; 8192];
     loop {
         let count = match reader.read(&mut buffer) {
             Ok(count) => count,
-            Err(InFailed) => return Err(ReadFault::Unreadable),
+            Err(InFailed) => return Err(name.read_fault()),
         };
         if count == 0 {
             return Ok(text);
         }
         if MOST_BYTES - text.len() < count {
-            return Err(ReadFault::Unreadable);
+            return Err(name.read_fault());
         }
         if text.extend_from_slice(&buffer[..count]).is_err() {
-            return Err(ReadFault::NoMemory);
+            return Err(CliFault::OutOfMemory);
         }
     }
 }
@@ -107,12 +97,10 @@ pub(crate) fn read_whole<R: TextIn>(alloc: Global, reader: &mut R) -> Result<Vec
 fn write_more<W: TextOut>(out: &mut W, bytes: &[u8], done: usize) -> Result<usize, OutFailed>
     requires some { done < length bytes.now }
     requires sound { W.has_failed out.old ≡ false }
-    ensures more { IfOk result (λ n. done < n) }
-    ensures within { IfOk result (λ n. n ≤ length bytes.now) }
-    ensures took { IfOk result (λ n. Appends (W.taken out.old) (W.taken out.new) (take (n - done) (drop done bytes.now))) }
-    ensures sound { OnOk result (W.has_failed out.new ≡ false) }
-    ensures err { OnErr result (Appends (W.taken out.old) (W.taken out.new) []) }
-    ensures failed { OnErr result (W.has_failed out.new ≡ true) }
+    ensures ok { IfOk result (WroteUpTo
+        (side (W.taken out.old) (W.taken out.new) (W.has_failed out.new)) bytes.now done) }
+    ensures err { OnErr result (WroteNone
+        (side (W.taken out.old) (W.taken out.new) (W.has_failed out.new))) }
 {
     match out.write(&bytes[done..]) {
         Ok(0) => Err(OutFailed),

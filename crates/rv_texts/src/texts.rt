@@ -1,14 +1,12 @@
 //! The texts of a run, read from their readers.
 ghost use Rattle.std.specs.Prelude.{◌≡◌, ◌⊎◌, IfErr, IfOk, false, is_some};
 ghost use Rattle.std.specs.Option.{option_map};
-ghost use Rattle.rv_texts.specs.Faults.{read_fault_of};
 ghost use Rattle.rv_texts.specs.Unread.{Unread};
-ghost use Rattle.rv_texts.specs.Readers.{AllGave, Gave, GaveIf, IsInOrder, IsInOrderIf, IsUnreadableIf, readers, side, side_if, IsSoundIf};
-ghost use Rattle.rv_texts.specs.Texts.{IsUnreadable};
+ghost use Rattle.rv_texts.specs.Readers.{AllGave, GaveIf, IsInOrderIf, IsUnreadableIf, readers, side, side_if, IsSoundIf};
 ghost use Rattle.rv_texts.specs.declared.fault.CliFault.TheVariants.{OutOfMemory, ReadCommands, ReadInput, ReadSource};
 
 use crate::fault::{CliFault, TextName};
-use crate::text::{ReadFault, TextIn, read_whole};
+use crate::text::{TextIn, read_text};
 use std::alloc::Global;
 use std::marker::Model;
 
@@ -65,23 +63,6 @@ impl Texts {
             Some(commands) => Some(commands.as_slice()),
             None => None,
         }
-    }
-}
-
-/// Reads a text to its end.
-fn read_text<R: TextIn>(alloc: Global, name: TextName, reader: &mut R) -> Result<Vec<u8>, CliFault>
-    requires { R.has_failed reader.old ≡ false }
-    ensures ok { IfOk result (λ text. Gave
-        (side (R.left reader.old) (R.left reader.new) (R.has_failed reader.new)) text.items) }
-    ensures err { IfErr result (λ fault.
-        ((fault ≡ read_fault_of name) × IsUnreadable (R.has_failed reader.new) (R.left reader.old) (R.left reader.new))
-        ⊎ ((fault ≡ OutOfMemory) × IsInOrder
-        (side (R.left reader.old) (R.left reader.new) (R.has_failed reader.new)))) }
-{
-    match read_whole(alloc, reader) {
-        Ok(text) => Ok(text),
-        Err(ReadFault::Unreadable) => Err(name.read_fault()),
-        Err(ReadFault::NoMemory) => Err(CliFault::OutOfMemory),
     }
 }
 

@@ -13,10 +13,10 @@ loop-done-preserved g c =
     let d = c.loop-done.done in
     let n = c.in_ok-done.done in
     let bytes = c.args.bytes.now in
-    let after = c.in_ok-done.ensures.more in
-    let within = c.in_ok-done.ensures.within in
-    let sound = c.in_ok-done.ensures.sound in
-    let took = Appends-trans _ _ _ (take d bytes) (take (n - d) (drop d bytes)) c.loop-done.invariant.took c.in_ok-done.ensures.took in
+    let after = c.in_ok-done.ensures.ok.more in
+    let within = c.in_ok-done.ensures.ok.within in
+    let sound = c.in_ok-done.ensures.ok.sound in
+    let took = Appends-trans _ _ _ (take d bytes) (take (n - d) (drop d bytes)) c.loop-done.invariant.took c.in_ok-done.ensures.ok.took in
     record {
       took = rw (two_pieces d n bytes after) at took;
       within = within;
