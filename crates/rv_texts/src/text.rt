@@ -67,7 +67,11 @@ const MOST_BYTES: usize = 16_777_216;
 
 /// Reads a text to its end. A reader that gives more than `MOST_BYTES` bytes is left there, and want of memory is
 /// answered only where the reader is in order.
-pub(crate) fn read_text<R: TextIn>(alloc: Global, name: TextName, reader: &mut R) -> Result<Vec<u8>, CliFault>
+pub(crate) fn read_text<R: TextIn>(
+    alloc: Global,
+    name: TextName,
+    reader: &mut R,
+) -> Result<Vec<u8>, CliFault>
     requires { R.has_failed reader.old ≡ false }
     ensures ok { IfOk result (λ text. Gave
         (side (R.left reader.old) (R.left reader.new) (R.has_failed reader.new)) text.items) }

@@ -2,7 +2,6 @@
 ghost use Rattle.std.specs.Prelude.{◌≡◌};
 ghost use Rattle.rv_isa.specs.Word as spec;
 ghost use Rattle.rv_isa.specs.declared.kind.Kind.{Kind};
-ghost use Rattle.rv_csr.specs.Registers.{Writes};
 ghost use Rattle.rv_hart.specs.Effect.{csr_effect, return_effect, wait_effect};
 ghost use Rattle.rv_hart.specs.Tries.{Does};
 

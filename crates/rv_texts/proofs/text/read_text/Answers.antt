@@ -4,35 +4,44 @@ use Rattle.rv_texts.proofs.text.read_text.Goals as goal
 
 pub returns-in-Err-clause-err : goal.returns-in-Err-clause-err
 returns-in-Err-clause-err g c =
-    inl (search rules, inl (record {
-      is = c.in-Err.ensures.err;
-      part = record {
-        bytes = c.loop-count.text.items;
-        gave = Consumes-kept _ _ _ c.loop-count.text.items c.loop-count.invariant.gave c.in-Err.ensures.bytes;
-        within = omega (arith, c.loop-count.invariant.within);
-      };
-    }))
+    inl (
+      search rules,
+      inl (record {
+        is = c.in-Err.ensures.err;
+        part = record {
+          bytes = c.loop-count.text.items;
+          gave = Consumes-kept _ _ _ c.loop-count.text.items c.loop-count.invariant.gave c.in-Err.ensures.bytes;
+          within = omega (arith, c.loop-count.invariant.within);
+        };
+      }),
+    )
 
 pub returns-then-len-count-clause-err : goal.returns-then-len-count-clause-err
 returns-then-len-count-clause-err g c =
     let more = take c.in-Ok.count c.read.new.buffer in
     let within = c.in-Ok.ensures.within in
-    inl (search rules, inr (record {
-      bytes = c.loop-count.text.items ++ more;
-      gave = Consumes-trans _ _ _ c.loop-count.text.items more c.loop-count.invariant.gave c.in-Ok.ensures.bytes.0;
-      more = omega (arith, length-append c.loop-count.text.items more, length-take c.in-Ok.count c.read.new.buffer, c.if-len-count.true, c.len.ensures);
-      left = omega (arith, length-append c.loop-count.text.items more, length-take c.in-Ok.count c.read.new.buffer, c.loop-count.invariant.within, c.loop-count.invariant.room);
-    }))
+    inl (
+      search rules,
+      inr (record {
+        bytes = c.loop-count.text.items ++ more;
+        gave = Consumes-trans _ _ _ c.loop-count.text.items more c.loop-count.invariant.gave c.in-Ok.ensures.bytes.0;
+        more = omega (arith, length-append c.loop-count.text.items more, length-take c.in-Ok.count c.read.new.buffer, c.if-len-count.true, c.len.ensures);
+        left = omega (arith, length-append c.loop-count.text.items more, length-take c.in-Ok.count c.read.new.buffer, c.loop-count.invariant.within, c.loop-count.invariant.room);
+      }),
+    )
 
 pub returns-then-is_err-clause-err : goal.returns-then-is_err-clause-err
 returns-then-is_err-clause-err g c =
     let more = take c.in-Ok.count c.read.new.buffer in
     let within = c.in-Ok.ensures.within in
-    inr (refl, record {
-      part = record {
-        bytes = c.loop-count.text.items ++ more;
-        gave = Consumes-trans _ _ _ c.loop-count.text.items more c.loop-count.invariant.gave c.in-Ok.ensures.bytes.0;
-        within = omega (arith, length-append c.loop-count.text.items more, length-take c.in-Ok.count c.read.new.buffer, c.if-len-count.false, c.len.ensures, c.loop-count.invariant.within);
-      };
-      sound = search rules;
-    })
+    inr (
+      refl,
+      record {
+        part = record {
+          bytes = c.loop-count.text.items ++ more;
+          gave = Consumes-trans _ _ _ c.loop-count.text.items more c.loop-count.invariant.gave c.in-Ok.ensures.bytes.0;
+          within = omega (arith, length-append c.loop-count.text.items more, length-take c.in-Ok.count c.read.new.buffer, c.if-len-count.false, c.len.ensures, c.loop-count.invariant.within);
+        };
+        sound = search rules;
+      },
+    )
