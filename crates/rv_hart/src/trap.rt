@@ -1,6 +1,5 @@
 //! Traps, and what a step did.
-ghost use Rattle.std.specs.Prelude.{◌≡◌};
-ghost use Rattle.rv_hart.specs.Step.{outcome_of};
+use rv_isa::NoMemory;
 
 /// Why an instruction was not done: an exception (Privileged Architecture 20211203, sections 3.1.15 and 3.1.16).
 #[derive(Clone, Copy)]
@@ -29,19 +28,31 @@ pub enum Outcome {
     Halted,
 }
 
-/// What an instruction that retired did, by the code that the board halted with.
-pub(crate) fn ended(halted: Option<u16>) -> Outcome
-    ensures { result ≡ outcome_of halted }
-{
-    match halted {
-        Some(_) => Outcome::Halted,
-        None => Outcome::Retired,
-    }
-}
-
 /// Why an instruction came to no end: it trapped, or a growth was refused.
 #[derive(Clone, Copy)]
 pub(crate) enum Stop {
     Trap(Trap),
     NoMemory,
+}
+
+impl From<Trap> for Stop {
+    ghost use Rattle.std.specs.Prelude.{◌≡◌};
+    ghost use Rattle.rv_hart.specs.declared.trap.Stop.TheVariants as stop;
+
+    ghost from_gives = { λ t e. e ≡ stop.Trap t };
+
+    fn from(trap: Trap) -> Self {
+        Stop::Trap(trap)
+    }
+}
+
+impl From<NoMemory> for Stop {
+    ghost use Rattle.std.specs.Prelude.{◌≡◌};
+    ghost use Rattle.rv_hart.specs.declared.trap.Stop.TheVariants as stop;
+
+    ghost from_gives = { λ _ e. e ≡ stop.NoMemory };
+
+    fn from(_: NoMemory) -> Self {
+        Stop::NoMemory
+    }
 }

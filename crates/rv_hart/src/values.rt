@@ -2,7 +2,7 @@
 //! registers.
 ghost use Rattle.std.specs.Prelude.{◌≡◌, Err};
 ghost use Rattle.rv_isa.specs.Word as spec;
-ghost use Rattle.rv_hart.specs.Effect.{plus, extended, is_write, combined, csr_written, call_from};
+ghost use Rattle.rv_hart.specs.Effect.{plus, target_checked, extended, is_write, combined, csr_written, call_from};
 
 use crate::trap::Trap;
 use rv_isa::{AluOp, CsrOp, Instr, Kind, LoadOp, alu, encode};
@@ -13,6 +13,20 @@ pub(crate) fn offset_by(base: u32, offset: i32) -> u32
     ensures { result ≡ plus base offset }
 {
     base.wrapping_add(offset.cast_unsigned())
+}
+
+/// A target that is not a multiple of 4 is an exception of the jump itself.
+pub(crate) fn check_target(target: u32) -> Result<(), Trap>
+    ensures { result ≡ target_checked target }
+{
+    if target % 4 == 0 {
+        Ok(())
+    } else {
+        Err(Trap {
+            cause: 0,
+            tval: target,
+        })
+    }
 }
 
 /// The set and clear forms whose source field is 0 don't write.
@@ -42,8 +56,18 @@ pub(crate) fn written(instr: Instr) -> Option<u16>
     ensures { result ≡ csr_written instr }
 {
     match instr.kind() {
-        Kind::Csr { op, rs1, csr, .. } if is_write(op, rs1.number()) => Some(csr),
-        Kind::CsrImm { op, imm, csr, .. } if is_write(op, imm) => Some(csr),
+        Kind::Csr { op, rs1, csr, .. } => {
+            if is_write(op, rs1.number()) {
+                return Some(csr);
+            }
+            None
+        }
+        Kind::CsrImm { op, imm, csr, .. } => {
+            if is_write(op, imm) {
+                return Some(csr);
+            }
+            None
+        }
         _ => None,
     }
 }

@@ -2,7 +2,8 @@
 ghost use Rattle.std.specs.Prelude.{◌≡◌};
 ghost use Rattle.rv_isa.specs.Word as spec;
 ghost use Rattle.rv_isa.specs.declared.kind.Kind.{Kind};
-ghost use Rattle.rv_hart.specs.Effect.{csr_effect, return_effect, wait_effect};
+ghost use Rattle.rv_csr.specs.Registers.{Writes};
+ghost use Rattle.rv_hart.specs.Effect.{reg, csr_effect, return_effect, wait_effect};
 ghost use Rattle.rv_hart.specs.Tries.{Does};
 
 use super::Hart;
@@ -14,35 +15,95 @@ use rv_isa::{CsrOp, Instr, Kind, Reg};
 use rv_pmp::Mode;
 use rv_ram::ByteMemory;
 
+/// What an instruction on a control register asks for.
+#[derive(Clone, Copy)]
+struct Exchange {
+    op: CsrOp,
+    /// The source field: a register's number, or the operand.
+    field: u8,
+    operand: u32,
+    rd: Reg,
+    csr: u16,
+}
+
 impl<M: ByteMemory, C: Decoded> Hart<M, C> {
-    /// An instruction on a control register, with its source field (a register's number, or the operand itself) and its
-    /// operand. It is apart, so that other instructions pay nothing for it.
-    #[inline(never)]
-    #[tactic(auto, unfolding(crate::specs::Effect::csr_effect))]
-    pub(super) fn exchange(
+    /// An instruction on a control register that takes its operand from a register.
+    #[inline(always)]
+    pub(super) fn exchange_register(
         &mut self,
         instr: Instr,
         op: CsrOp,
-        field: u8,
-        operand: u32,
         rd: Reg,
+        rs1: Reg,
         csr: u16,
     ) -> Result<(), Trap>
-        ensures { Does self.old self.new result (csr_effect instr self.old.machine op field operand rd csr) }
+        ensures { Does self.old self.new result (csr_effect instr self.old.machine op rs1 (reg self.old.machine rs1) rd csr) }
     {
-        let Some(old) = self.csrs.read(csr, self.mode, self.bus.lines()) else {
+        let exchange = Exchange {
+            op,
+            field: rs1.number(),
+            operand: self.reg(rs1),
+            rd,
+            csr,
+        };
+        self.exchange(instr, exchange)?;
+        Ok(())
+    }
+
+    /// An instruction on a control register whose operand is a number.
+    #[inline(always)]
+    pub(super) fn exchange_number(
+        &mut self,
+        instr: Instr,
+        op: CsrOp,
+        rd: Reg,
+        number: u8,
+        csr: u16,
+    ) -> Result<(), Trap>
+        ensures { Does self.old self.new result (csr_effect instr self.old.machine op number number rd csr) }
+    {
+        let exchange = Exchange {
+            op,
+            field: number,
+            operand: number as u32,
+            rd,
+            csr,
+        };
+        self.exchange(instr, exchange)?;
+        Ok(())
+    }
+
+    /// An instruction on a control register. It is apart, so that other instructions pay nothing for it.
+    #[inline(never)]
+    #[tactic(auto, unfolding(crate::specs::Effect::csr_effect))]
+    fn exchange(&mut self, instr: Instr, exchange: Exchange) -> Result<(), Trap>
+        ensures { Does self.old self.new result (csr_effect instr self.old.machine exchange.op exchange.field exchange.operand exchange.rd exchange.csr) }
+    {
+        let Some(old) = self.csrs.read(exchange.csr, self.mode, self.bus.lines()) else {
             return Err(illegal(instr));
         };
-        if !is_write(op, field) {
-            return self.retire(rd, old);
+        if is_write(exchange.op, exchange.field) {
+            let value = combine(exchange.op, old, exchange.operand);
+            match self.write_csr(exchange.csr, value) {
+                Some(()) => (),
+                None => return Err(illegal(instr)),
+            }
         }
+        self.retire(exchange.rd, old);
+        Ok(())
+    }
+
+    /// Writes a control register, and works out again what follows from them. None where the mode may not: nothing has
+    /// changed.
+    fn write_csr(&mut self, addr: u16, value: u32) -> Option<()>
+        ensures written { Writes self.old.machine.csrs addr self.old.machine.mode value self.new.machine.csrs result }
+        ensures machine { self.new.machine ≡ record self.old.machine { csrs = self.new.machine.csrs } }
+        ensures cache { self.new.cache ≡ self.old.cache }
+    {
         let mode = self.mode;
-        let written = self.csrs.write(csr, mode, combine(op, old, operand));
+        let written = self.csrs.write(addr, mode, value);
         self.known = Known::of(&self.csrs, mode);
-        match written {
-            Some(()) => self.retire(rd, old),
-            None => Err(illegal(instr)),
-        }
+        written
     }
 
     /// The return from a trap. The word is that of MRET.
@@ -74,12 +135,13 @@ impl<M: ByteMemory, C: Decoded> Hart<M, C> {
         requires { word ≡ spec.word Kind.Wfi }
         ensures { Does self.old self.new result (wait_effect self.old.machine) }
     {
-        match self.mode {
-            Mode::User if self.csrs.traps_wfi() => Err(Trap {
+        if self.mode == Mode::User && self.csrs.traps_wfi() {
+            return Err(Trap {
                 cause: 2,
                 tval: word,
-            }),
-            _ => self.pass(),
+            });
         }
+        self.pass();
+        Ok(())
     }
 }
