@@ -11,14 +11,14 @@ ghost use Rattle.rv_asm.specs.Listing.{wanted, part_of, immediate_of, upper_of, 
 
 use crate::asked::multiple_of;
 use crate::data::{self, pad, write_value};
-use crate::instructions::{Instructions, auipc, instr, lui, with_immediate};
+use crate::instructions::{Instructions, auipc, branch, csr_imm, jal, lui, shift, with_immediate};
 use crate::symbols::Symbols;
 use crate::values::{
     bits, branch_distance, byte, far, fits, five_bits, hi, high, jump_distance, lo, loading, low,
     upper_immediate,
 };
 use crate::{FaultKind, values};
-use rv_isa::{ImmOp, Kind, Reg, Width};
+use rv_isa::{ImmOp, Reg, Width};
 use rv_source::{Expression, Immediate, ImmediateTaker, Statement, Upper, ValueTaker};
 
 /// Where expressions are evaluated: what is defined, and the line, counted from 0, and the address of the statement.
@@ -48,49 +48,25 @@ fn pair(here: u32, scratch: Reg, second: ImmediateTaker, target: i64) -> Option<
 fn with_known(here: u32, constant: i64, taker: ValueTaker, value: i64) -> Option<Instructions>
     ensures { ok_or result OutOfRange ≡ valued here constant taker (Some value) }
 {
-    // That a register's number is below 32 is known once it is asked.
     match taker {
         ValueTaker::Auipc { rd } => match upper_immediate(value) {
             Some(imm) => Some(Instructions::one(auipc(rd, imm))),
             None => None,
         },
         ValueTaker::Jal { rd } => match jump_distance(here, value) {
-            Some(offset) => {
-                let _ = rd.number();
-                Some(Instructions::one(instr(Kind::Jal { rd, offset })))
-            }
+            Some(offset) => Some(Instructions::one(jal(rd, offset))),
             None => None,
         },
         ValueTaker::Branch { cond, rs1, rs2 } => match branch_distance(here, value) {
-            Some(offset) => {
-                let _ = (rs1.number(), rs2.number());
-                Some(Instructions::one(instr(Kind::Branch {
-                    cond,
-                    rs1,
-                    rs2,
-                    offset,
-                })))
-            }
+            Some(offset) => Some(Instructions::one(branch(cond, rs1, rs2, offset))),
             None => None,
         },
         ValueTaker::Shift { op, rd, rs1 } => match five_bits(value) {
-            Some(amount) => {
-                let _ = (rd.number(), rs1.number());
-                Some(Instructions::one(instr(Kind::Shift {
-                    op,
-                    rd,
-                    rs1,
-                    amount,
-                })))
-            }
+            Some(amount) => Some(Instructions::one(shift(op, rd, rs1, amount))),
             None => None,
         },
         ValueTaker::CsrImm { op, rd, csr } => match five_bits(value) {
-            Some(imm) => {
-                let _ = rd.number();
-                let csr = csr.number();
-                Some(Instructions::one(instr(Kind::CsrImm { op, rd, imm, csr })))
-            }
+            Some(imm) => Some(Instructions::one(csr_imm(op, rd, imm, csr))),
             None => None,
         },
         ValueTaker::La { rd } => {

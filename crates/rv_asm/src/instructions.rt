@@ -1,15 +1,15 @@
 //! The instructions of a statement.
 ghost use Rattle.std.specs.Prelude.{◌≡◌, ◌<◌, ◌^◌, ◌++◌, [], ◌∷◌, Ok};
-ghost use Rattle.rv_isa.specs.Number.{IsWithin};
+ghost use Rattle.rv_isa.specs.Number.{IsWithin, IsDistance};
 ghost use Rattle.rv_isa.specs.Word.{IsInRange};
 ghost use Rattle.rv_asm.specs.Kept.{KindBecomes};
 ghost use Rattle.rv_asm.specs.Listing.{bytes, with_immediate};
-ghost use Rattle.rv_isa.specs.declared.kind.Kind.TheVariants.{Lui, Auipc, OpImm};
+ghost use Rattle.rv_isa.specs.declared.kind.Kind.TheVariants.{Lui, Auipc, Jal, Branch, OpImm, Shift, CsrImm};
 
 use crate::FaultKind;
 use crate::data::append;
-use rv_isa::{ImmOp, Instr, Kind, Reg, encode};
-use rv_source::ImmediateTaker;
+use rv_isa::{Cond, CsrOp, ImmOp, Instr, Kind, Reg, ShiftOp, encode};
+use rv_source::{Csr, ImmediateTaker};
 use std::marker::Model;
 
 /// At most two instructions.
@@ -119,7 +119,7 @@ pub fn zero() -> Reg
 }
 
 /// The instruction of a kind whose fields are in range.
-pub fn instr(kind: Kind) -> Instr
+fn instr(kind: Kind) -> Instr
     requires { IsInRange kind }
     ensures { result ≡ kind }
 {
@@ -154,6 +154,49 @@ pub fn op_imm(op: ImmOp, rd: Reg, rs1: Reg, imm: i32) -> Instr
     let _ = rd.number();
     let _ = rs1.number();
     instr(Kind::OpImm { op, rd, rs1, imm })
+}
+
+pub fn jal(rd: Reg, offset: i32) -> Instr
+    requires { IsDistance (2 ^ 20) offset }
+    ensures { result ≡ Jal rd offset }
+{
+    let _ = rd.number();
+    instr(Kind::Jal { rd, offset })
+}
+
+pub fn branch(cond: Cond, rs1: Reg, rs2: Reg, offset: i32) -> Instr
+    requires { IsDistance (2 ^ 12) offset }
+    ensures { result ≡ Branch cond rs1 rs2 offset }
+{
+    let _ = (rs1.number(), rs2.number());
+    instr(Kind::Branch {
+        cond,
+        rs1,
+        rs2,
+        offset,
+    })
+}
+
+pub fn shift(op: ShiftOp, rd: Reg, rs1: Reg, amount: u8) -> Instr
+    requires { amount < 32 }
+    ensures { result ≡ Shift op rd rs1 amount }
+{
+    let _ = (rd.number(), rs1.number());
+    instr(Kind::Shift {
+        op,
+        rd,
+        rs1,
+        amount,
+    })
+}
+
+pub fn csr_imm(op: CsrOp, rd: Reg, imm: u8, csr: Csr) -> Instr
+    requires { imm < 32 }
+    ensures { result ≡ CsrImm op rd imm csr }
+{
+    let _ = rd.number();
+    let csr = csr.number();
+    instr(Kind::CsrImm { op, rd, imm, csr })
 }
 
 /// The instruction of what takes an immediate of twelve bits.

@@ -42,6 +42,8 @@ pub fn instruction<'a>(kind: Kind) -> Statement<'a>
     Statement::Instruction(instr)
 }
 
+// That a register's number is below 32 is known once it is asked.
+
 /// A jump to what a register says.
 fn jump_to<'a>(rd: Reg, base: Reg) -> Statement<'a>
     ensures { result ≡ s.Instruction (k.Jalr rd base (pos 0)) }
