@@ -3,7 +3,6 @@ ghost use Rattle.std.specs.Prelude.{◌≤◌};
 
 use crate::machine::program;
 use crate::memory::Stubborn;
-use rv_alike::same_everywhere;
 use rv_asm::Program;
 use rv_board::{Board, BootFault, BootedBoard, Event, Stopped};
 use rv_cache::{Decoded, NoCache};
@@ -12,6 +11,7 @@ use rv_ram::{ByteMemory, FlatMemory};
 use std::alloc::Global;
 use std::process::Abort;
 use std::test::Fail;
+use test_compare::same_everywhere;
 
 const SLOTS: u32 = 1024;
 
@@ -265,7 +265,7 @@ fn fits(rt: &impl Abort, alloc: Global, program: &Program) -> Result<(), Fail> {
     Ok(())
 }
 
-// `boot` with an image of this size is a row of rv_rows.
+// `boot` with an image of this size is a row of test_rows.
 #[test]
 fn the_largest_image_fits_the_largest_memory(rt: HostRuntime) -> Result<(), Fail> {
     let program = program(rt.alloc(), b".space 16777215\n.byte 1")?;

@@ -1,5 +1,5 @@
 use Rattle.std.proofs.Common.{◌≡◌, ◌+◌, length}
-use Rattle.rv_source_tests.proofs.lines.count_lines.Given as goal
+use Rattle.test_source.proofs.lines.count_lines.Given as goal
 use Rattle.rv_tokens.specs.Lines.{lines}
 
 abbrev pub invariant-loop-line : goal.invariant-loop-line

@@ -1,7 +1,7 @@
 use Rattle.std.proofs.Common.{◌≡◌, ◌∙◌, ◌*◌, ◌/◌, rules, refl, sym, ap}
 use Rattle.rv_ram.proofs.Blank.{has_zeros}
-use Rattle.rv_tests.proofs.Pages.{is_blank_page}
-use Rattle.rv_tests.proofs.memory.is_blank.Goals as goal
+use Rattle.test_boards.proofs.Pages.{is_blank_page}
+use Rattle.test_boards.proofs.memory.is_blank.Goals as goal
 
 pub returns : goal.returns
 returns c = λ _.

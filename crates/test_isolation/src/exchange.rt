@@ -1,8 +1,8 @@
 //! Outside events that change places, and two that may not.
 use crate::boards::{Checked, booted, holds, line, run};
-use rv_alike::same_everywhere;
 use rv_board::{BootedBoard, Event};
 use std::alloc::Global;
+use test_compare::same_everywhere;
 
 /// The interrupt controller's pending sources.
 const PENDING: u32 = 0x1000;

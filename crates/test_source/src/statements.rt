@@ -1,4 +1,4 @@
-//! Lines and what they say, as docs/ASSEMBLER.md has them. What each word assembles to is a row of rv_rows.
+//! Lines and what they say, as docs/ASSEMBLER.md has them. What each word assembles to is a row of test_rows.
 use rv_source::{Label, Line, LineFault, Statement, read_line};
 use rv_tokens::cut_lines;
 use std::alloc::{AllocError, Global};

@@ -1,4 +1,4 @@
-//! Sources that can't be rows of rv_rows: their line ends, bytes that no text has, and many labels. The image of each word,
+//! Sources that can't be rows of test_rows: their line ends, bytes that no text has, and many labels. The image of each word,
 //! each directive and each fault is a row there.
 use crate::machine::{assembled, program};
 use rv_asm::{AsmFault, FaultKind, Program};

@@ -1,8 +1,8 @@
 //! User code on two boards that differ in what it may not see.
 use crate::boards::{Checked, holds, in_user_mode, last_cause_is, last_trap_is, run_user};
-use rv_alike::same_but_for_memory;
 use rv_board::{BootedBoard, Event};
 use std::alloc::Global;
+use test_compare::same_but_for_memory;
 
 /// The word after `user` is one that user code may neither read nor execute: entry 0 is NA4 there, without a bit.
 const WORD: &[u8] =

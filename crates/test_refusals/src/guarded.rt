@@ -1,8 +1,8 @@
 //! A user program that the protection of memory stops, assembled, booted and run.
-use rv_alike::same_everywhere;
 use rv_asm::{FaultKind, Program, assemble};
 use rv_board::{BootFault, BootedBoard, Event, TrapRecord};
 use std::alloc::Global;
+use test_compare::same_everywhere;
 
 const GUARDED: &[u8] =
     b"li t0,0x20000041\ncsrw pmpaddr0,t0\nli t0,-1\ncsrw pmpaddr1,t0\nli t0,0x1D1B\ncsrw pmpcfg0,t0\nla t0,user\ncsrw mepc,t0\nli t1,0x8000010F\nmret\nuser: sb t0,0(t1)\nsb t0,1(t1)\n";
