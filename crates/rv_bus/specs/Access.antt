@@ -4,7 +4,7 @@ use Rattle.std.specs.Prelude.{ℕ, Bool, true, false, ◌-◌, ◌%◌, nat_lt, 
 use Rattle.std.specs.Option.{option_map}
 use Rattle.rv_isa.specs.declared.op.Width.{Width}
 use Rattle.rv_isa.specs.declared.op.Width.TheVariants.{One, Two, Four}
-use Rattle.rv_isa.specs.declared.Lines.{Lines}
+use Rattle.rv_isa.specs.declared.InterruptLines.{InterruptLines}
 use Rattle.rv_ram.specs.Bytes.{word_at, put, value_at}
 use Rattle.rv_ram.specs.Pages.{wants_page}
 use Rattle.rv_plic.specs.Plic as plic
@@ -101,7 +101,7 @@ mark_before b tick =
     record { timer = record b.timer { time = tick.time }; plic = plic.withdrawn b.plic tick.requests }
 
 -- the levels of the interrupt lines
-abbrev pub lines_of : BusState → Lines
+abbrev pub lines_of : BusState → InterruptLines
 lines_of b = record { software = b.timer.software; timer = timer.is_due b.timer; external = plic.is_notified b.plic }
 
 -- the line of an interrupt source rises or falls

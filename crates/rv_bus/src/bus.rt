@@ -9,7 +9,7 @@ ghost use Rattle.rv_bus.specs.Within.{IsWithin};
 ghost use Rattle.rv_bus.specs.Stores.{Stores, Answers};
 
 use crate::places::{Place, find_place};
-use rv_isa::{Lines, NoMemory, Width};
+use rv_isa::{InterruptLines, NoMemory, Width};
 use rv_mmio::{Halt, Serial, SerialReg, Timer};
 use rv_plic::{Plic, Source, SourceSet};
 use rv_ram::ByteMemory;
@@ -237,10 +237,10 @@ impl<M: ByteMemory> Bus<M> {
     }
 
     /// The levels of the interrupt lines.
-    pub fn lines(&self) -> Lines
+    pub fn lines(&self) -> InterruptLines
         ensures { result ≡ lines_of self.now }
     {
-        Lines {
+        InterruptLines {
             software: self.timer.software(),
             timer: self.timer.due(),
             external: self.plic.external(),

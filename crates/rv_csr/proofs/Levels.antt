@@ -4,7 +4,7 @@ use Rattle.std.specs.Prelude.{◌&&◌, not, if◌then◌else◌}
 use Rattle.std.specs.Option.{option_map}
 use Rattle.std.proofs.lemmas.Bool.{leb-true}
 use Rattle.std.proofs.lemmas.Bool.Decides.{nat_tests}
-use Rattle.rv_isa.specs.declared.Lines.{Lines}
+use Rattle.rv_isa.specs.declared.InterruptLines.{InterruptLines}
 use Rattle.rv_pmp.specs.Pmp.{PmpState}
 use Rattle.rv_pmp.specs.Pmp as protection
 use Rattle.rv_pmp.specs.declared.access.Mode.{Mode}
@@ -84,7 +84,7 @@ no_store old addr word new mode (Some done) may user stores = let none = protect
 no_store old addr word new mode None may user stores = refl
 
 -- as the definition has it
-pub nothing_read : (state : CsrState) (addr : ℕ) (lines : Lines) → read state addr User lines ≡ None
+pub nothing_read : (state : CsrState) (addr : ℕ) (lines : InterruptLines) → read state addr User lines ≡ None
 unfolding read protection.load
 nothing_read state addr lines = by_level (may_read addr User) refl
   where

@@ -4,7 +4,7 @@
 use Rattle.std.specs.Prelude.{◌≡◌, ℕ, ◌+◌, ◌*◌, ◌/◌, ◌%◌, ◌^◌, Bool, false, ◌==◌, ◌&&◌, ◌||◌, not, nat_le, if◌then◌else◌, Option, Some, None}
 use Rattle.std.specs.Option.{option_map}
 use Rattle.rv_isa.specs.Number.{bit, truth}
-use Rattle.rv_isa.specs.declared.Lines.{Lines}
+use Rattle.rv_isa.specs.declared.InterruptLines.{InterruptLines}
 use Rattle.rv_pmp.specs.Pmp as protection
 use Rattle.rv_pmp.specs.declared.access.Mode.{Mode}
 use Rattle.rv_pmp.specs.declared.access.Mode.TheVariants.{User, Machine}
@@ -82,10 +82,10 @@ with_status old word = record {
 }
 
 -- mie and mip have the software interrupt in bit 3, the timer's in bit 7, the external one in bit 11
-unfoldable pub lines_word : Lines → ℕ
+unfoldable pub lines_word : InterruptLines → ℕ
 lines_word lines = truth lines.software * 2 ^ 3 + truth lines.timer * 2 ^ 7 + truth lines.external * 2 ^ 11
 
-unfoldable pub lines_of : ℕ → Lines
+unfoldable pub lines_of : ℕ → InterruptLines
 lines_of word = record { software = flag word 3; timer = flag word 7; external = flag word 11 }
 
 -- RV32I with M and user mode
@@ -107,7 +107,7 @@ abbrev pub with_high : ℕ → ℕ → ℕ
 with_high number word = number % 2 ^ 32 + word * 2 ^ 32
 
 -- what is read
-abbrev pub value_of : CsrState → Lines → Register → ℕ
+abbrev pub value_of : CsrState → InterruptLines → Register → ℕ
 value_of state lines Mstatus = status_word state.status
 value_of state lines Misa = isa
 value_of state lines Mie = lines_word state.enables
@@ -142,7 +142,7 @@ with_value state Zero word = state
 
 -- ---- reads and writes
 
-abbrev pub loaded : CsrState → Lines → ℕ → Option Register → Option ℕ
+abbrev pub loaded : CsrState → InterruptLines → ℕ → Option Register → Option ℕ
 loaded state lines addr (Some register) = Some (value_of state lines register)
 loaded state lines addr None = protection.load state.pmp addr
 
@@ -151,7 +151,7 @@ stored state addr word (Some register) = Some (with_value state register word)
 stored state addr word None = option_map (λ pmp. record state { pmp = pmp }) (protection.store state.pmp addr word)
 
 -- what a mode reads at an address, while the interrupt lines have these levels; None where it may not
-unfoldable pub read : CsrState → ℕ → Mode → Lines → Option ℕ
+unfoldable pub read : CsrState → ℕ → Mode → InterruptLines → Option ℕ
 read state addr mode lines = if may_read addr mode then loaded state lines addr (register_at addr) else None
 
 -- what a mode's write leaves; None where it may not write

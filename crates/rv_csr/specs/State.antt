@@ -1,7 +1,7 @@
 -- What the control registers hold. RISC-V Privileged Architecture 20211203, section 3.1.
 -- To audit: public contracts cite this.
 use Rattle.std.specs.Prelude.{false}
-use Rattle.rv_isa.specs.declared.Lines.{Lines}
+use Rattle.rv_isa.specs.declared.InterruptLines.{InterruptLines}
 use Rattle.rv_pmp.specs.Pmp as protection
 use Rattle.rv_pmp.specs.Pmp.{PmpState}
 use Rattle.rv_pmp.specs.declared.access.Mode.TheVariants.{User}
@@ -12,7 +12,7 @@ use Rattle.rv_csr.specs.declared.trap.TrapRegisters.{TrapRegisters}
 -- mstatus; the interrupts that mie enables; the registers of traps; mcycle and minstret; physical memory protection
 pub record CsrState : Type 0 where
   pub status : Status
-  pub enables : Lines
+  pub enables : InterruptLines
   pub trap : TrapRegisters
   pub counters : Counters
   pub pmp : PmpState

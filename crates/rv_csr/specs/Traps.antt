@@ -1,7 +1,7 @@
 -- Interrupts, traps and the return from them. RISC-V Privileged Architecture 20211203, sections 3.1.6, 3.1.7, 3.1.9 and 3.3.2.
 -- To audit: public contracts cite this.
 use Rattle.std.specs.Prelude.{ℕ, Bool, ◌||◌, ◌+◌, ◌-◌, ◌*◌, ◌%◌, ◌^◌, true, false, ◌==◌, ◌&&◌, not, nat_le, if◌then◌else◌, Option, Some, None}
-use Rattle.rv_isa.specs.declared.Lines.{Lines}
+use Rattle.rv_isa.specs.declared.InterruptLines.{InterruptLines}
 use Rattle.rv_pmp.specs.Entry.{is_machine}
 use Rattle.rv_pmp.specs.declared.access.Mode.{Mode}
 use Rattle.rv_pmp.specs.declared.access.Mode.TheVariants.{User}
@@ -21,7 +21,7 @@ abbrev pub external_interrupt : ℕ
 external_interrupt = 0x8000000B
 
 -- the first of external, software and timer whose line is high and which is enabled
-abbrev pub first_enabled : Lines → Lines → Option ℕ
+abbrev pub first_enabled : InterruptLines → InterruptLines → Option ℕ
 first_enabled lines enables =
     if lines.external && enables.external then Some external_interrupt
     else (if lines.software && enables.software then Some software_interrupt
@@ -29,7 +29,7 @@ first_enabled lines enables =
     else None))
 
 -- the cause of the interrupt that is taken: always in user mode, in machine mode only with MIE
-unfoldable pub pending : CsrState → Mode → Lines → Option ℕ
+unfoldable pub pending : CsrState → Mode → InterruptLines → Option ℕ
 pending state mode lines =
     if is_machine mode && not state.status.interrupts then None else first_enabled lines state.enables
 

@@ -5,7 +5,7 @@ ghost use Rattle.rv_csr.specs.Registers as registers;
 ghost use Rattle.rv_csr.specs.State.{reset};
 ghost use Rattle.rv_csr.specs.Traps as traps;
 ghost use Rattle.rv_isa.specs.Width.{bytes_of};
-ghost use Rattle.rv_isa.specs.declared.Lines.{Lines};
+ghost use Rattle.rv_isa.specs.declared.InterruptLines.{InterruptLines};
 ghost use Rattle.rv_pmp.specs.Pmp.{grants};
 ghost use Rattle.rv_pmp.specs.declared.access.Mode.{Mode};
 ghost use Rattle.rv_pmp.specs.declared.access.Mode.TheVariants.{User};
@@ -14,7 +14,7 @@ use crate::counters::{Counters, high_word, low_word, with_high_word, with_low_wo
 use crate::register::{Register, may_read, may_write};
 use crate::status::{Status, lines_of, lines_word};
 use crate::trap::TrapRegisters;
-use rv_isa::{Lines, Width};
+use rv_isa::{InterruptLines, Width};
 use rv_pmp::{Access, Mode, Pmp};
 use std::marker::Model;
 
@@ -31,7 +31,7 @@ const EXTERNAL_INTERRUPT: u32 = 0x8000000B;
 #[derive(Drop)]
 pub struct Csrs {
     status: Status,
-    enables: Lines,
+    enables: InterruptLines,
     trap: TrapRegisters,
     counters: Counters,
     pmp: Pmp,
@@ -61,7 +61,7 @@ impl Csrs {
                 modify_privilege: false,
                 timeout_wait: false,
             },
-            enables: Lines {
+            enables: InterruptLines {
                 software: false,
                 timer: false,
                 external: false,
@@ -84,7 +84,7 @@ impl Csrs {
     /// What a mode reads at an address while the interrupt lines have these levels, or None where it may not: no
     /// register is there, or the mode is too low. User mode may read none.
     #[tactic(auto, using(crate::proofs::Levels::no_load), unfolding(crate::specs::Registers::read))]
-    pub fn read(&self, addr: u16, mode: Mode, lines: Lines) -> Option<u32>
+    pub fn read(&self, addr: u16, mode: Mode, lines: InterruptLines) -> Option<u32>
         ensures value { result ≡ registers.read self.now addr mode lines }
         ensures user { mode ≡ User → result ≡ None }
     {
@@ -97,7 +97,7 @@ impl Csrs {
         }
     }
 
-    fn value(&self, register: Register, lines: Lines) -> u32
+    fn value(&self, register: Register, lines: InterruptLines) -> u32
         ensures { result ≡ value_of self.now lines register }
     {
         match register {
@@ -167,7 +167,7 @@ impl Csrs {
     #[tactic(auto, using(crate::proofs::Asked::none_pending))]
     pub fn takes_interrupts(&self, mode: Mode) -> bool
         ensures value { result ≡ traps.takes_interrupts self.now mode }
-        ensures none { result ≡ false → (lines : Lines) → traps.pending self.now mode lines ≡ None }
+        ensures none { result ≡ false → (lines : InterruptLines) → traps.pending self.now mode lines ≡ None }
     {
         if !self.status.interrupts && mode.is_machine() {
             return false;
@@ -177,7 +177,7 @@ impl Csrs {
 
     /// The cause of the interrupt to be taken in a mode while the interrupt lines have these levels, if there is one.
     #[tactic(auto, unfolding(crate::specs::Traps::pending))]
-    pub fn pending(&self, mode: Mode, lines: Lines) -> Option<u32>
+    pub fn pending(&self, mode: Mode, lines: InterruptLines) -> Option<u32>
         ensures { result ≡ traps.pending self.now mode lines }
     {
         if mode.is_machine() && !self.status.interrupts {

@@ -3,7 +3,7 @@ ghost use Rattle.std.specs.Prelude.{◌≡◌, ◌<◌, ◌≤◌, ◌^◌};
 ghost use Rattle.rv_csr.specs.Registers.{flag, level, mode_kept, with_status, status_word};
 ghost use Rattle.rv_csr.specs.Registers as spec;
 
-use rv_isa::Lines;
+use rv_isa::InterruptLines;
 use rv_pmp::Mode;
 
 /// The fields of mstatus that this hart has. Privileged Architecture 20211203, section 3.1.6.
@@ -79,17 +79,17 @@ fn is_set(word: u32, place: u32) -> bool
 
 /// The bits of the interrupt lines, as mie and mip have them.
 #[tactic(auto, unfolding(crate::specs::Registers::lines_word))]
-pub(crate) fn lines_word(lines: Lines) -> u32
+pub(crate) fn lines_word(lines: InterruptLines) -> u32
     ensures { result ≡ spec.lines_word lines }
 {
     ((lines.software as u32) << 3) + ((lines.timer as u32) << 7) + ((lines.external as u32) << 11)
 }
 
 #[tactic(auto, unfolding(crate::specs::Registers::lines_of))]
-pub(crate) fn lines_of(word: u32) -> Lines
+pub(crate) fn lines_of(word: u32) -> InterruptLines
     ensures { result ≡ spec.lines_of word }
 {
-    Lines {
+    InterruptLines {
         software: is_set(word, 3),
         timer: is_set(word, 7),
         external: is_set(word, 11),

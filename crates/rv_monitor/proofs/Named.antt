@@ -5,7 +5,7 @@ use Rattle.std.specs.List.{list_all}
 use Rattle.std.specs.Str.{bytes_eq}
 use Rattle.std.specs.Prelude.{Option, Some, None, ◌&&◌, is_some, IsSome}
 use Rattle.rv_isa.specs.Names.{lookup, csr_names}
-use Rattle.rv_isa.specs.declared.Lines.{Lines}
+use Rattle.rv_isa.specs.declared.InterruptLines.{InterruptLines}
 use Rattle.rv_pmp.specs.Pmp.{load}
 use Rattle.rv_pmp.specs.Pmp as protection
 use Rattle.rv_pmp.specs.declared.access.Mode.TheVariants.{Machine}
@@ -14,10 +14,10 @@ use Rattle.rv_csr.specs.State.{CsrState}
 use Rattle.rv_board.specs.State.{BoardState, csr_of}
 use Rattle.rv_bus.specs.Access.{lines_of}
 
-abbrev is_read : CsrState → Lines → ℕ → Bool
+abbrev is_read : CsrState → InterruptLines → ℕ → Bool
 is_read state lines addr = is_some (read state addr Machine lines)
 
-all_are_read : (state : CsrState) (lines : Lines) → list_all (λ e. is_read state lines e.1) csr_names ≡ true
+all_are_read : (state : CsrState) (lines : InterruptLines) → list_all (λ e. is_read state lines e.1) csr_names ≡ true
 unfolding csr_names digits read register_at load protection.register_at
 all_are_read state lines = refl
 

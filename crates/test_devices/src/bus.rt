@@ -3,7 +3,7 @@ ghost use Rattle.std.specs.Prelude.{◌≡◌, ◌%◌};
 ghost use Rattle.rv_isa.specs.Width.{bytes_of};
 
 use rv_bus::{Bus, BusFault, StoreRefusal};
-use rv_isa::{Lines, Width};
+use rv_isa::{InterruptLines, Width};
 use rv_mmio::Serial;
 use rv_plic::Source;
 use rv_ram::FlatMemory;
@@ -124,7 +124,7 @@ fn devices_answer_at_their_addresses(rt: HostRuntime) -> Result<(), Fail> {
     let mut bus = bus(rt.alloc())?;
     serial_answers(&rt, &mut bus);
     stores(&rt, &mut bus, 0x0200_0000, Width::Four, 3, Ok(()));
-    let lines = Lines {
+    let lines = InterruptLines {
         software: true,
         timer: false,
         external: false,

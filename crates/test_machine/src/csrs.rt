@@ -1,6 +1,6 @@
 //! The control registers, each time after a reset.
 use rv_csr::Csrs;
-use rv_isa::{Lines, Width};
+use rv_isa::{InterruptLines, Width};
 use rv_pmp::{Access, Mode};
 use std::process::Abort;
 use std::test::Fail;
@@ -15,13 +15,13 @@ const MTVEC: u16 = 0x305;
 
 const MEPC: u16 = 0x341;
 
-const LOW: Lines = Lines {
+const LOW: InterruptLines = InterruptLines {
     software: false,
     timer: false,
     external: false,
 };
 
-const HIGH: Lines = Lines {
+const HIGH: InterruptLines = InterruptLines {
     software: true,
     timer: true,
     external: true,
