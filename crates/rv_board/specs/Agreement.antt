@@ -3,8 +3,8 @@
 use Rattle.std.specs.Prelude.{◌≡◌, ℕ, Bool, true, false, ◌||◌, List, length, Option, Some, None}
 use Rattle.rv_pmp.specs.Pmp.{PmpState, grants}
 use Rattle.rv_pmp.specs.declared.access.Access.TheVariants.{Read, Write, Execute}
-use Rattle.rv_pmp.specs.declared.access.Mode.{Mode}
-use Rattle.rv_pmp.specs.declared.access.Mode.TheVariants.{User, Machine}
+use Rattle.rv_pmp.specs.declared.mode.Mode.{Mode}
+use Rattle.rv_pmp.specs.declared.mode.Mode.TheVariants.{User, Machine}
 use Rattle.rv_board.specs.State.{BoardState, mode_of, halted_of, byte_of}
 
 -- the bytes of the memory, and the registers of protection

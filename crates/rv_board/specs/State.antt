@@ -4,8 +4,8 @@ use Rattle.std.specs.Prelude.{ℕ, List, slice_index, Option}
 use Rattle.rv_plic.specs.Plic.{PlicState}
 use Rattle.rv_mmio.specs.Timer.{TimerState}
 use Rattle.rv_mmio.specs.Serial.{SerialState}
-use Rattle.rv_pmp.specs.declared.access.Mode.{Mode}
-use Rattle.rv_pmp.specs.declared.access.Mode.TheVariants.{Machine}
+use Rattle.rv_pmp.specs.declared.mode.Mode.{Mode}
+use Rattle.rv_pmp.specs.declared.mode.Mode.TheVariants.{Machine}
 use Rattle.rv_csr.specs.Registers.{read}
 use Rattle.rv_bus.specs.Access.{ram_byte, lines_of}
 use Rattle.rv_hart.specs.State as hart

@@ -7,8 +7,8 @@ use Rattle.std.proofs.lemmas.Bool.Decides.{nat_tests}
 use Rattle.rv_isa.specs.declared.InterruptLines.{InterruptLines}
 use Rattle.rv_pmp.specs.Pmp.{PmpState}
 use Rattle.rv_pmp.specs.Pmp as protection
-use Rattle.rv_pmp.specs.declared.access.Mode.{Mode}
-use Rattle.rv_pmp.specs.declared.access.Mode.TheVariants.{User}
+use Rattle.rv_pmp.specs.declared.mode.Mode.{Mode}
+use Rattle.rv_pmp.specs.declared.mode.Mode.TheVariants.{User}
 use Rattle.rv_csr.specs.Registers.{is_from_to, register_at, may_read, may_write, read, loaded}
 use Rattle.rv_csr.specs.State.{CsrState}
 use Rattle.rv_csr.specs.declared.register.Register.{Register}

@@ -6,8 +6,8 @@ use Rattle.std.specs.Option.{option_map}
 use Rattle.rv_isa.specs.Number.{bit, truth}
 use Rattle.rv_isa.specs.declared.InterruptLines.{InterruptLines}
 use Rattle.rv_pmp.specs.Pmp as protection
-use Rattle.rv_pmp.specs.declared.access.Mode.{Mode}
-use Rattle.rv_pmp.specs.declared.access.Mode.TheVariants.{User, Machine}
+use Rattle.rv_pmp.specs.declared.mode.Mode.{Mode}
+use Rattle.rv_pmp.specs.declared.mode.Mode.TheVariants.{User, Machine}
 use Rattle.rv_csr.specs.State.{CsrState}
 use Rattle.rv_csr.specs.declared.counters.Counters.{Counters}
 use Rattle.rv_csr.specs.declared.register.Register.{Register}

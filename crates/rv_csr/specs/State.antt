@@ -4,7 +4,7 @@ use Rattle.std.specs.Prelude.{false}
 use Rattle.rv_isa.specs.declared.InterruptLines.{InterruptLines}
 use Rattle.rv_pmp.specs.Pmp as protection
 use Rattle.rv_pmp.specs.Pmp.{PmpState}
-use Rattle.rv_pmp.specs.declared.access.Mode.TheVariants.{User}
+use Rattle.rv_pmp.specs.declared.mode.Mode.TheVariants.{User}
 use Rattle.rv_csr.specs.declared.counters.Counters.{Counters}
 use Rattle.rv_csr.specs.declared.status.Status.{Status}
 use Rattle.rv_csr.specs.declared.trap.TrapRegisters.{TrapRegisters}

@@ -2,9 +2,9 @@
 -- To audit: public contracts cite this.
 use Rattle.std.specs.Prelude.{ℕ, Bool, ◌||◌, ◌+◌, ◌-◌, ◌*◌, ◌%◌, ◌^◌, true, false, ◌==◌, ◌&&◌, not, nat_le, if◌then◌else◌, Option, Some, None}
 use Rattle.rv_isa.specs.declared.InterruptLines.{InterruptLines}
-use Rattle.rv_pmp.specs.Entry.{is_machine}
-use Rattle.rv_pmp.specs.declared.access.Mode.{Mode}
-use Rattle.rv_pmp.specs.declared.access.Mode.TheVariants.{User}
+use Rattle.rv_pmp.specs.Mode.{is_machine}
+use Rattle.rv_pmp.specs.declared.mode.Mode.{Mode}
+use Rattle.rv_pmp.specs.declared.mode.Mode.TheVariants.{User}
 use Rattle.rv_csr.specs.Registers.{aligned}
 use Rattle.rv_csr.specs.State.{CsrState}
 

@@ -7,8 +7,8 @@ ghost use Rattle.rv_csr.specs.Traps as traps;
 ghost use Rattle.rv_isa.specs.Width.{bytes_of};
 ghost use Rattle.rv_isa.specs.declared.InterruptLines.{InterruptLines};
 ghost use Rattle.rv_pmp.specs.Pmp.{grants};
-ghost use Rattle.rv_pmp.specs.declared.access.Mode.{Mode};
-ghost use Rattle.rv_pmp.specs.declared.access.Mode.TheVariants.{User};
+ghost use Rattle.rv_pmp.specs.declared.mode.Mode.{Mode};
+ghost use Rattle.rv_pmp.specs.declared.mode.Mode.TheVariants.{User};
 
 use crate::counters::{Counters, high_word, low_word, with_high_word, with_low_word};
 use crate::register::{Register, may_read, may_write};

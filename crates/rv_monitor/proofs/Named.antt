@@ -8,7 +8,7 @@ use Rattle.rv_isa.specs.Names.{lookup, csr_names}
 use Rattle.rv_isa.specs.declared.InterruptLines.{InterruptLines}
 use Rattle.rv_pmp.specs.Pmp.{load}
 use Rattle.rv_pmp.specs.Pmp as protection
-use Rattle.rv_pmp.specs.declared.access.Mode.TheVariants.{Machine}
+use Rattle.rv_pmp.specs.declared.mode.Mode.TheVariants.{Machine}
 use Rattle.rv_csr.specs.Registers.{read, register_at}
 use Rattle.rv_csr.specs.State.{CsrState}
 use Rattle.rv_board.specs.State.{BoardState, csr_of}

@@ -8,8 +8,8 @@ use Rattle.std.specs.Int.{div_ceil}
 use Rattle.rv_isa.specs.Meaning.{means}
 use Rattle.rv_isa.specs.Text.{text}
 use Rattle.rv_isa.specs.declared.kind.Kind.{Kind}
-use Rattle.rv_pmp.specs.declared.access.Mode.{Mode}
-use Rattle.rv_pmp.specs.declared.access.Mode.TheVariants.{User, Machine}
+use Rattle.rv_pmp.specs.declared.mode.Mode.{Mode}
+use Rattle.rv_pmp.specs.declared.mode.Mode.TheVariants.{User, Machine}
 use Rattle.rv_plic.specs.Edges.{edges_of}
 use Rattle.rv_board.specs.State.{BoardState, reg_of, pc_of, mode_of, csr_of, byte_of, steps_of, plic_of}
 use Rattle.rv_board.specs.declared.event.TrapRecord.{TrapRecord}

@@ -1,5 +1,5 @@
-pub mod Actives
-pub mod Decided
-pub mod Ones
+pub mod ActiveEntries
+pub mod Decision
+pub mod TrailingOnes
 pub mod Widest
 pub mod Writes

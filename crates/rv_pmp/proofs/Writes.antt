@@ -1,4 +1,4 @@
--- What a write leaves of the entries.
+-- The entries after a write.
 use Rattle.std.proofs.Common.{◌≡◌, ℕ, ◌+◌, ◌<◌, ◌≤◌, ◌==◌, ◌/◌, ◌%◌, Bool, true, false, List, length, get_or, refl}
 use Rattle.std.specs.Prelude.{IsTrue, slice_set, if◌then◌else◌, ◌&&◌}
 use Rattle.std.proofs.lemmas.Option.{slice_get-get_or, slice_get_past}

@@ -5,42 +5,39 @@ use Rattle.std.specs.Prelude.{ℕ, zero, suc, ◌+◌, ◌-◌, ◌*◌, ◌/◌
 use Rattle.rv_isa.specs.Number.{truth}
 use Rattle.rv_pmp.specs.declared.access.Access.{Access}
 use Rattle.rv_pmp.specs.declared.access.Access.TheVariants.{Read, Write, Execute}
-use Rattle.rv_pmp.specs.declared.access.Mode.{Mode}
-use Rattle.rv_pmp.specs.declared.access.Mode.TheVariants.{User, Machine}
 use Rattle.rv_pmp.specs.declared.entry.Entry.{Entry}
 use Rattle.rv_pmp.specs.declared.entry.Matching.{Matching}
 use Rattle.rv_pmp.specs.declared.entry.Matching.TheVariants.{Off, Tor, Na4, Napot}
-
-abbrev pub is_machine : Mode → Bool
-is_machine User = false
-is_machine Machine = true
+use Rattle.rv_pmp.specs.declared.mode.Mode.{Mode}
+use Rattle.rv_pmp.specs.Mode.{is_machine}
 
 -- ---- the configuration byte: R in bit 0, W in bit 1, X in bit 2, A in bits 4 and 3, L in bit 7; bits 6 and 5 are zero
 
--- the field A
+-- the value of the field A
 abbrev pub matching_code : Matching → ℕ
 matching_code Off = 0
 matching_code Tor = 1
 matching_code Na4 = 2
 matching_code Napot = 3
 
+-- the way that a value of the field A stands for
 unfoldable pub matching_of : ℕ → Matching
 matching_of code = if code == 0 then Off else (if code == 1 then Tor else (if code == 2 then Na4 else Napot))
 
--- its address is the end of a region that begins at the address of the entry before
+-- whether the address is the end of a region that begins at the address of the entry before
 abbrev pub is_top : Matching → Bool
 is_top Off = false
 is_top Tor = true
 is_top Na4 = false
 is_top Napot = false
 
--- the byte as it is read
+-- the configuration byte as it is read
 unfoldable pub config_byte : Entry → ℕ
 config_byte entry =
     truth entry.readable + truth entry.writable * 2 + truth entry.executable * 4 + matching_code entry.matching * 8
     + truth entry.locked * 128
 
--- the entry with a byte's fields; W is kept only together with R
+-- the entry with the fields of a byte; W is kept only together with R
 abbrev pub with_fields : Entry → ℕ → Entry
 with_fields entry byte = record {
   address = entry.address;
@@ -51,38 +48,39 @@ with_fields entry byte = record {
   matching = matching_of (byte / 8 % 4);
 }
 
--- what an entry keeps of a written byte: nothing if it is locked
+-- the entry after a write to its configuration byte: unchanged if it is locked
 unfoldable pub configured : Entry → ℕ → Entry
 configured entry byte = if entry.locked then entry else with_fields entry byte
 
--- what it keeps of a written address: nothing if it is locked
+-- the entry after a write to its address register: unchanged if it is locked
 unfoldable pub addressed : Entry → ℕ → Entry
 addressed entry word = if entry.locked then entry else record entry { address = word }
 
--- the bit of a kind of access
+-- the bit for a kind of access: R, W or X
 abbrev pub permits : Entry → Access → Bool
 permits entry Read = entry.readable
 permits entry Write = entry.writable
 permits entry Execute = entry.executable
 
--- an entry that isn't locked lets machine mode do all; otherwise the bit decides
+-- whether the entry grants an access whose bytes are all in its region: an entry that isn't locked lets machine mode do
+-- everything; otherwise the bit decides
 abbrev pub entry_grants : Entry → Mode → Access → Bool
 entry_grants entry mode access = (is_machine mode && not entry.locked) || permits entry access
 
--- ---- the region, as a set of byte addresses: whole numbers without limit
+-- ---- the region, as a set of byte addresses: natural numbers without limit
 
--- the bytes from a first one up to but not including an end
+-- whether a byte is one of those from `first` up to but not including `end`
 abbrev pub is_between : ℕ → ℕ → ℕ → Bool
 is_between first end byte = nat_le first byte && nat_lt byte end
 
--- how many of the lowest n bits of a number are ones, up to the first zero
+-- the number of the lowest bits of a number that are ones, up to the first zero, among its n lowest bits
 unfoldable pub trailing_ones : ℕ → ℕ → ℕ
 trailing_ones zero number = 0
 trailing_ones (suc n) number = if number % 2 == 1 then suc (trailing_ones n (number / 2)) else 0
 
--- an address register holds an address divided by 4. TOR: the bytes from the address of the entry before, `lower`, up to
--- but not including its own. NA4: the four bytes at its address. NAPOT with k trailing ones: the 2 ^ (k + 3) bytes from
--- its address without these ones
+-- whether a byte is matched, where `lower` is the address register of the entry before; an address register holds an
+-- address divided by 4. TOR: the bytes from the address of the entry before up to but not including the entry's own. NA4:
+-- the four bytes at its address. NAPOT with k trailing ones: the 2 ^ (k + 3) bytes from its address without these ones on
 abbrev pub matched : Matching → ℕ → ℕ → ℕ → Bool
 matched Off lower address byte = false
 matched Tor lower address byte = is_between (4 * lower) (4 * address) byte
@@ -92,5 +90,6 @@ matched Napot lower address byte =
     let first = 4 * (address + 1 - 2 ^ k) in
     is_between first (first + 2 ^ (k + 3)) byte
 
+-- the region of an entry, where `lower` is the address register of the entry before
 unfoldable pub region : ℕ → Entry → ℕ → Bool
 region lower entry byte = matched entry.matching lower entry.address byte

@@ -1,6 +1,7 @@
+pub mod ActiveEntries
 pub mod Entry
-pub mod Free
-pub mod Kept
+pub mod Mode
+pub mod PermissionCache
 pub mod Pmp
 pub mod Span
-pub mod Window
+pub mod WidestSpan

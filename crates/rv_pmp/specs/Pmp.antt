@@ -1,17 +1,18 @@
--- Physical memory protection. RISC-V Privileged Architecture 20211203, section 3.7.1.
+-- Physical memory protection: its registers, and what they grant. RISC-V Privileged Architecture 20211203, section 3.7.1.
 -- To audit: public contracts cite this.
 use Rattle.std.specs.Prelude.{◌≡◌, ℕ, zero, suc, ◌+◌, ◌-◌, ◌*◌, ◌/◌, ◌%◌, ◌^◌, Bool, false, ◌&&◌, nat_le, if◌then◌else◌, IsTrue, List, [], ◌∷◌, replicate, All, find, slice_get, slice_set, Option, Some, None}
 use Rattle.std.specs.List.{list_any, list_all}
 use Rattle.std.specs.Option.{option_map, option_map_or}
 use Rattle.rv_pmp.specs.declared.access.Access.{Access}
-use Rattle.rv_pmp.specs.declared.access.Mode.{Mode}
+use Rattle.rv_pmp.specs.declared.mode.Mode.{Mode}
 use Rattle.rv_pmp.specs.declared.entry.Entry.{Entry}
 use Rattle.rv_pmp.specs.declared.entry.Matching.TheVariants.{Off}
 use Rattle.rv_pmp.specs.declared.register.PmpRegister.{PmpRegister}
 use Rattle.rv_pmp.specs.declared.register.PmpRegister.TheVariants.{Config, Address}
-use Rattle.rv_pmp.specs.Entry.{is_machine, is_top, config_byte, configured, addressed, region, entry_grants}
+use Rattle.rv_pmp.specs.Entry.{is_top, config_byte, configured, addressed, region, entry_grants}
+use Rattle.rv_pmp.specs.Mode.{is_machine}
 
--- the entries, of which the least has the highest priority
+-- the entries, of which the lowest-numbered has the highest priority
 pub record PmpState : Type 0 where
   pub entries : List Entry
 
@@ -19,93 +20,99 @@ pub record PmpState : Type 0 where
 abbrev pub off_entry : Entry
 off_entry = record { address = 0; readable = false; writable = false; executable = false; locked = false; matching = Off }
 
--- there are sixteen
+-- the registers after a reset: sixteen entries
 abbrev pub reset : PmpState
 reset = record { entries = replicate 16 off_entry }
 
--- no entry lets write what it doesn't let read
+-- every entry that permits stores permits loads
 abbrev pub AllReadable : List Entry → Type 0
 AllReadable entries = All (λ entry. IsTrue entry.writable → IsTrue entry.readable) entries
 
 abbrev pub WritableIsReadable : PmpState → Type 0
 WritableIsReadable pmp = AllReadable pmp.entries
 
--- ---- who may access which bytes
+-- ---- which accesses are granted
 
--- an entry beside the set of bytes that it protects
+-- an entry with its region, the set of bytes that it protects
 pub record Guard : Type 0 where
   pub entry : Entry
   pub region : ℕ → Bool
 
--- each entry with its region, whose lower bound is the address of the entry before
+-- each entry with its region; `lower` is the address register of the entry before
 unfoldable pub guards_from : ℕ → List Entry → List Guard
 guards_from lower [] = []
 guards_from lower (entry ∷ entries) = record { entry = entry; region = region lower entry } ∷ guards_from entry.address entries
 
--- the bytes of an access: so many from a first one on
+-- the bytes of an access: `count` bytes from `first` on
 abbrev pub bytes_from : ℕ → ℕ → List ℕ
 bytes_from first zero = []
 bytes_from first (suc count) = first ∷ bytes_from (first + 1) count
 
--- what the entry that decides answers: it has to hold all bytes. Without such an entry machine mode alone is granted
+-- whether the access is granted, by the entry that decides: its region has to hold all bytes. Without such an entry only
+-- machine mode is granted the access
 abbrev pub answer : Mode → Access → List ℕ → Option Guard → Bool
 answer mode access bytes None = is_machine mode
 answer mode access bytes (Some guard) =
     list_all guard.region bytes && entry_grants guard.entry mode access
 
--- the least entry whose region meets any byte of the access decides
+-- whether a mode is granted an access to `count` bytes from `first` on: the lowest-numbered entry whose region has any of
+-- these bytes decides
 unfoldable pub grants : PmpState → Mode → Access → ℕ → ℕ → Bool
 grants pmp mode access first count =
     let bytes = bytes_from first count in
     answer mode access bytes (find (λ guard. list_any guard.region bytes) (guards_from 0 pmp.entries))
 
--- an entry is locked
+-- whether any entry is locked
 abbrev pub locks : PmpState → Bool
 locks pmp = list_any (λ entry. entry.locked) pmp.entries
 
--- ---- the registers: pmpcfg0 to pmpcfg3, of four entries each from the low byte on, and pmpaddr0 to pmpaddr15
+-- ---- the registers: pmpcfg0 to pmpcfg3, each with the configuration bytes of four entries, low byte first; and pmpaddr0
+-- to pmpaddr15
 
--- the register at an address of the control registers
+-- the register at an address of the control registers, if there is one
 unfoldable pub register_at : ℕ → Option PmpRegister
 register_at addr =
     if nat_le 0x3A0 addr && nat_le addr 0x3A3 then Some (Config (4 * (addr - 0x3A0)))
     else (if nat_le 0x3B0 addr && nat_le addr 0x3BF then Some (Address (addr - 0x3B0))
     else None)
 
--- what is read of an entry: 0 where there is none
+-- the configuration byte of the entry at a place, and its address register: 0 if there is no entry
 abbrev pub config_at : PmpState → ℕ → ℕ
 config_at pmp place = option_map_or config_byte (slice_get pmp.entries place) 0
 
 abbrev pub address_at : PmpState → ℕ → ℕ
 address_at pmp place = option_map_or (λ entry. entry.address) (slice_get pmp.entries place) 0
 
+-- the value of a register
 abbrev pub word_of : PmpState → PmpRegister → ℕ
 word_of pmp (Config first) =
     config_at pmp first + config_at pmp (first + 1) * 2 ^ 8 + config_at pmp (first + 2) * 2 ^ 16
     + config_at pmp (first + 3) * 2 ^ 24
 word_of pmp (Address place) = address_at pmp place
 
--- the entries with the one at a place changed, where there is one
+-- the entries with the one at a place changed, if there is one
 abbrev pub changed_at : List Entry → ℕ → (Entry → Entry) → List Entry
 changed_at entries place change = option_map_or (λ entry. slice_set entries place (change entry)) (slice_get entries place) entries
 
--- a byte of a word
+-- byte i of a word, from 0 for the lowest
 abbrev pub byte_of : ℕ → ℕ → ℕ
 byte_of word i = word / 2 ^ (8 * i) % 2 ^ 8
 
+-- the entries after a write to the configuration byte of the one at a place
 unfoldable pub with_config : List Entry → ℕ → ℕ → List Entry
 with_config entries place byte = changed_at entries place (λ entry. configured entry byte)
 
--- the entry at a place is locked, and its region begins at the address of the one before
+-- whether the entry at a place is locked and its region begins at the address of the entry before
 unfoldable pub is_locked_top : List Entry → ℕ → Bool
 is_locked_top entries place = option_map_or (λ entry. entry.locked && is_top entry.matching) (slice_get entries place) false
 
+-- the entries after a write to the address register of the one at a place: unchanged if a locked region begins there
 unfoldable pub with_address : List Entry → ℕ → ℕ → List Entry
 with_address entries place word =
     if is_locked_top entries (place + 1) then entries
     else changed_at entries place (λ entry. addressed entry word)
 
--- the entries after a word was written to a register
+-- the entries after a write of a word to a register
 unfoldable pub with_word : List Entry → PmpRegister → ℕ → List Entry
 with_word entries (Config first) word =
     let one = with_config entries first (byte_of word 0) in
@@ -114,15 +121,15 @@ with_word entries (Config first) word =
     with_config three (first + 3) (byte_of word 3)
 with_word entries (Address place) word = with_address entries place word
 
--- what a read at an address gives, if a register is there
+-- the value that a read at an address gives, if a register is there
 unfoldable pub load : PmpState → ℕ → Option ℕ
 load pmp addr = option_map (word_of pmp) (register_at addr)
 
--- what a write at an address leaves, if a register is there
+-- the registers after a write at an address, if a register is there
 unfoldable pub store : PmpState → ℕ → ℕ → Option PmpState
 store pmp addr word = option_map (λ register. record { entries = with_word pmp.entries register word }) (register_at addr)
 
--- a write that answers so leaves the registers so
+-- the result of a write at an address, and the registers after it: None if no register is there
 abbrev pub Stores : PmpState → ℕ → ℕ → PmpState → Option Unit → Type 0
 Stores old addr word new (Some done) = store old addr word ≡ Some new
 Stores old addr word new None = (store old addr word ≡ None) × (new ≡ old)

@@ -1,13 +1,24 @@
--- The span of bytes that the code keeps beside an entry, computed when a register is written: its region.
+-- Spans of bytes, and the region of an entry as a span, which the code computes when a register is written.
 -- Not to audit: private contracts alone cite this.
-use Rattle.std.specs.Prelude.{ℕ, ◌+◌, ◌-◌, ◌*◌, ◌^◌, nat_lt, if◌then◌else◌}
+use Rattle.std.specs.Prelude.{ℕ, ◌+◌, ◌-◌, ◌*◌, ◌^◌, Bool, ◌&&◌, nat_le, nat_lt, if◌then◌else◌}
 use Rattle.rv_pmp.specs.declared.entry.Entry.{Entry}
 use Rattle.rv_pmp.specs.declared.entry.Matching.{Matching}
 use Rattle.rv_pmp.specs.declared.entry.Matching.TheVariants.{Off, Tor, Na4, Napot}
 use Rattle.rv_pmp.specs.declared.span.Span.{Span}
 use Rattle.rv_pmp.specs.Entry.{trailing_ones}
-use Rattle.rv_pmp.specs.Window.{no_bytes}
 
+abbrev pub no_bytes : Span
+no_bytes = record { first = 0; end = 0 }
+
+-- whether all bytes from `first` up to but not including `end` are in the span
+abbrev pub holds : Span → ℕ → ℕ → Bool
+holds span first end = nat_le span.first first && nat_le end span.end
+
+-- whether any of these bytes is in the span
+abbrev pub meets : Span → ℕ → ℕ → Bool
+meets span first end = nat_lt span.first end && nat_lt first span.end
+
+-- the region of an entry that matches in this way, where `lower` is the address register of the entry before
 abbrev pub span : Matching → ℕ → ℕ → Span
 span Off lower address = no_bytes
 span Tor lower address = if nat_lt lower address then record { first = 4 * lower; end = 4 * address } else no_bytes

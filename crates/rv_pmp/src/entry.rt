@@ -1,26 +1,27 @@
-//! An entry, and the span of bytes that it protects.
+//! An entry: its registers' fields, and what it grants.
 ghost use Rattle.std.specs.Prelude.{◌≡◌};
 ghost use Rattle.rv_pmp.specs.Entry.{matching_code, matching_of, config_byte, entry_grants};
 ghost use Rattle.rv_pmp.specs.Entry as spec;
-ghost use Rattle.rv_pmp.specs.Kept.{is_matching};
+ghost use Rattle.rv_pmp.specs.ActiveEntries.{is_matching};
 
 use crate::{Access, Mode};
 
-/// How an entry's address is matched: the field A of its configuration byte. Privileged Architecture 20211203, section
-/// 3.7.1.
+/// The ways to match addresses: the field A of a configuration byte. Privileged Architecture 20211203, section 3.7.1.
 #[derive(Clone, Copy)]
 pub enum Matching {
-    /// No byte.
+    /// OFF: no byte.
     Off,
-    /// The bytes from the address of the entry before, or from 0 for the first entry, up to but not including its own.
+    /// TOR: the bytes from the address of the entry before, or from 0 for the first entry, up to but not including the
+    /// entry's own address.
     Tor,
-    /// The four bytes at its address.
+    /// NA4: the four bytes at the entry's address.
     Na4,
-    /// A power of two of bytes, 8 or more, of which the trailing ones of the address tell how many.
+    /// NAPOT: 2^(k + 3) bytes, where the address register ends in k ones, from a multiple of their number on.
     Napot,
 }
 
 impl Matching {
+    /// Returns the value of the field A.
     fn code(self) -> u8
         ensures { result ≡ matching_code self }
     {
@@ -36,12 +37,10 @@ impl Matching {
     pub(crate) fn is_top(self) -> bool
         ensures { result ≡ spec.is_top self }
     {
-        match self {
-            Matching::Tor => true,
-            Matching::Off | Matching::Na4 | Matching::Napot => false,
-        }
+        matches!(self, Matching::Tor)
     }
 
+    /// Returns the way that a value of the field A, less than 4, stands for.
     #[tactic(auto, unfolding(crate::specs::Entry::matching_of))]
     fn of(code: u8) -> Matching
         ensures { result ≡ matching_of code }
@@ -55,7 +54,7 @@ impl Matching {
     }
 }
 
-/// An entry as its registers hold it: the address register, and the configuration byte's fields. Privileged
+/// An entry as its registers hold it: the address register, and the fields of the configuration byte. Privileged
 /// Architecture 20211203, section 3.7.1.
 #[derive(Clone, Copy)]
 pub struct Entry {
@@ -74,6 +73,7 @@ pub struct Entry {
 }
 
 impl Entry {
+    /// An entry whose registers are zero. It matches no address.
     pub(crate) const OFF: Entry = Entry {
         address: 0,
         readable: false,
@@ -87,13 +87,10 @@ impl Entry {
     pub(crate) fn is_on(&self) -> bool
         ensures { result ≡ is_matching self.now.matching }
     {
-        match self.matching {
-            Matching::Off => false,
-            Matching::Tor | Matching::Na4 | Matching::Napot => true,
-        }
+        !matches!(self.matching, Matching::Off)
     }
 
-    /// The configuration byte.
+    /// Encodes the fields as the configuration byte.
     #[tactic(auto, unfolding(crate::specs::Entry::config_byte))]
     pub(crate) fn config(&self) -> u8
         ensures { result ≡ config_byte self.now }
@@ -105,9 +102,10 @@ impl Entry {
             + self.locked as u8 * 128
     }
 
-    /// The entry after a write to its configuration byte.
+    /// Returns the entry after a write to its configuration byte. A locked entry stays as it is, and W is kept only
+    /// together with R.
     #[tactic(auto, unfolding(crate::specs::Entry::configured))]
-    pub(crate) fn configured(self, byte: u8) -> Entry
+    pub(crate) fn with_config(self, byte: u8) -> Entry
         ensures { result ≡ spec.configured self byte }
     {
         if self.locked {
@@ -124,9 +122,9 @@ impl Entry {
         }
     }
 
-    /// The entry after a write to its address register.
+    /// Returns the entry after a write to its address register. A locked entry stays as it is.
     #[tactic(auto, unfolding(crate::specs::Entry::addressed))]
-    pub(crate) fn addressed(self, word: u32) -> Entry
+    pub(crate) fn with_address(self, word: u32) -> Entry
         ensures { result ≡ spec.addressed self word }
     {
         Entry {
@@ -135,14 +133,14 @@ impl Entry {
         }
     }
 
-    /// Whether the entry, where it holds all bytes of an access, grants it.
+    /// Whether the entry grants a mode an access whose bytes are all in its region.
     pub(crate) fn grants(&self, mode: Mode, access: Access) -> bool
         ensures { result ≡ entry_grants self.now mode access }
     {
         mode.is_machine() && !self.locked || self.permits(access)
     }
 
-    /// The bit of a kind of access.
+    /// Returns the bit for a kind of access: R, W or X.
     pub(crate) fn permits(&self, access: Access) -> bool
         ensures { result ≡ spec.permits self.now access }
     {

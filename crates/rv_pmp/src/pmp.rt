@@ -1,52 +1,53 @@
-//! The entries, and what they grant.
+//! The registers of protection, and what they grant.
 ghost use Rattle.std.specs.Prelude.{◌≡◌, ℕ, ◌+◌, ◌-◌, ◌^◌, ◌<◌, true};
 ghost use Rattle.rv_isa.specs.Width.{bytes_of};
-ghost use Rattle.rv_pmp.specs.Kept.{some_on, some_locked, actives_from, decided};
+ghost use Rattle.rv_pmp.specs.ActiveEntries.{some_on, some_locked, actives_from, decision};
 ghost use Rattle.rv_pmp.specs.Pmp.{PmpState, reset, grants, locks, load, config_at, with_config, with_address, with_word, AllReadable, WritableIsReadable, Stores};
 ghost use Rattle.rv_pmp.specs.Pmp as spec;
-ghost use Rattle.rv_pmp.specs.Free.{AreForward, IsWindow};
-ghost use Rattle.rv_pmp.specs.Window.{IsGranted, IsWidest};
+ghost use Rattle.rv_pmp.specs.WidestSpan.{AreForward, IsWidestSpan};
+ghost use Rattle.rv_pmp.specs.PermissionCache.{IsGranted, IsWidest};
 ghost use Rattle.rv_pmp.specs.declared.access.Access.{Access};
-ghost use Rattle.rv_pmp.specs.declared.access.Mode.{Mode};
-ghost use Rattle.rv_pmp.specs.declared.access.Mode.TheVariants.{User};
+ghost use Rattle.rv_pmp.specs.declared.mode.Mode.{Mode};
+ghost use Rattle.rv_pmp.specs.declared.mode.Mode.TheVariants.{User};
 
-use crate::active::{Active, Actives};
+use crate::active_entries::{ActiveEntries, ActiveEntry};
 use crate::entry::Entry;
+use crate::permission_cache::PermissionCache;
 use crate::register::PmpRegister;
 use crate::span::Span;
-use crate::windows::Windows;
 use crate::{Access, Mode};
 use rv_isa::Width;
 use std::marker::Model;
 
-/// How many entries there are.
+/// The number of entries.
 pub(crate) const ENTRIES: usize = 16;
 
-/// The registers of physical memory protection. Beside them stand the entries that match addresses, with the spans of
-/// their regions, so that an access computes none and asks no other entry; and spans in which user mode is granted
-/// accesses, so that most of its accesses ask none.
+/// The registers of physical memory protection.
+///
+/// What most accesses need is computed when a register is written: the entries that match addresses, with the spans of
+/// their regions, and whether any entry is on or locked. The permission cache answers most accesses of user mode.
 #[derive(Drop)]
 pub struct Pmp {
     entries: [Entry; ENTRIES],
-    actives: Actives,
+    actives: ActiveEntries,
     any_on: bool,
     any_locked: bool,
-    windows: Windows,
+    permissions: PermissionCache,
 }
 
 impl Model for Pmp {
     ghost use Rattle.rv_pmp.specs.Pmp.{PmpState};
-    ghost use Rattle.rv_pmp.specs.Kept.{IsKept};
+    ghost use Rattle.rv_pmp.specs.ActiveEntries.{IsConsistent};
 
     ghost Value = { PmpState };
 
     ghost view = { λ p. record { entries = p.entries } };
 
-    ghost invariant = { λ p. IsKept p.entries p.actives p.any_on p.any_locked p.windows };
+    ghost invariant = { λ p. IsConsistent p.entries p.actives p.any_on p.any_locked p.permissions };
 }
 
 impl Pmp {
-    /// The registers after a reset: all zero, so that no entry protects anything.
+    /// Creates the registers as they are after a reset: all zero, so that no entry protects anything.
     pub fn new() -> Pmp
         ensures reset { result ≡ reset }
         ensures readable { WritableIsReadable result }
@@ -54,49 +55,44 @@ impl Pmp {
         Pmp::of([Entry::OFF; ENTRIES])
     }
 
-    /// These entries, with what is kept beside them.
+    /// Computes all that is kept beside the entries, with an empty permission cache.
     fn of(entries: [Entry; ENTRIES]) -> Pmp
         requires { AllReadable entries }
         ensures { result ≡ record { entries = entries } }
     {
         Pmp {
             entries,
-            actives: Actives::of(&entries),
+            actives: ActiveEntries::of(&entries),
             any_on: any_on(&entries),
             any_locked: any_locked(&entries),
-            windows: Windows::new(),
+            permissions: PermissionCache::new(),
         }
     }
 
-    /// What a read of the control register at an address gives, or None where that is no register of protection.
+    /// Reads the control register at address `addr`. Returns None if no register of protection is there.
     #[tactic(auto, unfolding(crate::specs::Pmp::load))]
     pub fn read_csr(&self, addr: u16) -> Option<u32>
         ensures value { result ≡ load self.now addr }
     {
-        match PmpRegister::at(addr) {
-            Some(register) => Some(self.word(register)),
-            None => None,
-        }
+        PmpRegister::at(addr).map(|register| self.word(register))
     }
 
-    /// Writes the control register at an address: a locked entry's part stays as it is, and so does an address where
-    /// the region of a locked entry begins. None where that is no register of protection: nothing has changed.
+    /// Writes the control register at address `addr`. The registers of a locked entry stay as they are, and so does the
+    /// address at which the region of a locked entry begins. Returns None, and changes nothing, if no register of
+    /// protection is there.
     #[tactic(auto, unfolding(crate::specs::Pmp::store))]
     pub fn write_csr(&mut self, addr: u16, value: u32) -> Option<()>
         ensures stored { Stores self.old addr value self.new result }
         ensures readable { WritableIsReadable self.new }
     {
         let mut entries = self.entries;
-        match PmpRegister::at(addr) {
-            Some(register) => {
-                write_word(&mut entries, register, value);
-                *self = Pmp::of(entries);
-                Some(())
-            }
-            None => None,
-        }
+        let register = PmpRegister::at(addr)?;
+        write_word(&mut entries, register, value);
+        *self = Pmp::of(entries);
+        Some(())
     }
 
+    /// Returns the value of a register.
     fn word(&self, register: PmpRegister) -> u32
         ensures { result ≡ spec.word_of self.now register }
     {
@@ -108,45 +104,43 @@ impl Pmp {
                     + ((self.config(first + 2) as u32) << 16)
                     + ((self.config(first + 3) as u32) << 24)
             }
-            PmpRegister::Address(place) => match self.entries.get(place as usize) {
-                Some(entry) => entry.address,
-                None => 0,
-            },
+            PmpRegister::Address(place) => self
+                .entries
+                .get(place as usize)
+                .map_or(0, |entry| entry.address),
         }
     }
 
+    /// Returns the configuration byte of the entry at `place`, or 0 if there is none.
     fn config(&self, place: usize) -> u8
         ensures { result ≡ config_at self.now place }
     {
-        match self.entries.get(place) {
-            Some(entry) => entry.config(),
-            None => 0,
-        }
+        self.entries.get(place).map_or(0, |entry| entry.config())
     }
 
-    /// Whether an entry is locked. Where none is, machine mode is granted every access at a multiple of its width.
+    /// Whether any entry is locked. If none is, machine mode is granted every access at a multiple of its width.
     pub fn locks(&self) -> bool
         ensures { result ≡ locks self.now }
     {
         self.any_locked
     }
 
-    /// Whether a mode may access the bytes of this width from an address on, which may be any.
+    /// Whether `mode` is granted access to `width` bytes from address `addr` on, which needn't be aligned.
     #[inline(always)]
-    #[tactic(auto, using(crate::proofs::Decided::quick_answers))]
-    pub fn allowed(&self, mode: Mode, access: Access, addr: u32, width: Width) -> bool
+    #[tactic(auto, using(crate::proofs::Decision::quick_answers))]
+    pub fn allows(&self, mode: Mode, access: Access, addr: u32, width: Width) -> bool
         ensures { result ≡ grants self.now mode access addr (bytes_of width) }
     {
         if !self.any_on {
             return mode.is_machine();
         }
-        self.granted(mode, access, addr, width)
+        self.entries_grant(mode, access, addr, width)
     }
 
-    /// What the entries grant. It is apart, so that `allowed` stays short where none is on.
+    /// Whether the entries grant the access. Out of line, so that `allows` stays short for when no entry is on.
     #[inline(never)]
-    #[tactic(auto, using(crate::proofs::Decided::quick_answers))]
-    fn granted(&self, mode: Mode, access: Access, addr: u32, width: Width) -> bool
+    #[tactic(auto, using(crate::proofs::Decision::quick_answers))]
+    fn entries_grant(&self, mode: Mode, access: Access, addr: u32, width: Width) -> bool
         ensures { result ≡ grants self.now mode access addr (bytes_of width) }
     {
         let bytes = width.bytes();
@@ -166,10 +160,10 @@ impl Pmp {
         }
     }
 
-    /// What `allowed` answers. Where user mode is granted an access, the span round it in which it is granted all of that
-    /// kind is kept, so that the next ones there ask no entry.
+    /// Returns what `allows` does, by the permission cache. If user mode is granted an access, the cache keeps the span
+    /// round it in which user mode is granted all accesses of that kind, so that the next ones there ask no entry.
     #[inline(always)]
-    #[tactic(auto, using(crate::proofs::Widest::within))]
+    #[tactic(auto, using(crate::proofs::Widest::granted_within))]
     pub fn admits(&mut self, mode: Mode, access: Access, addr: u32, width: Width) -> bool
         ensures value { result ≡ grants self.old mode access addr (bytes_of width) }
         ensures kept { self.new ≡ self.old }
@@ -178,47 +172,49 @@ impl Pmp {
             Mode::User => {
                 let first = addr as u64;
                 let end = first + width.bytes() as u64;
-                self.windows.of(access).holds(first, end) || self.admits_user(access, addr, width)
+                self.permissions.span_for(access).holds(first, end)
+                    || self.admits_user(access, addr, width)
             }
-            Mode::Machine => self.allowed(mode, access, addr, width),
+            Mode::Machine => self.allows(mode, access, addr, width),
         }
     }
 
-    /// What the entries grant user mode, outside of the span that is kept. It is apart, since few accesses are.
+    /// Whether the entries grant user mode the access, which is outside of the span in the permission cache. Out of line,
+    /// since few accesses are.
     #[inline(never)]
-    #[tactic(auto, using(crate::proofs::Widest::asked))]
+    #[tactic(auto, using(crate::proofs::Widest::holds_widest))]
     fn admits_user(&mut self, access: Access, addr: u32, width: Width) -> bool
         ensures value { result ≡ grants self.old User access addr (bytes_of width) }
         ensures kept { self.new ≡ self.old }
     {
         let first = addr as u64;
-        let window = self.user_window(access, addr);
-        let granted = window.holds(first, first + width.bytes() as u64);
+        let span = self.widest_user_span(access, addr);
+        let granted = span.holds(first, first + width.bytes() as u64);
         if granted {
-            self.windows.keep(access, window);
+            self.permissions.keep(access, span);
         }
         granted
     }
 
-    /// The widest span of bytes round an address in which user mode is granted all accesses of a kind. Where it isn't granted
-    /// the byte there, no bytes.
-    #[tactic(auto, using(crate::proofs::Widest::window_clauses))]
-    fn user_window(&self, access: Access, addr: u32) -> Span
+    /// Returns the widest span round `addr` in which user mode is granted all accesses of a kind: no bytes if it isn't
+    /// granted the byte at `addr`.
+    #[tactic(auto, using(crate::proofs::Widest::widest_clauses))]
+    fn widest_user_span(&self, access: Access, addr: u32) -> Span
         ensures granted { IsGranted self.now access result }
         ensures widest { IsWidest self.now access addr result }
     {
-        window(self.actives(), access, addr as u64)
+        widest_span(self.actives(), access, addr as u64)
     }
 
-    /// The entries that match addresses.
-    fn actives(&self) -> &[Active]
+    /// Returns the entries that match addresses.
+    fn actives(&self) -> &[ActiveEntry]
         ensures { result.now ≡ actives_from 0 self.now.entries }
     {
         self.actives.as_slice()
     }
 }
 
-/// Writes a register.
+/// Writes `word` to a register.
 #[tactic(auto, unfolding(crate::specs::Pmp::with_word))]
 fn write_word(entries: &mut [Entry; ENTRIES], register: PmpRegister, word: u32)
     requires { AllReadable entries.old }
@@ -237,6 +233,7 @@ fn write_word(entries: &mut [Entry; ENTRIES], register: PmpRegister, word: u32)
     }
 }
 
+/// Returns byte `place` of a word, from 0 for the lowest.
 fn byte_of(word: u32, place: u32) -> u8
     requires { place < 4 }
     ensures { result ≡ spec.byte_of word place }
@@ -244,7 +241,7 @@ fn byte_of(word: u32, place: u32) -> u8
     (word >> (8 * place) & 0xFF) as u8
 }
 
-/// Writes the configuration byte of the entry at a place, if there is one.
+/// Writes the configuration byte of the entry at `place`, if there is one.
 #[tactic(auto, using(crate::proofs::Writes::config_steps))]
 fn set_config(entries: &mut [Entry; ENTRIES], place: usize, byte: u8)
     requires { AllReadable entries.old }
@@ -252,11 +249,11 @@ fn set_config(entries: &mut [Entry; ENTRIES], place: usize, byte: u8)
     ensures readable { AllReadable entries.new }
 {
     if place < ENTRIES {
-        entries[place] = entries[place].configured(byte);
+        entries[place] = entries[place].with_config(byte);
     }
 }
 
-/// Writes the address of the entry at a place, if there is one, unless a locked region begins there.
+/// Writes the address register of the entry at `place`, if there is one, unless a locked region begins at that address.
 #[tactic(auto, using(crate::proofs::Writes::address_steps))]
 fn set_address(entries: &mut [Entry; ENTRIES], place: usize, word: u32)
     requires small { place < 2 ^ 8 }
@@ -265,30 +262,30 @@ fn set_address(entries: &mut [Entry; ENTRIES], place: usize, word: u32)
     ensures readable { AllReadable entries.new }
 {
     if place < ENTRIES && !is_locked_top(entries, place + 1) {
-        entries[place] = entries[place].addressed(word);
+        entries[place] = entries[place].with_address(word);
     }
 }
 
-/// Whether the entry at a place is locked, and its region begins at the address of the one before.
+/// Whether the entry at `place` is locked and its region begins at the address of the entry before.
 #[tactic(auto, unfolding(crate::specs::Pmp::is_locked_top))]
 fn is_locked_top(entries: &[Entry; ENTRIES], place: usize) -> bool
     ensures { result ≡ spec.is_locked_top entries.now place }
 {
-    match entries.get(place) {
-        Some(entry) => entry.locked && entry.matching.is_top(),
-        None => false,
-    }
+    entries
+        .get(place)
+        .is_some_and(|entry| entry.locked && entry.matching.is_top())
 }
 
-/// Bytes that are granted together are granted one by one.
-#[tactic(auto, using(crate::proofs::Decided::grants_each))]
+/// Law: bytes that are granted together are granted one by one.
+#[tactic(auto, using(crate::proofs::Decision::grants_each))]
 pub fn bytes_are_granted_alone()
-    ensures { (pmp : PmpState) (mode : Mode) (access : Access) (first count i : ℕ) → i < count → grants pmp mode access first count ≡ true → grants pmp mode access (first + i) 1 ≡ true }
+    ensures { (pmp : PmpState) (mode : Mode) (access : Access) (first count i : ℕ)
+        → i < count → grants pmp mode access first count ≡ true → grants pmp mode access (first + i) 1 ≡ true }
 {}
 
-/// What the first entry answers that has some of the bytes.
-fn decide(actives: &[Active], mode: Mode, access: Access, first: u64, end: u64) -> Option<bool>
-    ensures { result ≡ decided mode access first end actives.now }
+/// Returns the answer of the first entry that has some of the bytes from `first` up to but not including `end`.
+fn decide(actives: &[ActiveEntry], mode: Mode, access: Access, first: u64, end: u64) -> Option<bool>
+    ensures { result ≡ decision mode access first end actives.now }
 {
     for active in actives {
         if let Some(granted) = active.answer(mode, access, first, end) {
@@ -298,31 +295,31 @@ fn decide(actives: &[Active], mode: Mode, access: Access, first: u64, end: u64) 
     None
 }
 
-/// The widest span of bytes round an address that user mode may access so: what the first entry that has the address
-/// leaves of the bytes that no entry before it has.
-fn window(actives: &[Active], access: Access, addr: u64) -> Span
+/// Returns the widest span round `addr` in which the entries grant user mode the access: the permitted part, of the first
+/// entry that has `addr`, of the bytes that no entry before it has.
+fn widest_span(actives: &[ActiveEntry], access: Access, addr: u64) -> Span
     requires small { addr < 2 ^ 64 - 1 }
     requires forward { AreForward actives.now }
-    ensures { IsWindow actives.now access addr result }
+    ensures { IsWidestSpan actives.now access addr result }
 {
     let mut free = Span::ALL_BYTES;
     for active in actives {
         if active.span.has(addr) {
-            return active.leaves(access, free);
+            return active.permitted_part(access, free);
         }
-        free = free.beside(active.span, addr);
+        free = free.part_beside(active.span, addr);
     }
     Span::NO_BYTES
 }
 
-/// Whether some entry matches addresses.
+/// Whether any entry matches addresses.
 fn any_on(entries: &[Entry; ENTRIES]) -> bool
     ensures { result ≡ some_on entries.now }
 {
     entries.iter().any(|entry| entry.is_on())
 }
 
-/// Whether some entry is locked.
+/// Whether any entry is locked.
 fn any_locked(entries: &[Entry; ENTRIES]) -> bool
     ensures { result ≡ some_locked entries.now }
 {

@@ -1,8 +1,8 @@
-//! The registers of protection among the control registers. Privileged Architecture 20211203, section 3.7.1.
+//! The control registers of protection. Privileged Architecture 20211203, section 3.7.1.
 ghost use Rattle.std.specs.Prelude.{◌≡◌};
 ghost use Rattle.rv_pmp.specs.Pmp.{register_at};
 
-/// A register of protection, with the entry that it belongs to: the first of four for a configuration register.
+/// A control register of protection, with the entry that it belongs to: the first of four for a configuration register.
 #[derive(Clone, Copy)]
 pub enum PmpRegister {
     /// One of pmpcfg0 to pmpcfg3: the configuration bytes of four entries from this one on, low byte first.
@@ -12,7 +12,7 @@ pub enum PmpRegister {
 }
 
 impl PmpRegister {
-    /// The register at an address of the control registers, if there is one.
+    /// Returns the register at address `addr` of the control registers, or None if no register of protection is there.
     #[tactic(auto, unfolding(crate::specs::Pmp::register_at))]
     pub(crate) fn at(addr: u16) -> Option<PmpRegister>
         ensures { result ≡ register_at addr }

@@ -1,15 +1,13 @@
-//! Spans of bytes: those that an entry protects, computed when one of its registers is written, and what they leave.
+//! Spans of bytes: the region of an entry, and the parts of spans.
 ghost use Rattle.std.specs.Prelude.{◌≡◌, ◌+◌, ◌<◌, ◌≤◌, ◌^◌};
 ghost use Rattle.rv_pmp.specs.Entry.{is_between};
 ghost use Rattle.rv_pmp.specs.Entry as ones;
-ghost use Rattle.rv_pmp.specs.Free as spec;
-ghost use Rattle.rv_pmp.specs.Kept.{meets};
-ghost use Rattle.rv_pmp.specs.Span.{span_of};
-ghost use Rattle.rv_pmp.specs.Window.{holds};
+ghost use Rattle.rv_pmp.specs.WidestSpan as spec;
+ghost use Rattle.rv_pmp.specs.Span.{holds, meets, span_of};
 
 use crate::entry::{Entry, Matching};
 
-/// The bytes from a first one up to but not including an end.
+/// The bytes from `first` up to but not including `end`.
 #[derive(Clone, Copy)]
 pub(crate) struct Span {
     pub(crate) first: u64,
@@ -20,13 +18,13 @@ impl Span {
     /// No bytes.
     pub(crate) const NO_BYTES: Span = Span { first: 0, end: 0 };
 
-    /// The bytes below the greatest end.
+    /// The bytes below the greatest end, more than there are addresses.
     pub(crate) const ALL_BYTES: Span = Span {
         first: 0,
         end: u64::MAX,
     };
 
-    /// The region of an entry, where `lower` is the address register of the entry before.
+    /// Computes the region of an entry, where `lower` is the address register of the entry before.
     #[tactic(auto, unfolding(crate::specs::Span::span_of))]
     pub(crate) fn of(lower: u32, entry: Entry) -> Span
         ensures { result ≡ span_of lower entry }
@@ -82,9 +80,9 @@ impl Span {
         self.first <= addr && addr < self.end
     }
 
-    /// The bytes that are in both.
-    pub(crate) fn common(self, other: Span) -> Span
-        ensures { result ≡ spec.common self other }
+    /// Returns the bytes that are in both spans.
+    pub(crate) fn intersection(self, other: Span) -> Span
+        ensures { result ≡ spec.intersection self other }
     {
         Span {
             first: self.first.max(other.first),
@@ -92,9 +90,9 @@ impl Span {
         }
     }
 
-    /// The bytes of this span on the side of an address up to another span, which doesn't have it.
-    pub(crate) fn beside(self, other: Span, addr: u64) -> Span
-        ensures { result ≡ spec.beside self other addr }
+    /// Returns the part of this span that has `addr` and ends at `other`, a span without `addr`.
+    pub(crate) fn part_beside(self, other: Span, addr: u64) -> Span
+        ensures { result ≡ spec.part_beside self other addr }
     {
         if other.end <= addr {
             Span {
@@ -110,7 +108,7 @@ impl Span {
     }
 }
 
-/// How many of the lowest bits are ones, up to the first zero.
+/// Counts the lowest bits that are ones, up to the first zero.
 fn trailing_ones(number: u32) -> u32
     ensures value { result ≡ ones.trailing_ones 32 number }
     ensures at_most { result ≤ 32 }

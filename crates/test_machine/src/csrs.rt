@@ -125,7 +125,7 @@ fn protection_is_among_the_registers(rt: HostRuntime) -> Result<(), Fail> {
     assert_eq!(rt; read(&csrs, 0x3A0), Some(0x1F));
     assert!(rt;
         csrs.pmp()
-            .allowed(Mode::User, Access::Execute, 0xFFFF_FFFC, Width::Four)
+            .allows(Mode::User, Access::Execute, 0xFFFF_FFFC, Width::Four)
     );
     assert!(rt; csrs.traps_wfi());
     Ok(())

@@ -39,15 +39,15 @@ fn a_locked_region_stays(rt: HostRuntime) -> Result<(), Fail> {
     assert_eq!(rt; pmp.read_csr(ADDRESS_2), Some(0x2000_0000));
     assert_eq!(rt; pmp.read_csr(ADDRESS_3), Some(0x2000_0400));
     assert_eq!(rt; pmp.read_csr(CONFIG_0), Some(0x8900_0007));
-    assert!(rt; !pmp.allowed(Mode::Machine, Access::Write, 0x8000_0000, Width::Four));
-    assert!(rt; pmp.allowed(Mode::Machine, Access::Read, 0x8000_0000, Width::Four));
+    assert!(rt; !pmp.allows(Mode::Machine, Access::Write, 0x8000_0000, Width::Four));
+    assert!(rt; pmp.allows(Mode::Machine, Access::Read, 0x8000_0000, Width::Four));
     Ok(())
 }
 
 #[test]
 fn all_ones_hold_all_addresses(rt: HostRuntime) -> Result<(), Fail> {
     let pmp = after(&rt, &[(ADDRESS_0, 0xFFFF_FFFF), (CONFIG_0, 0x1F)]);
-    assert!(rt; pmp.allowed(Mode::User, Access::Execute, 0xFFFF_FFFC, Width::Four));
+    assert!(rt; pmp.allows(Mode::User, Access::Execute, 0xFFFF_FFFC, Width::Four));
     Ok(())
 }
 
@@ -61,17 +61,17 @@ fn a_region_that_ends_before_it_begins_is_empty(rt: HostRuntime) -> Result<(), F
             (CONFIG_0, 0x0F00),
         ],
     );
-    assert!(rt; !pmp.allowed(Mode::User, Access::Read, 0x8000_0000, Width::Four));
-    assert!(rt; pmp.allowed(Mode::Machine, Access::Read, 0x8000_0000, Width::Four));
+    assert!(rt; !pmp.allows(Mode::User, Access::Read, 0x8000_0000, Width::Four));
+    assert!(rt; pmp.allows(Mode::Machine, Access::Read, 0x8000_0000, Width::Four));
     Ok(())
 }
 
 #[test]
 fn an_access_across_a_border_is_refused(rt: HostRuntime) -> Result<(), Fail> {
     let pmp = after(&rt, &[(ADDRESS_0, 0x2000_0000), (CONFIG_0, 0x11)]);
-    assert!(rt; !pmp.allowed(Mode::Machine, Access::Read, 0x8000_0002, Width::Four));
-    assert!(rt; pmp.allowed(Mode::Machine, Access::Write, 0x8000_0000, Width::Four));
-    assert!(rt; pmp.allowed(Mode::User, Access::Read, 0x8000_0000, Width::Four));
+    assert!(rt; !pmp.allows(Mode::Machine, Access::Read, 0x8000_0002, Width::Four));
+    assert!(rt; pmp.allows(Mode::Machine, Access::Write, 0x8000_0000, Width::Four));
+    assert!(rt; pmp.allows(Mode::User, Access::Read, 0x8000_0000, Width::Four));
     Ok(())
 }
 
@@ -93,8 +93,8 @@ fn the_high_entries_protect_too(rt: HostRuntime) -> Result<(), Fail> {
         let pmp = after(&rt, &[(0x3B4 + place, 0x2000_0001), (0x3A1, config)]);
         assert_eq!(rt; pmp.read_csr(0x3A1), Some(config));
         assert_eq!(rt; pmp.read_csr(0x3B4 + place), Some(0x2000_0001));
-        assert!(rt; pmp.allowed(Mode::User, Access::Read, 0x8000_0004, Width::Four));
-        assert!(rt; !pmp.allowed(Mode::Machine, Access::Write, 0x8000_0004, Width::One));
+        assert!(rt; pmp.allows(Mode::User, Access::Read, 0x8000_0004, Width::Four));
+        assert!(rt; !pmp.allows(Mode::Machine, Access::Write, 0x8000_0004, Width::One));
     }
     Ok(())
 }
@@ -102,10 +102,10 @@ fn the_high_entries_protect_too(rt: HostRuntime) -> Result<(), Fail> {
 #[test]
 fn four_bytes_are_four_bytes(rt: HostRuntime) -> Result<(), Fail> {
     let pmp = after(&rt, &[(ADDRESS_0, 0x2000_0001), (CONFIG_0, 0x91)]);
-    assert!(rt; pmp.allowed(Mode::Machine, Access::Write, 0x8000_0003, Width::One));
-    assert!(rt; !pmp.allowed(Mode::Machine, Access::Write, 0x8000_0004, Width::One));
-    assert!(rt; !pmp.allowed(Mode::Machine, Access::Write, 0x8000_0007, Width::One));
-    assert!(rt; pmp.allowed(Mode::Machine, Access::Write, 0x8000_0008, Width::One));
+    assert!(rt; pmp.allows(Mode::Machine, Access::Write, 0x8000_0003, Width::One));
+    assert!(rt; !pmp.allows(Mode::Machine, Access::Write, 0x8000_0004, Width::One));
+    assert!(rt; !pmp.allows(Mode::Machine, Access::Write, 0x8000_0007, Width::One));
+    assert!(rt; pmp.allows(Mode::Machine, Access::Write, 0x8000_0008, Width::One));
     Ok(())
 }
 
@@ -122,9 +122,9 @@ fn a_high_top_begins_at_the_entry_before(rt: HostRuntime) -> Result<(), Fail> {
         ],
     );
     assert_eq!(rt; pmp.read_csr(ADDRESS_3), Some(0x2000_0000));
-    assert!(rt; pmp.allowed(Mode::Machine, Access::Write, 0x7FFF_FFFC, Width::Four));
-    assert!(rt; !pmp.allowed(Mode::Machine, Access::Write, 0x8000_0000, Width::Four));
-    assert!(rt; !pmp.allowed(Mode::Machine, Access::Write, 0x8000_0FFC, Width::Four));
-    assert!(rt; pmp.allowed(Mode::Machine, Access::Write, 0x8000_1000, Width::Four));
+    assert!(rt; pmp.allows(Mode::Machine, Access::Write, 0x7FFF_FFFC, Width::Four));
+    assert!(rt; !pmp.allows(Mode::Machine, Access::Write, 0x8000_0000, Width::Four));
+    assert!(rt; !pmp.allows(Mode::Machine, Access::Write, 0x8000_0FFC, Width::Four));
+    assert!(rt; pmp.allows(Mode::Machine, Access::Write, 0x8000_1000, Width::Four));
     Ok(())
 }

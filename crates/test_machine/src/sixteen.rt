@@ -39,9 +39,9 @@ fn a_region_locked_by_entry_8_stays(rt: HostRuntime) {
     );
     assert_eq!(rt; pmp.read_csr(ADDRESS_7), Some(0x2000_0000));
     assert_eq!(rt; pmp.read_csr(ADDRESS_8), Some(0x2000_0400));
-    assert!(rt; pmp.allowed(Mode::User, Access::Read, 0x8000_0FFC, Width::Four));
-    assert!(rt; !pmp.allowed(Mode::User, Access::Read, 0x8000_1000, Width::Four));
-    assert!(rt; !pmp.allowed(Mode::Machine, Access::Write, 0x8000_0000, Width::Four));
+    assert!(rt; pmp.allows(Mode::User, Access::Read, 0x8000_0FFC, Width::Four));
+    assert!(rt; !pmp.allows(Mode::User, Access::Read, 0x8000_1000, Width::Four));
+    assert!(rt; !pmp.allows(Mode::Machine, Access::Write, 0x8000_0000, Width::Four));
 }
 
 #[test]
@@ -52,10 +52,10 @@ fn entry_15_goes_behind_entry_0(rt: HostRuntime) {
         &mut pmp,
         &[(ADDRESS_15, 0xFFFF_FFFF), (CONFIG_3, 0x1F00_0000)],
     );
-    assert!(rt; pmp.allowed(Mode::User, Access::Execute, 0x8000_0000, Width::Four));
+    assert!(rt; pmp.allows(Mode::User, Access::Execute, 0x8000_0000, Width::Four));
     write(&rt, &mut pmp, &[(ADDRESS_0, 0x2000_0000), (CONFIG_0, 0x10)]);
-    assert!(rt; !pmp.allowed(Mode::User, Access::Execute, 0x8000_0000, Width::Four));
-    assert!(rt; pmp.allowed(Mode::User, Access::Execute, 0x8000_0004, Width::Four));
+    assert!(rt; !pmp.allows(Mode::User, Access::Execute, 0x8000_0000, Width::Four));
+    assert!(rt; pmp.allows(Mode::User, Access::Execute, 0x8000_0004, Width::Four));
 }
 
 #[test]

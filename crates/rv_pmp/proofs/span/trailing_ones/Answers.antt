@@ -1,5 +1,5 @@
 use Rattle.std.proofs.Common.{◌≡◌, ◌∙◌, arith}
-use Rattle.rv_pmp.proofs.Ones.{trailing_ones-le, count_trailing_zeros-complement}
+use Rattle.rv_pmp.proofs.TrailingOnes.{trailing_ones-le, count_trailing_zeros-complement}
 use Rattle.rv_pmp.specs.Entry.{trailing_ones}
 use Rattle.rv_pmp.proofs.span.trailing_ones.Goals as goal
 

@@ -1,4 +1,4 @@
--- The decision by the spans that are kept is that of the regions.
+-- The decision by spans is the one by regions.
 use Rattle.std.proofs.Common.{◌≡◌, ℕ, zero, suc, ◌+◌, ◌-◌, ◌*◌, ◌%◌, ◌^◌, ◌<◌, ◌≤◌, ◌⊎◌, inl, inr, Bool, true, false, cond, List, [], ◌∷◌, length, drop, get_or, Option, Some, None, refl, ap, sym, subst, ◌∙◌, arith, add-one, add-zero, nat_lt, nat_le}
 use Rattle.std.specs.Prelude.{if◌then◌else◌, ◌&&◌, ◌||◌, find, unwrap_or}
 use Rattle.std.specs.List.{list_any, list_all}
@@ -9,27 +9,27 @@ use Rattle.rv_isa.specs.Width.{bytes_of}
 use Rattle.rv_isa.specs.declared.op.Width.{Width}
 use Rattle.rv_isa.specs.declared.op.Width.TheVariants.{One, Two, Four}
 use Rattle.rv_pmp.specs.declared.access.Access.{Access}
-use Rattle.rv_pmp.specs.declared.access.Mode.{Mode}
-use Rattle.rv_pmp.specs.declared.access.Mode.TheVariants.{Machine}
+use Rattle.rv_pmp.specs.declared.mode.Mode.{Mode}
+use Rattle.rv_pmp.specs.declared.mode.Mode.TheVariants.{Machine}
 use Rattle.rv_pmp.specs.declared.entry.Entry.{Entry}
 use Rattle.rv_pmp.specs.declared.entry.Matching.{Matching}
 use Rattle.rv_pmp.specs.declared.entry.Matching.TheVariants.{Off, Tor, Na4, Napot}
-use Rattle.rv_pmp.specs.declared.active.Active.{Active}
+use Rattle.rv_pmp.specs.declared.active_entries.ActiveEntry.{ActiveEntry}
 use Rattle.rv_pmp.specs.declared.span.Span.{Span}
-use Rattle.rv_pmp.specs.Entry.{is_machine, is_between, entry_grants, matched, region, trailing_ones}
-use Rattle.rv_pmp.specs.Kept.{is_matching, meets, answered, decided, some_on, some_locked, active_of, actives_from}
+use Rattle.rv_pmp.specs.Mode.{is_machine}
+use Rattle.rv_pmp.specs.Entry.{is_between, entry_grants, matched, region, trailing_ones}
+use Rattle.rv_pmp.specs.ActiveEntries.{is_matching, entry_answer, decision, some_on, some_locked, active_of, actives_from}
 use Rattle.rv_pmp.specs.Pmp.{PmpState, Guard, guards_from, bytes_from, answer, grants, locks}
-use Rattle.rv_pmp.specs.Span.{span, span_of}
-use Rattle.rv_pmp.specs.Window.{holds, no_bytes}
+use Rattle.rv_pmp.specs.Span.{span, span_of, holds, meets, no_bytes}
 
 -- ---- one step of the search
 
--- what the entry at a place answers, or the rest
-step : Mode → Access → ℕ → ℕ → Active → Option Bool → Option Bool
+-- the answer of the entry at a place, or of the rest
+step : Mode → Access → ℕ → ℕ → ActiveEntry → Option Bool → Option Bool
 step mode access first last a rest = if meets a.span first last then Some (holds a.span first last && entry_grants a.entry mode access) else rest
 
-step-some : (mode : Mode) (access : Access) (first last : ℕ) (a : Active) (rest : Option Bool) (granted : Bool)
-    → answered mode access first last a ≡ Some granted → step mode access first last a rest ≡ Some granted
+step-some : (mode : Mode) (access : Access) (first last : ℕ) (a : ActiveEntry) (rest : Option Bool) (granted : Bool)
+    → entry_answer mode access first last a ≡ Some granted → step mode access first last a rest ≡ Some granted
 unfolding step
 step-some mode access first last a rest granted h = go (meets a.span first last) h where
   go : (b : Bool) → (if b then Some (holds a.span first last && entry_grants a.entry mode access) else None) ≡ Some granted
@@ -37,8 +37,8 @@ step-some mode access first last a rest granted h = go (meets a.span first last)
   go true h = h
   go false h = cc
 
-step-none : (mode : Mode) (access : Access) (first last : ℕ) (a : Active) (rest : Option Bool)
-    → answered mode access first last a ≡ None → step mode access first last a rest ≡ rest
+step-none : (mode : Mode) (access : Access) (first last : ℕ) (a : ActiveEntry) (rest : Option Bool)
+    → entry_answer mode access first last a ≡ None → step mode access first last a rest ≡ rest
 unfolding step
 step-none mode access first last a rest h = go (meets a.span first last) h where
   go : (b : Bool) → (if b then Some (holds a.span first last && entry_grants a.entry mode access) else None) ≡ None
@@ -46,39 +46,39 @@ step-none mode access first last a rest h = go (meets a.span first last) h where
   go true h = cc
   go false h = refl
 
-decided-drop : (mode : Mode) (access : Access) (first last : ℕ) (xs : List Active) (i : ℕ) (a : Active) → i < length xs
-    → decided mode access first last (drop i xs)
-    ≡ step mode access first last (get_or xs i a) (decided mode access first last (drop (suc i) xs))
-unfolding decided step
-decided-drop mode access first last [] i a h = absurd (omega arith)
-decided-drop mode access first last (x ∷ xs) zero a h = refl
-decided-drop mode access first last (x ∷ xs) (suc i) a h = decided-drop mode access first last xs i a (omega arith)
+decision-drop : (mode : Mode) (access : Access) (first last : ℕ) (xs : List ActiveEntry) (i : ℕ) (a : ActiveEntry) → i < length xs
+    → decision mode access first last (drop i xs)
+    ≡ step mode access first last (get_or xs i a) (decision mode access first last (drop (suc i) xs))
+unfolding decision step
+decision-drop mode access first last [] i a h = absurd (omega arith)
+decision-drop mode access first last (x ∷ xs) zero a h = refl
+decision-drop mode access first last (x ∷ xs) (suc i) a h = decision-drop mode access first last xs i a (omega arith)
 
-pub decided-answered : (mode : Mode) (access : Access) (first last : ℕ) (xs : List Active) (i : ℕ) (a : Active) (granted : Bool)
-    → i < length xs → answered mode access first last (get_or xs i a) ≡ Some granted
-    → decided mode access first last (drop i xs) ≡ Some granted
-decided-answered mode access first last xs i a granted h e =
-    decided-drop mode access first last xs i a h
-    ∙ step-some mode access first last (get_or xs i a) (decided mode access first last (drop (suc i) xs)) granted e
+pub decision-entry_answer : (mode : Mode) (access : Access) (first last : ℕ) (xs : List ActiveEntry) (i : ℕ) (a : ActiveEntry) (granted : Bool)
+    → i < length xs → entry_answer mode access first last (get_or xs i a) ≡ Some granted
+    → decision mode access first last (drop i xs) ≡ Some granted
+decision-entry_answer mode access first last xs i a granted h e =
+    decision-drop mode access first last xs i a h
+    ∙ step-some mode access first last (get_or xs i a) (decision mode access first last (drop (suc i) xs)) granted e
 
-pub decided-passed : (mode : Mode) (access : Access) (first last : ℕ) (xs : List Active) (i : ℕ) (a : Active)
-    → i < length xs → answered mode access first last (get_or xs i a) ≡ None
-    → decided mode access first last (drop (i + 1) xs) ≡ decided mode access first last (drop i xs)
-decided-passed mode access first last xs i a h e =
-    rw add-one (sym (decided-drop mode access first last xs i a h
-    ∙ step-none mode access first last (get_or xs i a) (decided mode access first last (drop (suc i) xs)) e))
+pub decision-passed : (mode : Mode) (access : Access) (first last : ℕ) (xs : List ActiveEntry) (i : ℕ) (a : ActiveEntry)
+    → i < length xs → entry_answer mode access first last (get_or xs i a) ≡ None
+    → decision mode access first last (drop (i + 1) xs) ≡ decision mode access first last (drop i xs)
+decision-passed mode access first last xs i a h e =
+    rw add-one (sym (decision-drop mode access first last xs i a h
+    ∙ step-none mode access first last (get_or xs i a) (decision mode access first last (drop (suc i) xs)) e))
 
-pub decided-end : (mode : Mode) (access : Access) (first last : ℕ) (xs : List Active) (i : ℕ)
-    → length xs ≤ i → decided mode access first last (drop i xs) ≡ None
-unfolding decided
-decided-end mode access first last [] zero h = refl
-decided-end mode access first last [] (suc i) h = refl
-decided-end mode access first last (x ∷ xs) zero h = absurd (omega arith)
-decided-end mode access first last (x ∷ xs) (suc i) h = decided-end mode access first last xs i (omega arith)
+pub decision-end : (mode : Mode) (access : Access) (first last : ℕ) (xs : List ActiveEntry) (i : ℕ)
+    → length xs ≤ i → decision mode access first last (drop i xs) ≡ None
+unfolding decision
+decision-end mode access first last [] zero h = refl
+decision-end mode access first last [] (suc i) h = refl
+decision-end mode access first last (x ∷ xs) zero h = absurd (omega arith)
+decision-end mode access first last (x ∷ xs) (suc i) h = decision-end mode access first last xs i (omega arith)
 
--- ---- a region is its span
+-- ---- a region as a span
 
--- it begins and ends at words, and has a byte or ends at 0
+-- a span that begins and ends at words, and has a byte or ends at 0
 record IsWhole (s : Span) : Type 0 where
   pub first_word : s.first % 4 ≡ 0
   pub last_word : s.«end» % 4 ≡ 0
@@ -151,7 +151,7 @@ list_any-region lower e a n = list_any-same (region lower e) (is_between (span_o
 list_all-region : (lower : ℕ) (e : Entry) (a n : ℕ) → list_all (region lower e) (bytes_from a (suc n)) ≡ holds (span_of lower e) a (a + suc n)
 list_all-region lower e a n = list_all-same (region lower e) (is_between (span_of lower e).first (span_of lower e).«end») (region-between lower e) (bytes_from a (suc n)) ∙ all_between (span_of lower e).first (span_of lower e).«end» a n
 
--- ---- the decision by spans is that by regions
+-- ---- the decision by spans is the one by regions
 
 -- an entry that matches no address meets no byte
 off_meets : (m : Matching) (lower address first last : ℕ) → is_matching m ≡ false → meets (span m lower address) first last ≡ false
@@ -160,32 +160,32 @@ off_meets Tor lower address first last h = cc
 off_meets Na4 lower address first last h = cc
 off_meets Napot lower address first last h = cc
 
--- what the entries from one on decide: that one, whether it matches addresses or not, or the rest
-decided-more : (mode : Mode) (access : Access) (first last lower : ℕ) (e : Entry) (es : List Entry)
-    → decided mode access first last (actives_from lower (e ∷ es))
-    ≡ step mode access first last (active_of lower e) (decided mode access first last (actives_from e.address es))
-unfolding decided actives_from step span_of
-decided-more mode access first last lower e es = go (is_matching e.matching) refl where
+-- the decision of the entries from one on: the answer of that one, whether it matches addresses or not, or of the rest
+decision-more : (mode : Mode) (access : Access) (first last lower : ℕ) (e : Entry) (es : List Entry)
+    → decision mode access first last (actives_from lower (e ∷ es))
+    ≡ step mode access first last (active_of lower e) (decision mode access first last (actives_from e.address es))
+unfolding decision actives_from step span_of
+decision-more mode access first last lower e es = go (is_matching e.matching) refl where
   rest : Option Bool
-  rest = decided mode access first last (actives_from e.address es)
+  rest = decision mode access first last (actives_from e.address es)
 
   go : (b : Bool) → is_matching e.matching ≡ b
-      → decided mode access first last (cond b (active_of lower e ∷ actives_from e.address es) (actives_from e.address es))
+      → decision mode access first last (cond b (active_of lower e ∷ actives_from e.address es) (actives_from e.address es))
       ≡ step mode access first last (active_of lower e) rest
   go true m = refl
   go false m = rw (off_meets e.matching lower e.address first last m) refl
 
-pub decided-spans : (mode : Mode) (access : Access) (a n lower : ℕ) (es : List Entry)
-    → unwrap_or (decided mode access a (a + suc n) (actives_from lower es)) (is_machine mode)
+pub decision-spans : (mode : Mode) (access : Access) (a n lower : ℕ) (es : List Entry)
+    → unwrap_or (decision mode access a (a + suc n) (actives_from lower es)) (is_machine mode)
     ≡ answer mode access (bytes_from a (suc n)) (find (λ g. list_any g.region (bytes_from a (suc n))) (guards_from lower es))
-unfolding decided actives_from guards_from step
-decided-spans mode access a n lower [] = refl
-decided-spans mode access a n lower (e ∷ es) =
-    rw (decided-more mode access a (a + suc n) lower e es, list_any-region lower e a n)
-    (go (meets (span_of lower e) a (a + suc n)) (decided-spans mode access a n e.address es))
+unfolding decision actives_from guards_from step
+decision-spans mode access a n lower [] = refl
+decision-spans mode access a n lower (e ∷ es) =
+    rw (decision-more mode access a (a + suc n) lower e es, list_any-region lower e a n)
+    (go (meets (span_of lower e) a (a + suc n)) (decision-spans mode access a n e.address es))
   where
     rest : Option Bool
-    rest = decided mode access a (a + suc n) (actives_from e.address es)
+    rest = decision mode access a (a + suc n) (actives_from e.address es)
 
     go : (b : Bool) → unwrap_or rest (is_machine mode) ≡ answer mode access (bytes_from a (suc n)) (find (λ g. list_any g.region (bytes_from a (suc n))) (guards_from e.address es))
         → unwrap_or (if b then Some (holds (span_of lower e) a (a + suc n) && entry_grants e mode access) else rest) (is_machine mode)
@@ -193,7 +193,7 @@ decided-spans mode access a n lower (e ∷ es) =
     go true h = ap (λ b. b && entry_grants e mode access) (sym (list_all-region lower e a n))
     go false h = h
 
--- ---- the answers that need no search
+-- ---- answers without a search
 
 neither : (a b : Bool) → (a || b) ≡ false → (a ≡ false) × (b ≡ false)
 neither true b h = cc
@@ -203,16 +203,16 @@ both : (a b : Bool) → (a && b) ≡ true → (a ≡ true) × (b ≡ true)
 both true b h = (refl, h)
 both false b h = cc
 
--- where no entry matches addresses, none decides
-pub decided-off : (mode : Mode) (access : Access) (first last lower : ℕ) (es : List Entry)
-    → some_on es ≡ false → decided mode access first last (actives_from lower es) ≡ None
-unfolding decided actives_from
-decided-off mode access first last lower [] off = refl
-decided-off mode access first last lower (e ∷ es) off =
+-- if no entry matches addresses, none decides
+pub decision-off : (mode : Mode) (access : Access) (first last lower : ℕ) (es : List Entry)
+    → some_on es ≡ false → decision mode access first last (actives_from lower es) ≡ None
+unfolding decision actives_from
+decision-off mode access first last lower [] off = refl
+decision-off mode access first last lower (e ∷ es) off =
     let parts = neither (is_matching e.matching) (some_on es) off in
-    rw parts.0 (decided-off mode access first last e.address es parts.1)
+    rw parts.0 (decision-off mode access first last e.address es parts.1)
 
--- a span that meets a part of a word holds it
+-- a span that has any byte of a part of a word has all of it
 word_held : (s : Span) (first last : ℕ) → IsWhole s → first < last → first % 4 + (last - first) ≤ 4 → meets s first last ≡ true → holds s first last ≡ true
 word_held s first last w some within m =
     let parts = both (nat_lt s.first last) (nat_lt first s.«end») m in
@@ -224,43 +224,43 @@ word_held s first last w some within m =
     let to : last ≤ s.«end» = omega arith in
     grind (arith, nat_tests)
 
--- so machine mode may access a part of a word where no entry is locked
-pub decided-word : (access : Access) (first last lower : ℕ) (es : List Entry)
+-- so if no entry is locked, machine mode is granted a part of a word
+pub decision-word : (access : Access) (first last lower : ℕ) (es : List Entry)
     → some_locked es ≡ false → first < last → first % 4 + (last - first) ≤ 4
-    → unwrap_or (decided Machine access first last (actives_from lower es)) true ≡ true
-unfolding decided actives_from step
-decided-word access first last lower [] free some within = refl
-decided-word access first last lower (e ∷ es) free some within =
+    → unwrap_or (decision Machine access first last (actives_from lower es)) true ≡ true
+unfolding decision actives_from step
+decision-word access first last lower [] free some within = refl
+decision-word access first last lower (e ∷ es) free some within =
     let parts = neither e.locked (some_locked es) free in
-    rw (decided-more Machine access first last lower e es) (go (meets (span_of lower e) first last) refl parts.0 (decided-word access first last e.address es parts.1 some within))
+    rw (decision-more Machine access first last lower e es) (go (meets (span_of lower e) first last) refl parts.0 (decision-word access first last e.address es parts.1 some within))
   where
     rest : Option Bool
-    rest = decided Machine access first last (actives_from e.address es)
+    rest = decision Machine access first last (actives_from e.address es)
 
     go : (b : Bool) → meets (span_of lower e) first last ≡ b → e.locked ≡ false → unwrap_or rest true ≡ true
         → unwrap_or (if b then Some (holds (span_of lower e) first last && entry_grants e Machine access) else rest) true ≡ true
     go true m l r = rw (word_held (span_of lower e) first last (whole lower e) some within m, l) refl
     go false m l r = r
 
--- ---- an answer of the registers
+-- ---- the answer of the registers
 
-pub decided-grants : (pmp : PmpState) (mode : Mode) (access : Access) (first count : ℕ) → 0 < count
-    → unwrap_or (decided mode access first (first + count) (actives_from 0 pmp.entries)) (is_machine mode) ≡ grants pmp mode access first count
+pub decision-grants : (pmp : PmpState) (mode : Mode) (access : Access) (first count : ℕ) → 0 < count
+    → unwrap_or (decision mode access first (first + count) (actives_from 0 pmp.entries)) (is_machine mode) ≡ grants pmp mode access first count
 unfolding grants
-decided-grants pmp mode access first zero h = absurd (omega arith)
-decided-grants pmp mode access first (suc n) h = decided-spans mode access first n 0 pmp.entries
+decision-grants pmp mode access first zero h = absurd (omega arith)
+decision-grants pmp mode access first (suc n) h = decision-spans mode access first n 0 pmp.entries
 
 pub grants-off : (pmp : PmpState) (mode : Mode) (access : Access) (first count : ℕ) → 0 < count
     → some_on pmp.entries ≡ false → grants pmp mode access first count ≡ is_machine mode
 grants-off pmp mode access first count h off =
-    sym (decided-grants pmp mode access first count h) ∙ ap (λ o. unwrap_or o (is_machine mode)) (decided-off mode access first (first + count) 0 pmp.entries off)
+    sym (decision-grants pmp mode access first count h) ∙ ap (λ o. unwrap_or o (is_machine mode)) (decision-off mode access first (first + count) 0 pmp.entries off)
 
 pub grants-word : (pmp : PmpState) (access : Access) (first count : ℕ) → 0 < count
     → some_locked pmp.entries ≡ false → first % 4 + count ≤ 4 → grants pmp Machine access first count ≡ true
 grants-word pmp access first count h free within =
-    sym (decided-grants pmp Machine access first count h) ∙ decided-word access first (first + count) 0 pmp.entries free (omega arith) (omega arith)
+    sym (decision-grants pmp Machine access first count h) ∙ decision-word access first (first + count) 0 pmp.entries free (omega arith) (omega arith)
 
--- so machine mode may do every aligned access where no entry is locked
+-- so if no entry is locked, machine mode is granted every aligned access
 pub grants-aligned : (pmp : PmpState) (access : Access) (first : ℕ) (w : Width)
     → locks pmp ≡ false → first % bytes_of w ≡ 0 → grants pmp Machine access first (bytes_of w) ≡ true
 grants-aligned pmp access first One free aligned = grants-word pmp access first 1 (omega arith) free (omega arith)
@@ -307,13 +307,13 @@ pub grants_each : (pmp : PmpState) (mode : Mode) (access : Access) (first count 
 unfolding grants answer_of
 grants_each pmp mode access first count i h granted = answer_each mode access first count i 0 pmp.entries h granted
 
--- xs `allowed` asks: the answer of the entry that decides, or that of the mode
+-- the answer of `allows`: that of the entry that decides, or that of the mode
 pub grants-some : (pmp : PmpState) (mode : Mode) (access : Access) (first count : ℕ) (granted : Bool) → 0 < count
-    → decided mode access first (first + count) (actives_from 0 pmp.entries) ≡ Some granted → grants pmp mode access first count ≡ granted
-grants-some pmp mode access first count granted h d = sym (decided-grants pmp mode access first count h) ∙ ap (λ o. unwrap_or o (is_machine mode)) d
+    → decision mode access first (first + count) (actives_from 0 pmp.entries) ≡ Some granted → grants pmp mode access first count ≡ granted
+grants-some pmp mode access first count granted h d = sym (decision-grants pmp mode access first count h) ∙ ap (λ o. unwrap_or o (is_machine mode)) d
 
 pub grants-none : (pmp : PmpState) (mode : Mode) (access : Access) (first count : ℕ) → 0 < count
-    → decided mode access first (first + count) (actives_from 0 pmp.entries) ≡ None → grants pmp mode access first count ≡ is_machine mode
-grants-none pmp mode access first count h d = sym (decided-grants pmp mode access first count h) ∙ ap (λ o. unwrap_or o (is_machine mode)) d
+    → decision mode access first (first + count) (actives_from 0 pmp.entries) ≡ None → grants pmp mode access first count ≡ is_machine mode
+grants-none pmp mode access first count h d = sym (decision-grants pmp mode access first count h) ∙ ap (λ o. unwrap_or o (is_machine mode)) d
 
 pub ruleset quick_answers = (grants-off, grants-word, grants-some, grants-none)
