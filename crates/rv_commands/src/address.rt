@@ -3,7 +3,7 @@ ghost use Rattle.std.specs.Prelude.{◌≡◌, ◌^◌, ◌&&◌, nat_le};
 ghost use Rattle.rv_isa.specs.Number.{modulo};
 ghost use Rattle.rv_commands.specs.Addresses.{hexadecimal, address_of};
 
-use crate::Symbols;
+use crate::SymbolLookup;
 use rv_lists::hex_digit;
 
 /// Whether an address may have so many hexadecimal digits.
@@ -39,7 +39,7 @@ fn low_word(value: i64) -> u32
 
 /// The address that a word stands for: a number behind `0x`, or a symbol.
 #[tactic(auto, unfolding(crate::specs::Addresses::address_of))]
-pub fn address<S: Symbols>(word: &[u8], symbols: &S) -> Option<u32>
+pub fn address<S: SymbolLookup>(word: &[u8], symbols: &S) -> Option<u32>
     ensures { result ≡ address_of (S.symbols symbols.now) word.now }
 {
     if word.starts_with(b"0x") {

@@ -20,8 +20,8 @@
 mod address;
 mod command;
 mod reader;
-mod symbols;
+mod symbol_lookup;
 
 pub use command::Command;
 pub use reader::read_command;
-pub use symbols::Symbols;
+pub use symbol_lookup::SymbolLookup;

@@ -5,7 +5,7 @@ ghost use Rattle.rv_lists.specs.Words.{words};
 ghost use Rattle.rv_commands.specs.Commands.{number_of, byte_count, edge_source, only, number_alone, address_alone, alone, steps, going, control_register, memory, edges, row, command_of, IsNamed};
 
 use crate::address::address;
-use crate::{Command, Symbols};
+use crate::{Command, SymbolLookup};
 use rv_isa::csr_named;
 use rv_lists::{begins_comment, decimal, first_word, has_word};
 use rv_plic::Source;
@@ -64,7 +64,7 @@ fn only_number(text: &[u8]) -> Option<u64>
 
 /// The address that the only word of a text stands for.
 #[tactic(auto, unfolding(crate::specs::Commands::address_alone))]
-fn only_address<S: Symbols>(text: &[u8], symbols: &S) -> Option<u32>
+fn only_address<S: SymbolLookup>(text: &[u8], symbols: &S) -> Option<u32>
     ensures { result ≡ address_alone (S.symbols symbols.now) (words text.now) }
 {
     address(only_word(text)?, symbols)
@@ -107,7 +107,7 @@ fn control_register<'a>(text: &'a [u8]) -> Option<Command<'a>>
 
 /// Behind `m`: an address, and how many bytes.
 #[tactic(auto, unfolding(crate::specs::Commands::memory))]
-fn memory<'a, S: Symbols>(text: &[u8], symbols: &S) -> Option<Command<'a>>
+fn memory<'a, S: SymbolLookup>(text: &[u8], symbols: &S) -> Option<Command<'a>>
     ensures { result ≡ memory (S.symbols symbols.now) (words text.now) }
 {
     let (first, rest) = first_word(text)?;
@@ -135,7 +135,7 @@ fn alone<'a>(command: Command<'a>, text: &[u8]) -> Option<Command<'a>>
 
 /// A command by its first word and what follows it.
 #[tactic(auto, unfolding(crate::specs::Commands::row))]
-fn row<'a, S: Symbols>(word: &[u8], rest: &'a [u8], symbols: &S) -> Option<Command<'a>>
+fn row<'a, S: SymbolLookup>(word: &[u8], rest: &'a [u8], symbols: &S) -> Option<Command<'a>>
     ensures { result ≡ row (S.symbols symbols.now) word.now (words rest.now) }
 {
     match word {
@@ -165,7 +165,7 @@ fn row<'a, S: Symbols>(word: &[u8], rest: &'a [u8], symbols: &S) -> Option<Comma
 
 /// What a line says.
 #[tactic(auto, unfolding(crate::specs::Commands::command_of))]
-fn read<'a, S: Symbols>(line: &'a [u8], symbols: &S) -> Option<Command<'a>>
+fn read<'a, S: SymbolLookup>(line: &'a [u8], symbols: &S) -> Option<Command<'a>>
     ensures { result ≡ command_of line.now (S.symbols symbols.now) }
 {
     if line.len() > LONGEST_LINE {
@@ -182,7 +182,7 @@ fn read<'a, S: Symbols>(line: &'a [u8], symbols: &S) -> Option<Command<'a>>
 
 /// What a line says, or None where it is no command. Symbols stand for their values.
 #[tactic(auto, using(crate::proofs::Named::is_named))]
-pub fn read_command<'a, S: Symbols>(line: &'a [u8], symbols: &S) -> Option<Command<'a>>
+pub fn read_command<'a, S: SymbolLookup>(line: &'a [u8], symbols: &S) -> Option<Command<'a>>
     ensures value { result ≡ command_of line.now (S.symbols symbols.now) }
     ensures named { IfSome result IsNamed }
 {

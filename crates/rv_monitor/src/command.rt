@@ -15,7 +15,7 @@ use crate::views::{
     write_registers, write_stop, write_traps,
 };
 use rv_cache::Decoded;
-use rv_commands::{Command, Symbols, read_command};
+use rv_commands::{Command, SymbolLookup, read_command};
 use rv_isa::{NoMemory, append_within};
 use rv_program::Program;
 use rv_ram::ByteMemory;
@@ -71,7 +71,7 @@ fn append_address(text: &mut Vec<u8>, word: &[u8], addr: u32)
 #[derive(Drop)]
 struct Names<'a>(&'a Program);
 
-impl<'a> Symbols for Names<'a> {
+impl<'a> SymbolLookup for Names<'a> {
     ghost symbols = { λ names. value_of names.0.now.symbols };
 
     fn symbol(&self, name: &[u8]) -> Option<i64> {

@@ -2,7 +2,7 @@
 ghost use Rattle.std.specs.Prelude.{◌≡◌};
 
 /// What the names in a command stand for.
-pub trait Symbols {
+pub trait SymbolLookup {
     ghost use Rattle.std.specs.Prelude.{List, ℕ, ℤ, Option};
 
     /// The value of each name that has one.
