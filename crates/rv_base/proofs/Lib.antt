@@ -1,0 +1,5 @@
+pub mod DecimalDigits
+pub mod Hexadecimal
+pub mod LineSplitting
+pub mod TableRows
+pub mod WordSplitting

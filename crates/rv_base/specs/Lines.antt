@@ -1,0 +1,21 @@
+-- The lines of a text.
+-- To audit: public contracts cite this.
+use Rattle.std.specs.Prelude.{ℕ, ◌-◌, ◌&&◌, List, [], ◌∷◌, length, take, map, if◌then◌else◌, ◌==◌, nat_lt, slice_index}
+
+-- a byte in front of the first line
+abbrev pub with_byte : ℕ → List (List ℕ) → List (List ℕ)
+with_byte b [] = (b ∷ []) ∷ []
+with_byte b (line ∷ more) = (b ∷ line) ∷ more
+
+-- A line ends at LF. What follows the last LF is a line if it isn't empty.
+unfoldable pub split : List ℕ → List (List ℕ)
+split [] = []
+split (b ∷ bs) = if b == 10 then [] ∷ split bs else with_byte b (split bs)
+
+-- one CR at the end of a line is dropped
+abbrev pub without_return : List ℕ → List ℕ
+without_return line =
+    if nat_lt 0 (length line) && (slice_index line (length line - 1) == 13) then take (length line - 1) line else line
+
+abbrev pub lines : List ℕ → List (List ℕ)
+lines text = map without_return (split text)

@@ -1,0 +1,51 @@
+//! Reads numbers.
+ghost use Rattle.std.specs.Prelude.{◌≡◌, ◌+◌, ◌*◌, ◌<◌, ◌≤◌, Bool, IfSome};
+ghost use Rattle.rv_base.specs.Numbers.{decimal, hex_digit, byte_of};
+
+/// Returns the number that decimal digits stand for, or None where there is no digit, another byte, or a number above
+/// `most`. Leading zeros are allowed.
+pub fn decimal(most: u64, word: &[u8]) -> Option<u64>
+    requires { most < 10000000000 }
+    ensures value { result ≡ decimal most word.now }
+    ensures below { IfSome result (λ n. n ≤ most) }
+{
+    if word.is_empty() {
+        return None;
+    }
+    let mut sum: u64 = 0;
+    for b in word {
+        if !b.is_ascii_digit() {
+            return None;
+        }
+        sum = 10 * sum + u64::from(*b - b'0');
+        if sum > most {
+            return None;
+        }
+    }
+    Some(sum)
+}
+
+/// Returns the number that a hexadecimal digit of either case stands for, or None for any other byte.
+#[tactic(auto, unfolding(crate::specs::Numbers::hex_digit))]
+pub fn hex_digit(b: u8) -> Option<u8>
+    ensures value { result ≡ hex_digit b }
+    ensures below { IfSome result (λ n. n < 16) }
+{
+    match b {
+        b'0'..=b'9' => Some(b - b'0'),
+        b'A'..=b'F' => Some(b - b'A' + 10),
+        b'a'..=b'f' => Some(b - b'a' + 10),
+        _ => None,
+    }
+}
+
+/// Returns the byte that two hexadecimal digits stand for, or None for any other word.
+#[tactic(auto, unfolding(crate::specs::Numbers::byte_of))]
+pub fn hex_byte(word: &[u8]) -> Option<u8>
+    ensures { result ≡ byte_of word.now }
+{
+    match word {
+        [high, low] => Some(16 * hex_digit(*high)? + hex_digit(*low)?),
+        _ => None,
+    }
+}
