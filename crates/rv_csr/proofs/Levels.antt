@@ -1,4 +1,4 @@
--- User mode reaches no register.
+-- User mode may read and write no control register.
 use Rattle.std.proofs.Common.{◌≡◌, ℕ, ◌+◌, ◌*◌, ◌/◌, ◌%◌, ◌^◌, ◌<◌, ◌≤◌, ◌==◌, Bool, true, false, Option, Some, None, refl, ap, ◌∙◌, arith}
 use Rattle.std.specs.Prelude.{◌&&◌, not, if◌then◌else◌}
 use Rattle.std.specs.Option.{option_map}
@@ -9,7 +9,7 @@ use Rattle.rv_pmp.specs.Pmp.{PmpState}
 use Rattle.rv_pmp.specs.Pmp as protection
 use Rattle.rv_pmp.specs.declared.mode.Mode.{Mode}
 use Rattle.rv_pmp.specs.declared.mode.Mode.TheVariants.{User}
-use Rattle.rv_csr.specs.Registers.{is_from_to, register_at, may_read, may_write, read, loaded}
+use Rattle.rv_csr.specs.Registers.{is_from_to, register_at, may_read, may_write, read, value_at}
 use Rattle.rv_csr.specs.State.{CsrState}
 use Rattle.rv_csr.specs.declared.register.Register.{Register}
 
@@ -17,7 +17,7 @@ use Rattle.rv_csr.specs.declared.register.Register.{Register}
 other : (addr at : ℕ) → addr / 2 ^ 8 % 4 ≡ 0 → at / 2 ^ 8 % 4 ≡ 3 → (addr == at) ≡ false
 other addr at h k = grind (arith, nat_tests)
 
--- nor between two of them
+-- nor is it between two of them
 other_range : (addr page low high : ℕ) → addr / 2 ^ 8 % 4 ≡ 0 → page % 4 ≡ 3 → low ≤ high → high < 2 ^ 8
     → is_from_to (page * 2 ^ 8 + low) (page * 2 ^ 8 + high) addr ≡ false
 other_range addr page low high h k l m = grind (arith, nat_tests)
@@ -58,7 +58,7 @@ unfolding protection.register_at
 protection-user addr h =
     rw (other_range addr 0x3 0xA0 0xA3 h refl (omega arith) (omega arith), other_range addr 0x3 0xB0 0xBF h refl (omega arith) (omega arith)) refl
 
--- so a user reaches none, neither one of the table nor one of protection
+-- ---- so user mode may access none, neither one of the table nor one of protection
 
 pub no_register : {A : Type 0} (x : Option A) (addr : ℕ) (mode : Mode) (found : Option Register) (register : Register)
     → may_read addr mode ≡ true → mode ≡ User → found ≡ register_at addr → found ≡ Some register → x ≡ None
@@ -83,13 +83,13 @@ no_store old addr word new mode (Some done) may user stores = let none = protect
   gone none e = let q = rw none at e in cc
 no_store old addr word new mode None may user stores = refl
 
--- as the definition has it
+-- by the definition of a read
 pub nothing_read : (state : CsrState) (addr : ℕ) (lines : InterruptLines) → read state addr User lines ≡ None
 unfolding read protection.load
 nothing_read state addr lines = by_level (may_read addr User) refl
   where
-    by_level : (b : Bool) → may_read addr User ≡ b → (if b then loaded state lines addr (register_at addr) else None) ≡ None
+    by_level : (b : Bool) → may_read addr User ≡ b → (if b then value_at state lines addr (register_at addr) else None) ≡ None
     by_level true may =
-        ap (loaded state lines addr) (register_at-user addr (level_0 addr may))
+        ap (value_at state lines addr) (register_at-user addr (level_0 addr may))
         ∙ ap (option_map (protection.word_of state.pmp)) (protection-user addr (level_0 addr may))
     by_level false may = refl

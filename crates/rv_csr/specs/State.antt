@@ -1,4 +1,4 @@
--- What the control registers hold. RISC-V Privileged Architecture 20211203, section 3.1.
+-- The state of the control registers. RISC-V Privileged Architecture 20211203, section 3.1.
 -- To audit: public contracts cite this.
 use Rattle.std.specs.Prelude.{false}
 use Rattle.rv_isa.specs.declared.InterruptLines.{InterruptLines}
@@ -6,18 +6,18 @@ use Rattle.rv_pmp.specs.Pmp as protection
 use Rattle.rv_pmp.specs.Pmp.{PmpState}
 use Rattle.rv_pmp.specs.declared.mode.Mode.TheVariants.{User}
 use Rattle.rv_csr.specs.declared.counters.Counters.{Counters}
-use Rattle.rv_csr.specs.declared.status.Status.{Status}
+use Rattle.rv_csr.specs.declared.mstatus.Mstatus.{Mstatus}
 use Rattle.rv_csr.specs.declared.trap.TrapRegisters.{TrapRegisters}
 
 -- mstatus; the interrupts that mie enables; the registers of traps; mcycle and minstret; physical memory protection
 pub record CsrState : Type 0 where
-  pub status : Status
+  pub status : Mstatus
   pub enables : InterruptLines
   pub trap : TrapRegisters
   pub counters : Counters
   pub pmp : PmpState
 
--- after a reset all is 0
+-- the state after a reset: all 0
 abbrev pub reset : CsrState
 reset = record {
   status = record { interrupts = false; previous_interrupts = false; previous_mode = User; modify_privilege = false; timeout_wait = false };

@@ -10,7 +10,7 @@ use Rattle.rv_csr.specs.State.{CsrState}
 
 -- ---- interrupts
 
--- the causes
+-- the causes: the interrupt bit and a code
 abbrev pub software_interrupt : ℕ
 software_interrupt = 0x80000003
 
@@ -20,7 +20,7 @@ timer_interrupt = 0x80000007
 abbrev pub external_interrupt : ℕ
 external_interrupt = 0x8000000B
 
--- the first of external, software and timer whose line is high and which is enabled
+-- the cause of the first interrupt, of external, software and timer, whose line is high and which is enabled
 abbrev pub first_enabled : InterruptLines → InterruptLines → Option ℕ
 first_enabled lines enables =
     if lines.external && enables.external then Some external_interrupt
@@ -28,12 +28,12 @@ first_enabled lines enables =
     else (if lines.timer && enables.timer then Some timer_interrupt
     else None))
 
--- the cause of the interrupt that is taken: always in user mode, in machine mode only with MIE
+-- the cause of the interrupt that is taken in a mode, if any: in machine mode none unless MIE is set
 unfoldable pub pending : CsrState → Mode → InterruptLines → Option ℕ
 pending state mode lines =
     if is_machine mode && not state.status.interrupts then None else first_enabled lines state.enables
 
--- some interrupt is enabled, and is let in; in machine mode only with MIE
+-- whether an interrupt would be taken in a mode if its line were high: any is enabled, and in machine mode MIE is set
 abbrev pub takes_interrupts : CsrState → Mode → Bool
 takes_interrupts state mode =
     not (not state.status.interrupts && is_machine mode)
@@ -41,20 +41,21 @@ takes_interrupts state mode =
 
 -- ---- trap entry and return
 
--- MPIE takes MIE, which becomes 0, and MPP the mode; mepc, mcause and mtval are set
+-- the state after a trap is entered: MPIE becomes MIE, MIE 0, and MPP the mode; mepc, mcause and mtval are set
 unfoldable pub entered : CsrState → ℕ → ℕ → ℕ → Mode → CsrState
 entered state cause epc tval mode = record state {
   status = record state.status { interrupts = false; previous_interrupts = state.status.interrupts; previous_mode = mode };
   trap = record state.trap { epc = aligned epc; cause = cause; value = tval };
 }
 
--- where a trap goes: to the base of mtvec, or, for an interrupt in vectored mode, to the place of its number from there
+-- the address of the trap handler: the base of mtvec, or, for an interrupt in vectored mode, the base plus 4 times its code
 unfoldable pub trap_pc : CsrState → ℕ → ℕ
 trap_pc state cause =
     let base = aligned state.trap.vector in
     if (state.trap.vector % 2 == 1) && nat_le (2 ^ 31) cause then (base + 4 * (cause - 2 ^ 31)) % 2 ^ 32 else base
 
--- MIE takes MPIE, which becomes 1; MPP becomes user mode; MPRV is cleared where the mode that follows isn't machine mode
+-- the state after the return from a trap: MIE becomes MPIE, MPIE 1, and MPP user mode; MPRV is cleared unless the return is
+-- to machine mode
 unfoldable pub left : CsrState → CsrState
 left state = record state {
   status = record state.status {
@@ -65,6 +66,6 @@ left state = record state {
   };
 }
 
--- loads and stores go by the previous mode where MPRV is 1
+-- the mode whose permissions loads and stores have: MPP if MPRV is set, else the mode itself
 abbrev pub data_mode : CsrState → Mode → Mode
 data_mode state mode = if state.status.modify_privilege then state.status.previous_mode else mode

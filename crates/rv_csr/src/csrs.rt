@@ -1,4 +1,4 @@
-//! The control registers, and the entry into traps and the return from them.
+//! The control registers as a whole: reads and writes, interrupts, traps and the return from them.
 ghost use Rattle.std.specs.Prelude.{◌≡◌, ◌%◌, true, false, None};
 ghost use Rattle.rv_csr.specs.Registers.{value_of, with_value, Writes};
 ghost use Rattle.rv_csr.specs.Registers as registers;
@@ -11,18 +11,18 @@ ghost use Rattle.rv_pmp.specs.declared.mode.Mode.{Mode};
 ghost use Rattle.rv_pmp.specs.declared.mode.Mode.TheVariants.{User};
 
 use crate::counters::{Counters, high_word, low_word, with_high_word, with_low_word};
+use crate::mstatus::{Mstatus, lines_of, lines_word};
 use crate::register::{Register, may_read, may_write};
-use crate::status::{Status, lines_of, lines_word};
 use crate::trap::TrapRegisters;
 use rv_isa::{InterruptLines, Width};
 use rv_pmp::{Access, Mode, Pmp};
 use std::marker::Model;
 
-/// The cause of a software interrupt.
+/// The cause of a software interrupt: mcause's interrupt bit and code 3.
 const SOFTWARE_INTERRUPT: u32 = 0x80000003;
-/// The cause of a timer interrupt.
+/// The cause of a timer interrupt: code 7.
 const TIMER_INTERRUPT: u32 = 0x80000007;
-/// The cause of an external interrupt.
+/// The cause of an external interrupt: code 11.
 const EXTERNAL_INTERRUPT: u32 = 0x8000000B;
 
 /// The control registers of machine mode, with physical memory protection.
@@ -30,7 +30,7 @@ const EXTERNAL_INTERRUPT: u32 = 0x8000000B;
 /// mepc is always a multiple of 4.
 #[derive(Drop)]
 pub struct Csrs {
-    status: Status,
+    status: Mstatus,
     enables: InterruptLines,
     trap: TrapRegisters,
     counters: Counters,
@@ -49,12 +49,12 @@ impl Model for Csrs {
 }
 
 impl Csrs {
-    /// The registers after a reset.
+    /// Creates the registers as they are after a reset.
     pub fn new() -> Csrs
         ensures { result ≡ reset }
     {
         Csrs {
-            status: Status {
+            status: Mstatus {
                 interrupts: false,
                 previous_interrupts: false,
                 previous_mode: Mode::User,
@@ -81,8 +81,8 @@ impl Csrs {
         }
     }
 
-    /// What a mode reads at an address while the interrupt lines have these levels, or None where it may not: no
-    /// register is there, or the mode is too low. User mode may read none.
+    /// Reads the register at address `addr` in a mode, while the interrupt lines have the levels `lines`. Returns None if no
+    /// register is there or the mode may not read it. User mode may read none.
     #[tactic(auto, using(crate::proofs::Levels::no_load), unfolding(crate::specs::Registers::read))]
     pub fn read(&self, addr: u16, mode: Mode, lines: InterruptLines) -> Option<u32>
         ensures value { result ≡ registers.read self.now addr mode lines }
@@ -97,6 +97,7 @@ impl Csrs {
         }
     }
 
+    /// Returns the value of a register.
     fn value(&self, register: Register, lines: InterruptLines) -> u32
         ensures { result ≡ value_of self.now lines register }
     {
@@ -118,8 +119,8 @@ impl Csrs {
         }
     }
 
-    /// Writes the register at an address, which keeps of the value what it can. None where the mode may not, as in
-    /// `read` or because the register is read-only: nothing has changed.
+    /// Writes the register at address `addr` in a mode. The register keeps those bits of the value that it has. Returns
+    /// None, and changes nothing, if no register is there, the mode may not access it, or it is read-only.
     #[tactic(auto, using(crate::proofs::Levels::no_store), unfolding(crate::specs::Registers::write))]
     pub fn write(&mut self, addr: u16, mode: Mode, value: u32) -> Option<()>
         ensures written { Writes self.old addr mode value self.new result }
@@ -137,11 +138,12 @@ impl Csrs {
         }
     }
 
+    /// Writes a register.
     fn set_value(&mut self, register: Register, value: u32)
         ensures { self.new ≡ with_value self.old register value }
     {
         match register {
-            Register::Mstatus => self.status = self.status.written(value),
+            Register::Mstatus => self.status = self.status.with_word(value),
             Register::Mie => self.enables = lines_of(value),
             Register::Mtvec => self.trap.vector = value / 4 * 4 + value % 2,
             Register::Mscratch => self.trap.scratch = value,
@@ -162,9 +164,9 @@ impl Csrs {
         }
     }
 
-    /// Whether an interrupt can be taken in a mode, if its line is high: then some interrupt is enabled, and machine mode
-    /// lets it in. Where none can, the lines need not be asked.
-    #[tactic(auto, using(crate::proofs::Asked::none_pending))]
+    /// Whether an interrupt would be taken in a mode if its line were high: any is enabled, and in machine mode MIE is set.
+    /// If not, the caller needn't ask for the lines.
+    #[tactic(auto, using(crate::proofs::Pending::none_pending))]
     pub fn takes_interrupts(&self, mode: Mode) -> bool
         ensures value { result ≡ traps.takes_interrupts self.now mode }
         ensures none { result ≡ false → (lines : InterruptLines) → traps.pending self.now mode lines ≡ None }
@@ -175,7 +177,8 @@ impl Csrs {
         self.enables.software || self.enables.timer || self.enables.external
     }
 
-    /// The cause of the interrupt to be taken in a mode while the interrupt lines have these levels, if there is one.
+    /// Returns the cause of the interrupt to be taken in a mode, if any, while the interrupt lines have the levels `lines`.
+    /// Of several the external interrupt comes first, then the software interrupt, then that of the timer.
     #[tactic(auto, unfolding(crate::specs::Traps::pending))]
     pub fn pending(&self, mode: Mode, lines: InterruptLines) -> Option<u32>
         ensures { result ≡ traps.pending self.now mode lines }
@@ -194,8 +197,8 @@ impl Csrs {
         }
     }
 
-    /// Enters a trap from a mode: of this cause, at the instruction at `epc`, with the value `tval`. The answer is the
-    /// address of the trap's code. The mode is machine mode from now on.
+    /// Enters a trap from a mode: sets mcause, mepc and mtval, and moves MIE and the mode to MPIE and MPP. Returns the
+    /// address of the trap handler. The caller goes on there in machine mode.
     #[tactic(auto, unfolding(crate::specs::Traps::entered, crate::specs::Traps::trap_pc))]
     pub fn enter_trap(&mut self, cause: u32, epc: u32, tval: u32, mode: Mode) -> u32
         ensures state { self.new ≡ traps.entered self.old cause epc tval mode }
@@ -216,7 +219,7 @@ impl Csrs {
         }
     }
 
-    /// Returns from a trap. The answer is the mode and the address where the program goes on.
+    /// Returns from a trap: restores MIE from MPIE. Returns the mode and the address at which the program goes on.
     #[tactic(auto, unfolding(crate::specs::Traps::left))]
     pub fn leave_trap(&mut self) -> (Mode, u32)
         ensures state { self.new ≡ traps.left self.old }
@@ -233,7 +236,7 @@ impl Csrs {
         (mode, self.trap.epc)
     }
 
-    /// The mode by which loads and stores go in a mode.
+    /// Returns the mode whose permissions loads and stores in a mode have: MPP if MPRV is set, else the mode itself.
     pub fn data_mode(&self, mode: Mode) -> Mode
         ensures { result ≡ traps.data_mode self.now mode }
     {
@@ -244,21 +247,22 @@ impl Csrs {
         }
     }
 
-    /// Whether WFI in user mode is illegal.
+    /// Whether WFI is illegal in user mode (TW).
     pub fn traps_wfi(&self) -> bool
         ensures { result ≡ self.now.status.timeout_wait }
     {
         self.status.timeout_wait
     }
 
-    /// Counts a step: whether its instruction retired, and the address of the control register that it wrote, if any.
+    /// Counts a step. `retired` is whether its instruction retired, and `wrote` the address of the control register that
+    /// it wrote, if any.
     pub fn count(&mut self, retired: bool, wrote: Option<u16>)
         ensures { self.new ≡ record self.old { counters = registers.counted self.old.counters retired wrote } }
     {
         self.counters.count(retired, wrote);
     }
 
-    /// Whether protection grants a mode an access.
+    /// Whether protection grants a mode an access. The permission cache may change, which no answer shows.
     #[inline(always)]
     pub fn admits(&mut self, mode: Mode, access: Access, addr: u32, width: Width) -> bool
         ensures value { result ≡ grants self.old.pmp mode access addr (bytes_of width) }
@@ -267,7 +271,7 @@ impl Csrs {
         self.pmp.admits(mode, access, addr, width)
     }
 
-    /// Physical memory protection, as these registers set it.
+    /// Returns physical memory protection.
     pub fn pmp(&self) -> &Pmp
         ensures { result.now ≡ self.now.pmp }
     {

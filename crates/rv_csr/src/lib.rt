@@ -4,12 +4,12 @@
 
 mod counters;
 mod csrs;
+mod mstatus;
 mod register;
-mod status;
 mod trap;
 
 pub use counters::Counters;
 pub use csrs::Csrs;
+pub use mstatus::Mstatus;
 pub use register::Register;
-pub use status::Status;
 pub use trap::TrapRegisters;

@@ -1,47 +1,46 @@
-//! The addresses of the control registers. Privileged Architecture 20211203, section 2.1 and table 2.5.
+//! The addresses of the control registers, and which modes may access them. Privileged Architecture 20211203, section 2.1 and table 2.5.
 ghost use Rattle.std.specs.Prelude.{◌≡◌};
 ghost use Rattle.rv_csr.specs.Registers.{register_at};
 ghost use Rattle.rv_csr.specs.Registers as spec;
 
-use crate::status::mode_level;
+use crate::mstatus::mode_level;
 use rv_pmp::Mode;
 
-/// A control register, beside those of physical memory protection: the one of this name in the standard. Privileged
-/// Architecture 20211203, section 3.1.
+/// A control register that isn't one of physical memory protection. Privileged Architecture 20211203, section 3.1.
 #[derive(Clone, Copy)]
 pub enum Register {
-    /// Interrupt enables, the mode before the last trap, and what loads, stores and WFI go by.
+    /// mstatus: the global interrupt enable, the state before the last trap, and how loads, stores and WFI behave.
     Mstatus,
-    /// What the hart implements.
+    /// misa: the instruction sets that the hart implements.
     Misa,
-    /// The interrupts that are enabled.
+    /// mie: the interrupts that are enabled.
     Mie,
-    /// Where traps go.
+    /// mtvec: the address of the trap handler.
     Mtvec,
-    /// A word for the trap's code.
+    /// mscratch: a word for the trap handler.
     Mscratch,
-    /// The address of the instruction that trapped.
+    /// mepc: the address of the instruction that trapped.
     Mepc,
-    /// Why it trapped.
+    /// mcause: the cause of the trap.
     Mcause,
-    /// What is known besides.
+    /// mtval: the address or the word that the cause is about.
     Mtval,
-    /// The interrupt lines that are high.
+    /// mip: the interrupts that are pending.
     Mip,
-    /// The low word of the count of steps.
+    /// mcycle: the low half of the number of steps.
     Mcycle,
-    /// Its high word.
+    /// mcycleh: its high half.
     Mcycleh,
-    /// The low word of the count of retired instructions.
+    /// minstret: the low half of the number of retired instructions.
     Minstret,
-    /// Its high word.
+    /// minstreth: its high half.
     Minstreth,
-    /// One that reads 0 and keeps nothing.
+    /// A register that reads 0 and ignores writes.
     Zero,
 }
 
 impl Register {
-    /// The register at an address, if there is one.
+    /// Returns the register at address `addr`, or None if there is none or it is one of protection.
     #[tactic(auto, unfolding(crate::specs::Registers::register_at))]
     pub(crate) fn at(addr: u16) -> Option<Register>
         ensures { result ≡ register_at addr }
@@ -69,7 +68,7 @@ impl Register {
     }
 }
 
-/// Whether the register at an address reads 0 and keeps nothing.
+/// Whether the register at address `addr` reads 0 and ignores writes.
 fn is_zero(addr: u16) -> bool
     ensures { result ≡ spec.is_zero addr }
 {
@@ -80,21 +79,21 @@ fn is_zero(addr: u16) -> bool
     }
 }
 
-/// Whether a mode may read at an address.
+/// Whether a mode may read at address `addr`.
 pub(crate) fn may_read(addr: u16, mode: Mode) -> bool
     ensures { result ≡ spec.may_read addr mode }
 {
     (addr >> 8) as u32 % 4 <= mode_level(mode)
 }
 
-/// Whether a mode may write at an address.
+/// Whether a mode may write at address `addr`.
 pub(crate) fn may_write(addr: u16, mode: Mode) -> bool
     ensures { result ≡ spec.may_write addr mode }
 {
     may_read(addr, mode) && (addr >> 10) % 4 != 3
 }
 
-/// Whether this is a half of mcycle.
+/// Whether the register that was written is a half of mcycle.
 pub(crate) fn wrote_cycles(wrote: Option<u16>) -> bool
     ensures { result ≡ spec.wrote_cycles wrote }
 {
@@ -104,7 +103,7 @@ pub(crate) fn wrote_cycles(wrote: Option<u16>) -> bool
     }
 }
 
-/// Whether this is a half of minstret.
+/// Whether the register that was written is a half of minstret.
 pub(crate) fn wrote_retired(wrote: Option<u16>) -> bool
     ensures { result ≡ spec.wrote_retired wrote }
 {

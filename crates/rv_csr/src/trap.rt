@@ -1,16 +1,16 @@
 //! The registers of traps. Privileged Architecture 20211203, sections 3.1.7 and 3.1.13 to 3.1.16.
 
-/// The registers of traps as they are kept. Privileged Architecture 20211203, sections 3.1.7 and 3.1.13 to 3.1.16.
+/// The registers of traps.
 #[derive(Clone, Copy)]
 pub struct TrapRegisters {
-    /// mtvec: where traps go, and in the lowest bit whether interrupts go to places of their own.
+    /// mtvec: the address of the trap handler, and in the lowest bit whether each interrupt has a handler of its own.
     pub vector: u32,
-    /// mscratch: any word.
+    /// mscratch: a word for the trap handler.
     pub scratch: u32,
     /// mepc: the address of the instruction that trapped.
     pub epc: u32,
-    /// mcause: why it trapped.
+    /// mcause: the cause of the trap.
     pub cause: u32,
-    /// mtval: what is known besides.
+    /// mtval: the address or the word that the cause is about, or 0.
     pub value: u32,
 }

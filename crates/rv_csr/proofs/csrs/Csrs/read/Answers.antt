@@ -1,4 +1,4 @@
--- A user reaches no register of the table.
+-- User mode may access no register of the table.
 use Rattle.std.proofs.Common.{sym}
 use Rattle.rv_csr.proofs.Levels.{no_register}
 use Rattle.rv_csr.proofs.csrs.Csrs.read.Goals as goal

@@ -1,4 +1,4 @@
--- A user reaches no register of the table.
+-- User mode may access no register of the table.
 use Rattle.std.proofs.Common.{sym}
 use Rattle.rv_csr.proofs.Levels.{no_register, may_read-from_write}
 use Rattle.rv_csr.proofs.csrs.Csrs.write.Goals as goal

@@ -8,20 +8,21 @@ use rv_pmp::Mode;
 
 /// The fields of mstatus that this hart has. Privileged Architecture 20211203, section 3.1.6.
 #[derive(Clone, Copy)]
-pub struct Status {
-    /// MIE: whether machine mode takes interrupts.
+pub struct Mstatus {
+    /// MIE: whether interrupts are taken in machine mode.
     pub interrupts: bool,
     /// MPIE: MIE before the last trap.
     pub previous_interrupts: bool,
     /// MPP: the mode before the last trap.
     pub previous_mode: Mode,
-    /// MPRV: whether loads and stores go by MPP.
+    /// MPRV: whether loads and stores have the permissions of MPP.
     pub modify_privilege: bool,
-    /// TW: whether WFI in user mode is illegal.
+    /// TW: whether WFI is illegal in user mode.
     pub timeout_wait: bool,
 }
 
-impl Status {
+impl Mstatus {
+    /// Encodes the fields as a word.
     #[tactic(auto, unfolding(crate::specs::Registers::status_word))]
     pub(crate) fn word(&self) -> u32
         ensures { result ≡ status_word self.now }
@@ -33,12 +34,12 @@ impl Status {
             + ((self.timeout_wait as u32) << 21)
     }
 
-    /// The fields after a write.
+    /// Returns the fields after a write of `word`. MPP stays as it is if the word's field is no mode.
     #[tactic(auto, unfolding(crate::specs::Registers::with_status))]
-    pub(crate) fn written(&self, word: u32) -> Status
+    pub(crate) fn with_word(&self, word: u32) -> Mstatus
         ensures { result ≡ with_status self.now word }
     {
-        Status {
+        Mstatus {
             interrupts: is_set(word, 3),
             previous_interrupts: is_set(word, 7),
             previous_mode: mode_of(self.previous_mode, (word >> 11) % 4),
@@ -48,7 +49,7 @@ impl Status {
     }
 }
 
-/// The level of a mode, as a field of two bits.
+/// Returns the level of a mode, as a field of two bits.
 pub(crate) fn mode_level(mode: Mode) -> u32
     ensures level { result ≡ level mode }
     ensures below { result < 4 }
@@ -59,6 +60,7 @@ pub(crate) fn mode_level(mode: Mode) -> u32
     }
 }
 
+/// Returns the mode of a field of two bits, or `old` if it is no mode.
 #[tactic(auto, unfolding(crate::specs::Registers::mode_kept))]
 fn mode_of(old: Mode, field: u32) -> Mode
     ensures { result ≡ mode_kept old field }
@@ -70,6 +72,7 @@ fn mode_of(old: Mode, field: u32) -> Mode
     }
 }
 
+/// Whether bit `place` of a word is set.
 fn is_set(word: u32, place: u32) -> bool
     requires { place < 32 }
     ensures { result ≡ flag word place }
@@ -77,7 +80,7 @@ fn is_set(word: u32, place: u32) -> bool
     (word >> place) % 2 == 1
 }
 
-/// The bits of the interrupt lines, as mie and mip have them.
+/// Encodes the levels of the interrupt lines as mie and mip hold them.
 #[tactic(auto, unfolding(crate::specs::Registers::lines_word))]
 pub(crate) fn lines_word(lines: InterruptLines) -> u32
     ensures { result ≡ spec.lines_word lines }
@@ -85,6 +88,7 @@ pub(crate) fn lines_word(lines: InterruptLines) -> u32
     ((lines.software as u32) << 3) + ((lines.timer as u32) << 7) + ((lines.external as u32) << 11)
 }
 
+/// Decodes the bits of mie.
 #[tactic(auto, unfolding(crate::specs::Registers::lines_of))]
 pub(crate) fn lines_of(word: u32) -> InterruptLines
     ensures { result ≡ spec.lines_of word }
