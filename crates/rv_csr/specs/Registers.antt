@@ -4,6 +4,7 @@
 -- To audit: public contracts cite this.
 use Rattle.std.specs.Prelude.{◌≡◌, ℕ, ◌+◌, ◌*◌, ◌/◌, ◌%◌, ◌^◌, Bool, false, ◌==◌, ◌&&◌, ◌||◌, not, nat_le, if◌then◌else◌, Option, Some, None}
 use Rattle.std.specs.Option.{option_map}
+use Rattle.rv_base.specs.Halves.{with_low, with_high}
 use Rattle.rv_isa.specs.Number.{bit, truth}
 use Rattle.rv_isa.specs.declared.InterruptLines.{InterruptLines}
 use Rattle.rv_pmp.specs.Pmp as protection
@@ -103,13 +104,6 @@ aligned word = word / 4 * 4
 
 abbrev pub without_bit_1 : ℕ → ℕ
 without_bit_1 word = word / 4 * 4 + word % 2
-
--- a number of 64 bits with its low or its high half replaced
-abbrev pub with_low : ℕ → ℕ → ℕ
-with_low number word = number / 2 ^ 32 * 2 ^ 32 + word
-
-abbrev pub with_high : ℕ → ℕ → ℕ
-with_high number word = number % 2 ^ 32 + word * 2 ^ 32
 
 -- the value of a register, while the interrupt lines have these levels
 abbrev pub value_of : CsrState → InterruptLines → Register → ℕ

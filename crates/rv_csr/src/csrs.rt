@@ -10,10 +10,11 @@ ghost use Rattle.rv_pmp.specs.Pmp.{grants};
 ghost use Rattle.rv_pmp.specs.declared.mode.Mode.{Mode};
 ghost use Rattle.rv_pmp.specs.declared.mode.Mode.TheVariants.{User};
 
-use crate::counters::{Counters, high_word, low_word, with_high_word, with_low_word};
+use crate::counters::Counters;
 use crate::mstatus::{Mstatus, lines_of, lines_word};
 use crate::register::{Register, may_read, may_write};
 use crate::trap::TrapRegisters;
+use rv_base::{high_word, low_word, with_high_word, with_low_word};
 use rv_isa::{InterruptLines, Width};
 use rv_pmp::{Access, Mode, Pmp};
 use std::marker::Model;

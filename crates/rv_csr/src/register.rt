@@ -1,4 +1,5 @@
-//! The addresses of the control registers, and which modes may access them. Privileged Architecture 20211203, section 2.1 and table 2.5.
+//! The addresses of the control registers, and which modes may access them. Privileged Architecture 20211203, section
+//! 2.1 and table 2.5.
 ghost use Rattle.std.specs.Prelude.{◌≡◌};
 ghost use Rattle.rv_csr.specs.Registers.{register_at};
 ghost use Rattle.rv_csr.specs.Registers as spec;
