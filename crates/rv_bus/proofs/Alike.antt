@@ -15,9 +15,9 @@ use Rattle.rv_mmio.specs.Timer as timer
 use Rattle.rv_mmio.specs.declared.serial.SerialReg.{SerialReg}
 use Rattle.rv_mmio.specs.declared.serial.SerialReg.TheVariants.{Tx, Rx, Status}
 use Rattle.rv_bus.specs.State.{BusState}
-use Rattle.rv_bus.specs.Places.{place_of, device_of, of_width}
-use Rattle.rv_bus.specs.declared.places.Place.{Place}
-use Rattle.rv_bus.specs.declared.places.Place.TheVariants.{Ram, Halt, Timer, Plic, Serial, Nowhere}
+use Rattle.rv_bus.specs.Locations.{location_of, device_of, of_width}
+use Rattle.rv_bus.specs.declared.locations.Location.{Location}
+use Rattle.rv_bus.specs.declared.locations.Location.TheVariants.{Ram, Halt, Timer, Plic, Serial, Nowhere}
 use Rattle.rv_bus.specs.Access.{word_of, fetch, load, load_at, after_load, after_load_at, store, store_at, ram_byte}
 use Rattle.rv_bus.proofs.Others.{byte-put, length-put}
 
@@ -25,32 +25,32 @@ use Rattle.rv_bus.proofs.Others.{byte-put, length-put}
 abbrev pub with_ram : BusState → List ℕ → BusState
 with_ram b ram = record b { ram = ram }
 
--- ---- what holds of each place holds of the place of an address
+-- ---- what holds of each location holds of the location of an address
 
-word_devices : (P : Place → Type 0) (a : ℕ) (x y z : Bool) → P Halt → P (Timer (a - 0x02000000)) → P (Plic (a - 0x0c000000)) → P Nowhere
+word_devices : (P : Location → Type 0) (a : ℕ) (x y z : Bool) → P Halt → P (Timer (a - 0x02000000)) → P (Plic (a - 0x0c000000)) → P Nowhere
     → P (if x then Halt else (if y then Timer (a - 0x02000000) else (if z then Plic (a - 0x0c000000) else Nowhere)))
 word_devices P a true y z halt timer plic nowhere = halt
 word_devices P a false true z halt timer plic nowhere = timer
 word_devices P a false false true halt timer plic nowhere = plic
 word_devices P a false false false halt timer plic nowhere = nowhere
 
-serial_or : (P : Place → Type 0) (x y z : Bool) (rest : Place) → ((reg : SerialReg) → P (Serial reg)) → P rest
+serial_or : (P : Location → Type 0) (x y z : Bool) (rest : Location) → ((reg : SerialReg) → P (Serial reg)) → P rest
     → P (if x then Serial Tx else (if y then Serial Rx else (if z then Serial Status else rest)))
 serial_or P true y z rest serial other = serial Tx
 serial_or P false true z rest serial other = serial Rx
 serial_or P false false true rest serial other = serial Status
 serial_or P false false false rest serial other = other
 
-memory_or : (P : Place → Type 0) (x y : Bool) (off : ℕ) (rest : Place) → (x ≡ true → P (Ram off)) → P Nowhere → P rest
+memory_or : (P : Location → Type 0) (x y : Bool) (off : ℕ) (rest : Location) → (x ≡ true → P (Ram off)) → P Nowhere → P rest
     → P (if x then (if y then Ram off else Nowhere) else rest)
 memory_or P true true off rest ram nowhere other = ram refl
 memory_or P true false off rest ram nowhere other = nowhere
 memory_or P false y off rest ram nowhere other = other
 
-pub each_place : (P : Place → Type 0) (size a : ℕ) (w : Width) → (0x80000000 ≤ a → P (Ram (a - 0x80000000))) → P Halt → ((off : ℕ) → P (Timer off)) → ((off : ℕ) → P (Plic off)) → ((reg : SerialReg) → P (Serial reg)) → P Nowhere
-    → P (place_of size a w)
-unfolding place_of
-each_place P size a w ram halt timer plic serial nowhere =
+pub each_location : (P : Location → Type 0) (size a : ℕ) (w : Width) → (0x80000000 ≤ a → P (Ram (a - 0x80000000))) → P Halt → ((off : ℕ) → P (Timer off)) → ((off : ℕ) → P (Plic off)) → ((reg : SerialReg) → P (Serial reg)) → P Nowhere
+    → P (location_of size a w)
+unfolding location_of
+each_location P size a w ram halt timer plic serial nowhere =
     memory_or P (nat_le 0x80000000 a) (nat_lt (a - 0x80000000) size) (a - 0x80000000) (device_of a w) (λ t. ram (leb-true 0x80000000 a t)) nowhere
     (serial_or P (a == 0x10000000) (a == 0x10000004) (a == 0x10000008) (of_width a w) serial (by_width w))
   where
@@ -87,28 +87,28 @@ same_value one other off Four same =
 pub same_load : (b : BusState) (ram : List ℕ) (a : ℕ) (w : Width) → length ram ≡ length b.ram → (0x80000000 ≤ a → SameBytes b.ram ram (a - 0x80000000) (bytes_of w)) → load (with_ram b ram) a w ≡ load b a w
 unfolding load
 same_load b ram a w size same =
-    ap (λ n. load_at (with_ram b ram) (place_of n a w) w) size
-    ∙ each_place (λ p. load_at (with_ram b ram) p w ≡ load_at b p w) (length b.ram) a w
+    ap (λ n. load_at (with_ram b ram) (location_of n a w) w) size
+    ∙ each_location (λ p. load_at (with_ram b ram) p w ≡ load_at b p w) (length b.ram) a w
     (λ above. ap Some (same_value b.ram ram (a - 0x80000000) w (same above))) refl (λ off. refl) (λ off. refl) (λ reg. refl) refl
 
 -- what it leaves has nothing to do with the memory
 pub same_after_load : (b : BusState) (ram : List ℕ) (a : ℕ) (w : Width) → length ram ≡ length b.ram → after_load (with_ram b ram) a w ≡ with_ram (after_load b a w) ram
 unfolding after_load
 same_after_load b ram a w size =
-    ap (λ n. after_load_at (with_ram b ram) (place_of n a w)) size
-    ∙ each_place (λ p. after_load_at (with_ram b ram) p ≡ with_ram (after_load_at b p) ram) (length b.ram) a w
+    ap (λ n. after_load_at (with_ram b ram) (location_of n a w)) size
+    ∙ each_location (λ p. after_load_at (with_ram b ram) p ≡ with_ram (after_load_at b p) ram) (length b.ram) a w
     (λ above. refl) refl (λ off. refl) (λ off. refl) (λ reg. refl) refl
 
 pub memory_after_load : (b : BusState) (a : ℕ) (w : Width) → (after_load b a w).ram ≡ b.ram
 unfolding after_load
 memory_after_load b a w =
-    each_place (λ p. (after_load_at b p).ram ≡ b.ram) (length b.ram) a w (λ above. refl) refl (λ off. refl) (λ off. refl) (λ reg. refl) refl
+    each_location (λ p. (after_load_at b p).ram ≡ b.ram) (length b.ram) a w (λ above. refl) refl (λ off. refl) (λ off. refl) (λ reg. refl) refl
 
 pub same_fetch : (one other : List ℕ) (a : ℕ) → length other ≡ length one → (0x80000000 ≤ a → SameBytes one other (a - 0x80000000) 4) → fetch other a ≡ fetch one a
 unfolding fetch
 same_fetch one other a size same =
-    ap (λ n. word_of other (place_of n a Four)) size
-    ∙ each_place (λ p. word_of other p ≡ word_of one p) (length one) a Four
+    ap (λ n. word_of other (location_of n a Four)) size
+    ∙ each_location (λ p. word_of other p ≡ word_of one p) (length one) a Four
     (λ above. ap Some (same_value one other (a - 0x80000000) Four (same above))) refl (λ off. refl) (λ off. refl) (λ reg. refl) refl
 
 -- ---- stores
@@ -183,8 +183,8 @@ timer_store b ram a w (Some t) size = device_store b ram a w (record b { timer =
 pub same_store : (b : BusState) (ram : List ℕ) (a v : ℕ) (w : Width) → length ram ≡ length b.ram → BothStore b ram a w (store b a w v) (store (with_ram b ram) a w v)
 unfolding store
 same_store b ram a v w size =
-    subst (λ n. BothStore b ram a w (store_at b (place_of (length b.ram) a w) w v) (store_at (with_ram b ram) (place_of n a w) w v)) (sym size)
-    (each_place (λ p. BothStore b ram a w (store_at b p w v) (store_at (with_ram b ram) p w v)) (length b.ram) a w
+    subst (λ n. BothStore b ram a w (store_at b (location_of (length b.ram) a w) w v) (store_at (with_ram b ram) (location_of n a w) w v)) (sym size)
+    (each_location (λ p. BothStore b ram a w (store_at b p w v) (store_at (with_ram b ram) p w v)) (length b.ram) a w
     (λ above. memory_store b ram a v w size above)
     (device_store b ram a w _ size refl)
     (λ off. timer_store b ram a w (timer.store b.timer off v) size)
@@ -197,16 +197,16 @@ same_store b ram a v w size =
 pub same_byte : (one other : List ℕ) (a : ℕ) → length other ≡ length one → (0x80000000 ≤ a → slice_index other (a - 0x80000000) ≡ slice_index one (a - 0x80000000)) → ram_byte other a ≡ ram_byte one a
 same_byte one other a size same =
     ap (λ n. if nat_le 0x80000000 a && nat_lt (a - 0x80000000) n then Some (slice_index other (a - 0x80000000)) else None) size
-    ∙ by_place (nat_le 0x80000000 a) (nat_lt (a - 0x80000000) (length one)) (λ t. same (leb-true 0x80000000 a t))
+    ∙ by_tests (nat_le 0x80000000 a) (nat_lt (a - 0x80000000) (length one)) (λ t. same (leb-true 0x80000000 a t))
   where
-    by_place : (x y : Bool) → (x ≡ true → slice_index other (a - 0x80000000) ≡ slice_index one (a - 0x80000000))
+    by_tests : (x y : Bool) → (x ≡ true → slice_index other (a - 0x80000000) ≡ slice_index one (a - 0x80000000))
         → (if x && y then Some (slice_index other (a - 0x80000000)) else None) ≡ (if x && y then Some (slice_index one (a - 0x80000000)) else None)
-    by_place true true e = ap Some (e refl)
-    by_place true false e = refl
-    by_place false y e = refl
+    by_tests true true e = ap Some (e refl)
+    by_tests true false e = refl
+    by_tests false y e = refl
 
 pub byte_same : (one other : List ℕ) (k : ℕ) → length other ≡ length one → ram_byte other (0x80000000 + k) ≡ ram_byte one (0x80000000 + k) → slice_index other k ≡ slice_index one k
-byte_same one other k size same = by_place (nat_lt k (length one)) refl
+byte_same one other k size same = by_tests (nat_lt k (length one)) refl
   where
     at_byte : (bs : List ℕ) → nat_lt k (length bs) ≡ true → ram_byte bs (0x80000000 + k) ≡ Some (slice_index bs k)
     at_byte bs t =
@@ -214,10 +214,10 @@ byte_same one other k size same = by_place (nat_lt k (length one)) refl
         let off : 0x80000000 + k - 0x80000000 ≡ k = omega arith in
         rw (le, off, t) refl
 
-    by_place : (x : Bool) → nat_lt k (length one) ≡ x → slice_index other k ≡ slice_index one k
-    by_place true t =
+    by_tests : (x : Bool) → nat_lt k (length one) ≡ x → slice_index other k ≡ slice_index one k
+    by_tests true t =
         let is : Some (slice_index other k) ≡ Some (slice_index one k) = sym (at_byte other (ap (nat_lt k) size ∙ t)) ∙ (same ∙ at_byte one t) in
         cc
-    by_place false t =
+    by_tests false t =
         let high : length one ≤ k = ltb-false k (length one) t in
         get_or_past other k 0 (omega arith) ∙ sym (get_or_past one k 0 high)

@@ -6,9 +6,9 @@ use Rattle.rv_isa.specs.declared.op.Width.TheVariants.{One, Two, Four}
 use Rattle.rv_isa.specs.Width.{bytes_of}
 use Rattle.rv_ram.specs.Bytes.{word_at, put}
 use Rattle.rv_mmio.specs.declared.serial.SerialReg.TheVariants.{Tx, Rx, Status}
-use Rattle.rv_bus.specs.Places.{place_of, device_of, word_device}
-use Rattle.rv_bus.specs.declared.places.Place.{Place}
-use Rattle.rv_bus.specs.declared.places.Place.TheVariants.{Ram, Halt, Timer, Plic, Serial, Nowhere}
+use Rattle.rv_bus.specs.Locations.{location_of, device_of, word_device}
+use Rattle.rv_bus.specs.declared.locations.Location.{Location}
+use Rattle.rv_bus.specs.declared.locations.Location.TheVariants.{Ram, Halt, Timer, Plic, Serial, Nowhere}
 use Rattle.rv_bus.specs.Access.{word_of, fetch}
 
 -- a write to one place leaves another
@@ -41,14 +41,14 @@ length-put bs off v One = grind (arith, common_steps)
 length-put bs off v Two = grind (arith, common_steps)
 length-put bs off v Four = grind (arith, common_steps)
 
-none_if : (xs : List ℕ) (b : Bool) (p q : Place) → word_of xs p ≡ None → word_of xs q ≡ None → word_of xs (if b then p else q) ≡ None
+none_if : (xs : List ℕ) (b : Bool) (p q : Location) → word_of xs p ≡ None → word_of xs q ≡ None → word_of xs (if b then p else q) ≡ None
 none_if xs true p q h k = h
 none_if xs false p q h k = k
 
 -- no device has a word to fetch
 none_word_device : (xs : List ℕ) (a : ℕ) → word_of xs (word_device a) ≡ None
 none_word_device xs a =
-    let plic_or_nowhere : Place = if nat_le 0x0c000000 a && nat_lt a 0x10000000 then Plic (a - 0x0c000000) else Nowhere in
+    let plic_or_nowhere : Location = if nat_le 0x0c000000 a && nat_lt a 0x10000000 then Plic (a - 0x0c000000) else Nowhere in
     none_if xs (a == 0x00100000) Halt (if nat_le 0x02000000 a && nat_lt a 0x0200c000 then Timer (a - 0x02000000) else plic_or_nowhere) refl
     (none_if xs (nat_le 0x02000000 a && nat_lt a 0x0200c000) (Timer (a - 0x02000000)) plic_or_nowhere refl
     (none_if xs (nat_le 0x0c000000 a && nat_lt a 0x10000000) (Plic (a - 0x0c000000)) Nowhere refl refl))
@@ -66,9 +66,9 @@ same_place xs ys false c k a h = none_device xs a ∙ sym (none_device ys a)
 
 -- a store leaves what is fetched from another word
 pub fetch_put : (ram : List ℕ) (off addr a v : ℕ) (w : Width) → off % bytes_of w ≡ 0 → addr ≡ 0x80000000 + off → a % 4 ≡ 0 → a ≢ addr / 4 * 4 → fetch (put ram off w v) a ≡ fetch ram a
-unfolding fetch place_of
+unfolding fetch location_of
 fetch_put ram off addr a v w al e s n =
-    ap (λ len. word_of (put ram off w v) (place_of len a Four)) (length-put ram off v w)
+    ap (λ len. word_of (put ram off w v) (location_of len a Four)) (length-put ram off v w)
     ∙ same_place (put ram off w v) ram (nat_le 0x80000000 a) (nat_lt (a - 0x80000000) (length ram)) (a - 0x80000000) a
     (λ t. let above : 0x80000000 ≤ a = leb-true 0x80000000 a t in
     word_at-put ram off v (a - 0x80000000) w al (omega arith) (λ q. n (omega arith)))

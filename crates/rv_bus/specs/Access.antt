@@ -13,10 +13,10 @@ use Rattle.rv_mmio.specs.Serial as serial
 use Rattle.rv_mmio.specs.Halt.{halted_by}
 use Rattle.rv_mmio.specs.declared.serial.SerialReg.{SerialReg}
 use Rattle.rv_mmio.specs.declared.serial.SerialReg.TheVariants.{Tx, Rx, Status}
-use Rattle.rv_bus.specs.State.{BusState, MarkState, TickState}
-use Rattle.rv_bus.specs.Places.{place_of}
-use Rattle.rv_bus.specs.declared.places.Place.{Place}
-use Rattle.rv_bus.specs.declared.places.Place.TheVariants.{Ram, Halt, Timer, Plic, Serial, Nowhere}
+use Rattle.rv_bus.specs.State.{BusState, SnapshotState, TickState}
+use Rattle.rv_bus.specs.Locations.{location_of}
+use Rattle.rv_bus.specs.declared.locations.Location.{Location}
+use Rattle.rv_bus.specs.declared.locations.Location.TheVariants.{Ram, Halt, Timer, Plic, Serial, Nowhere}
 
 -- a narrow access of a register has its low bits
 abbrev pub low_bits : ℕ → Width → ℕ
@@ -24,8 +24,8 @@ low_bits v One = v % 256
 low_bits v Two = v % 65536
 low_bits v Four = v
 
--- what a load at a place gives: the value of the bytes, or the register
-abbrev pub load_at : BusState → Place → Width → Option ℕ
+-- what a load at a location gives: the value of the bytes, or the register
+abbrev pub load_at : BusState → Location → Width → Option ℕ
 load_at b (Ram off) w = Some (value_at b.ram off w)
 load_at b Halt w = Some 0
 load_at b (Timer off) w = timer.load b.timer off
@@ -34,7 +34,7 @@ load_at b (Serial reg) w = Some (low_bits (serial.load_value b.serial reg) w)
 load_at b Nowhere w = None
 
 -- what it leaves: only loads of the interrupt controller and the serial port have an effect
-abbrev pub after_load_at : BusState → Place → BusState
+abbrev pub after_load_at : BusState → Location → BusState
 after_load_at b (Ram off) = b
 after_load_at b Halt = b
 after_load_at b (Timer off) = b
@@ -42,8 +42,8 @@ after_load_at b (Plic off) = record b { plic = plic.after_load b.plic off }
 after_load_at b (Serial reg) = record b { serial = serial.after_load b.serial reg }
 after_load_at b Nowhere = b
 
--- what a store at a place leaves, if something stands there
-abbrev pub store_at : BusState → Place → Width → ℕ → Option BusState
+-- what a store at a location leaves, if something stands there
+abbrev pub store_at : BusState → Location → Width → ℕ → Option BusState
 store_at b (Ram off) w v = Some (record b { ram = put b.ram off w v })
 store_at b Halt w v = Some (record b { halt = halted_by b.halt v })
 store_at b (Timer off) w v = option_map (λ t. record b { timer = t }) (timer.store b.timer off v)
@@ -52,7 +52,7 @@ store_at b (Serial reg) w v = Some (record b { serial = serial.stored b.serial r
 store_at b Nowhere w v = None
 
 -- a store there may have to make room: for a page of the memory, or in the console
-abbrev pub grows_at : BusState → Place → Width → ℕ → Bool
+abbrev pub grows_at : BusState → Location → Width → ℕ → Bool
 grows_at b (Ram off) w v = wants_page b.ram off w v
 grows_at b Halt w v = false
 grows_at b (Timer off) w v = false
@@ -60,28 +60,28 @@ grows_at b (Plic off) w v = false
 grows_at b (Serial reg) w v = serial.wants_room b.serial reg
 grows_at b Nowhere w v = false
 
-abbrev pub place : BusState → ℕ → Width → Place
-place b a w = place_of (length b.ram) a w
+abbrev pub location : BusState → ℕ → Width → Location
+location b a w = location_of (length b.ram) a w
 
 unfoldable pub load : BusState → ℕ → Width → Option ℕ
-load b a w = load_at b (place b a w) w
+load b a w = load_at b (location b a w) w
 
 unfoldable pub after_load : BusState → ℕ → Width → BusState
-after_load b a w = after_load_at b (place b a w)
+after_load b a w = after_load_at b (location b a w)
 
 unfoldable pub store : BusState → ℕ → Width → ℕ → Option BusState
-store b a w v = store_at b (place b a w) w v
+store b a w v = store_at b (location b a w) w v
 
 unfoldable pub grows : BusState → ℕ → Width → ℕ → Bool
-grows b a w v = grows_at b (place b a w) w v
+grows b a w v = grows_at b (location b a w) w v
 
-abbrev pub word_of : List ℕ → Place → Option ℕ
+abbrev pub word_of : List ℕ → Location → Option ℕ
 word_of ram (Ram off) = Some (word_at ram off)
 word_of ram p = None
 
 -- the word that a fetch at an address gives: that of the memory, or none
 unfoldable pub fetch : List ℕ → ℕ → Option ℕ
-fetch ram a = word_of ram (place_of (length ram) a Four)
+fetch ram a = word_of ram (location_of (length ram) a Four)
 
 -- the byte of the memory at an address, if it is one
 abbrev pub ram_byte : List ℕ → ℕ → Option ℕ
@@ -96,8 +96,8 @@ ticked b = record b { timer = timer.ticked b.timer; plic = plic.forwarded b.plic
 abbrev pub next_tick : BusState → TickState
 next_tick b = record { time = b.timer.time; requests = plic.ready b.plic }
 
-abbrev pub mark_before : BusState → TickState → MarkState
-mark_before b tick =
+abbrev pub snapshot_before : BusState → TickState → SnapshotState
+snapshot_before b tick =
     record { timer = record b.timer { time = tick.time }; plic = plic.withdrawn b.plic tick.requests }
 
 -- the levels of the interrupt lines

@@ -1,5 +1,5 @@
 pub mod State
-pub mod Places
+pub mod Locations
 pub mod Within
 pub mod Access
 pub mod Stores

@@ -17,7 +17,7 @@ pub record BusState : Type 0 where
   pub halt : Option ℕ
 
 -- what a tick changes
-pub record MarkState : Type 0 where
+pub record SnapshotState : Type 0 where
   pub timer : TimerState
   pub plic : PlicState
 

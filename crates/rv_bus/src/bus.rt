@@ -4,11 +4,11 @@ ghost use Rattle.rv_isa.specs.Width.{bytes_of};
 ghost use Rattle.rv_ram.specs.Bytes.{value_at, HasPages};
 ghost use Rattle.rv_mmio.specs.Serial as serial;
 ghost use Rattle.rv_bus.specs.State.{BusState, reset};
-ghost use Rattle.rv_bus.specs.Access.{place, load, after_load, fetch, low_bits, ram_byte, ticked, next_tick, mark_before, lines_of, with_line, received};
+ghost use Rattle.rv_bus.specs.Access.{location, load, after_load, fetch, low_bits, ram_byte, ticked, next_tick, snapshot_before, lines_of, with_line, received};
 ghost use Rattle.rv_bus.specs.Within.{IsWithin};
 ghost use Rattle.rv_bus.specs.Stores.{Stores, Answers};
 
-use crate::places::{Place, find_place};
+use crate::locations::{Location, find_location};
 use rv_isa::{InterruptLines, NoMemory, Width};
 use rv_mmio::{Halt, Serial, SerialReg, Timer};
 use rv_plic::{Plic, Source, SourceSet};
@@ -30,17 +30,17 @@ pub enum StoreRefusal {
 
 /// What the passing of time changes, as it was.
 #[derive(Clone, Copy)]
-pub struct Mark {
+pub struct Snapshot {
     timer: Timer,
     plic: Plic,
 }
 
-impl Model for Mark {
+impl Model for Snapshot {
     ghost use Rattle.std.specs.Coded.{codes};
     ghost use Rattle.rv_plic.specs.Codes.{plic_code};
-    ghost use Rattle.rv_bus.specs.State.{MarkState};
+    ghost use Rattle.rv_bus.specs.State.{SnapshotState};
 
-    ghost Value = { MarkState };
+    ghost Value = { SnapshotState };
 
     ghost coded = { Prim.hlevel (codes, plic_code) };
 
@@ -116,12 +116,12 @@ impl<M: ByteMemory> Bus<M> {
         }
     }
 
-    fn place(&self, addr: u32, width: Width) -> Place
+    fn location(&self, addr: u32, width: Width) -> Location
         requires { addr % bytes_of width ≡ 0 }
-        ensures place { result ≡ place self.now addr width }
+        ensures location { result ≡ location self.now addr width }
         ensures within { IsWithin (length self.now.ram) addr width result }
     {
-        find_place(self.ram.size(), addr, width)
+        find_location(self.ram.size(), addr, width)
     }
 
     /// The word of the memory at an address that is a multiple of 4. Only the memory can be fetched from.
@@ -130,8 +130,8 @@ impl<M: ByteMemory> Bus<M> {
         requires { addr % 4 ≡ 0 }
         ensures { Answers result (fetch self.now.ram addr) }
     {
-        match self.place(addr, Width::Four) {
-            Place::Ram(off) => Ok(self.ram.read_word(off)),
+        match self.location(addr, Width::Four) {
+            Location::Ram(off) => Ok(self.ram.read_word(off)),
             _ => Err(BusFault),
         }
     }
@@ -146,16 +146,16 @@ impl<M: ByteMemory> Bus<M> {
         ensures ram { self.new.ram ≡ self.old.ram }
         ensures fault { IfErr result (λ _. self.new ≡ self.old) }
     {
-        match self.place(addr, width) {
-            Place::Ram(off) => Ok(self.load_ram(off, width)),
-            Place::Halt => Ok(0),
-            Place::Timer(off) => match self.timer.load(off) {
+        match self.location(addr, width) {
+            Location::Ram(off) => Ok(self.load_ram(off, width)),
+            Location::Halt => Ok(0),
+            Location::Timer(off) => match self.timer.load(off) {
                 Some(word) => Ok(word),
                 None => Err(BusFault),
             },
-            Place::Plic(off) => Ok(self.plic.load(off)),
-            Place::Serial(register) => Ok(self.load_serial(register, width)),
-            Place::Nowhere => Err(BusFault),
+            Location::Plic(off) => Ok(self.plic.load(off)),
+            Location::Serial(register) => Ok(self.load_serial(register, width)),
+            Location::Nowhere => Err(BusFault),
         }
     }
 
@@ -192,28 +192,28 @@ impl<M: ByteMemory> Bus<M> {
         ensures stores { Stores self.old addr width value self.new result }
         ensures others { (a : ℕ) → a % 4 ≡ 0 → a ≢ addr / 4 * 4 → fetch self.new.ram a ≡ fetch self.old.ram a }
     {
-        match self.place(addr, width) {
-            Place::Ram(off) => match self.ram.write(off, width, value) {
+        match self.location(addr, width) {
+            Location::Ram(off) => match self.ram.write(off, width, value) {
                 Ok(()) => return Ok(()),
                 Err(NoMemory) => return Err(StoreRefusal::NoMemory),
             },
-            Place::Halt => {
+            Location::Halt => {
                 self.halt.store(value);
                 return Ok(());
             }
-            Place::Timer(off) => match self.timer.store(off, value) {
+            Location::Timer(off) => match self.timer.store(off, value) {
                 Some(()) => return Ok(()),
                 None => return Err(StoreRefusal::Fault),
             },
-            Place::Plic(off) => {
+            Location::Plic(off) => {
                 self.plic.store(off, value);
                 return Ok(());
             }
-            Place::Serial(register) => match self.serial.store(register, value) {
+            Location::Serial(register) => match self.serial.store(register, value) {
                 Ok(()) => return Ok(()),
                 Err(NoMemory) => return Err(StoreRefusal::NoMemory),
             },
-            Place::Nowhere => return Err(StoreRefusal::Fault),
+            Location::Nowhere => return Err(StoreRefusal::Fault),
         }
     }
 
@@ -262,24 +262,24 @@ impl<M: ByteMemory> Bus<M> {
     }
 
     /// What a tick changes, to be put back.
-    pub fn mark(&self) -> Mark
+    pub fn snapshot(&self) -> Snapshot
         ensures { result ≡ record { timer = self.now.timer; plic = self.now.plic } }
     {
-        Mark {
+        Snapshot {
             timer: self.timer,
             plic: self.plic,
         }
     }
 
     /// Makes what a tick changes what it was, and touches nothing else.
-    pub fn put_back(&mut self, mark: Mark)
-        ensures { self.new ≡ record self.old { timer = mark.timer; plic = mark.plic } }
+    pub fn undo_tick(&mut self, snapshot: Snapshot)
+        ensures { self.new ≡ record self.old { timer = snapshot.timer; plic = snapshot.plic } }
     {
-        self.timer = mark.timer;
-        self.plic = mark.plic;
+        self.timer = snapshot.timer;
+        self.plic = snapshot.plic;
     }
 
-    /// What the next tick changes, as it is now. It is less than a mark, and as good as one.
+    /// What the next tick changes, as it is now. It is less than a snapshot, and as good as one.
     pub fn next_tick(&self) -> Tick
         ensures { result ≡ next_tick self.now }
     {
@@ -289,14 +289,14 @@ impl<M: ByteMemory> Bus<M> {
         }
     }
 
-    /// The mark before a tick, which changed this.
-    pub fn mark_before(&self, tick: Tick) -> Mark
-        ensures value { result ≡ mark_before self.now tick }
+    /// The snapshot before a tick, which changed this.
+    pub fn snapshot_before(&self, tick: Tick) -> Snapshot
+        ensures value { result ≡ snapshot_before self.now tick }
         ensures before { (old : BusState) → self.now ≡ ticked old → tick ≡ next_tick old → result ≡ record { timer = old.timer; plic = old.plic } }
     {
         let mut plic = self.plic;
         plic.withdraw(tick.requests);
-        Mark {
+        Snapshot {
             timer: self.timer.at_time(tick.time),
             plic,
         }

@@ -2,7 +2,7 @@
 #![tactic(auto)]
 
 mod bus;
-mod places;
+mod locations;
 
-pub use bus::{Bus, BusFault, Mark, StoreRefusal, Tick};
-pub use places::Place;
+pub use bus::{Bus, BusFault, Snapshot, StoreRefusal, Tick};
+pub use locations::Location;

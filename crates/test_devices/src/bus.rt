@@ -136,13 +136,13 @@ fn devices_answer_at_their_addresses(rt: HostRuntime) -> Result<(), Fail> {
 }
 
 #[test]
-fn a_mark_puts_the_time_back(rt: HostRuntime) -> Result<(), Fail> {
+fn a_snapshot_undoes_a_tick(rt: HostRuntime) -> Result<(), Fail> {
     let mut bus = bus(rt.alloc())?;
     tick(&mut bus);
-    let mark = bus.mark();
+    let snapshot = bus.snapshot();
     tick(&mut bus);
     assert_eq!(rt; bus.timer().load(0xbff8), Some(2));
-    bus.put_back(mark);
+    bus.undo_tick(snapshot);
     loads(&rt, &mut bus, 0x0200_bff8, Width::Four, Ok(1));
     Ok(())
 }
@@ -161,11 +161,11 @@ fn with_request(rt: &impl Abort, bus: &mut Bus<FlatMemory>) -> Result<(), Fail> 
 fn the_interrupt_controller_takes_words(rt: HostRuntime) -> Result<(), Fail> {
     let mut bus = bus(rt.alloc())?;
     with_request(&rt, &mut bus)?;
-    let mark = bus.mark();
+    let snapshot = bus.snapshot();
     tick(&mut bus);
     loads(&rt, &mut bus, 0x0c00_1000, Width::Four, Ok(8));
     assert!(rt; bus.lines().external);
-    bus.put_back(mark);
+    bus.undo_tick(snapshot);
     loads(&rt, &mut bus, 0x0c00_1000, Width::Four, Ok(0));
     assert_eq!(rt; bus.timer().load(0xbff8), Some(0));
     tick(&mut bus);

@@ -4,31 +4,31 @@ use Rattle.std.specs.Prelude.{ℕ, ◌-◌, ◌==◌, ◌&&◌, nat_lt, nat_le, 
 use Rattle.rv_isa.specs.declared.op.Width.{Width}
 use Rattle.rv_isa.specs.declared.op.Width.TheVariants.{One, Two, Four}
 use Rattle.rv_mmio.specs.declared.serial.SerialReg.TheVariants.{Tx, Rx, Status}
-use Rattle.rv_bus.specs.declared.places.Place.{Place}
-use Rattle.rv_bus.specs.declared.places.Place.TheVariants.{Ram, Halt, Timer, Plic, Serial, Nowhere}
+use Rattle.rv_bus.specs.declared.locations.Location.{Location}
+use Rattle.rv_bus.specs.declared.locations.Location.TheVariants.{Ram, Halt, Timer, Plic, Serial, Nowhere}
 
 -- the devices that only words reach
-abbrev pub word_device : ℕ → Place
+abbrev pub word_device : ℕ → Location
 word_device a =
     if a == 0x00100000 then Halt else (
     if nat_le 0x02000000 a && nat_lt a 0x0200c000 then Timer (a - 0x02000000) else (
     if nat_le 0x0c000000 a && nat_lt a 0x10000000 then Plic (a - 0x0c000000) else Nowhere))
 
-abbrev pub of_width : ℕ → Width → Place
+abbrev pub of_width : ℕ → Width → Location
 of_width a One = Nowhere
 of_width a Two = Nowhere
 of_width a Four = word_device a
 
 -- the devices: the serial port's registers at every width, the others at words
-abbrev pub device_of : ℕ → Width → Place
+abbrev pub device_of : ℕ → Width → Location
 device_of a w =
     if a == 0x10000000 then Serial Tx else (
     if a == 0x10000004 then Serial Rx else (
     if a == 0x10000008 then Serial Status else of_width a w))
 
 -- what stands at an address, for an access of this width, where the memory has so many bytes
-unfoldable pub place_of : ℕ → ℕ → Width → Place
-place_of size a w =
+unfoldable pub location_of : ℕ → ℕ → Width → Location
+location_of size a w =
     if nat_le 0x80000000 a
     then (if nat_lt (a - 0x80000000) size then Ram (a - 0x80000000) else Nowhere)
     else device_of a w

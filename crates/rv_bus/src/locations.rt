@@ -1,7 +1,7 @@
 //! The address table.
 ghost use Rattle.std.specs.Prelude.{◌≡◌, ◌%◌, ◌≤◌, ◌^◌, ℕ};
 ghost use Rattle.rv_isa.specs.Width.{bytes_of};
-ghost use Rattle.rv_bus.specs.Places.{place_of, device_of, word_device};
+ghost use Rattle.rv_bus.specs.Locations.{location_of, device_of, word_device};
 ghost use Rattle.rv_bus.specs.Within.{IsWithin};
 
 use rv_isa::Width;
@@ -25,7 +25,7 @@ const PLIC_END: u32 = 0x1000_0000;
 
 /// What the address table has at an address, for an access of some width.
 #[derive(Clone, Copy)]
-pub enum Place {
+pub enum Location {
     /// The memory, at this offset in bytes: accesses of every width, and fetches.
     Ram(u32),
     /// The halt register: words.
@@ -41,56 +41,56 @@ pub enum Place {
 }
 
 /// What stands at an address, for an access of this width.
-#[tactic(auto, using(crate::proofs::Fit::memory_within), unfolding(crate::specs::Places::place_of))]
-pub(crate) fn find_place(size: u32, addr: u32, width: Width) -> Place
+#[tactic(auto, using(crate::proofs::Fit::memory_within), unfolding(crate::specs::Locations::location_of))]
+pub(crate) fn find_location(size: u32, addr: u32, width: Width) -> Location
     requires words { size % 4096 ≡ 0 }
     requires aligned { addr % bytes_of width ≡ 0 }
-    ensures place { result ≡ place_of size addr width }
+    ensures location { result ≡ location_of size addr width }
     ensures within { IsWithin size addr width result }
 {
     if addr >= RAM {
         let off = addr - RAM;
         return if off < size {
-            Place::Ram(off)
+            Location::Ram(off)
         } else {
-            Place::Nowhere
+            Location::Nowhere
         };
     }
     device(addr, width)
 }
 
-fn device(addr: u32, width: Width) -> Place
+fn device(addr: u32, width: Width) -> Location
     requires { addr % bytes_of width ≡ 0 }
-    ensures place { result ≡ device_of addr width }
+    ensures location { result ≡ device_of addr width }
     ensures within { (size : ℕ) → IsWithin size addr width result }
 {
     match addr {
-        0x1000_0000 => Place::Serial(SerialReg::Tx),
-        0x1000_0004 => Place::Serial(SerialReg::Rx),
-        0x1000_0008 => Place::Serial(SerialReg::Status),
+        0x1000_0000 => Location::Serial(SerialReg::Tx),
+        0x1000_0004 => Location::Serial(SerialReg::Rx),
+        0x1000_0008 => Location::Serial(SerialReg::Status),
         _ => match width {
             Width::Four => word_device(addr),
-            Width::One | Width::Two => Place::Nowhere,
+            Width::One | Width::Two => Location::Nowhere,
         },
     }
 }
 
 /// A device that only words reach.
-fn word_device(addr: u32) -> Place
+fn word_device(addr: u32) -> Location
     requires { addr % 4 ≡ 0 }
-    ensures place { result ≡ word_device addr }
+    ensures location { result ≡ word_device addr }
     ensures within { (size : ℕ) (w : Width) → IsWithin size addr w result }
 {
     if addr == HALT {
-        return Place::Halt;
+        return Location::Halt;
     }
     if addr >= TIMER && addr < TIMER_END {
-        return Place::Timer(addr - TIMER);
+        return Location::Timer(addr - TIMER);
     }
     if addr >= PLIC && addr < PLIC_END {
-        return Place::Plic(addr - PLIC);
+        return Location::Plic(addr - PLIC);
     }
-    Place::Nowhere
+    Location::Nowhere
 }
 
 ghost use Rattle.rv_isa.specs.declared.op.Width.{Width};
