@@ -1,4 +1,4 @@
--- How far a line has been cut.
+-- Cutting a line, token by token.
 use Rattle.std.proofs.Common.{◌≡◌, ℕ, zero, suc, ◌<◌, true, false, List, [], ◌∷◌, ◌++◌, length, drop, get_or, refl, sym, ap, arith, append_assoc}
 use Rattle.std.specs.Prelude.{◌==◌, None, Some, Result, Ok, Err}
 use Rattle.rv_tokens.specs.declared.token.Token.{Token}

@@ -1,4 +1,4 @@
--- How far a number has been read.
+-- Reading a number, digit by digit.
 use Rattle.std.proofs.Common.{◌≡◌, ℕ, suc, ◌+◌, ◌*◌, ◌<◌, ◌≤◌, Bool, true, false, cond, List, [], ◌∷◌, length, drop, fold, get_or, refl, sym, arith, inl, inr, add-one}
 use Rattle.std.specs.List.{list_all}
 use Rattle.std.proofs.Math.Nat.{mul-le-mul_right}
@@ -11,13 +11,13 @@ use Rattle.std.proofs.lemmas.List.{drop_all}
 use Rattle.rv_tokens.specs.Literals.{value, digit_value, is_hex_letter, is_digit, number_in}
 use Rattle.rv_tokens.proofs.Bools.{and_right, list_all_split, below_of}
 
--- the first i digits are digits and stand for sum
+-- the first i bytes are digits, of the value sum
 pub record SoFar (base : ℕ) (digits : List ℕ) (i sum : ℕ) : Type 0 where
   pub small : sum ≤ 4294967295
   pub sum_is : fold (λ v b. base * v + digit_value b) sum (drop i digits) ≡ value base digits
   pub all_are : list_all (is_digit base) (drop i digits) ≡ list_all (is_digit base) digits
 
--- more digits make no smaller number
+-- more digits don't make the value smaller
 pub fold-grows : (base : ℕ) → 1 ≤ base → (v : ℕ) (ds : List ℕ) → v ≤ fold (λ v b. base * v + digit_value b) v ds
 fold-grows base h v [] = omega arith
 fold-grows base h v (d ∷ ds) = omega (arith, fold-grows base h (base * v + digit_value d) ds, mul-le-mul_right v h)
@@ -72,7 +72,7 @@ whole base ds i sum long end so =
     let e : drop i ds ≡ [] = drop_all i ds end in
     number_in-some base ds sum long (sym (rw e at so.all_are)) (rw e at so.sum_is) so.small
 
--- ---- few digits
+-- ---- short numbers
 
 digit_below : (base b : ℕ) → is_digit base b ≡ true → digit_value b < base
 digit_below base b h = below_of (digit_value b) base (and_right (is_ascii_digit b || is_hex_letter b) (nat_lt (digit_value b) base) h)
@@ -116,12 +116,12 @@ number_in_split true true false v n h = absurd cc
 number_in_split true false d v n h = absurd cc
 number_in_split false b d v n h = absurd cc
 
--- what a number's digits are
+-- a number consists of digits, and has their value
 pub number_in_is : (base : ℕ) (ds : List ℕ) (n : ℕ) → number_in base ds ≡ Some n → (list_all (is_digit base) ds ≡ true) × (value base ds ≡ n)
 unfolding number_in
 number_in_is base ds n h = number_in_split (nat_le 1 (length ds)) (list_all (is_digit base) ds) (nat_le (value base ds) 4294967295) (value base ds) n h
 
--- four decimal digits are a number below 10000
+-- up to four decimal digits have a value below 10000
 pub few_digits_below : (ds : List ℕ) (n : ℕ) → length ds ≤ 4 → number_in 10 ds ≡ Some n → n < 10000
 few_digits_below ds n few h =
     let is = number_in_is 10 ds n h in omega (arith, is.1, few_below ds few is.0)

@@ -34,9 +34,9 @@ name_byte_at xs m n lt le h =
     let more = list_all_more is_name_byte xs m 0 (omega arith) in
     and_right (list_all is_name_byte (take m xs)) _ (sym more ∙ list_all_less xs (m + 1) n (omega arith) h)
 
--- what a token has to meet that stands before the rest
-abbrev kept : List ℕ → Option Token → Option Token
-kept rest = option_and_then (λ t. cond (may_precede t rest) (Some t) None)
+-- a token, if it may precede the rest
+abbrev if_may_precede : List ℕ → Option Token → Option Token
+if_may_precede rest = option_and_then (λ t. cond (may_precede t rest) (Some t) None)
 
 other_step : (n b : ℕ) (t : Bool) → (b == n) ≡ t → (b ≡ n → t ≡ false) → t ≡ false
 other_step n b true e h = h (grind (arith, nat_tests))
@@ -79,13 +79,13 @@ may_end rest h Minus = refl
 may_end rest h Colon = refl
 may_end rest h At = refl
 
-kept_all : (o : Option Token) (rest : List ℕ) → ((t : Token) → may_precede t rest ≡ true) → kept rest o ≡ o
+kept_all : (o : Option Token) (rest : List ℕ) → ((t : Token) → may_precede t rest ≡ true) → if_may_precede rest o ≡ o
 kept_all None rest h = refl
 kept_all (Some t) rest h = rw (h t) refl
 
--- a number or a local reference doesn't stand before a name byte
+-- neither a number nor a local reference may precede a name byte
 none_kept : (b f : Bool) (r d n : Option ℕ) (rest : List ℕ) → begins_with_name_byte rest ≡ true →
-    kept rest (option_or (cond b (option_map (λ n. Local n Backward) r) (cond f (option_map (λ n. Local n Forward) r) None)) (option_or (option_map (λ n. Digits n) d) (option_map (λ n. Number n) n))) ≡ None
+    if_may_precede rest (option_or (cond b (option_map (λ n. Local n Backward) r) (cond f (option_map (λ n. Local n Forward) r) None)) (option_or (option_map (λ n. Digits n) d) (option_map (λ n. Number n) n))) ≡ None
 none_kept true f (Some r) d n rest h = rw h refl
 none_kept true f None (Some d) n rest h = rw h refl
 none_kept true f None None (Some n) rest h = rw h refl
@@ -132,7 +132,7 @@ name_start_false : (xs : List ℕ) → word xs ≡ None → is_name_start (get_o
 unfolding word
 name_start_false xs h = no_name (is_name_start (get_or xs 0 0)) (Name xs) (option_or (local xs) (option_or (option_map (λ n. Digits n) (short_decimal xs)) (option_map (λ n. Number n) (number xs)))) h
 
-word_kept_none : (xs rest : List ℕ) → is_name_start (get_or xs 0 0) ≡ false → begins_with_name_byte rest ≡ true → kept rest (word xs) ≡ None
+word_kept_none : (xs rest : List ℕ) → is_name_start (get_or xs 0 0) ≡ false → begins_with_name_byte rest ≡ true → if_may_precede rest (word xs) ≡ None
 unfolding word local
 word_kept_none xs rest h e =
     rw h (none_kept (get_or xs (length xs - 1) 0 == 98) (get_or xs (length xs - 1) 0 == 102) (short_decimal (take (length xs - 1) xs)) (short_decimal xs) (number xs) rest e)
@@ -183,7 +183,7 @@ token_of_other (a ∷ []) long h s c p = absurd (omega arith)
 token_of_other (a ∷ b ∷ bs) long h s c p = rw (s, c, p, h) refl
 
 sign_kept_at : (rest : List ℕ) (c d e f g h i : Bool) →
-    kept rest (cond c (Some Comma) (cond d (Some Open) (cond e (Some Close) (cond f (Some Plus) (cond g (Some Minus) (cond h (Some Colon) (cond i (Some At) None)))))))
+    if_may_precede rest (cond c (Some Comma) (cond d (Some Open) (cond e (Some Close) (cond f (Some Plus) (cond g (Some Minus) (cond h (Some Colon) (cond i (Some At) None)))))))
     ≡ cond c (Some Comma) (cond d (Some Open) (cond e (Some Close) (cond f (Some Plus) (cond g (Some Minus) (cond h (Some Colon) (cond i (Some At) None))))))
 sign_kept_at rest true d e f g h i = refl
 sign_kept_at rest false true e f g h i = refl
@@ -245,7 +245,7 @@ token_of_half [] some e = absurd (omega arith)
 token_of_half (a ∷ []) some e = rw e refl
 token_of_half (a ∷ b ∷ bs) some e = rw e refl
 
-half_in : (line : List ℕ) (m : ℕ) → 0 < m → m ≤ length line → get_or line 0 0 ≡ 37 → token_in line m ≡ kept (drop m line) (half (take m line))
+half_in : (line : List ℕ) (m : ℕ) → 0 < m → m ≤ length line → get_or line 0 0 ≡ 37 → token_in line m ≡ if_may_precede (drop m line) (half (take m line))
 unfolding token_in
 half_in line m some le e =
     let len : length (take m line) ≡ m = omega (arith, length-take m line) in
@@ -255,7 +255,7 @@ half_in line m some le e =
 half_not : (line : List ℕ) (m : ℕ) → 0 < m → m ≤ length line → (m ≡ 3 → ⊥) → get_or line 0 0 ≡ 37 → token_in line m ≡ None
 half_not line m some le other e =
     let len : length (take m line) ≡ m = omega (arith, length-take m line) in
-    half_in line m some le e ∙ ap (kept (drop m line)) (half_other (take m line) (λ same. other (sym len ∙ same)))
+    half_in line m some le e ∙ ap (if_may_precede (drop m line)) (half_other (take m line) (λ same. other (sym len ∙ same)))
 
 -- a line that is too short for a half
 pub front_short : (line : List ℕ) → length line < 3 → get_or line 0 0 ≡ 37 → front line ≡ None
@@ -269,7 +269,7 @@ none_either : (s : Bool) → ◌≡◌ {A = Option Token} (cond s None None) Non
 none_either true = refl
 none_either false = refl
 
-half_kept_by : (rest : List ℕ) (c d : Bool) → kept rest (cond c (Some High) (cond d (Some Low) None)) ≡ cond (begins_with_name_byte rest) None (cond c (Some High) (cond d (Some Low) None))
+half_kept_by : (rest : List ℕ) (c d : Bool) → if_may_precede rest (cond c (Some High) (cond d (Some Low) None)) ≡ cond (begins_with_name_byte rest) None (cond c (Some High) (cond d (Some Low) None))
 half_kept_by rest true d = half_kept (begins_with_name_byte rest) High
 half_kept_by rest false true = half_kept (begins_with_name_byte rest) Low
 half_kept_by rest false false = sym (none_either (begins_with_name_byte rest))
@@ -299,7 +299,7 @@ token_of_character [] some e = absurd (omega arith)
 token_of_character (a ∷ []) some e = rw e refl
 token_of_character (a ∷ b ∷ bs) some e = rw e refl
 
-character_kept : (rest : List ℕ) (o : Option ℕ) → kept rest (option_map (λ n. Character n) o) ≡ option_map (λ n. Character n) o
+character_kept : (rest : List ℕ) (o : Option ℕ) → if_may_precede rest (option_map (λ n. Character n) o) ≡ option_map (λ n. Character n) o
 character_kept rest None = refl
 character_kept rest (Some n) = refl
 

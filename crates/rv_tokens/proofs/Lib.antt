@@ -1,9 +1,9 @@
 pub mod Bools
 pub mod Digits
 pub mod Longest
-pub mod Quoted
+pub mod StringEnds
 pub mod Front
 pub mod Cutting
-pub mod Parted
+pub mod PartsLemmas
 pub mod Spellings
 pub mod Splitting

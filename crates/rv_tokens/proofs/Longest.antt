@@ -1,4 +1,4 @@
--- The longest of the first bytes of a text that spell something.
+-- The longest prefix of a text that spells something.
 use Rattle.std.proofs.Common.{◌≡◌, ℕ, zero, suc, ◌+◌, ◌-◌, ◌<◌, ◌≤◌, refl, sym, ap, ◌∙◌, arith, add-suc}
 use Rattle.std.specs.Prelude.{Option, None, Some}
 use native.Mathlib.Decide.{dec_lt}
@@ -12,7 +12,7 @@ none_above spells n (suc d) h =
     let e : spells (suc (n + d)) ≡ None = h (suc (n + d)) (omega arith) (omega arith) in
     rw (add-suc n d, e) (none_above spells n d (λ m p q. h m p (omega arith)))
 
--- where nothing longer spells anything
+-- if no longer prefix spells anything
 pub longest_above : {A : Type 0} (spells : ℕ → Option A) (n k : ℕ) → n ≤ k → ((m : ℕ) → n < m → m ≤ k → spells m ≡ None) → longest spells k ≡ longest spells n
 longest_above spells n k le h =
     let whole : n + (k - n) ≡ k = omega arith in
@@ -35,14 +35,14 @@ unfolding longest
 longest_less spells zero some e = absurd (omega arith)
 longest_less spells (suc n) some e = let p : suc n - 1 ≡ n = omega arith in rw (e, p) refl
 
--- what was found
+-- facts about the longest prefix
 pub record IsLongest {A : Type 0} (spells : ℕ → Option A) (k n : ℕ) (x : A) : Type 0 where
   pub some : 0 < n
   pub within : n ≤ k
   pub is : spells n ≡ Some x
   pub above : (m : ℕ) → n < m → m ≤ k → spells m ≡ None
 
--- n bytes are the longest, where nothing longer spells anything
+-- the prefix of n bytes is the longest, if no longer one spells anything
 pub longest_is : {A : Type 0} (spells : ℕ → Option A) (k n : ℕ) (x : A) → IsLongest spells k n x → longest spells k ≡ Some (x, n)
 longest_is spells k n x l = longest_above spells n k l.within l.above ∙ longest_at spells n x l.some l.is
 

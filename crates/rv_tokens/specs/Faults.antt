@@ -1,21 +1,21 @@
--- Answers that may fail.
+-- Results that may be a fault.
 -- To audit: public contracts cite this.
 -- Own language; see docs/ASSEMBLER.md.
 use Rattle.std.specs.Prelude.{◌≡◌, Result, Ok, Err}
 use Rattle.rv_tokens.specs.declared.fault.LineFault.{LineFault}
 use Rattle.rv_tokens.specs.declared.fault.LineFault.TheVariants.{OutOfMemory}
 
--- a fault is that of the meaning, unless memory ran out
+-- a fault is the one meant, unless memory ran out
 abbrev pub Fails : {B : Type 0} → LineFault → Result B LineFault → Type 0
 Fails OutOfMemory meaning = Unit {0}
 Fails fault meaning = meaning ≡ Err fault
 
--- an answer, seen by view, is what is meant, unless memory ran out
+-- a result, seen through a view, is the one meant, unless memory ran out
 abbrev pub Gives : {A B : Type 0} → (A → B) → Result A LineFault → Result B LineFault → Type 0
 Gives view (Ok x) meaning = meaning ≡ Ok (view x)
 Gives view (Err fault) meaning = Fails fault meaning
 
--- on with a value, unless there was a fault
+-- continue with the value, unless there is a fault
 infixl 10 ◌>>=◌
 abbrev pub ◌>>=◌ : {A B : Type 0} → Result A LineFault → (A → Result B LineFault) → Result B LineFault
 (Ok x) >>= f = f x

@@ -1,4 +1,4 @@
--- How numbers, characters and strings are spelled.
+-- The spelling of numbers, characters and strings.
 -- To audit: public contracts cite this.
 -- Own language; see docs/ASSEMBLER.md.
 use Rattle.std.specs.Prelude.{ℕ, zero, suc, pred, ◌+◌, ◌-◌, ◌*◌, Bool, not, ◌&&◌, ◌||◌, List, [], ◌∷◌, length, take, drop, fold, if◌then◌else◌, ◌==◌, nat_le, nat_lt, Option, Some, None, option_and_then, slice_index}
@@ -6,8 +6,8 @@ use Rattle.std.specs.List.{list_all}
 use Rattle.std.specs.Option.{option_map, option_or}
 use Rattle.std.specs.Char.{is_ascii_digit}
 
--- The longest of the first bytes of a text that spell something: what they spell, and how many they are.
--- `spells n` is what the first n bytes spell.
+-- Of the prefixes of a text up to n bytes, the longest that spells something: what it spells, and its length.
+-- `spells n` is what the prefix of n bytes spells.
 unfoldable pub longest : {A : Type 0} → (ℕ → Option A) → ℕ → Option (A × ℕ)
 longest spells zero = None
 longest spells (suc n) = option_or (option_map (λ x. (x, suc n)) (spells (suc n))) (longest spells n)
@@ -18,35 +18,37 @@ longest spells (suc n) = option_or (option_map (λ x. (x, suc n)) (spells (suc n
 abbrev pub is_hex_letter : ℕ → Bool
 is_hex_letter b = (nat_le 97 b && nat_le b 102) || (nat_le 65 b && nat_le b 70)
 
+-- the value of a hexadecimal digit
 abbrev pub digit_value : ℕ → ℕ
 digit_value b = if nat_le b 57 then b - 48 else (if nat_le b 70 then b - 55 else b - 87)
 
+-- whether a byte is a digit in a base
 abbrev pub is_digit : ℕ → ℕ → Bool
 is_digit base b = (is_ascii_digit b || is_hex_letter b) && nat_lt (digit_value b) base
 
--- what digits stand for, the first of them the highest
+-- the value of digits in a base, the highest first
 abbrev pub value : ℕ → List ℕ → ℕ
 value base digits = fold (λ v b. base * v + digit_value b) 0 digits
 
--- at least one digit, and no more than 4294967295 in all
+-- one or more digits in a base, of a value up to 4294967295
 unfoldable pub number_in : ℕ → List ℕ → Option ℕ
 number_in base digits =
     if nat_le 1 (length digits) && (list_all (is_digit base) digits && nat_le (value base digits) 4294967295)
     then Some (value base digits)
     else None
 
--- whether a text is `0`, the letter in either case, and more
+-- whether a text begins with `0` and a letter in either case
 abbrev pub has_prefix : ℕ → ℕ → List ℕ → Bool
 has_prefix lower upper text =
     nat_lt 1 (length text)
     && ((slice_index text 0 == 48) && ((slice_index text 1 == lower) || (slice_index text 1 == upper)))
 
--- whether a text is `0` and more
+-- whether a text begins with `0` and goes on
 abbrev pub has_leading_zero : List ℕ → Bool
 has_leading_zero text = nat_lt 1 (length text) && (slice_index text 0 == 48)
 
--- `0x` or `0X` and hexadecimal digits, `0b` or `0B` and binary ones, `0` and octal ones,
--- or `0` alone or decimal digits that begin with no 0
+-- a number: `0x` or `0X` and hexadecimal digits, `0b` or `0B` and binary digits, `0` and octal digits,
+-- or decimal digits without a leading zero
 unfoldable pub number : List ℕ → Option ℕ
 number text =
     if has_prefix 120 88 text then number_in 16 (drop 2 text)
@@ -54,13 +56,13 @@ number text =
     else (if has_leading_zero text then number_in 8 (drop 1 text)
     else number_in 10 text))
 
--- one to four decimal digits that begin with no 0, or `0` alone
+-- a short number: one to four decimal digits without a leading zero
 unfoldable pub short_decimal : List ℕ → Option ℕ
 short_decimal text = if nat_lt 4 (length text) || has_leading_zero text then None else number_in 10 text
 
 -- ---- characters and strings
 
--- `\n`, `\t`, `\r`, `\b`, `\f`, `\\`, `\"` and `\'`, by what follows the `\`
+-- the byte of `\n`, `\t`, `\r`, `\b`, `\f`, `\\`, `\"` and `\'`, by the letter following the `\`
 abbrev pub letter_escape : ℕ → Option ℕ
 letter_escape b =
     if b == 110 then Some 10
@@ -71,51 +73,51 @@ letter_escape b =
     else (if (b == 92) || ((b == 34) || (b == 39)) then Some b
     else None)))))
 
--- digits that stand for a byte
+-- digits of a value below 256
 abbrev pub byte_in : ℕ → List ℕ → Option ℕ
 byte_in base digits = option_and_then (λ n. if nat_lt n 256 then Some n else None) (number_in base digits)
 
--- what follows the `\` of an escape, as a whole: a letter, `x` and two hexadecimal digits, or one to three octal ones
+-- an escape without its `\`: a letter, `x` and two hexadecimal digits, or one to three octal digits
 unfoldable pub escape : List ℕ → Option ℕ
 escape (b ∷ []) = option_or (letter_escape b) (byte_in 8 (b ∷ []))
 escape (b ∷ c ∷ []) = byte_in 8 (b ∷ c ∷ [])
 escape (b ∷ c ∷ d ∷ []) = if b == 120 then byte_in 16 (c ∷ d ∷ []) else byte_in 8 (b ∷ c ∷ d ∷ [])
 escape _ = None
 
--- a `\` and what makes an escape of it, as a whole
+-- an escape with its `\`
 abbrev pub escaped : List ℕ → Option ℕ
 escaped [] = None
 escaped (b ∷ bs) = if b == 92 then escape bs else None
 
--- the byte that a text spells, as a whole: it is one of the plain bytes, or an escape
+-- the byte that a text as a whole spells: a plain byte stands for itself, or it is an escape
 unfoldable pub spelled : (ℕ → Bool) → List ℕ → Option ℕ
 spelled plain (b ∷ []) = if plain b then Some b else None
 spelled plain text = escaped text
 
--- 0x20 to 0x7E but `'` and `\`
+-- 0x20 to 0x7E except `'` and `\`
 abbrev pub is_plain_in_character : ℕ → Bool
 is_plain_in_character b = (nat_le 32 b && nat_le b 126) && (not (b == 39) && not (b == 92))
 
--- a tab, 0x20 to 0x7E or 0x80 to 0xFF, but `"` and `\`
+-- a tab, 0x20 to 0x7E or 0x80 to 0xFF, except `"` and `\`
 abbrev pub is_plain_in_string : ℕ → Bool
 is_plain_in_string b = ((b == 9) || ((nat_le 32 b && nat_le b 126) || nat_le 128 b)) && (not (b == 34) && not (b == 92))
 
--- what stands between two quotes
+-- the text between two quotes
 abbrev pub between : ℕ → List ℕ → Option (List ℕ)
 between quote text =
     if nat_lt 1 (length text) && ((slice_index text 0 == quote) && (slice_index text (length text - 1) == quote))
     then Some (drop 1 (take (length text - 1) text))
     else None
 
--- the byte that a character stands for
+-- the byte of a character
 unfoldable pub character : List ℕ → Option ℕ
 character text = option_and_then (spelled is_plain_in_character) (between 39 text)
 
--- the first byte that a string's spelling stands for, and how many bytes spell it
+-- the first byte of a string, and the length of its text: the longest prefix that spells a byte
 abbrev pub first_byte : List ℕ → Option (ℕ × ℕ)
 first_byte text = longest (λ n. spelled is_plain_in_string (take n text)) (length text)
 
--- the bytes that a string's spelling stands for after its first n bytes
+-- the bytes of a string after the first n bytes of its text
 unfoldable pub bytes_after : List ℕ → ℕ → Option (List ℕ)
 bytes_after [] n = Some []
 bytes_after (b ∷ bs) (suc n) = bytes_after bs n
@@ -124,10 +126,10 @@ bytes_after (b ∷ bs) zero =
     (λ found. option_map (λ cs. found.0 ∷ cs) (bytes_after bs (pred found.1)))
     (first_byte (b ∷ bs))
 
--- the bytes that a string's spelling stands for, each spelled by the longest text at its place
+-- the bytes of a string, by the text between its quotes
 abbrev pub bytes_of : List ℕ → Option (List ℕ)
 bytes_of spelling = bytes_after spelling 0
 
--- the bytes that a string stands for
+-- the bytes of a string with its quotes
 unfoldable pub string : List ℕ → Option (List ℕ)
 string text = option_and_then bytes_of (between 34 text)

@@ -1,4 +1,4 @@
--- What a line is made of: its tokens, each the longest at its place, with blanks between them and at most one comment.
+-- The parts of a line: its tokens, each the longest at its place, with blanks between them and at most one comment.
 --
 -- To audit: public contracts cite this.
 -- Own language; see docs/ASSEMBLER.md.
@@ -9,16 +9,16 @@ use Rattle.rv_tokens.specs.declared.fault.LineFault.{LineFault}
 use Rattle.rv_tokens.specs.declared.fault.LineFault.TheVariants.{LineTooLong}
 use Rattle.rv_tokens.specs.Tokens.{token_of, may_precede, is_blank, begins_comment, fault_at, tokens}
 
--- a text spells a token, which may stand before the rest of the line
+-- a text spells a token that may precede the rest of the line
 abbrev pub Spells : List ℕ → List ℕ → Token → Type 0
 Spells text rest t = (token_of text ≡ Some t) × (may_precede t rest ≡ true)
 
--- no text that goes on into the rest of the line spells a token
+-- no longer text, which goes on into the rest of the line, spells a token
 abbrev pub IsLongest : List ℕ → List ℕ → Type 0
 IsLongest text rest =
     (more others : List ℕ) (t : Token) → rest ≡ more ++ others → 0 < length more → Spells (text ++ more) others t → ⊥
 
--- a line is blanks, the text of a token, and a rest
+-- a line is blanks, the text of a token, and the rest
 pub record BeginsWith (line : List ℕ) (t : Token) (rest : List ℕ) : Type 0 where
   pub blanks : List ℕ
   pub text : List ℕ
@@ -27,7 +27,7 @@ pub record BeginsWith (line : List ℕ) (t : Token) (rest : List ℕ) : Type 0 w
   pub spells : Spells text rest t
   pub longest : IsLongest text rest
 
--- a line is blanks, and then a comment or nothing
+-- a line is blanks, followed by a comment or nothing
 pub record IsOver (line : List ℕ) : Type 0 where
   pub blanks : List ℕ
   pub rest : List ℕ
@@ -35,7 +35,7 @@ pub record IsOver (line : List ℕ) : Type 0 where
   pub are_blank : list_all is_blank blanks ≡ true
   pub ends : (rest ≡ []) ⊎ (begins_comment rest ≡ true)
 
--- a line is blanks, and then a byte where neither a comment nor a token begins
+-- a line is blanks, followed by a byte at which neither a comment nor a token begins
 pub record IsStuck (fault : LineFault) (line : List ℕ) : Type 0 where
   pub blanks : List ℕ
   pub byte : ℕ
@@ -47,17 +47,17 @@ pub record IsStuck (fault : LineFault) (line : List ℕ) : Type 0 where
   pub no_token : (text rest : List ℕ) (t : Token) → byte ∷ bytes ≡ text ++ rest → Spells text rest t → ⊥
   pub is : fault ≡ fault_at byte
 
--- a line is these tokens, and then what End says
+-- a line is these tokens, followed by an end as End says
 abbrev pub IsTokensThen : (List ℕ → Type 0) → List Token → List ℕ → Type 0
 IsTokensThen End [] line = End line
 IsTokensThen End (t ∷ ts) line = (rest : List ℕ) × BeginsWith line t rest × IsTokensThen End ts rest
 
--- a line is these tokens and no more, or has this fault behind some tokens; a line that is too long has no tokens
+-- a line is these tokens and no more, or has this fault after some tokens; a line that is too long has no tokens
 abbrev pub IsCutInto : List ℕ → Result (List Token) LineFault → Type 0
 IsCutInto line (Ok ts) = (length line ≤ 1024) × IsTokensThen IsOver ts line
 IsCutInto line (Err LineTooLong) = 1024 < length line
 IsCutInto line (Err fault) = (length line ≤ 1024) × ((ts : List Token) × IsTokensThen (IsStuck fault) ts line)
 
--- what a line is cut into is what its tokens are said to be, and nothing else is
+-- a line is cut into exactly what `tokens` says
 abbrev pub OneCut : Type 0
 OneCut = (line : List ℕ) (r : Result (List Token) LineFault) → IsCutInto line r ↔ (tokens line ≡ r)

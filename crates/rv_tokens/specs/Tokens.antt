@@ -1,4 +1,4 @@
--- How tokens are spelled, and which tokens a line has.
+-- The spelling of tokens, and the tokens of a line.
 -- To audit: public contracts cite this.
 -- Own language; see docs/ASSEMBLER.md.
 use Rattle.std.specs.Prelude.{ℕ, zero, suc, pred, ◌-◌, Bool, true, not, ◌&&◌, ◌||◌, List, [], ◌∷◌, ◌++◌, length, take, drop, if◌then◌else◌, ◌==◌, nat_le, nat_lt, Option, Some, None, option_and_then, Result, Ok, Err, slice_index, codes}
@@ -13,16 +13,17 @@ use Rattle.rv_tokens.specs.declared.fault.LineFault.{LineFault}
 use Rattle.rv_tokens.specs.declared.fault.LineFault.TheVariants.{BadByte, LineTooLong, Syntax}
 use Rattle.rv_tokens.specs.Literals.{longest, number, short_decimal, character, string}
 
--- ---- how a token is spelled
+-- ---- the spelling of a token
 
--- a letter, `_`, `.` or `$`
+-- the first byte of a name: a letter, `_`, `.` or `$`
 abbrev pub is_name_start : ℕ → Bool
 is_name_start b = is_ascii_alphabetic b || ((b == 95) || ((b == 46) || (b == 36)))
 
+-- any other byte of a name
 abbrev pub is_name_byte : ℕ → Bool
 is_name_byte b = is_name_start b || is_ascii_digit b
 
--- one to four decimal digits, and `b` or `f`
+-- a reference to a local label: a short number, and `b` or `f`
 unfoldable pub local : List ℕ → Option Token
 local text =
     if slice_index text (length text - 1) == 98
@@ -31,7 +32,7 @@ local text =
     then option_map (λ n. Local n Forward) (short_decimal (take (length text - 1) text))
     else None)
 
--- A word is name bytes. With a digit in front it is a local reference or a number, and else a name.
+-- a word, a text of name bytes: a name, or if it begins with a digit a local reference or a number
 unfoldable pub word : List ℕ → Option Token
 word text =
     if is_name_start (slice_index text 0) then Some (Name text)
@@ -50,11 +51,11 @@ sign b =
     else (if b == 64 then Some At
     else None))))))
 
--- one of the two halves of a value
+-- one of the halves of a value
 abbrev pub half : List ℕ → Option Token
 half text = if bytes_eq text (codes "%hi") then Some High else (if bytes_eq text (codes "%lo") then Some Low else None)
 
--- the token that a text spells, as a whole
+-- the token that a text as a whole spells
 unfoldable pub token_of : List ℕ → Option Token
 token_of [] = None
 token_of (b ∷ []) = if is_name_byte b then word (b ∷ []) else sign b
@@ -68,7 +69,7 @@ token_of (b ∷ c ∷ bs) =
 abbrev pub begins_with_name_byte : List ℕ → Bool
 begins_with_name_byte rest = nat_lt 0 (length rest) && is_name_byte (slice_index rest 0)
 
--- whether a token may stand before the rest: no number, local reference or half is followed directly by a name byte
+-- whether a token may precede the rest: no name byte directly follows a number, a local reference or a half
 abbrev pub may_precede : Token → List ℕ → Bool
 may_precede (Digits n) rest = not (begins_with_name_byte rest)
 may_precede (Number n) rest = not (begins_with_name_byte rest)
@@ -77,13 +78,13 @@ may_precede High rest = not (begins_with_name_byte rest)
 may_precede Low rest = not (begins_with_name_byte rest)
 may_precede _ rest = true
 
--- ---- which tokens a line has
+-- ---- the tokens of a line
 
--- the token that the first n bytes of the line spell, where it may stand before the others
+-- the token that the first n bytes of a line spell, if it may precede the others
 unfoldable pub token_in : List ℕ → ℕ → Option Token
 token_in line n = option_and_then (λ t. if may_precede t (drop n line) then Some t else None) (token_of (take n line))
 
--- the longest token at the front of the line, and its length
+-- the longest token at the front of a line, and its length
 abbrev pub front : List ℕ → Option (Token × ℕ)
 front line = longest (token_in line) (length line)
 
@@ -91,16 +92,17 @@ front line = longest (token_in line) (length line)
 abbrev pub is_blank : ℕ → Bool
 is_blank b = (b == 32) || (b == 9)
 
--- `#` or `//`
+-- a comment begins with `#` or `//`
 abbrev pub begins_comment : List ℕ → Bool
 begins_comment line =
     (slice_index line 0 == 35)
     || (nat_lt 1 (length line) && ((slice_index line 0 == 47) && (slice_index line 1 == 47)))
 
--- what is wrong where no token begins
+-- the fault at a byte where no token begins
 abbrev pub fault_at : ℕ → LineFault
 fault_at b = if (b == 9) || (nat_le 32 b && nat_le b 126) then Syntax else BadByte
 
+-- tokens in front of the others, unless there is a fault
 abbrev pub with_tokens : List Token → Result (List Token) LineFault → Result (List Token) LineFault
 with_tokens ts (Ok us) = Ok (ts ++ us)
 with_tokens ts (Err fault) = Err fault
@@ -117,6 +119,6 @@ cut (b ∷ bs) zero =
       | Some found ↦ with_tokens (found.0 ∷ []) (cut bs (pred found.1))
     ]))
 
--- the tokens of a line, of at most 1,024 bytes
+-- the tokens of a line of at most 1,024 bytes
 unfoldable pub tokens : List ℕ → Result (List Token) LineFault
 tokens line = if nat_lt 1024 (length line) then Err LineTooLong else cut line 0

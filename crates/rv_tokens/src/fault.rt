@@ -1,20 +1,20 @@
-//! Why a line can't be read.
+//! The faults of a line.
 use std::alloc::{AllocError, AllocFailed};
 
-/// What is wrong with a line.
+/// The reason why a line can't be read.
 #[derive(Clone, Copy, PartialEq, Eq, Debug)]
 pub enum LineFault {
-    /// A byte that no token has stands outside of strings, characters and comments.
+    /// A byte that no token has, outside of strings, characters and comments.
     BadByte,
     /// The line has more than 1,024 bytes.
     LineTooLong,
-    /// The line isn't labels and at most one statement.
+    /// The line isn't a sequence of labels and at most one statement.
     Syntax,
     /// The statement's word is neither a mnemonic nor a directive.
     UnknownWord,
-    /// The word doesn't take these operands.
+    /// The mnemonic or directive doesn't take these operands.
     BadOperands,
-    /// The allocator refused a growth; this is no fault of the line.
+    /// Out of memory: not a fault of the line.
     OutOfMemory,
 }
 

@@ -1,4 +1,4 @@
-//! Lines of a source, and their tokens.
+//! The lexer of the assembler: cuts a line of a source into its tokens.
 //!
 //! The language is this project's own: see docs/ASSEMBLER.md.
 #![tactic(auto)]

@@ -1,14 +1,16 @@
-//! Reads numbers, characters and strings.
+//! Numbers, characters and strings.
 ghost use Rattle.std.specs.Prelude.{◌≡◌, ◌||◌, ◌<◌, ◌≤◌, IsTrue, IfSome, length};
 ghost use Rattle.std.specs.Char.{is_ascii_digit};
 ghost use Rattle.rv_tokens.specs.Literals.{is_hex_letter, digit_value, is_digit, number_in, has_prefix, has_leading_zero, number, short_decimal, letter_escape, byte_in, escape, escaped, spelled, is_plain_in_character, is_plain_in_string, character, first_byte};
 
+/// Returns whether a byte is a hexadecimal digit of either case that isn't decimal.
 fn is_hex_letter(b: u8) -> bool
     ensures { result ≡ is_hex_letter b }
 {
     (b >= b'a' && b <= b'f') || (b >= b'A' && b <= b'F')
 }
 
+/// Returns the value of a hexadecimal digit.
 fn digit_value(b: u8) -> u8
     requires { IsTrue (is_ascii_digit b || is_hex_letter b) }
     ensures is { result ≡ digit_value b }
@@ -23,13 +25,14 @@ fn digit_value(b: u8) -> u8
     }
 }
 
+/// Returns whether a byte is a digit in a base of at most 16.
 fn is_digit(base: u64, b: u8) -> bool
     ensures { result ≡ is_digit base b }
 {
     (b.is_ascii_digit() || is_hex_letter(b)) && u64::from(digit_value(b)) < base
 }
 
-/// What the digits stand for, where they are digits, at least one, and stand for a word.
+/// Reads a number in a base: one or more digits whose value fits into 32 bits.
 fn number_in(base: u64, digits: &[u8]) -> Option<u32>
     requires low { 1 ≤ base }
     requires high { base ≤ 16 }
@@ -51,21 +54,21 @@ fn number_in(base: u64, digits: &[u8]) -> Option<u32>
     Some(sum as u32)
 }
 
-/// Whether a text is `0`, the letter in either case, and more.
+/// Returns whether a text begins with `0` and a letter in either case.
 fn has_prefix(lower: u8, upper: u8, text: &[u8]) -> bool
     ensures { result ≡ has_prefix lower upper text.now }
 {
     text.len() > 1 && text[0] == b'0' && (text[1] == lower || text[1] == upper)
 }
 
-/// Whether a text is `0` and more.
+/// Returns whether a text begins with `0` and goes on.
 fn has_leading_zero(text: &[u8]) -> bool
     ensures { result ≡ has_leading_zero text.now }
 {
     text.len() > 1 && text[0] == b'0'
 }
 
-/// The number that a text spells.
+/// Reads a number: hexadecimal after `0x`, binary after `0b`, octal after `0`, or decimal.
 #[tactic(auto, unfolding(crate::specs::Literals::number))]
 pub fn number(text: &[u8]) -> Option<u32>
     ensures { result ≡ number text.now }
@@ -81,7 +84,7 @@ pub fn number(text: &[u8]) -> Option<u32>
     }
 }
 
-/// The number from 0 to 9999 that a text spells in decimal digits, with no 0 in front of others.
+/// Reads a decimal number of one to four digits without a leading zero.
 #[tactic(auto, unfolding(crate::specs::Literals::short_decimal))]
 pub fn short_decimal(text: &[u8]) -> Option<u16>
     ensures { result ≡ short_decimal text.now }
@@ -89,13 +92,11 @@ pub fn short_decimal(text: &[u8]) -> Option<u16>
     if text.len() > 4 || has_leading_zero(text) {
         return None;
     }
-    match number_in(10, text) {
-        Some(n) => Some(n as u16),
-        None => None,
-    }
+    let n = number_in(10, text)?;
+    Some(n as u16)
 }
 
-/// The byte that a letter behind `\` stands for.
+/// Returns the byte that a letter following `\` stands for.
 fn letter_escape(b: u8) -> Option<u8>
     ensures { result ≡ letter_escape b }
 {
@@ -110,7 +111,7 @@ fn letter_escape(b: u8) -> Option<u8>
     }
 }
 
-/// The byte that the digits stand for.
+/// Reads a number below 256 in a base.
 fn byte_in(base: u64, digits: &[u8]) -> Option<u8>
     requires low { 1 ≤ base }
     requires high { base ≤ 16 }
@@ -122,97 +123,78 @@ fn byte_in(base: u64, digits: &[u8]) -> Option<u8>
     }
 }
 
-/// The byte that an escape stands for, by all that follows its `\`.
+/// Reads an escape without its `\`: a letter, `x` and two hexadecimal digits, or one to three octal digits.
 #[tactic(auto, unfolding(crate::specs::Literals::escape))]
 fn escape(text: &[u8]) -> Option<u8>
     ensures { result ≡ escape text.now }
 {
     match text {
-        [letter] => match letter_escape(*letter) {
-            Some(b) => Some(b),
-            None => byte_in(8, text),
-        },
-        [_, _] => byte_in(8, text),
-        [first, _, _] => {
-            if *first == b'x' {
-                byte_in(16, &text[1..])
-            } else {
-                byte_in(8, text)
-            }
-        }
+        [letter] => letter_escape(*letter).or_else(|| byte_in(8, text)),
+        [b'x', _, _] => byte_in(16, &text[1..]),
+        [_, _] | [_, _, _] => byte_in(8, text),
         _ => None,
     }
 }
 
+/// Returns whether a byte stands for itself in a character.
 fn is_plain_in_character(b: u8) -> bool
     ensures { result ≡ is_plain_in_character b }
 {
     (0x20..=0x7E).contains(&b) && b != b'\'' && b != b'\\'
 }
 
+/// Returns whether a byte stands for itself in a string.
 fn is_plain_in_string(b: u8) -> bool
     ensures { result ≡ is_plain_in_string b }
 {
     (b == b'\t' || (b >= 0x20 && b <= 0x7E) || b >= 0x80) && b != b'"' && b != b'\\'
 }
 
-/// The byte that a `\` and what follows it stand for.
-fn escaped(text: &[u8]) -> Option<u8>
+/// Reads an escape with its `\`.
+fn escape_sequence(text: &[u8]) -> Option<u8>
     ensures { result ≡ escaped text.now }
 {
     match text {
-        [] => None,
-        [first, rest @ ..] => { if *first == b'\\' { escape(rest) } else { None } }
+        [b'\\', rest @ ..] => escape(rest),
+        _ => None,
     }
 }
 
-/// The byte that a text spells in a character.
+/// Reads the text of a byte in a character: the byte itself, or an escape.
 #[tactic(auto, unfolding(crate::specs::Literals::spelled))]
-fn spelled_in_character(text: &[u8]) -> Option<u8>
+fn byte_in_character(text: &[u8]) -> Option<u8>
     ensures { result ≡ spelled is_plain_in_character text.now }
 {
     match text {
-        [b] => {
-            if is_plain_in_character(*b) {
-                Some(*b)
-            } else {
-                None
-            }
-        }
-        _ => escaped(text),
+        [b] => is_plain_in_character(*b).then_some(*b),
+        _ => escape_sequence(text),
     }
 }
 
-/// The byte that a text spells in a string.
+/// Reads the text of a byte in a string: the byte itself, or an escape.
 #[tactic(auto, unfolding(crate::specs::Literals::spelled))]
-fn spelled_in_string(text: &[u8]) -> Option<u8>
+fn byte_in_string(text: &[u8]) -> Option<u8>
     ensures { result ≡ spelled is_plain_in_string text.now }
 {
     match text {
-        [b] => {
-            if is_plain_in_string(*b) {
-                Some(*b)
-            } else {
-                None
-            }
-        }
-        _ => escaped(text),
+        [b] => is_plain_in_string(*b).then_some(*b),
+        _ => escape_sequence(text),
     }
 }
 
-/// The byte that a character stands for.
+/// Reads a character with its quotes, as the byte that it stands for.
 #[tactic(auto, unfolding(crate::specs::Literals::character))]
 pub fn character(text: &[u8]) -> Option<u8>
     ensures { result ≡ character text.now }
 {
     if text.len() > 1 && text[0] == b'\'' && text[text.len() - 1] == b'\'' {
-        spelled_in_character(&text[1..text.len() - 1])
+        byte_in_character(&text[1..text.len() - 1])
     } else {
         None
     }
 }
 
-/// The first byte that a string's spelling stands for, and how many bytes spell it.
+/// Returns the first byte of a string, given the text from there to its closing quote, and the length of the byte's text.
 pub fn first_byte(text: &[u8]) -> Option<(u8, usize)>
     ensures longest { result ≡ first_byte text.now }
     ensures moves { IfSome result (λ found. 0 < found.1) }
@@ -220,7 +202,7 @@ pub fn first_byte(text: &[u8]) -> Option<(u8, usize)>
 {
     let mut n = text.len().min(4);
     while n > 0 {
-        if let Some(b) = spelled_in_string(&text[..n]) {
+        if let Some(b) = byte_in_string(&text[..n]) {
             return Some((b, n));
         }
         n -= 1;

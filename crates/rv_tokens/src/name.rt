@@ -1,7 +1,7 @@
-//! Names, as they stand in a source.
+//! Names.
 use std::marker::Model;
 
-/// A name, as it stands in the source; seen as its bytes.
+/// A name of a source, borrowed from its text. Its view is its bytes.
 #[derive(Drop)]
 pub struct Name<'a> {
     bytes: &'a [u8],
@@ -18,21 +18,21 @@ impl<'a> Model for Name<'a> {
 impl<'a> Name<'a> {
     ghost use Rattle.std.specs.Prelude.{◌≡◌};
 
-    /// The name that these bytes spell.
+    /// Makes the name with these bytes.
     pub fn new(bytes: &'a [u8]) -> Self
         ensures { result ≡ bytes.now }
     {
         Name { bytes }
     }
 
-    /// The same name.
+    /// Returns a copy of the name. A `Copy` type with a lifetime has no proof in Rattle.
     pub fn again(&self) -> Name<'a>
         ensures { result ≡ self.now }
     {
         Name { bytes: self.bytes }
     }
 
-    /// The bytes of the name.
+    /// Returns the bytes of the name.
     pub fn bytes(&self) -> &'a [u8]
         ensures { result.now ≡ self.now }
     {

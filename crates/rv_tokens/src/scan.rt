@@ -1,4 +1,4 @@
-//! Cuts a line into tokens.
+//! The lexer.
 ghost use Rattle.std.specs.Prelude.{◌≡◌, ◌==◌, IfOk, IsTrue, ◌<◌, ◌≤◌, length, true, false, take, slice_index};
 ghost use Rattle.std.specs.List.{list_all};
 ghost use Rattle.rv_tokens.specs.Faults.{Gives};
@@ -10,24 +10,26 @@ use crate::token::{Text, Token};
 use crate::{Direction, LineFault, Name};
 use std::alloc::Global;
 
-/// How many bytes a line has at most.
+/// The largest number of bytes in a line.
 const LONGEST_LINE: usize = 1024;
 
+/// Returns whether a name may begin with a byte.
 fn is_name_start(b: u8) -> bool
     ensures { result ≡ is_name_start b }
 {
     b.is_ascii_alphabetic() || b == b'_' || b == b'.' || b == b'$'
 }
 
+/// Returns whether a byte may stand in a name after its first byte.
 fn is_name_byte(b: u8) -> bool
     ensures { result ≡ is_name_byte b }
 {
     is_name_start(b) || b.is_ascii_digit()
 }
 
-/// The reference to a local label that a text spells.
+/// Reads a reference to a local label: one to four digits, and `b` or `f`.
 #[tactic(auto, unfolding(crate::specs::Tokens::local))]
-fn local<'a>(text: &[u8]) -> Option<Token<'a>>
+fn local_reference<'a>(text: &[u8]) -> Option<Token<'a>>
     requires { 0 < length text.now }
     ensures { result ≡ local text.now }
 {
@@ -37,13 +39,11 @@ fn local<'a>(text: &[u8]) -> Option<Token<'a>>
         b'f' => Direction::Forward,
         _ => return None,
     };
-    match short_decimal(digits) {
-        Some(number) => Some(Token::Local { number, direction }),
-        None => None,
-    }
+    let number = short_decimal(digits)?;
+    Some(Token::Local { number, direction })
 }
 
-/// The token that a word spells.
+/// Reads a word, a text of name bytes: a name, a reference to a local label, or a number.
 #[tactic(auto, unfolding(crate::specs::Tokens::word))]
 fn word<'a>(text: &'a [u8]) -> Option<Token<'a>>
     requires { 0 < length text.now }
@@ -52,19 +52,17 @@ fn word<'a>(text: &'a [u8]) -> Option<Token<'a>>
     if is_name_start(text[0]) {
         return Some(Token::Name(Name::new(text)));
     }
-    if let Some(reference) = local(text) {
+    if let Some(reference) = local_reference(text) {
         return Some(reference);
     }
     if let Some(n) = short_decimal(text) {
         return Some(Token::Digits(n));
     }
-    match number(text) {
-        Some(n) => Some(Token::Number(n)),
-        None => None,
-    }
+    let n = number(text)?;
+    Some(Token::Number(n))
 }
 
-/// The sign of one byte.
+/// Reads a sign of one byte.
 fn sign<'a>(b: u8) -> Option<Token<'a>>
     ensures { result ≡ sign b }
 {
@@ -80,20 +78,18 @@ fn sign<'a>(b: u8) -> Option<Token<'a>>
     }
 }
 
-/// The half of a value that a text names.
+/// Reads `%hi` or `%lo`.
 fn half<'a>(text: &[u8]) -> Option<Token<'a>>
     ensures { result ≡ half text.now }
 {
-    if text == b"%hi".as_slice() {
-        Some(Token::High)
-    } else if text == b"%lo".as_slice() {
-        Some(Token::Low)
-    } else {
-        None
+    match text {
+        b"%hi" => Some(Token::High),
+        b"%lo" => Some(Token::Low),
+        _ => None,
     }
 }
 
-/// How many name bytes the line begins with.
+/// Returns the number of name bytes at the front of a line.
 fn word_len(line: &[u8]) -> usize
     ensures within { result ≤ length line.now }
     ensures all { list_all is_name_byte (take result line.now) ≡ true }
@@ -106,12 +102,14 @@ fn word_len(line: &[u8]) -> usize
     n
 }
 
+/// Returns whether a text begins with a name byte.
 fn begins_with_name_byte(rest: &[u8]) -> bool
     ensures { result ≡ begins_with_name_byte rest.now }
 {
     !rest.is_empty() && is_name_byte(rest[0])
 }
 
+/// Returns whether a comment begins here, with `#` or `//`.
 fn begins_comment(line: &[u8]) -> bool
     requires { 0 < length line.now }
     ensures { result ≡ begins_comment line.now }
@@ -119,13 +117,14 @@ fn begins_comment(line: &[u8]) -> bool
     line[0] == b'#' || (line.len() > 1 && line[0] == b'/' && line[1] == b'/')
 }
 
+/// Returns whether a byte is a space or a tab.
 fn is_blank(b: u8) -> bool
     ensures { result ≡ is_blank b }
 {
     b == b' ' || b == b'\t'
 }
 
-/// What is wrong where no token begins.
+/// Returns the fault at a byte where no token begins.
 fn fault_at(b: u8) -> LineFault
     ensures { result ≡ fault_at b }
 {
@@ -136,20 +135,18 @@ fn fault_at(b: u8) -> LineFault
     }
 }
 
-/// The longest token at the front of a line that begins with a name byte, and its length.
+/// Returns the longest token at the front of a line that begins with a name byte, and its length.
 fn word_front<'a>(line: &'a [u8]) -> Option<(Token<'a>, usize)>
     requires some { 0 < length line.now }
     requires first { is_name_byte (slice_index line.now 0) ≡ true }
     ensures { result ≡ front line.now }
 {
     let n = word_len(line);
-    match word(&line[..n]) {
-        Some(token) => Some((token, n)),
-        None => None,
-    }
+    let token = word(&line[..n])?;
+    Some((token, n))
 }
 
-/// The same of a line that begins with `'`.
+/// Returns the longest token at the front of a line that begins with `'`, and its length.
 fn character_front<'a>(line: &'a [u8]) -> Option<(Token<'a>, usize)>
     requires some { 0 < length line.now }
     requires first { slice_index line.now 0 ≡ 39 }
@@ -165,7 +162,7 @@ fn character_front<'a>(line: &'a [u8]) -> Option<(Token<'a>, usize)>
     None
 }
 
-/// The same of a line that begins with `"`.
+/// Returns the longest token at the front of a line that begins with `"`, and its length.
 fn string_front<'a>(line: &'a [u8]) -> Option<(Token<'a>, usize)>
     requires some { 0 < length line.now }
     requires first { slice_index line.now 0 ≡ 34 }
@@ -186,7 +183,7 @@ fn string_front<'a>(line: &'a [u8]) -> Option<(Token<'a>, usize)>
     None
 }
 
-/// The same of a line that begins with `%`.
+/// Returns the longest token at the front of a line that begins with `%`, and its length.
 fn half_front<'a>(line: &'a [u8]) -> Option<(Token<'a>, usize)>
     requires some { 0 < length line.now }
     requires first { slice_index line.now 0 ≡ 37 }
@@ -196,18 +193,14 @@ fn half_front<'a>(line: &'a [u8]) -> Option<(Token<'a>, usize)>
         return None;
     }
     let (text, rest) = line.split_at(3);
-    match half(text) {
-        Some(token) => {
-            if begins_with_name_byte(rest) {
-                return None;
-            }
-            Some((token, 3))
-        }
-        None => None,
+    let token = half(text)?;
+    if begins_with_name_byte(rest) {
+        return None;
     }
+    Some((token, 3))
 }
 
-/// The same of a line that begins with any other byte.
+/// Returns the longest token at the front of a line that begins with any other byte, and its length.
 fn sign_front<'a>(line: &'a [u8]) -> Option<(Token<'a>, usize)>
     requires some { 0 < length line.now }
     requires word { is_name_byte (slice_index line.now 0) ≡ false }
@@ -216,13 +209,11 @@ fn sign_front<'a>(line: &'a [u8]) -> Option<(Token<'a>, usize)>
     requires half { (slice_index line.now 0 == 37) ≡ false }
     ensures { result ≡ front line.now }
 {
-    match sign(line[0]) {
-        Some(token) => Some((token, 1)),
-        None => None,
-    }
+    let token = sign(line[0])?;
+    Some((token, 1))
 }
 
-/// The longest token at the front of a line, and its length.
+/// Returns the longest token at the front of a line, and its length.
 fn front<'a>(line: &'a [u8]) -> Option<(Token<'a>, usize)>
     requires { 0 < length line.now }
     ensures { result ≡ front line.now }
@@ -241,7 +232,7 @@ fn front<'a>(line: &'a [u8]) -> Option<(Token<'a>, usize)>
     }
 }
 
-/// The tokens of a line of any length.
+/// Cuts a line of any length into its tokens.
 fn cut<'a>(alloc: Global, line: &'a [u8]) -> Result<Vec<Token<'a>>, LineFault>
     ensures value { Gives (λ v. v.items) result (cut line.now 0) }
     ensures short { IfOk result (λ v. length v.items ≤ length line.now) }
@@ -266,13 +257,14 @@ fn cut<'a>(alloc: Global, line: &'a [u8]) -> Result<Vec<Token<'a>>, LineFault>
     Ok(out)
 }
 
-/// The tokens of a line, which has no LF, nor the CR before one; at most as many as it has bytes.
+/// Cuts a line, without its line end, into its tokens, from left to right. It has no more tokens than bytes.
 ///
 /// # Errors
 ///
-/// `LineTooLong` comes before all. Where no token begins, the byte there says whether it is `BadByte` or `Syntax`.
-/// `OutOfMemory` may come in place of any answer.
-#[tactic(auto, unfolding(crate::specs::Tokens::tokens), using(crate::proofs::Parted::is_cut))]
+/// - `LineTooLong` if the line has more than 1,024 bytes, whatever they are.
+/// - `BadByte` or `Syntax` if no token begins at some place: `BadByte` if no token has the byte there.
+/// - `OutOfMemory` may come in place of any result.
+#[tactic(auto, unfolding(crate::specs::Tokens::tokens), using(crate::proofs::PartsLemmas::is_cut))]
 pub fn cut_line<'a>(alloc: Global, line: &'a [u8]) -> Result<Vec<Token<'a>>, LineFault>
     ensures value { Gives (λ v. v.items) result (tokens line.now) }
     ensures parts { IsCutInto line.now (tokens line.now) }
@@ -284,7 +276,8 @@ pub fn cut_line<'a>(alloc: Global, line: &'a [u8]) -> Result<Vec<Token<'a>>, Lin
     cut(alloc, line)
 }
 
-/// A law: a line is cut in one way into tokens, each the longest at its place, or has one fault: what `cut_line` answers.
+/// A law: a line is cut in exactly one way into tokens, each the longest at its place, or has exactly one fault. That is
+/// the result of `cut_line`.
 pub fn one_cut()
     ensures { OneCut }
 {}

@@ -1,22 +1,22 @@
-//! The tokens of a line.
+//! Tokens.
 use crate::Name;
 use crate::literal::first_byte;
 use std::alloc::AllocError;
 use std::marker::Model;
 
-/// Which definition of a local label is meant: the nearest before, or the nearest after.
+/// The direction in which a reference looks for the nearest definition of its local label.
 #[derive(Clone, Copy)]
 pub enum Direction {
-    /// As in `1b`: the nearest on an earlier line or on the same line.
+    /// `b`, as in `1b`: on the same line or an earlier one.
     Backward,
-    /// As in `1f`: the nearest on a later line.
+    /// `f`, as in `1f`: on a later line.
     Forward,
 }
 
-/// A string, seen as the bytes that it stands for.
+/// A string. Its view is the bytes that it stands for.
 #[derive(Drop)]
 pub struct Text<'a> {
-    /// What stands between the quotes.
+    /// The text between the quotes, with its escapes.
     spelling: &'a [u8],
 }
 
@@ -36,7 +36,7 @@ impl<'a> Text<'a> {
     ghost use Rattle.std.specs.Prelude.{◌≡◌, ◌++◌, IsTrue, is_some, Some, OnOk};
     ghost use Rattle.rv_tokens.specs.Literals.{bytes_of};
 
-    /// The string with this between its quotes.
+    /// Makes a string of the text between its quotes.
     pub(crate) fn new(spelling: &'a [u8]) -> Self
         requires { IsTrue (is_some (bytes_of spelling.now)) }
         ensures { bytes_of spelling.now ≡ Some result }
@@ -44,7 +44,7 @@ impl<'a> Text<'a> {
         Text { spelling }
     }
 
-    /// Appends the bytes that the string stands for.
+    /// Appends the bytes of the string.
     pub fn append_to(&self, out: &mut Vec<u8>) -> Result<(), AllocError>
         ensures { OnOk result (out.new.items ≡ out.old.items ++ self.now) }
     {
@@ -57,20 +57,20 @@ impl<'a> Text<'a> {
     }
 }
 
-/// A token of a line, spelled by the longest text at its place; see docs/ASSEMBLER.md for how each is spelled.
+/// A token of a line: the longest at its place. docs/ASSEMBLER.md says how each is spelled.
 #[derive(Drop)]
 pub enum Token<'a> {
-    /// A letter, `_`, `.` or `$`, and then letters, digits, `_`, `.` and `$`.
+    /// A letter, `_`, `.` or `$`, followed by letters, digits, `_`, `.` and `$`.
     Name(Name<'a>),
-    /// A decimal number of one to four digits without a leading zero, which `:` makes a label.
+    /// A decimal number of one to four digits without a leading zero. Followed by `:` it is a local label.
     Digits(u16),
     /// Any other number.
     Number(u32),
-    /// A reference to a local label, whose number is from 0 to 9999.
+    /// A reference to a local label with a number from 0 to 9999.
     Local { number: u16, direction: Direction },
-    /// A character, as the byte that it stands for.
+    /// A character: the byte that it stands for.
     Character(u8),
-    /// A string, as the bytes that it stands for.
+    /// A string: the bytes that it stands for.
     Text(Text<'a>),
     /// `,`
     Comma,

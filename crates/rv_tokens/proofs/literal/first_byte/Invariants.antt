@@ -1,10 +1,10 @@
 use Rattle.std.proofs.Common.{◌≡◌, ◌≤◌, length}
 use Rattle.rv_tokens.specs.Literals.{longest, first_byte}
-use Rattle.rv_tokens.proofs.Spellings.{spelled_by}
+use Rattle.rv_tokens.proofs.Spellings.{string_byte_in}
 use Rattle.rv_tokens.proofs.literal.first_byte.Given as goal
 
 abbrev pub invariant-loop-n : goal.invariant-loop-n
-invariant-loop-n l = (l.n ≤ length l.text) × (longest (spelled_by l.text) l.n ≡ first_byte l.text)
+invariant-loop-n l = (l.n ≤ length l.text) × (longest (string_byte_in l.text) l.n ≡ first_byte l.text)
 
 abbrev pub decreases-loop-n : goal.decreases-loop-n
 decreases-loop-n l = l.n

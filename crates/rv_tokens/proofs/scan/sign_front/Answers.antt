@@ -1,14 +1,19 @@
-use Rattle.std.proofs.Common.{sym, ap, ◌∙◌}
+use Rattle.std.proofs.Common.{◌≡◌, sym, ap, ◌∙◌, get_or, rules}
+use Rattle.std.specs.Prelude.{Some, None}
 use Rattle.std.specs.Option.{option_map}
+use Rattle.rv_tokens.specs.Tokens.{sign}
 use Rattle.rv_tokens.proofs.Front.{front_sign}
 use Rattle.rv_tokens.proofs.scan.sign_front.Goals as goal
 
-pub returns-in-Some : goal.returns-in-Some
-returns-in-Some c =
+pub returns : goal.returns
+returns c =
     let e = front_sign c.args.line.now c.requires.some c.requires.word c.requires.string c.requires.character c.requires.half in
-    sym (e ∙ ap (option_map (λ t. (t, 1))) (sym c.sign.ensures ∙ c.in-Some.is))
+    let read : sign (get_or c.args.line.now 0 0) ≡ Some c.in_ok-token.token = search rules in
+    sym (e ∙ ap (option_map (λ t. (t, 1))) read)
 
-pub returns-in-None : goal.returns-in-None
-returns-in-None c =
+pub returns-in_err-token : goal.returns-in_err-token
+returns-in_err-token c =
     let e = front_sign c.args.line.now c.requires.some c.requires.word c.requires.string c.requires.character c.requires.half in
-    sym (e ∙ ap (option_map (λ t. (t, 1))) (sym c.sign.ensures ∙ c.in-None.is))
+    let read : sign (get_or c.args.line.now 0 0) ≡ None = search rules in
+    let none : c.from_residual.result ≡ None = search rules in
+    none ∙ sym (e ∙ ap (option_map (λ t. (t, 1))) read)

@@ -2,7 +2,7 @@ use Rattle.std.proofs.Common.{refl, rules, ◌≡◌, ◌∷◌, ◌+◌, suc, t
 use Rattle.std.specs.Prelude.{Some}
 use Rattle.rv_tokens.specs.Literals.{bytes_of, first_byte}
 use Rattle.rv_tokens.specs.Tokens.{front}
-use Rattle.rv_tokens.proofs.Quoted.{scanned_some, scanned_more, front_string, front_bad, front_unended, begins_quoted, at_front}
+use Rattle.rv_tokens.proofs.StringEnds.{scanned_some, scanned_more, front_string, front_bad, front_unended, begins_quoted, at_front}
 use Rattle.rv_tokens.proofs.scan.string_front.Goals as goal
 
 pub new-requires : goal.new-requires

@@ -1,4 +1,4 @@
--- The tokens of a line are what it is made of, and nothing else is.
+-- The tokens of a line are its only parts in the sense of Parts.antt.
 use Rattle.std.proofs.Common.{◌≡◌, ℕ, zero, suc, ◌+◌, ◌-◌, ◌<◌, ◌≤◌, Bool, true, false, cond, List, [], ◌∷◌, ◌++◌, length, take, drop, get_or, refl, sym, ap, ◌∙◌, arith, inl, inr, append_assoc, append-nil, length-take, length-drop, length-append}
 use Rattle.std.specs.Prelude.{Option, None, Some, Result, Ok, Err, ◌⊎◌, ◌↔◌, ◌&&◌, ◌||◌, nat_le, nat_lt}
 use native.Mathlib.Decide.{dec_lt}
@@ -18,7 +18,7 @@ use Rattle.rv_tokens.proofs.Bools.{list_all_split}
 use Rattle.rv_tokens.proofs.Longest.{longest_is, longest_found, longest_none, longest_missing}
 use Rattle.rv_tokens.proofs.Cutting.{cut_blank, cut_comment, cut_token, cut_none, cut_end}
 
--- ---- from the front of a line to what begins it, and back
+-- ---- from the token at the front of a line to the parts of the line, and back
 
 kept_is : (t u : Token) (rest : List ℕ) (b : Bool) → may_precede t rest ≡ b → ◌≡◌ {A = Option Token} (cond b (Some t) None) (Some u) → (t ≡ u) × (may_precede u rest ≡ true)
 kept_is t u rest true e h = let f : t ≡ u = cc in (f, rw (← f) e)
@@ -32,7 +32,7 @@ spelled_in line n (Some t) u e h =
     let p = kept_is t u (drop n line) (may_precede t (drop n line)) refl f in
     (rw (← p.0) e, p.1)
 
--- the token in the first n bytes is spelled by them
+-- the token of the first n bytes is spelled by them
 in_spells : (line : List ℕ) (n : ℕ) (u : Token) → token_in line n ≡ Some u → Spells (take n line) (drop n line) u
 in_spells line n u h = spelled_in line n (token_of (take n line)) u refl h
 
@@ -53,7 +53,7 @@ unfolding token_of
 some_text [] u h = absurd cc
 some_text (b ∷ bs) u h = omega arith
 
--- what n bytes of a line add to a text at its front
+-- the first n bytes of a line extend a text at its front
 added : (text rest : List ℕ) (n : ℕ) → text ++ take n rest ≡ take (length text + n) (text ++ rest)
 added [] rest n = let e : 0 + n ≡ n = omega arith in rw e refl
 added (b ∷ bs) rest n = let e : suc (length bs) + n ≡ suc (length bs + n) = omega arith in rw e (ap (λ xs. b ∷ xs) (added bs rest n))
@@ -78,7 +78,7 @@ front_is text rest t h longest = longest_is (token_in (text ++ rest)) (length (t
   above = λ m p q. none_longer text rest m longest p q;
 })
 
--- ---- where a token begins there is neither a blank nor a comment
+-- ---- neither a blank nor a comment begins where a token does
 
 space_none : (bs : List ℕ) → token_of (32 ∷ bs) ≡ None
 unfolding token_of
@@ -133,7 +133,7 @@ comment_step b bs false true e f h =
     absurd (false≢true (sym (comment_not b bs (rw same refl) (rw same refl)) ∙ h))
 comment_step b bs false false e f h = refl
 
--- ---- what a line is made of is how it is cut
+-- ---- from the parts of a line to its cut
 
 cut_blanks : (blanks xs : List ℕ) → list_all is_blank blanks ≡ true → cut (blanks ++ xs) 0 ≡ cut xs 0
 cut_blanks [] xs h = refl
@@ -206,7 +206,7 @@ cut_is line (Err UnknownWord) h = fault_is line UnknownWord h
 cut_is line (Err BadOperands) h = fault_is line BadOperands h
 cut_is line (Err OutOfMemory) h = fault_is line OutOfMemory h
 
--- ---- how a line is cut is what it is made of
+-- ---- from the cut of a line to its parts
 
 abbrev IsMade : List ℕ → Result (List Token) LineFault → Type 0
 IsMade line (Ok ts) = IsTokensThen IsOver ts line
@@ -290,7 +290,7 @@ made_stuck b bs blank comment none = (
   },
 )
 
--- a line whose ends are made of what they are cut into
+-- a line, if each of its ends has the parts that it is cut into
 made_front : (b : ℕ) (bs : List ℕ) (o : Option (Token × ℕ)) → ((l : List ℕ) → length l ≤ length bs → IsMade l (cut l 0)) → is_blank b ≡ false → begins_comment (b ∷ bs) ≡ false → front (b ∷ bs) ≡ o → IsMade (b ∷ bs) (cut (b ∷ bs) 0)
 made_front b bs None more blank comment e = rw (cut_none (b ∷ bs) (omega arith) blank comment e) (made_stuck b bs blank comment e)
 made_front b bs (Some at) more blank comment e =
@@ -334,6 +334,6 @@ is_cut line = elim (dec_lt 1024 (length line)) [
   | no less ↦ (let le : length line ≤ 1024 = omega arith in rw (short_tokens line le) (cut_into line (cut line 0) le (made (length line) line (omega arith))))
 ]
 
--- what a line is made of is what its tokens are
+-- the parts of a line are its tokens
 pub cut_means : (line : List ℕ) (r : Result (List Token) LineFault) → IsCutInto line r ↔ (tokens line ≡ r)
 cut_means line r = (cut_is line r, λ e. rw (← e) (is_cut line))

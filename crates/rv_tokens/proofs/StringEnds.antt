@@ -1,4 +1,4 @@
--- Where a string ends.
+-- The end of a string.
 use Rattle.std.proofs.Common.{◌≡◌, ℕ, zero, suc, ◌+◌, ◌-◌, ◌<◌, ◌≤◌, Bool, true, false, cond, List, [], ◌∷◌, length, take, drop, get_or, refl, sym, ap, ◌∙◌, arith, length-take, length-drop, get_or-take, get_or-drop}
 use Rattle.std.specs.Prelude.{Option, None, Some, option_and_then, nat_lt, is_some}
 use Rattle.std.specs.List.{list_all}
@@ -17,9 +17,9 @@ use Rattle.rv_tokens.specs.Literals.{longest, is_digit, number_in, byte_in, esca
 use Rattle.rv_tokens.specs.Tokens.{token_of, token_in, may_precede, front}
 use Rattle.rv_tokens.proofs.Digits.{number_in_is}
 use Rattle.rv_tokens.proofs.Longest.{longest_is, longest_found, longest_missing, longest_none}
-use Rattle.rv_tokens.proofs.Spellings.{spelled_by, bytes_of_none, bytes_of_some}
+use Rattle.rv_tokens.proofs.Spellings.{string_byte_in, bytes_of_none, bytes_of_some}
 
--- ---- no quote stands in an escape, but right behind the `\`
+-- ---- no quote stands in an escape, except right after the `\`
 
 byte_digits : (base : ℕ) (ds : List ℕ) (o : Option ℕ) (b : ℕ) → number_in base ds ≡ o → option_and_then (λ n. cond (nat_lt n 256) (Some n) None) o ≡ Some b → list_all (is_digit base) ds ≡ true
 byte_digits base ds None b e h = absurd cc
@@ -47,7 +47,7 @@ cond_some : (t : Bool) (o : Option ℕ) (b : ℕ) → cond t o None ≡ Some b �
 cond_some true o b h = (refl, h)
 cond_some false o b h = absurd cc
 
--- what stands before a quote within the spelling of a byte
+-- before a quote within the spelling of a byte there is only a `\`
 before_quote : (plain : ℕ → Bool) (s : List ℕ) (b j : ℕ) → spelled plain s ≡ Some b → 0 < j → j < length s → get_or s j 0 ≡ 34 → take j s ≡ 92 ∷ []
 unfolding spelled
 before_quote plain [] b j h some lt q = absurd (omega arith)
@@ -66,23 +66,23 @@ lone_backslash : bytes_of (92 ∷ []) ≡ None
 unfolding bytes_after longest spelled
 lone_backslash = refl
 
--- a spelling that is cut off before a quote stands for nothing
+-- the text of a byte that is cut off before a quote isn't the text of any bytes
 cut_quote : (t : List ℕ) (b k j : ℕ) → first_byte t ≡ Some (b, k) → 0 < j → j < k → get_or t j 0 ≡ 34 → bytes_of (take j t) ≡ None
 cut_quote t b k j e some lt q =
-    let l = longest_found (spelled_by t) (length t) k b e in
+    let l = longest_found (string_byte_in t) (length t) k b e in
     let len : length (take k t) ≡ k = omega (arith, length-take k t, l.within) in
     let at : get_or (take k t) j 0 ≡ 34 = get_or-take k t j 0 lt ∙ q in
     let front : take j (take k t) ≡ 92 ∷ [] = before_quote is_plain_in_string (take k t) b j l.is some (omega (arith, len)) at in
     let same : take j t ≡ 92 ∷ [] = sym (take-take j k t (omega arith)) ∙ front in
     rw same lone_backslash
 
--- ---- the first byte of a text and of its front
+-- ---- the first byte of a text and of its prefix
 
 first_byte_take : (t : List ℕ) (b k j : ℕ) → first_byte t ≡ Some (b, k) → k ≤ j → j ≤ length t → first_byte (take j t) ≡ Some (b, k)
 first_byte_take t b k j e le within =
-    let l = longest_found (spelled_by t) (length t) k b e in
+    let l = longest_found (string_byte_in t) (length t) k b e in
     let len : length (take j t) ≡ j = omega (arith, length-take j t) in
-    longest_is (spelled_by (take j t)) (length (take j t)) k b (record {
+    longest_is (string_byte_in (take j t)) (length (take j t)) k b (record {
       some = l.some;
       within = omega (arith, len);
       is = rw (take-take k j t le) l.is;
@@ -92,8 +92,8 @@ first_byte_take t b k j e le within =
 first_byte_take_none : (t : List ℕ) (j : ℕ) → first_byte t ≡ None → j ≤ length t → first_byte (take j t) ≡ None
 first_byte_take_none t j e within =
     let len : length (take j t) ≡ j = omega (arith, length-take j t) in
-    longest_none (spelled_by (take j t)) (length (take j t)) (λ m p q.
-    let f = take-take m j t (omega (arith, len)) in rw f (longest_missing (spelled_by t) (length t) e m p (omega (arith, len))))
+    longest_none (string_byte_in (take j t)) (length (take j t)) (λ m p q.
+    let f = take-take m j t (omega (arith, len)) in rw f (longest_missing (string_byte_in t) (length t) e m p (omega (arith, len))))
 
 is_some_map : (f : List ℕ → List ℕ) (o : Option (List ℕ)) → is_some (option_map f o) ≡ is_some o
 is_some_map f None = refl
@@ -111,25 +111,25 @@ goes_step t b k j e le within =
     ap is_some (bytes_of_some (take j t) b k (first_byte_take t b k j e le within))
     ∙ (is_some_map (λ cs. b ∷ cs) (bytes_of (drop k (take j t))) ∙ ap (λ s. is_some (bytes_of s)) (drop_of_take k j t le))
 
--- ---- how far the end has been looked for
+-- ---- the search for the end
 
-pub record Scanned (text : List ℕ) (i : ℕ) : Type 0 where
+pub record IsScanned (text : List ℕ) (i : ℕ) : Type 0 where
   pub within : i ≤ length text
   pub none_before : (m : ℕ) → m < i → get_or text m 0 ≡ 34 → bytes_of (take m text) ≡ None
   pub goes_on : (m : ℕ) → i ≤ m → m ≤ length text → is_some (bytes_of (take m text)) ≡ is_some (bytes_of (take (m - i) (drop i text)))
 
-pub scanned_none : (text : List ℕ) → Scanned text 0
+pub scanned_none : (text : List ℕ) → IsScanned text 0
 scanned_none text = record {
   within = omega arith;
   none_before = λ m p q. absurd (omega arith);
   goes_on = λ m p q. let e : m - 0 ≡ m = omega arith in rw e refl;
 }
 
-module _ (text : List ℕ) (i : ℕ) (so : Scanned text i) where
+module _ (text : List ℕ) (i : ℕ) (so : IsScanned text i) where
   drop_length : length (drop i text) ≡ length text - i
   drop_length = length-drop i text
 
-  -- a text that ends before the next byte does
+  -- a prefix that ends within the next byte
   before_next : (b k m : ℕ) → (get_or text i 0 ≡ 34 → ⊥) → first_byte (drop i text) ≡ Some (b, k) → i ≤ m → m < i + k → m < length text → get_or text m 0 ≡ 34 → bytes_of (take m text) ≡ None
   before_next b k m test e le lt within q = elim (dec_lt i m) [
     | yes more ↦
@@ -142,9 +142,9 @@ module _ (text : List ℕ) (i : ℕ) (so : Scanned text i) where
         absurd (test f))
   ]
 
-  pub scanned_more : (b k : ℕ) → (get_or text i 0 ≡ 34 → ⊥) → first_byte (drop i text) ≡ Some (b, k) → Scanned text (i + k)
+  pub scanned_more : (b k : ℕ) → (get_or text i 0 ≡ 34 → ⊥) → first_byte (drop i text) ≡ Some (b, k) → IsScanned text (i + k)
   scanned_more b k test e =
-      let l = longest_found (spelled_by (drop i text)) (length (drop i text)) k b e in
+      let l = longest_found (string_byte_in (drop i text)) (length (drop i text)) k b e in
       let reach : i + k ≤ length text = omega (arith, drop_length, l.within, so.within, l.some) in
       record {
         within = reach;
@@ -163,12 +163,12 @@ unfolding spelled
 quote_spells [] = refl
 quote_spells (c ∷ cs) = refl
 
-quote_front : (zs : List ℕ) (m : ℕ) → 0 < m → spelled_by (34 ∷ zs) m ≡ None
+quote_front : (zs : List ℕ) (m : ℕ) → 0 < m → string_byte_in (34 ∷ zs) m ≡ None
 quote_front zs zero some = absurd (omega arith)
 quote_front zs (suc m) some = quote_spells (take m zs)
 
 first_byte_quote : (zs : List ℕ) → first_byte (34 ∷ zs) ≡ None
-first_byte_quote zs = longest_none (spelled_by (34 ∷ zs)) (length (34 ∷ zs)) (λ m p q. quote_front zs m p)
+first_byte_quote zs = longest_none (string_byte_in (34 ∷ zs)) (length (34 ∷ zs)) (λ m p q. quote_front zs m p)
 
 quoted_between : (ys : List ℕ) (n : ℕ) → length ys ≡ suc n → between 34 (34 ∷ ys) ≡ cond (get_or ys n 0 == 34) (Some (take n ys)) None
 quoted_between ys n len =
@@ -208,13 +208,13 @@ cond_none : (t : Bool) (o : Option (List ℕ)) → (t ≡ true → o ≡ None) �
 cond_none true o h = rw (h refl) refl
 cond_none false o h = refl
 
--- where no quote at m ends a string, the line doesn't begin with one of m + 2 bytes
+-- if no quote at m ends the string, the line doesn't begin with a string of m + 2 bytes
 not_here : (text : List ℕ) (m : ℕ) → m < length text → (get_or text m 0 ≡ 34 → bytes_of (take m text) ≡ None) → token_in (34 ∷ text) (suc (suc m)) ≡ None
 not_here text m lt h =
     string_in text m lt ∙ cond_none (get_or text m 0 == 34) (bytes_of (take m text)) (λ t. h (grind (arith, nat_tests, t)))
 
--- behind the quote at n nothing goes on
-past_quote : (text : List ℕ) (n m : ℕ) → Scanned text n → n < length text → get_or text n 0 ≡ 34 → n < m → m < length text → bytes_of (take m text) ≡ None
+-- no string goes on past the quote at n
+past_quote : (text : List ℕ) (n m : ℕ) → IsScanned text n → n < length text → get_or text n 0 ≡ 34 → n < m → m < length text → bytes_of (take m text) ≡ None
 past_quote text n m so lt q more within =
     let e : drop n text ≡ get_or text n 0 ∷ drop (suc n) text = drop-cons text n 0 lt in
     let f : drop n text ≡ 34 ∷ drop (suc n) text = rw q at e in
@@ -223,13 +223,13 @@ past_quote text n m so lt q more within =
     bytes_of_none (take (m - n) (drop n text)) (omega (arith, len)) (first_byte_take_none (drop n text) (m - n) (rw f (first_byte_quote (drop (suc n) text))) (omega (arith, length-drop n text))) in
     none_of (bytes_of (take m text)) (so.goes_on m (omega arith) (omega arith) ∙ ap is_some none)
 
-above_string : (text : List ℕ) (n m : ℕ) → Scanned text n → n < length text → get_or text n 0 ≡ 34 → suc (suc n) < m → m ≤ length (34 ∷ text) → token_in (34 ∷ text) m ≡ None
+above_string : (text : List ℕ) (n m : ℕ) → IsScanned text n → n < length text → get_or text n 0 ≡ 34 → suc (suc n) < m → m ≤ length (34 ∷ text) → token_in (34 ∷ text) m ≡ None
 above_string text n zero so lt q more within = absurd (omega arith)
 above_string text n (suc zero) so lt q more within = absurd (omega arith)
 above_string text n (suc (suc m)) so lt q more within = not_here text m (omega arith) (λ r. past_quote text n m so lt q (omega arith) (omega arith))
 
 -- the string that ends with the quote at n
-pub front_string : (text s : List ℕ) (n : ℕ) → Scanned text n → n < length text → get_or text n 0 ≡ 34 → bytes_of (take n text) ≡ Some s → front (34 ∷ text) ≡ Some (Text s, suc (suc n))
+pub front_string : (text s : List ℕ) (n : ℕ) → IsScanned text n → n < length text → get_or text n 0 ≡ 34 → bytes_of (take n text) ≡ Some s → front (34 ∷ text) ≡ Some (Text s, suc (suc n))
 front_string text s n so lt q e =
     longest_is (token_in (34 ∷ text)) (length (34 ∷ text)) (suc (suc n)) (Text s) (record {
       some = omega arith;
@@ -238,8 +238,8 @@ front_string text s n so lt q e =
       above = λ m p r. above_string text n m so lt q p r;
     })
 
--- the bytes before the quote are a spelling
-pub scanned_some : (text : List ℕ) (n : ℕ) → Scanned text n → is_some (bytes_of (take n text)) ≡ true
+-- the text before the quote is that of some bytes
+pub scanned_some : (text : List ℕ) (n : ℕ) → IsScanned text n → is_some (bytes_of (take n text)) ≡ true
 unfolding bytes_after
 scanned_some text n so = so.goes_on n (omega arith) so.within ∙ (let e : n - n ≡ 0 = omega arith in rw e refl)
 
@@ -252,10 +252,10 @@ front_open : (text : List ℕ) → ((k : ℕ) → k < length text → get_or tex
 front_open text h = longest_none (token_in (34 ∷ text)) (length (34 ∷ text)) (λ m p q. nowhere text m h p q)
 
 -- no quote ends the string
-pub front_unended : (text : List ℕ) (n : ℕ) → Scanned text n → length text ≤ n → front (34 ∷ text) ≡ None
+pub front_unended : (text : List ℕ) (n : ℕ) → IsScanned text n → length text ≤ n → front (34 ∷ text) ≡ None
 front_unended text n so end = front_open text (λ k p q. so.none_before k (omega arith) q)
 
-past_bad : (text : List ℕ) (n k : ℕ) → Scanned text n → (get_or text n 0 ≡ 34 → ⊥) → first_byte (drop n text) ≡ None → n ≤ k → k < length text → get_or text k 0 ≡ 34 → bytes_of (take k text) ≡ None
+past_bad : (text : List ℕ) (n k : ℕ) → IsScanned text n → (get_or text n 0 ≡ 34 → ⊥) → first_byte (drop n text) ≡ None → n ≤ k → k < length text → get_or text k 0 ≡ 34 → bytes_of (take k text) ≡ None
 past_bad text n k so test e le lt q = elim (dec_lt n k) [
   | yes more ↦
       (let len : length (take (k - n) (drop n text)) ≡ k - n = omega (arith, length-take (k - n) (drop n text), length-drop n text) in
@@ -264,8 +264,8 @@ past_bad text n k so test e le lt q = elim (dec_lt n k) [
   | no less ↦ (let same : k ≡ n = omega arith in let f : get_or text n 0 ≡ 34 = rw same at q in absurd (test f))
 ]
 
--- what follows isn't spelled
-pub front_bad : (text : List ℕ) (n : ℕ) → Scanned text n → (get_or text n 0 ≡ 34 → ⊥) → first_byte (drop n text) ≡ None → front (34 ∷ text) ≡ None
+-- no byte is spelled at n
+pub front_bad : (text : List ℕ) (n : ℕ) → IsScanned text n → (get_or text n 0 ≡ 34 → ⊥) → first_byte (drop n text) ≡ None → front (34 ∷ text) ≡ None
 front_bad text n so test e = front_open text (λ k p q. elim (dec_lt k n) [ yes lt ↦ so.none_before k lt q | no ge ↦ past_bad text n k so test e (omega arith) p q ])
 
 -- a line that begins with a quote
