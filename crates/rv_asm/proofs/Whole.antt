@@ -4,7 +4,7 @@ use Rattle.std.specs.Prelude.{Option, None, Some, Result, Ok, Err}
 use Rattle.std.specs.Option.{option_or}
 use Rattle.std.proofs.lemmas.List.{length-map}
 use Rattle.rv_source.specs.Said.{Said}
-use Rattle.rv_tokens.specs.Lines.{lines}
+use Rattle.rv_base.specs.Lines.{lines}
 use Rattle.rv_program.specs.declared.fault.AsmFault.{AsmFault}
 use Rattle.rv_asm.specs.Symbols.{Definitions}
 use Rattle.rv_asm.specs.Layout.{joined, definitions, known_before, phase_two_fault}

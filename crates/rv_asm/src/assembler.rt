@@ -1,7 +1,7 @@
 //! From source to image.
 ghost use Rattle.std.specs.Prelude.{◌≡◌, ◌≤◌, ◌<◌, [], Result, Ok, IfOk, IfErr, OnOk, length};
 ghost use Rattle.std.specs.List.{All};
-ghost use Rattle.rv_tokens.specs.Lines.{lines};
+ghost use Rattle.rv_base.specs.Lines.{lines};
 ghost use Rattle.rv_source.specs.Reading.{said};
 ghost use Rattle.rv_program.specs.declared.fault.AsmFault.{AsmFault};
 ghost use Rattle.rv_program.specs.Faults.{Gives};
@@ -14,8 +14,8 @@ use crate::layout::Known;
 use crate::placed::Placed;
 use crate::symbols::Symbols;
 use crate::{AsmFault, FaultKind, Program};
+use rv_base::cut_lines;
 use rv_source::{Line, read_line};
-use rv_tokens::cut_lines;
 use std::alloc::Global;
 
 /// What a line says, or its fault in phase one.

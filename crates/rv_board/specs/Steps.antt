@@ -1,7 +1,7 @@
 -- What a step of a board answers and leaves.
 -- Not to audit: private contracts alone cite this.
 use Rattle.std.specs.Prelude.{◌≡◌, true, Result, Ok, Err}
-use Rattle.rv_isa.specs.declared.NoMemory.{NoMemory}
+use Rattle.rv_base.specs.declared.memory.NoMemory.{NoMemory}
 use Rattle.rv_hart.specs.Step.{step, writes}
 use Rattle.rv_board.specs.Move.{stepped}
 use Rattle.rv_board.specs.State.{BoardState}

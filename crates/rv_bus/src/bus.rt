@@ -9,7 +9,8 @@ ghost use Rattle.rv_bus.specs.Within.{IsWithin};
 ghost use Rattle.rv_bus.specs.Stores.{Stores, Answers};
 
 use crate::locations::{Location, find_location};
-use rv_isa::{InterruptLines, NoMemory, Width};
+use rv_base::NoMemory;
+use rv_isa::{InterruptLines, Width};
 use rv_mmio::{Halt, Serial, SerialReg, Timer};
 use rv_plic::{Plic, Source, SourceSet};
 use rv_ram::ByteMemory;

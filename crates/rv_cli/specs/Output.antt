@@ -18,7 +18,7 @@ use Rattle.rv_monitor.specs.Commands.{Leaves, Took, answer, command_in, next_of}
 use Rattle.rv_monitor.specs.State.{SessionState, start}
 use Rattle.rv_monitor.specs.declared.command.Next.{Next}
 use Rattle.rv_monitor.specs.declared.command.Next.TheVariants.{More, Quit}
-use Rattle.rv_tokens.specs.Lines.{lines}
+use Rattle.rv_base.specs.Lines.{lines}
 use Rattle.rv_words.specs.declared.Options.{Options}
 use Rattle.rv_texts.specs.Faults.{ended}
 use Rattle.rv_texts.specs.Readers.{Texts}

@@ -3,9 +3,9 @@ ghost use Rattle.std.specs.Prelude.{◌≡◌, ◌++◌, OnOk};
 ghost use Rattle.rv_board.specs.State.{halted_of};
 ghost use Rattle.rv_cli.specs.Output.{ending_of, printed, with_line_end};
 
+use rv_base::NoMemory;
 use rv_board::Board;
 use rv_cache::Decoded;
-use rv_isa::NoMemory;
 use rv_ram::ByteMemory;
 use rv_texts::{Ending, Status, status_line};
 

@@ -11,9 +11,9 @@ ghost use Rattle.rv_texts.specs.declared.fault.CliFault.TheVariants.{ReadInput, 
 use crate::print::{ending, print_board};
 use crate::session::run_session;
 use rv_asm::{FaultKind, Program, assemble};
+use rv_base::NoMemory;
 use rv_board::{BootFault, BootedBoard};
 use rv_cache::Decoded;
-use rv_isa::NoMemory;
 use rv_lists::{Timeline, TimelineFault};
 use rv_monitor::Session;
 use rv_ram::ByteMemory;

@@ -2,15 +2,14 @@
 ghost use Rattle.std.specs.Prelude.{IfOk, OnOk};
 ghost use Rattle.std.specs.FinSet as set;
 ghost use Rattle.rv_monitor.specs.Commands.{Took};
-ghost use Rattle.rv_tokens.specs.Lines.{lines};
+ghost use Rattle.rv_base.specs.Lines.{lines};
 ghost use Rattle.rv_cli.specs.Output.{Does, Obeys};
 
+use rv_base::{NoMemory, cut_lines};
 use rv_cache::Decoded;
-use rv_isa::NoMemory;
 use rv_monitor::{Next, Session};
 use rv_ram::ByteMemory;
 use rv_texts::Texts;
-use rv_tokens::cut_lines;
 use std::alloc::Global;
 
 /// Does the lines in order up to one that quits, and answers the texts of their answers.

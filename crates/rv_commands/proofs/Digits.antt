@@ -8,7 +8,7 @@ use Rattle.std.proofs.lemmas.List.{drop_all}
 use Rattle.std.proofs.lemmas.List.Folds.{list_all_at}
 use Rattle.std.proofs.Math.Nat.{pow-le-pow_right}
 use Rattle.std.proofs.Math.Seq.{drop-cons}
-use Rattle.rv_lists.specs.Numbers.{hex_digit}
+use Rattle.rv_base.specs.Numbers.{hex_digit}
 use Rattle.rv_commands.specs.Addresses.{hex_value, hexadecimal}
 
 -- the digits from the first on, and the others

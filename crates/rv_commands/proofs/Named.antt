@@ -3,8 +3,9 @@ use Rattle.std.proofs.Common.{◌≡◌, ℕ, ℤ, Bool, true, false, cond, List
 use Rattle.std.specs.Prelude.{Option, Some, None, IfSome, codes, nat_lt, option_and_then}
 use Rattle.std.specs.Option.{option_map}
 use Rattle.std.specs.Str.{bytes_eq}
-use Rattle.rv_isa.specs.Names.{lookup, csr_names}
-use Rattle.rv_lists.specs.Words.{words, begins_comment}
+use Rattle.rv_base.specs.Tables.{lookup}
+use Rattle.rv_isa.specs.Names.{csr_names}
+use Rattle.rv_base.specs.Words.{words, begins_comment}
 use Rattle.rv_commands.specs.Addresses.{address_of}
 use Rattle.rv_commands.specs.Commands.{IsNamed, byte_count, only, number_alone, address_alone, alone, steps, going, control_register, memory, edge_source, edges, row, said_by, command_of}
 use Rattle.rv_commands.specs.declared.command.Command.{Command}

@@ -5,7 +5,7 @@ use Rattle.std.specs.Prelude.{ℕ, ◌+◌, ◌*◌, ◌^◌, ◌&&◌, ℤ, Lis
 use Rattle.std.specs.Option.{option_map}
 use Rattle.std.specs.List.{list_all, starts_with}
 use Rattle.rv_isa.specs.Number.{modulo}
-use Rattle.rv_lists.specs.Numbers.{hex_digit}
+use Rattle.rv_base.specs.Numbers.{hex_digit}
 
 -- what hexadecimal digits stand for, the first of them the highest
 abbrev pub hex_value : List ℕ → ℕ

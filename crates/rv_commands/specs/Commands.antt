@@ -4,9 +4,10 @@
 use Rattle.std.specs.Prelude.{◌≡◌, ℕ, ℤ, ⊤, ◌&&◌, List, [], ◌∷◌, length, if◌then◌else◌, nat_le, nat_lt, Option, Some, None, codes, option_and_then}
 use Rattle.std.specs.Option.{option_map}
 use Rattle.std.specs.Str.{bytes_eq}
-use Rattle.rv_isa.specs.Names.{lookup, csr_names}
-use Rattle.rv_lists.specs.Numbers.{decimal}
-use Rattle.rv_lists.specs.Words.{words, begins_comment}
+use Rattle.rv_base.specs.Tables.{lookup}
+use Rattle.rv_isa.specs.Names.{csr_names}
+use Rattle.rv_base.specs.Numbers.{decimal}
+use Rattle.rv_base.specs.Words.{words, begins_comment}
 use Rattle.rv_commands.specs.Addresses.{address_of}
 use Rattle.rv_commands.specs.declared.command.Command.{Command}
 use Rattle.rv_commands.specs.declared.command.Command.TheVariants.{Step, Go, SetBreak, ClearBreak, Registers, ControlRegister, Memory, Instruction, Traps, Edges, Quit, Nothing}

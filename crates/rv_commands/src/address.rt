@@ -4,7 +4,7 @@ ghost use Rattle.rv_isa.specs.Number.{modulo};
 ghost use Rattle.rv_commands.specs.Addresses.{hexadecimal, address_of};
 
 use crate::SymbolLookup;
-use rv_lists::hex_digit;
+use rv_base::hex_digit;
 
 /// Whether an address may have so many hexadecimal digits.
 fn is_digit_count(count: usize) -> bool

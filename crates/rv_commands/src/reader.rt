@@ -1,13 +1,13 @@
 //! Reads command lines.
 ghost use Rattle.std.specs.Prelude.{◌≡◌, ◌≤◌, IfSome};
 ghost use Rattle.std.specs.Option.{option_copied};
-ghost use Rattle.rv_lists.specs.Words.{words};
+ghost use Rattle.rv_base.specs.Words.{words};
 ghost use Rattle.rv_commands.specs.Commands.{number_of, byte_count, edge_source, only, number_alone, address_alone, alone, steps, going, control_register, memory, edges, row, command_of, IsNamed};
 
 use crate::address::address;
 use crate::{Command, SymbolLookup};
+use rv_base::{begins_comment, decimal, first_word, has_word};
 use rv_isa::csr_named;
-use rv_lists::{begins_comment, decimal, first_word, has_word};
 use rv_plic::Source;
 use rv_tokens::Name;
 

@@ -1,5 +1,5 @@
 //! Traps, and what a step did.
-use rv_isa::NoMemory;
+use rv_base::NoMemory;
 
 /// Why an instruction was not done: an exception (Privileged Architecture 20211203, sections 3.1.15 and 3.1.16).
 #[derive(Clone, Copy)]

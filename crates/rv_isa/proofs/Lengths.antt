@@ -4,11 +4,12 @@ use Rattle.std.proofs.lemmas.Fmt.{length-decimal-le, length_signed_le}
 use Rattle.std.specs.Prelude.{ℤ, pos, negsuc}
 use Rattle.std.specs.Fmt.{decimal, signed_decimal}
 use Rattle.rv_isa.specs.Number.{IsWithin}
-use Rattle.rv_isa.specs.Text.{hex, target, register, text, cond_name, load_op_name, width_name, imm_op_name, shift_op_name, csr_op_name, alu_op_name}
+use Rattle.rv_isa.specs.Text.{target, register, text, cond_name, load_op_name, width_name, imm_op_name, shift_op_name, csr_op_name, alu_op_name}
 use Rattle.rv_isa.specs.Word.{IsInRange}
 use Rattle.rv_isa.specs.declared.kind.Kind.{Kind}
 use Rattle.rv_isa.specs.declared.kind.Kind.TheVariants.{Lui, Auipc, Jal, Jalr, Branch, Load, Store, OpImm, Shift, Op, Csr, CsrImm}
-use Rattle.rv_isa.proofs.Hexadecimal.{hex_length}
+use Rattle.rv_base.proofs.Hexadecimal.{hex_length}
+use Rattle.rv_base.specs.Digits.{short_hex}
 
 -- ---- mnemonics
 
@@ -43,10 +44,10 @@ register_length : (n : ℕ) → n < 32 → length (register n) ≤ 3
 register_length n h = omega (arith, small_length n h)
 
 -- hexadecimal numbers of twenty and of twelve bits
-upper_length : (n : ℕ) → n < 2 ^ 20 → length (hex n) ≤ 7
+upper_length : (n : ℕ) → n < 2 ^ 20 → length (short_hex n) ≤ 7
 upper_length n h = omega (arith, hex_length 4 n (omega arith) (omega arith))
 
-csr_length : (n : ℕ) → n < 2 ^ 12 → length (hex n) ≤ 5
+csr_length : (n : ℕ) → n < 2 ^ 12 → length (short_hex n) ≤ 5
 csr_length n h = omega (arith, hex_length 2 n (omega arith) (omega arith))
 
 immediate_length : (z : ℤ) → IsWithin (2 ^ 11) z → length (signed_decimal z) ≤ 5

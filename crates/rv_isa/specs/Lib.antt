@@ -4,7 +4,6 @@ pub mod Meaning
 pub mod Names
 pub mod Number
 pub mod Op
-pub mod Tables
 pub mod Text
 pub mod Word
 pub mod Width

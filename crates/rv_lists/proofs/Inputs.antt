@@ -7,7 +7,7 @@ use Rattle.std.specs.Option.{option_map}
 use Rattle.rv_lists.specs.declared.input.Input.{Input}
 use Rattle.rv_lists.specs.declared.input.Input.TheVariants.{Rx}
 use Rattle.rv_lists.specs.declared.input.TimedInput.{TimedInput}
-use Rattle.rv_lists.specs.Numbers.{byte_of}
+use Rattle.rv_base.specs.Numbers.{byte_of}
 use Rattle.rv_lists.specs.Timed.{joined, all_of, byte_input, received, driven, inputs_of, at, never_falls}
 use Rattle.rv_lists.specs.Reading.{latest, with_inputs, behind}
 

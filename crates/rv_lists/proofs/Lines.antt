@@ -3,7 +3,7 @@ use Rattle.std.proofs.Common.{◌≡◌, ℕ, ◌<◌, ◌≤◌, true, false, L
 use Rattle.std.proofs.lemmas.Bool.Decides.{nat_tests}
 use Rattle.std.specs.Prelude.{Some, None, nat_lt}
 use Rattle.std.specs.Option.{option_map}
-use Rattle.rv_lists.specs.Words.{words, begins_comment}
+use Rattle.rv_base.specs.Words.{words, begins_comment}
 use Rattle.rv_lists.specs.Timed.{step_of, inputs_of, at, said}
 
 long : (n : ℕ) → 1024 < n → nat_lt 1024 n ≡ true

@@ -1,4 +1,2 @@
-pub mod Numbers
-pub mod Words
 pub mod Timed
 pub mod Reading

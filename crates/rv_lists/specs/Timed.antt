@@ -4,14 +4,14 @@
 use Rattle.std.specs.Prelude.{◌≡◌, ℕ, ◌<◌, ◌≤◌, ◌&&◌, Bool, true, false, List, [], ◌∷◌, ◌++◌, length, map, take, if◌then◌else◌, nat_le, nat_lt, Option, Some, None, Result, Ok, Err, codes, option_and_then, is_some}
 use Rattle.std.specs.Option.{option_map}
 use Rattle.std.specs.Str.{bytes_eq}
-use Rattle.rv_tokens.specs.Lines.{lines}
+use Rattle.rv_base.specs.Lines.{lines}
 use Rattle.rv_lists.specs.declared.input.Input.{Input}
 use Rattle.rv_lists.specs.declared.input.Input.TheVariants.{Rx, Line}
 use Rattle.rv_lists.specs.declared.input.TimedInput.{TimedInput}
 use Rattle.rv_lists.specs.declared.fault.TimelineFault.{TimelineFault}
 use Rattle.rv_lists.specs.declared.fault.TimelineFault.TheVariants.{BadLine, OutOfMemory}
-use Rattle.rv_lists.specs.Numbers.{decimal, byte_of}
-use Rattle.rv_lists.specs.Words.{words, begins_comment}
+use Rattle.rv_base.specs.Numbers.{decimal, byte_of}
+use Rattle.rv_base.specs.Words.{words, begins_comment}
 
 -- both lists, one after the other, where both are there
 abbrev pub joined : {B : Type 0} → Option (List B) → Option (List B) → Option (List B)

@@ -9,8 +9,6 @@
 //!
 //! STEP has one to ten decimal digits, and no line's STEP is below one of a line before. STEP and N may have leading
 //! zeros.
-//!
-//! The monitor's command lines are cut into words, and their numbers read, by the same calls.
 #![tactic(auto)]
 
 mod fault;
@@ -19,10 +17,7 @@ mod number;
 mod reader;
 mod refusal;
 mod timeline;
-mod word;
 
 pub use fault::TimelineFault;
 pub use input::{Input, TimedInput};
-pub use number::{decimal, hex_digit};
 pub use timeline::Timeline;
-pub use word::{begins_comment, first_word, has_word};

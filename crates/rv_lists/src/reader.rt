@@ -1,16 +1,13 @@
 //! Reads lines.
 ghost use Rattle.std.specs.Prelude.{◌≡◌, ◌∷◌, ◌++◌, [], true, Some, nat_lt};
-ghost use Rattle.rv_lists.specs.Words.{words};
+ghost use Rattle.rv_base.specs.Words.{words};
 ghost use Rattle.rv_lists.specs.Timed.{received, driven, inputs_of, said, never_falls};
 ghost use Rattle.rv_lists.specs.Reading.{Becomes, latest, with_inputs, behind};
 
-use crate::number::{byte, level, source, step};
+use crate::number::{level, source, step};
 use crate::refusal::Refusal;
-use crate::word::{begins_comment, first_word, has_word};
 use crate::{Input, TimedInput};
-
-/// The longest line that is looked at.
-const LONGEST_LINE: usize = 1024;
+use rv_base::{LINE_LIMIT, begins_comment, first_word, has_word, hex_byte};
 
 /// Appends an input.
 fn append(out: &mut Vec<TimedInput>, step: u64, input: Input) -> Result<(), Refusal>
@@ -29,7 +26,7 @@ fn read_bytes(step: u64, text: &[u8], out: &mut Vec<TimedInput>) -> Result<(), R
     }
     let mut rest = text;
     while let Some((word, more)) = first_word(rest) {
-        let Some(byte) = byte(word) else {
+        let Some(byte) = hex_byte(word) else {
             return Err(Refusal::BadLine);
         };
         append(out, step, Input::Rx(byte))?;
@@ -95,7 +92,7 @@ pub fn read_line(line: &[u8], out: &mut Vec<TimedInput>) -> Result<(), Refusal>
     requires { never_falls out.old.items ≡ true }
     ensures { Becomes out.new.items result (behind out.old.items (said line.now)) }
 {
-    if line.len() > LONGEST_LINE {
+    if line.len() > LINE_LIMIT {
         return Err(Refusal::BadLine);
     }
     let Some((first, rest)) = first_word(line) else {

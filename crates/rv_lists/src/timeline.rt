@@ -4,7 +4,7 @@ ghost use Rattle.rv_lists.specs.Timed.{IsRead};
 use crate::reader::read_line;
 use crate::refusal::Refusal;
 use crate::{TimedInput, TimelineFault};
-use rv_tokens::cut_lines;
+use rv_base::cut_lines;
 use std::alloc::Global;
 use std::marker::Model;
 

@@ -4,7 +4,7 @@ ghost use Rattle.rv_mmio.specs.declared.serial.SerialReg.TheVariants.{Rx, Status
 ghost use Rattle.rv_mmio.specs.Serial.{reset, status_word, load_value, after_load, stored, received, is_full, wants_room};
 
 use circular_buffer::HeapCircularBuffer;
-use rv_isa::NoMemory;
+use rv_base::NoMemory;
 use std::alloc::Global;
 use std::marker::Model;
 

@@ -2,7 +2,7 @@
 use Rattle.std.proofs.Common.{◌≡◌, ◌∙◌, ℕ, zero, suc, ◌+◌, ◌-◌, ◌<◌, ◌≤◌, Bool, true, false, List, drop, refl, sym, ap, arith, below_more}
 use Rattle.std.specs.Prelude.{nat_lt, if◌then◌else◌, Option, Some, None, unwrap_or, is_some, Result, Ok, Err, IfOk, OnErr}
 use Rattle.std.proofs.lemmas.Bool.{false≢true}
-use Rattle.rv_isa.specs.declared.NoMemory.{NoMemory}
+use Rattle.rv_base.specs.declared.memory.NoMemory.{NoMemory}
 use Rattle.rv_lists.specs.declared.input.TimedInput.{TimedInput}
 use Rattle.std.proofs.lemmas.Bool.Decides.{nat_tests}
 use Rattle.rv_board.specs.State.{BoardState, halted_of}

@@ -14,9 +14,9 @@ use crate::views::{
     STOP_BYTES, eight_digits, write_control_register, write_edges, write_instruction, write_memory,
     write_registers, write_stop, write_traps,
 };
+use rv_base::{NoMemory, append_within};
 use rv_cache::Decoded;
 use rv_commands::{Command, SymbolLookup, read_command};
-use rv_isa::{NoMemory, append_within};
 use rv_program::Program;
 use rv_ram::ByteMemory;
 

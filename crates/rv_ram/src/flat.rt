@@ -5,7 +5,8 @@ ghost use Rattle.rv_ram.specs.Bytes.{word_at, put, zeros};
 
 use crate::values::{put_value, word_of};
 use crate::{ByteMemory, PAGE_BYTES};
-use rv_isa::{NoMemory, Width};
+use rv_base::NoMemory;
+use rv_isa::Width;
 use std::alloc::Global;
 use std::marker::Model;
 

@@ -16,7 +16,8 @@ ghost use Rattle.rv_ram.specs.Pages.{wants_page};
 
 pub use flat::FlatMemory;
 pub use paged::PagedRam;
-use rv_isa::{NoMemory, Width};
+use rv_base::NoMemory;
+use rv_isa::Width;
 
 /// How many bytes a page has. A memory has 1 to 4096 pages.
 pub const PAGE_BYTES: u32 = 4096;

@@ -8,7 +8,8 @@ ghost use Rattle.rv_ram.specs.Table.{new_page};
 
 use crate::PAGE_BYTES;
 use crate::values::{put_value, stores_zeros, word_of};
-use rv_isa::{NoMemory, Width};
+use rv_base::NoMemory;
+use rv_isa::Width;
 use std::alloc::Global;
 use std::marker::Model;
 

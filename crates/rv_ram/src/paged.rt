@@ -7,7 +7,8 @@ ghost use Rattle.rv_ram.specs.Table.{new_table};
 
 use crate::page::Page;
 use crate::{ByteMemory, PAGE_BYTES};
-use rv_isa::{NoMemory, Width};
+use rv_base::NoMemory;
+use rv_isa::Width;
 use std::alloc::Global;
 use std::marker::Model;
 

@@ -3,7 +3,8 @@
 -- Own language; see docs/ASSEMBLER.md.
 use Rattle.std.specs.Prelude.{ℕ, ◌+◌, ◌*◌, Bool, not, ◌&&◌, List, [], ◌∷◌, ◌++◌, Option, Some, None, option_and_then, if◌then◌else◌, ◌==◌, nat_lt, pos, negsuc}
 use Rattle.std.specs.Option.{option_map, option_or}
-use Rattle.rv_isa.specs.Names.{lookup, register_names, csr_names}
+use Rattle.rv_base.specs.Tables.{lookup}
+use Rattle.rv_isa.specs.Names.{register_names, csr_names}
 use Rattle.rv_isa.specs.declared.kind.Kind.TheVariants as k
 use Rattle.rv_isa.specs.declared.op.ImmOp.TheVariants.{Addi, Sltiu, Xori}
 use Rattle.rv_isa.specs.declared.op.AluOp.TheVariants.{Slt, Sltu, Sub}

@@ -23,5 +23,5 @@ pub use expression::{Atom, Expression, Term, Wanted};
 pub use form::{Directive, Form, Instruction, Pseudo};
 pub use line::{Label, Line};
 pub use reader::read_line;
-pub use rv_tokens::{Cut, Direction, LineFault, Name, cut_lines};
+pub use rv_tokens::{Direction, LineFault, Name};
 pub use statement::{Bytes, Csr, Immediate, ImmediateTaker, Statement, Upper, ValueTaker, Values};

@@ -4,7 +4,7 @@ ghost use Rattle.rv_texts.specs.Shown.{StandsBehind};
 ghost use Rattle.rv_texts.specs.Faults.{input_line_of, line_of, read_fault_of, source_line_of, status_of};
 ghost use Rattle.rv_texts.specs.Numbered.{has_number};
 
-use rv_isa::NoMemory;
+use rv_base::NoMemory;
 use rv_program::AsmFault;
 use std::{fmt, io};
 use thiserror::Error;

@@ -4,7 +4,7 @@ ghost use Rattle.rv_texts.specs.Faults.{ended};
 ghost use Rattle.rv_texts.specs.Status.{stand_of, status_text};
 
 use crate::fault::append_line;
-use rv_isa::NoMemory;
+use rv_base::NoMemory;
 use std::fmt;
 
 /// Whether a board has halted, with which code, or where it runs.

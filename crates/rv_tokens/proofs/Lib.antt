@@ -6,4 +6,3 @@ pub mod Front
 pub mod Cutting
 pub mod PartsLemmas
 pub mod Spellings
-pub mod Splitting

@@ -1,5 +1,4 @@
 pub mod Faults
-pub mod Lines
 pub mod Literals
 pub mod Tokens
 pub mod Parts

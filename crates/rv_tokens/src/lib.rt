@@ -4,14 +4,12 @@
 #![tactic(auto)]
 
 mod fault;
-mod lines;
 mod literal;
 mod name;
 mod scan;
 mod token;
 
 pub use fault::LineFault;
-pub use lines::{Cut, cut_lines};
 pub use name::Name;
 pub use scan::{cut_line, one_cut};
 pub use token::{Direction, Text, Token};

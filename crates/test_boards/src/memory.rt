@@ -2,7 +2,8 @@
 ghost use Rattle.std.specs.Prelude.{◌≡◌, ◌+◌, ◌<◌, ◌≤◌, ◌%◌, true, length, IsTrue, OnOk, OnErr};
 ghost use Rattle.rv_ram.specs.Pages.{is_blank, wants_page};
 
-use rv_isa::{NoMemory, Width};
+use rv_base::NoMemory;
+use rv_isa::Width;
 use rv_ram::{ByteMemory, FlatMemory, PAGE_BYTES};
 
 /// A memory of whose writes behind so many good ones the next that need a page are refused, so many times.

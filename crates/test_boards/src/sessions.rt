@@ -2,9 +2,9 @@
 use crate::machine::program;
 use crate::memory::Stubborn;
 use rv_asm::Program;
+use rv_base::NoMemory;
 use rv_board::Board;
 use rv_cache::{Decoded, NoCache};
-use rv_isa::NoMemory;
 use rv_lists::Timeline;
 use rv_monitor::{Next, Session, Stop};
 use rv_ram::{ByteMemory, FlatMemory};

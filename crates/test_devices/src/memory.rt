@@ -2,7 +2,8 @@
 ghost use Rattle.std.specs.Prelude.{◌≡◌, ◌+◌, ◌%◌, ◌<◌, ◌≤◌};
 ghost use Rattle.rv_isa.specs.Width.{bytes_of};
 
-use rv_isa::{NoMemory, Width};
+use rv_base::NoMemory;
+use rv_isa::Width;
 use rv_ram::{ByteMemory, FlatMemory};
 use std::process::Abort;
 use std::test::Fail;

@@ -1,5 +1,5 @@
 //! Timer, serial port and halt register.
-use rv_isa::NoMemory;
+use rv_base::NoMemory;
 use rv_mmio::{Halt, Serial, SerialReg, Timer};
 use std::process::Abort;
 use std::test::Fail;

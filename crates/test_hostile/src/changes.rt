@@ -1,5 +1,5 @@
 //! Changes of a text by a fixed generator.
-use rv_isa::NoMemory;
+use rv_base::NoMemory;
 use std::alloc::Global;
 
 /// A fixed sequence of numbers that look as if they were drawn.

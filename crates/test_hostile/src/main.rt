@@ -12,7 +12,7 @@ mod texts;
 
 use answers::{Text, is_answered};
 use changes::{Dice, changed};
-use rv_isa::NoMemory;
+use rv_base::NoMemory;
 use std::alloc::Global;
 use std::io::Write;
 use std::process::ExitCode;

@@ -1,5 +1,6 @@
 //! Texts of instructions, appended to bytes.
-use rv_isa::{Instr, Kind, NoMemory, write_instr};
+use rv_base::NoMemory;
+use rv_isa::{Instr, Kind, write_instr};
 use std::test::Fail;
 
 /// Run with an allocation that fails (`rt try --test --fail-alloc 1`, then 2) this sees the bytes as they were.

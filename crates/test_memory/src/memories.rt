@@ -1,7 +1,8 @@
 //! Both memories through their trait.
 ghost use Rattle.std.specs.Prelude.{◌≡◌, ◌+◌, ◌%◌, ◌≤◌, length};
 
-use rv_isa::{NoMemory, Width};
+use rv_base::NoMemory;
+use rv_isa::Width;
 use rv_ram::{ByteMemory, FlatMemory, PagedRam};
 use std::process::Abort;
 use std::test::Fail;

@@ -1,8 +1,8 @@
 //! Sessions: their lists, steps, breakpoints and commands.
 use rv_asm::{FaultKind, Program, assemble};
+use rv_base::NoMemory;
 use rv_board::{BootFault, BootedBoard};
 use rv_cache::DecodeCache;
-use rv_isa::NoMemory;
 use rv_lists::{Timeline, TimelineFault};
 use rv_monitor::{Next, Session, Stop};
 use rv_ram::PagedRam;

@@ -2,13 +2,12 @@
 use crate::look::{append_all, append_devices};
 use crate::row::{Row, behind_mark, number};
 use rv_asm::{Program, assemble};
+use rv_base::{NoMemory, cut_lines};
 use rv_board::{Board, BootedBoard};
 use rv_cache::{Decoded, NoCache};
-use rv_isa::NoMemory;
 use rv_lists::Timeline;
 use rv_monitor::{Next, Session};
 use rv_ram::{ByteMemory, FlatMemory};
-use rv_tokens::cut_lines;
 use std::alloc::Global;
 
 /// How many steps the row's boards may take.

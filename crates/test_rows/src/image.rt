@@ -2,9 +2,8 @@
 use crate::boards::program;
 use crate::row::{Row, behind_mark, number};
 use rv_asm::Program;
-use rv_isa::NoMemory;
+use rv_base::{NoMemory, cut_lines};
 use rv_monitor::{eight_digits, two_digits};
-use rv_tokens::cut_lines;
 use std::alloc::Global;
 
 /// The address of an image's first byte.

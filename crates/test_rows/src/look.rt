@@ -1,7 +1,7 @@
 //! All that a board can be read by, as a text.
+use rv_base::NoMemory;
 use rv_board::Board;
 use rv_cache::Decoded;
-use rv_isa::NoMemory;
 use rv_monitor::{eight_digits, two_digits, write_memory, write_registers, write_traps};
 use rv_ram::ByteMemory;
 

@@ -25,7 +25,7 @@ mod row;
 mod whole;
 
 use crate::row::Row;
-use rv_isa::NoMemory;
+use rv_base::NoMemory;
 use std::alloc::Global;
 use std::io::{Read, Write};
 use std::process::ExitCode;

@@ -1,6 +1,5 @@
 //! Rows and their lines.
-use rv_isa::NoMemory;
-use rv_tokens::cut_lines;
+use rv_base::{NoMemory, cut_lines};
 use std::alloc::Global;
 
 /// The text of a row.

@@ -2,11 +2,10 @@
 ghost use Rattle.rv_texts.specs.Readers.{IsSoundIf};
 
 use crate::row::{Row, behind_mark, number};
+use rv_base::{NoMemory, cut_lines};
 use rv_cli::{
     CliFault, Ending, MemoryIn, MemoryOut, Options, TextOut, exit_status, fault_line, run_text,
 };
-use rv_isa::NoMemory;
-use rv_tokens::cut_lines;
 use std::alloc::Global;
 
 /// The options of three numbers: the most steps, the pages of memory and the slots of the cache.

@@ -1,8 +1,8 @@
 //! Tests of the cut into lines.
 ghost use Rattle.std.specs.Prelude.{◌≡◌, length};
-ghost use Rattle.rv_tokens.specs.Lines.{lines};
+ghost use Rattle.rv_base.specs.Lines.{lines};
 
-use rv_tokens::cut_lines;
+use rv_base::cut_lines;
 use std::process::Abort;
 
 /// How many lines a source has, by a loop over them.

@@ -1,6 +1,6 @@
 //! Lines and what they say, as docs/ASSEMBLER.md has them. What each word assembles to is a row of test_rows.
+use rv_base::cut_lines;
 use rv_source::{Label, Line, LineFault, Statement, read_line};
-use rv_tokens::cut_lines;
 use std::alloc::{AllocError, Global};
 use std::process::Abort;
 use std::test::Fail;

@@ -1,5 +1,6 @@
 //! Tests of the cut into tokens.
-use rv_tokens::{Direction, LineFault, Token, cut_line, cut_lines};
+use rv_base::cut_lines;
+use rv_tokens::{Direction, LineFault, Token, cut_line};
 use std::alloc::{AllocError, Global};
 use std::process::Abort;
 use std::test::Fail;

@@ -4,9 +4,9 @@ ghost use Rattle.rv_monitor.specs.Room.{edges_room};
 ghost use Rattle.rv_monitor.specs.Views.{edges_text};
 
 use itoa::Buffer;
+use rv_base::{NoMemory, append_within};
 use rv_board::Board;
 use rv_cache::Decoded;
-use rv_isa::{NoMemory, append_within};
 use rv_plic::Source;
 use rv_ram::ByteMemory;
 

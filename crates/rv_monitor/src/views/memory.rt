@@ -5,9 +5,10 @@ ghost use Rattle.rv_monitor.specs.Room.{memory_room, instruction_room};
 ghost use Rattle.rv_monitor.specs.Views.{pieces, byte_behind, byte_text, byte_in_line, memory_line, memory_text, word_of, word_text, instruction_text};
 
 use super::number::{eight_digits, two_digits};
+use rv_base::{NoMemory, append_within};
 use rv_board::Board;
 use rv_cache::Decoded;
-use rv_isa::{NoMemory, append_within, decode, write_instr};
+use rv_isa::{decode, write_instr};
 use rv_ram::ByteMemory;
 
 /// How many bytes stand in a line.

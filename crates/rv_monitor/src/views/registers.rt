@@ -1,6 +1,7 @@
 //! Registers, as they are printed.
 ghost use Rattle.std.specs.Prelude.{◌≡◌, ◌++◌, ◌+◌, ◌%◌, ◌==◌, ◌<◌, ◌≤◌, if◌then◌else◌, codes, length, Some, IsSome, OnOk, OnErr, vec_len, vec_capacity};
-ghost use Rattle.rv_isa.specs.Names.{lookup, csr_names};
+ghost use Rattle.rv_base.specs.Tables.{lookup};
+ghost use Rattle.rv_isa.specs.Names.{csr_names};
 ghost use Rattle.rv_board.specs.State.{csr_of};
 ghost use Rattle.rv_monitor.specs.Appended.{Appended};
 ghost use Rattle.rv_monitor.specs.Room.{registers_room, control_register_room};
@@ -9,9 +10,10 @@ ghost use Rattle.rv_monitor.specs.Views.{pieces, registers_text, control_registe
 ghost use Rattle.rv_monitor.specs.Numbers.{hex, two_decimals};
 
 use super::number::{eight_digits, two_decimals};
+use rv_base::{NoMemory, append_within};
 use rv_board::Board;
 use rv_cache::Decoded;
-use rv_isa::{NoMemory, Reg, append_within};
+use rv_isa::Reg;
 use rv_pmp::Mode;
 use rv_ram::ByteMemory;
 

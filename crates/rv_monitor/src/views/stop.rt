@@ -5,9 +5,9 @@ ghost use Rattle.rv_monitor.specs.Views.{stop_text};
 
 use super::registers::append_place;
 use itoa::Buffer;
+use rv_base::{NoMemory, append_within};
 use rv_board::Board;
 use rv_cache::Decoded;
-use rv_isa::{NoMemory, append_within};
 use rv_ram::ByteMemory;
 
 /// How many bytes the line of a stop has at most, beside its word.

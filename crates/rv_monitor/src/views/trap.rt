@@ -5,9 +5,9 @@ ghost use Rattle.rv_monitor.specs.Room.{traps_room};
 ghost use Rattle.rv_monitor.specs.Views.{labelled, trap_text, traps_text};
 
 use super::number::eight_digits;
+use rv_base::{NoMemory, append_within};
 use rv_board::{Board, TrapRecord};
 use rv_cache::Decoded;
-use rv_isa::{NoMemory, append_within};
 use rv_ram::ByteMemory;
 
 /// How many bytes the line of a trap has.

@@ -1,6 +1,6 @@
 use Rattle.std.proofs.Common.{refl}
 use Rattle.std.proofs.lemmas.Result.{err_from_is_err_and}
-use Rattle.rv_tokens.specs.Lines.{lines}
+use Rattle.rv_base.specs.Lines.{lines}
 use Rattle.rv_asm.specs.Steps.{laid, lines_laid_out, image_of}
 use Rattle.rv_asm.proofs.Runs.{fails_bind}
 use Rattle.rv_asm.proofs.Whole.{whole, finished, program_of, image_fits}

@@ -1,6 +1,6 @@
 use Rattle.std.proofs.Common.{◌≡◌, ◌∙◌, ◌∷◌, length, ap, sym, arith, rules}
 use Rattle.std.specs.Prelude.{Ok}
-use Rattle.rv_tokens.specs.Lines.{lines}
+use Rattle.rv_base.specs.Lines.{lines}
 use Rattle.rv_asm.specs.Assembly.{all_said}
 use Rattle.rv_asm.specs.Steps.{State, laid, laid_out}
 use Rattle.rv_asm.specs.Taken.{so_far}

@@ -1,5 +1,5 @@
 use Rattle.std.proofs.Common.{◌≡◌, ◌∙◌}
-use Rattle.rv_tokens.specs.Lines.{lines}
+use Rattle.rv_base.specs.Lines.{lines}
 use Rattle.rv_cli.proofs.Obeyed.{none_done, one_done, all_done, quit_done}
 use Rattle.rv_cli.proofs.session.obey.Goals as goal
 

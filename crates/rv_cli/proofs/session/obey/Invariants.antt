@@ -1,4 +1,4 @@
-use Rattle.rv_tokens.specs.Lines.{lines}
+use Rattle.rv_base.specs.Lines.{lines}
 use Rattle.rv_cli.proofs.Obeyed.{Continues}
 use Rattle.rv_cli.proofs.session.obey.Given as goal
 

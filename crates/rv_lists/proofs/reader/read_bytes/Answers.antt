@@ -2,7 +2,7 @@ use Rattle.std.proofs.Common.{◌≡◌, ◌∙◌, ◌∷◌, ◌++◌, ℕ, Li
 use Rattle.std.specs.Prelude.{Some}
 use Rattle.rv_lists.specs.declared.input.Input.TheVariants.{Rx}
 use Rattle.rv_lists.specs.declared.input.TimedInput.{TimedInput}
-use Rattle.rv_lists.specs.Words.{words}
+use Rattle.rv_base.specs.Words.{words}
 use Rattle.rv_lists.proofs.Inputs.{received_all, received_none, received_more, received_bad, received_end}
 use Rattle.rv_lists.proofs.reader.read_bytes.Goals as goal
 
@@ -15,15 +15,15 @@ returns-then-not-has_word c = rw (received_none (words c.args.text.now) (sym c.h
 pub loop-word-init : goal.loop-word-init
 loop-word-init c = rw (received_all (words c.args.text.now) (sym c.has_word.ensures ∙ c.if-not-has_word.false)) refl
 
-pub returns-in_default-byte : goal.returns-in_default-byte
-returns-in_default-byte c =
+pub returns-in_default-hex_byte : goal.returns-in_default-hex_byte
+returns-in_default-hex_byte c =
     sym c.loop-word.invariant
-    ∙ received_bad c.loop-word.out.items c.args.step c.in-Some.word.now (words c.in-Some.more.now) (words c.loop-word.rest.now) c.in-Some.ensures.value (sym c.byte.ensures ∙ c.in_default-byte.is)
+    ∙ received_bad c.loop-word.out.items c.args.step c.in-Some.word.now (words c.in-Some.more.now) (words c.loop-word.rest.now) c.in-Some.ensures.value (sym c.hex_byte.ensures ∙ c.in_default-hex_byte.is)
 
 pub loop-word-preserved : goal.loop-word-preserved
 loop-word-preserved c =
-    rw (same c.loop-word.out.items c.append.new.out.items c.args.step c.in-Some-byte.byte c.in_ok-append.ensures)
-    (received_more c.loop-word.out.items c.args.step c.in-Some-byte.byte c.in-Some.word.now (words c.in-Some.more.now) (words c.loop-word.rest.now) c.in-Some.ensures.value (sym c.byte.ensures ∙ c.in-Some-byte.is)
+    rw (same c.loop-word.out.items c.append.new.out.items c.args.step c.in-Some-hex_byte.byte c.in_ok-append.ensures)
+    (received_more c.loop-word.out.items c.args.step c.in-Some-hex_byte.byte c.in-Some.word.now (words c.in-Some.more.now) (words c.loop-word.rest.now) c.in-Some.ensures.value (sym c.hex_byte.ensures ∙ c.in-Some-hex_byte.is)
     ∙ c.loop-word.invariant)
 
 pub returns : goal.returns

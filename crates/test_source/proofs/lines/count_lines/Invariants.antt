@@ -1,6 +1,6 @@
 use Rattle.std.proofs.Common.{◌≡◌, ◌+◌, length}
 use Rattle.test_source.proofs.lines.count_lines.Given as goal
-use Rattle.rv_tokens.specs.Lines.{lines}
+use Rattle.rv_base.specs.Lines.{lines}
 
 abbrev pub invariant-loop-line : goal.invariant-loop-line
 invariant-loop-line l =

@@ -1,5 +1,5 @@
 use Rattle.std.proofs.Common.{◌≡◌, ◌∙◌, ◌∷◌, length, ap, arith}
-use Rattle.rv_tokens.specs.Lines.{lines}
+use Rattle.rv_base.specs.Lines.{lines}
 use Rattle.rv_lists.proofs.Whole.{begun, rising, read_more, refused, read_all}
 use Rattle.std.proofs.Common.{take}
 use Rattle.rv_lists.proofs.timeline.Timeline.read.Goals as goal

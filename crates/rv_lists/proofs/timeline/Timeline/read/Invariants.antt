@@ -1,5 +1,5 @@
 use Rattle.std.proofs.Common.{◌≤◌, ◌+◌, length}
-use Rattle.rv_tokens.specs.Lines.{lines}
+use Rattle.rv_base.specs.Lines.{lines}
 use Rattle.rv_lists.proofs.Whole.{SoFar}
 use Rattle.rv_lists.proofs.timeline.Timeline.read.Given as goal
 
