@@ -1,4 +1,4 @@
-# Sends back each byte that comes in at the serial port, and halts behind the end of a line. The bytes stand in
+# Sends back each byte that comes in at the serial port, and halts after the end of a line. The bytes are in
 # echo.s.input, each with the step that it comes before.
 
         .equ    SERIAL,0x10000000
@@ -7,7 +7,7 @@
         .equ    HALT,0x100000
 
         li      s0,SERIAL
-wait:   lw      t0,STATUS(s0)           # bit 0: a byte waits
+wait:   lw      t0,STATUS(s0)           # bit 0: a byte is waiting
         andi    t0,t0,1
         beqz    t0,wait
         lw      a0,RECEIVE(s0)

@@ -1,13 +1,13 @@
-# Edges: source 24 is triggered by the edges of its line. edges.s.input raises it three times in one step, and the program
-# is interrupted three times: each edge waits until the one before is completed.
+# Edges: source 24 is triggered by the edges of its line. edges.s.input raises it three times in one step, and
+# the program is interrupted three times: each edge stays pending until the one before it is completed.
 
         .equ    TRANSMIT,0x10000000
         .equ    HALT,0x100000
         .equ    PLIC,0xc000000
         .equ    ENABLES,0xc002000
-        .equ    THRESHOLD,0xc200000     # claim and complete stand 4 behind it
+        .equ    THRESHOLD,0xc200000     # claim and complete are at the next word
 
-        la      t0,asked
+        la      t0,handler
         csrw    mtvec,t0
         li      t0,PLIC
         li      t1,1
@@ -31,7 +31,8 @@ wait:   wfi
         li      t1,0x5555               # halt with code 0
         sw      t1,(t0)
 
-asked:  lw      t5,4(s0)                # claim: the number of the source
+handler:
+        lw      t5,4(s0)                # claim: the number of the source
         li      t4,TRANSMIT
         li      t6,'!'
         sw      t6,(t4)

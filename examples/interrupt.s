@@ -1,14 +1,14 @@
-# External interrupts: the interrupt controller's sources 5 and 9 ask, the program claims, prints the source's number and
-# completes. The threshold keeps source 9, of the lower priority, waiting until the program lowers it. The lines rise and
-# fall as interrupt.s.input says.
+# External interrupts: sources 5 and 9 of the interrupt controller ask for service; the program claims, prints
+# the source's number and completes. The threshold holds back source 9, of the lower priority, until the
+# program lowers it. The lines rise and fall as interrupt.s.input says.
 
         .equ    TRANSMIT,0x10000000
         .equ    HALT,0x100000
         .equ    PLIC,0xc000000
         .equ    ENABLES,0xc002000
-        .equ    THRESHOLD,0xc200000     # claim and complete stand 4 behind it
+        .equ    THRESHOLD,0xc200000     # claim and complete are at the next word
 
-        la      t0,asked
+        la      t0,handler
         csrw    mtvec,t0
         li      t0,PLIC
         li      t1,3
@@ -39,7 +39,8 @@ more:   bnez    s1,wait
         li      t1,0x5555               # halt with code 0
         sw      t1,(t0)
 
-asked:  lw      t5,4(s0)                # claim: the number of the source
+handler:
+        lw      t5,4(s0)                # claim: the number of the source
         addi    t6,t5,'0'
         li      t4,TRANSMIT
         sw      t6,(t4)

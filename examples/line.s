@@ -1,5 +1,6 @@
-# Reads a line from the serial port into a buffer, and sends it back in capital letters. The bytes are in line.s.input, each with
-# the step that it comes before: far enough apart that the reading loop takes one before the next ones fill the queue.
+# Reads a line from the serial port into a buffer, and sends it back in capital letters. The bytes are in
+# line.s.input, each with the step that it comes before: far enough apart that the reading loop takes one
+# before the next ones fill the queue.
 
         .equ    SERIAL,0x10000000
         .equ    RECEIVE,4
@@ -16,7 +17,8 @@
         li      t1,0x5555               # halt with code 0
         sw      t1,(t0)
 
-# Reads bytes to the buffer at a0, up to a line feed, and puts a zero after them. Bytes that don't fit are dropped.
+# Reads bytes to the buffer at a0, up to a line feed, and puts a zero after them. Bytes that don't fit are
+# dropped.
 read_line:
         li      t0,SERIAL
         addi    t1,a0,MOST-1            # where the last zero may stand

@@ -1,4 +1,5 @@
-# It has a fault, which no_stack.s.commands finds: nobody sets sp, so the first push traps, and there is no handler.
+# It has a fault, which no_stack.s.commands finds: nobody sets sp, so the first push traps, and there is no
+# handler.
 
         .equ    TRANSMIT,0x10000000
         .equ    HALT,0x100000

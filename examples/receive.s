@@ -1,5 +1,5 @@
-# Receives by interrupt: receive.s.input raises the line of source 24, whose gateway counts edges, beside each byte that
-# comes in. The handler sends the byte back; the program waits for the end of the line and halts.
+# Receives by interrupt: receive.s.input raises the line of source 24, whose gateway counts edges, beside each
+# byte that comes in. The handler sends the byte back; the program waits for the end of the line and halts.
 
         .equ    SERIAL,0x10000000
         .equ    RECEIVE,4

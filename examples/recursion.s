@@ -1,4 +1,5 @@
-# A recursive function with a stack: the Fibonacci numbers, each printed in decimal by another one.
+# A recursive function with a stack: the Fibonacci numbers, each printed in decimal by another recursive
+# function.
 
         .equ    TRANSMIT,0x10000000
         .equ    HALT,0x100000
@@ -36,7 +37,7 @@ fib:    li      t0,2
         addi    sp,sp,12
 1:      ret
 
-# prints a0 in decimal: what stands before the last digit, and then that digit
+# prints a0 in decimal: the digits before the last one, and then that one
 print:  addi    sp,sp,-8
         sw      ra,0(sp)
         li      t0,10

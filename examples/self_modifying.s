@@ -1,4 +1,5 @@
-# Self-modifying code: the immediate of one instruction grows at each turn, and the next turn does what stands there.
+# Self-modifying code: each round changes the immediate of one instruction, and the next round executes the
+# new one.
 
         .equ    TRANSMIT,0x10000000
         .equ    HALT,0x100000
@@ -7,7 +8,7 @@
         li      s1,26                   # letters to come
 patch:  li      a0,'A'                  # one word: addi a0,zero,'A'
         sw      a0,(s0)
-        lw      t0,patch                # the word that was just done
+        lw      t0,patch                # the word that was just executed
         li      t1,0x100000             # the immediate begins at bit 20
         add     t0,t0,t1
         sw      t0,patch,t2

@@ -1,4 +1,5 @@
-# Adds the five numbers of a table and halts with the sum as code. It has a fault: session.s.commands finds it.
+# Adds the five numbers of a table and halts with the sum as code. It has a fault: session.s.commands finds
+# it.
 
         .equ    HALT,0x100000
 

@@ -1,6 +1,6 @@
-# A supervisor that runs three tasks of user mode in turn, by the timer. Each task may execute its own 256 bytes of code and
-# read and write its own 64 bytes of data, and nothing else. Two of them work; the third tries to read what the first one
-# keeps, and is stopped.
+# A supervisor that runs three tasks of user mode in turn, by the timer. Each task may execute its own 256
+# bytes of code and read and write its own 64 bytes of data, and nothing else. Two of them work; the third
+# tries to read the data of the first one, and is stopped.
 
         .equ    TRANSMIT,0x10000000
         .equ    HALT,0x100000
@@ -8,19 +8,19 @@
         .equ    MTIME,0x200bff8
         .equ    PERIOD,100              # steps between two switches
         .equ    FROM_USER,8             # the cause of a call from user mode
-        .equ    END,0                   # what a call asks for in a7: to end,
+        .equ    END,0                   # in a7, what a call asks for: to end,
         .equ    PRINT,1                 # or to print the byte in a0
 
 # A task's record: its pc, x1 to x31, and
         .equ    CODE,128                # where its code begins
         .equ    DATA,132                # where its data begins
         .equ    NAME,136                # its letter
-        .equ    LIVES,140               # 1 as long as it has not ended
+        .equ    LIVES,140               # 1 until it has ended
         .equ    NEXT,144                # the record of the task after it
 
         la      t0,trap
         csrw    mtvec,t0
-        li      t0,0x1b1d               # entry 0: a power of two, to read and to execute; entry 1: to read and to write
+        li      t0,0x1b1d               # entry 0: a power of two, read and execute; entry 1: read and write
         csrw    pmpcfg0,t0
         li      t0,0x80                 # the timer interrupt of machine mode
         csrw    mie,t0
@@ -73,7 +73,7 @@ resume: csrr    t6,mscratch
         lw      x31,124(t6)
         mret
 
-# Every trap: all registers of the task are kept in its record.
+# Every trap: all registers of the task are saved in its record.
 trap:   csrrw   t6,mscratch,t6
         sw      x1,4(t6)
         sw      x2,8(t6)
@@ -114,14 +114,14 @@ trap:   csrrw   t6,mscratch,t6
         bltz    t1,switch               # an interrupt: the timer's
         li      t2,FROM_USER
         bne     t1,t2,refuse
-        addi    t0,t0,4                 # a call: the task goes on behind it
+        addi    t0,t0,4                 # a call: the task goes on after it
         sw      t0,(t6)
         li      t2,TRANSMIT
         beqz    a7,finish
         sw      a0,(t2)
         j       resume
 
-# Anything else: the task has done what it may not. Its letter and the cause are printed, and it ends.
+# Anything else: the task did something that it may not do. Its letter and the cause are printed, and it ends.
 refuse: li      t2,TRANSMIT
         li      t0,'['
         sw      t0,(t2)
@@ -213,7 +213,7 @@ task_c: li      a0,'c'
         lw      a0,(s0)
         ecall                           # never reached
 
-# Behind the last task's 256 bytes, all of which it may read.
+# After the last task's 256 bytes, all of which it may read.
         .balign 256
 data_a: .space  64
 data_b: .space  64

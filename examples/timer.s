@@ -1,4 +1,4 @@
-# A timer interrupt: a tick each hundred steps prints a dot, while the program waits; after ten it halts.
+# A timer interrupt: a tick every hundred steps prints a dot while the program waits; after ten it halts.
 
         .equ    TRANSMIT,0x10000000
         .equ    HALT,0x100000

@@ -1,4 +1,4 @@
-# A trap handler: it prints a letter for the cause of each trap, A for 0, and goes on behind the instruction.
+# A trap handler: it prints a letter for the cause of each trap, A for 0, and goes on after the instruction.
 
         .equ    TRANSMIT,0x10000000
         .equ    HALT,0x100000

@@ -1,5 +1,5 @@
-# A program in user mode: it may read and execute its own 4096 bytes and nothing else. It asks the machine to print a
-# byte by ECALL; then it stores where it may not, and is stopped.
+# A program in user mode: it may read and execute its own 4096 bytes and nothing else. It asks the machine to
+# print a byte by ECALL; then it stores where it may not, and is stopped.
 
         .equ    TRANSMIT,0x10000000
         .equ    HALT,0x100000
@@ -21,7 +21,7 @@ handler:
         csrr    t5,mcause
         li      t6,FROM_USER
         bne     t5,t6,stop
-        li      t6,TRANSMIT             # a call: print a0 and go on behind it
+        li      t6,TRANSMIT             # a call: print a0 and go on after it
         sw      a0,(t6)
         csrr    t5,mepc
         addi    t5,t5,4
