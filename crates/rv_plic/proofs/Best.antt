@@ -1,4 +1,4 @@
--- The best source by its property.
+-- The best source by its property, and the search for it.
 use Rattle.std.proofs.Common.{◌≡◌, ℕ, zero, suc, ◌+◌, ◌<◌, ◌≤◌, ◌⊎◌, Bool, true, false, cond, refl, sym, ◌∙◌, ap, subst, arith, inl, inr}
 use Rattle.std.specs.Prelude.{◌==◌, ◌&&◌, ◌||◌, not, nat_lt, slice_index, Option, Some, None}
 use Rattle.std.specs.List.{range_with_len, find, list_any}
@@ -10,7 +10,7 @@ use Rattle.std.proofs.lemmas.Bool.{cases_eq, and_parts, and_from, or_from, or_le
 use Rattle.rv_plic.specs.Sources.{sources}
 use Rattle.rv_plic.specs.Words.{any-range}
 use Rattle.rv_plic.specs.Plic.{PlicState, is_waiting, is_candidate, priority_of, best}
-use Rattle.rv_plic.specs.Leads.{IsFirst, LeadsBelow, Leads}
+use Rattle.rv_plic.specs.Best.{IsFirst, IsBestBelow, IsBest}
 
 pub and_unless : (x y : Bool) → (x ≡ true → y ≡ false) → (x && y) ≡ false
 and_unless true y h = h refl
@@ -27,7 +27,7 @@ find_none-range test a (suc n) none =
     ap (λ b. cond b (Some a) (find test (range_with_len (a + 1) n))) (none a (omega arith) (omega arith))
     ∙ find_none-range test (a + 1) n (λ t low high. none t (omega arith) (omega arith))
 
--- the only number that passes is found
+-- a search finds the only number that passes
 find_first : (test : ℕ → Bool) (a b : ℕ) (later : Option ℕ) (v : Bool) → test a ≡ v → (test a ≡ true → a ≡ b) → (test a ≡ false → later ≡ Some b) → cond v (Some a) later ≡ Some b
 find_first test a b later true is first rest = ap (λ t. Some t) (first is)
 find_first test a b later false is first rest = rest is
@@ -61,29 +61,29 @@ module _ (passes : ℕ → Bool) (priority : ℕ → ℕ) where
       ]
 
   module _ (n : ℕ) where
-    abbrev leads : ℕ → Bool
-    leads source = passes source && not (list_any (λ other. passes other && before other source) (range_with_len 1 n))
+    abbrev is_unbeaten : ℕ → Bool
+    is_unbeaten source = passes source && not (list_any (λ other. passes other && before other source) (range_with_len 1 n))
 
-    leads_alone : (source : ℕ) → LeadsBelow (1 + n) passes priority (Some source) → leads source ≡ true
-    leads_alone source is =
+    best_is_unbeaten : (source : ℕ) → IsBestBelow (1 + n) passes priority (Some source) → is_unbeaten source ≡ true
+    best_is_unbeaten source is =
         and_from _ _ is.2 (not_from_false _ (none-range (λ other. passes other && before other source) 1 n (λ t low high. and_unless (passes t) _ (λ p. not_before source t (is.3 t low high p)))))
 
-    only_leads : (source other : ℕ) → LeadsBelow (1 + n) passes priority (Some source) → 1 ≤ other → other < 1 + n → leads other ≡ true → other ≡ source
-    only_leads source other is low high lead =
+    unbeaten_is_best : (source other : ℕ) → IsBestBelow (1 + n) passes priority (Some source) → 1 ≤ other → other < 1 + n → is_unbeaten other ≡ true → other ≡ source
+    unbeaten_is_best source other is low high lead =
         let parts : (passes other ≡ true) × (not (list_any (λ t. passes t && before t other) (range_with_len 1 n)) ≡ true) = and_parts _ _ lead in
         elim (cases_eq other source) [
           | inl e ↦ e
           | inr differ ↦ absurd (both_ways _ (not-true _ parts.1) (any-range (λ t. passes t && before t other) 1 n source is.0 is.1 (and_from _ _ is.2 (before_other source other (is.3 other low high parts.0) differ))))
         ]
 
-    leads_found : (found : Option ℕ) → LeadsBelow (1 + n) passes priority found → find leads (range_with_len 1 n) ≡ found
-    leads_found None none = find_none-range leads 1 n (λ t low high. and_left (passes t) _ (none t low high))
-    leads_found (Some source) is =
-        find_only-range leads 1 n source is.0 is.1 (leads_alone source is) (λ t low high lead. only_leads source t is low high lead)
+    search_finds_best : (found : Option ℕ) → IsBestBelow (1 + n) passes priority found → find is_unbeaten (range_with_len 1 n) ≡ found
+    search_finds_best None none = find_none-range is_unbeaten 1 n (λ t low high. and_left (passes t) _ (none t low high))
+    search_finds_best (Some source) is =
+        find_only-range is_unbeaten 1 n source is.0 is.1 (best_is_unbeaten source is) (λ t low high lead. unbeaten_is_best source t is low high lead)
 
-pub best_leads : (plic : PlicState) (found : Option ℕ) → Leads plic found → best plic ≡ found
+pub best_by_property : (plic : PlicState) (found : Option ℕ) → IsBest plic found → best plic ≡ found
 unfolding best sources
-best_leads plic found is = leads_found (is_candidate plic) (priority_of plic) 31 found is
+best_by_property plic found is = search_finds_best (is_candidate plic) (priority_of plic) 31 found is
 
 -- ---- the search over the sources from 1 on
 module _ (is_in : ℕ → Bool) (priority : ℕ → ℕ) where
@@ -96,52 +96,52 @@ module _ (is_in : ℕ → Bool) (priority : ℕ → ℕ) where
   has_priority : (source : ℕ) → is_in source ≡ true → 0 < priority source → in_with_priority source ≡ true
   has_priority source is more = and_from _ _ is (lt-ltb 0 (priority source) more)
 
-  -- the new source goes before each one so far
-  taken_first : (number : ℕ) (found : Option ℕ) → LeadsBelow number in_with_priority priority found → option_map_or priority found 0 < priority number → (other : ℕ) → 0 < other → other < number → in_with_priority other ≡ true → IsFirst priority number other
-  taken_first number None leads more other low high passes = absurd (both_ways _ (leads other low high) passes)
-  taken_first number (Some source) leads more other low high passes =
-      let first : IsFirst priority source other = leads.3 other low high passes in
+  -- the next source goes before each one so far
+  next_is_first : (number : ℕ) (found : Option ℕ) → IsBestBelow number in_with_priority priority found → option_map_or priority found 0 < priority number → (other : ℕ) → 0 < other → other < number → in_with_priority other ≡ true → IsFirst priority number other
+  next_is_first number None best_so_far more other low high passes = absurd (both_ways _ (best_so_far other low high) passes)
+  next_is_first number (Some source) best_so_far more other low high passes =
+      let first : IsFirst priority source other = best_so_far.3 other low high passes in
       record { higher = omega (arith, first.higher); lower = λ e. absurd (omega (arith, first.higher)) }
 
-  itself_first : (number other : ℕ) → other ≡ number → IsFirst priority number other
-  itself_first number other e = record { higher = let same : priority other ≡ priority number = ap priority e in omega arith; lower = λ _. omega arith }
+  itself_is_first : (number other : ℕ) → other ≡ number → IsFirst priority number other
+  itself_is_first number other e = record { higher = let same : priority other ≡ priority number = ap priority e in omega arith; lower = λ _. omega arith }
 
-  pub leads_taken : (number : ℕ) (found : Option ℕ) → LeadsBelow number in_with_priority priority found → 0 < number → is_in number ≡ true → option_map_or priority found 0 < priority number → LeadsBelow (number + 1) in_with_priority priority (Some number)
-  leads_taken number found leads low is more = (
+  pub best_with_next : (number : ℕ) (found : Option ℕ) → IsBestBelow number in_with_priority priority found → 0 < number → is_in number ≡ true → option_map_or priority found 0 < priority number → IsBestBelow (number + 1) in_with_priority priority (Some number)
+  best_with_next number found best_so_far low is more = (
     low,
     omega arith,
     has_priority number is (omega arith),
     λ other above below passes. elim (step_above number other below) [
-      | inl e ↦ itself_first number other e
-      | inr lower ↦ taken_first number found leads more other above lower passes
+      | inl e ↦ itself_is_first number other e
+      | inr lower ↦ next_is_first number found best_so_far more other above lower passes
     ],
   )
 
-  pub leads_kept : (number : ℕ) (found : Option ℕ) → LeadsBelow number in_with_priority priority found → 0 < number → (is_in number ≡ true → priority number ≤ option_map_or priority found 0) → LeadsBelow (number + 1) in_with_priority priority found
-  leads_kept number None leads low less =
+  pub best_without_next : (number : ℕ) (found : Option ℕ) → IsBestBelow number in_with_priority priority found → 0 < number → (is_in number ≡ true → priority number ≤ option_map_or priority found 0) → IsBestBelow (number + 1) in_with_priority priority found
+  best_without_next number None best_so_far low less =
       λ other above below. elim (step_above number other below) [
         | inl e ↦ ap in_with_priority e ∙ and_unless (is_in number) _ (λ is. le-ltb 0 (priority number) (less is))
-        | inr lower ↦ leads other above lower
+        | inr lower ↦ best_so_far other above lower
       ]
-  leads_kept number (Some source) leads low less = (
-    leads.0,
-    omega (arith, leads.1),
-    leads.2,
+  best_without_next number (Some source) best_so_far low less = (
+    best_so_far.0,
+    omega (arith, best_so_far.1),
+    best_so_far.2,
     λ other above below passes. elim (step_above number other below) [
       | inl e ↦ let is : is_in number ≡ true = (and_parts _ _ (ap in_with_priority (sym e) ∙ passes)).0 in
           let same : priority other ≡ priority number = ap priority e in
-          record { higher = omega (arith, less is); lower = λ _. omega (arith, leads.1) }
-      | inr lower ↦ leads.3 other above lower passes
+          record { higher = omega (arith, less is); lower = λ _. omega (arith, best_so_far.1) }
+      | inr lower ↦ best_so_far.3 other above lower passes
     ],
   )
 
-pub leads_among : (plic : PlicState) (found : Option ℕ) → LeadsBelow 32 (λ s. contains (intersection plic.pending plic.enabled) s && nat_lt 0 (slice_index plic.priorities s)) (slice_index plic.priorities) found → Leads plic found
-leads_among plic found is =
+pub best_of_intersection : (plic : PlicState) (found : Option ℕ) → IsBestBelow 32 (λ s. contains (intersection plic.pending plic.enabled) s && nat_lt 0 (slice_index plic.priorities s)) (slice_index plic.priorities) found → IsBest plic found
+best_of_intersection plic found is =
     let same : (λ s. contains (intersection plic.pending plic.enabled) s) ≡ is_waiting plic = λ i s. contains-intersection nat_cmp_total plic.pending plic.enabled s i in
-    subst (λ (w : ℕ → Bool). LeadsBelow 32 (λ s. w s && nat_lt 0 (slice_index plic.priorities s)) (slice_index plic.priorities) found) same is
+    subst (λ (w : ℕ → Bool). IsBestBelow 32 (λ s. w s && nat_lt 0 (slice_index plic.priorities s)) (slice_index plic.priorities) found) same is
 
-pub leads_none : (plic : PlicState) → intersection plic.pending plic.enabled ≡ empty → Leads plic None
-leads_none plic none =
+pub best_of_empty : (plic : PlicState) → intersection plic.pending plic.enabled ≡ empty → IsBest plic None
+best_of_empty plic none =
     λ t low high. and_left (is_waiting plic t) _ (sym (contains-intersection nat_cmp_total plic.pending plic.enabled t) ∙ ap (λ s. contains s t) none ∙ contains-empty nat_cmp t)
 
-pub ruleset leading = (best_leads, leads_among, leads_none)
+pub ruleset best_rules = (best_by_property, best_of_intersection, best_of_empty)

@@ -1,4 +1,4 @@
--- Counts of edges of which some are changed.
+-- Counts of edges, where those of a set of sources are changed.
 use Rattle.std.proofs.Common.{◌≡◌, ℕ, zero, suc, ◌+◌, ◌-◌, ◌<◌, ◌≤◌, Bool, true, false, cond, List, [], ◌∷◌, inl, inr, refl, sym, ◌∙◌, ap, arith}
 use Rattle.std.specs.Prelude.{◌&&◌, nat_lt, nat_le, length, slice_index, slice_set, get_or, if◌then◌else◌}
 use Rattle.std.specs.FinSet.{contains}
@@ -26,9 +26,9 @@ get_or-changed f s a (n ∷ ns) (suc k) d in_list =
     let same : a + 1 + k ≡ a + suc k = omega arith in
     get_or-changed f s (a + 1) ns k d (omega arith) ∙ ap (λ q. if contains s q then f (get_or ns k d) else get_or ns k d) same
 
--- an edge that waits is taken and given back
-back : (n : ℕ) → some_wait n ≡ true → one_more (one_less n) ≡ n
-back n is =
+-- a pending edge that is taken and given again_same leaves the count as it was
+again_same : (n : ℕ) → some_wait n ≡ true → one_more (one_less n) ≡ n
+again_same n is =
     let low : 0 < n = ltb-true 0 n (and_parts (nat_lt 0 n) _ is).0 in
     let high : n ≤ most = leb-true n most (and_parts (nat_lt 0 n) _ is).1 in
     let again : n - 1 + 1 ≡ n = omega (arith, low) in
@@ -41,58 +41,58 @@ taken_and_given s a (n ∷ ns) each =
     λ i. first (contains s a) refl i ∷ taken_and_given s (a + 1) ns (λ k in_list is. let same : a + suc k ≡ a + 1 + k = omega arith in each (suc k) (omega arith) (ap (contains s) same ∙ is)) i
   where
     first : (b : Bool) → contains s a ≡ b → (if contains s a then one_more (if contains s a then one_less n else n) else (if contains s a then one_less n else n)) ≡ n
-    first true is = ap (λ b. if b then one_more (if b then one_less n else n) else (if b then one_less n else n)) is ∙ back n (let same : a + 0 ≡ a = omega arith in each zero (omega arith) (ap (contains s) same ∙ is))
+    first true is = ap (λ b. if b then one_more (if b then one_less n else n) else (if b then one_less n else n)) is ∙ again_same n (let same : a + 0 ≡ a = omega arith in each zero (omega arith) (ap (contains s) same ∙ is))
     first false is = ap (λ b. if b then one_more (if b then one_less n else n) else (if b then one_less n else n)) is
 
--- ---- one after the other
--- the counts of the sources below a number are changed
+-- ---- one source after the other
+-- the counts of the sources below `number` are changed, and the others are as before
 pub record IsChangedBelow (f : ℕ → ℕ) (number : ℕ) (s : Sources) (old new : Edges) : Type 0 where
-  pub long : length old ≡ 8
-  pub as_long : length new ≡ 8
-  pub done : (k : ℕ) → 24 + k < number → slice_index new k ≡ (if contains s (24 + k) then f (slice_index old k) else slice_index old k)
-  pub left : (k : ℕ) → number ≤ 24 + k → slice_index new k ≡ slice_index old k
+  pub old_length : length old ≡ 8
+  pub new_length : length new ≡ 8
+  pub changed_below : (k : ℕ) → 24 + k < number → slice_index new k ≡ (if contains s (24 + k) then f (slice_index old k) else slice_index old k)
+  pub same_from : (k : ℕ) → number ≤ 24 + k → slice_index new k ≡ slice_index old k
 
 pub none_changed : (f : ℕ → ℕ) (s : Sources) (old new : Edges) → length old ≡ 8 → new ≡ old → IsChangedBelow f 24 s old new
-none_changed f s old new long e =
-    record { long = long; as_long = ap length e ∙ long; done = λ k low. absurd (omega arith); left = λ k from. ap (λ l. slice_index l k) e }
+none_changed f s old new old_length e =
+    record { old_length = old_length; new_length = ap length e ∙ old_length; changed_below = λ k low. absurd (omega arith); same_from = λ k from. ap (λ l. slice_index l k) e }
 
 pub one_changed : (f : ℕ → ℕ) (number : ℕ) (s : Sources) (old new : Edges) (count : ℕ) → IsChangedBelow f number s old new → 24 ≤ number → number < 32 → contains s number ≡ true → count ≡ f (slice_index new (number - 24)) → IsChangedBelow f (number + 1) s old (slice_set new (number - 24) count)
 one_changed f number s old new count so_far from below is its =
     record {
-      long = so_far.long;
-      as_long = length-set new (number - 24) count ∙ so_far.as_long;
-      done = λ k low. elim (cases_eq k (number - 24)) [
+      old_length = so_far.old_length;
+      new_length = length-set new (number - 24) count ∙ so_far.new_length;
+      changed_below = λ k low. elim (cases_eq k (number - 24)) [
         | inl e ↦
             let place : 24 + k ≡ number = omega (arith, e, from) in
             ap (slice_index (slice_set new (number - 24) count)) e
-            ∙ get_or-set_same new (number - 24) count 0 (omega (arith, so_far.as_long, from, below))
+            ∙ get_or-set_same new (number - 24) count 0 (omega (arith, so_far.new_length, from, below))
             ∙ its
             ∙ ap (λ j. f (slice_index new j)) (sym e)
-            ∙ ap f (so_far.left k (omega (arith, place)))
+            ∙ ap f (so_far.same_from k (omega (arith, place)))
             ∙ sym (ap (λ b. if b then f (slice_index old k) else slice_index old k) (ap (contains s) place ∙ is))
-        | inr other ↦ get_or-set_other new (number - 24) k count 0 other ∙ so_far.done k (omega (arith, other, low, from))
+        | inr other ↦ get_or-set_other new (number - 24) k count 0 other ∙ so_far.changed_below k (omega (arith, other, low, from))
       ];
-      left = λ k past. get_or-set_other new (number - 24) k count 0 (λ e. omega (arith, e, past, from)) ∙ so_far.left k (omega (arith, past));
+      same_from = λ k past. get_or-set_other new (number - 24) k count 0 (λ e. omega (arith, e, past, from)) ∙ so_far.same_from k (omega (arith, past));
     }
 
 pub one_left : (f : ℕ → ℕ) (number : ℕ) (s : Sources) (old new : Edges) → IsChangedBelow f number s old new → 24 ≤ number → number < 32 → contains s number ≡ false → IsChangedBelow f (number + 1) s old new
 one_left f number s old new so_far from below is =
     record {
-      long = so_far.long;
-      as_long = so_far.as_long;
-      done = λ k low. elim (cases_eq (24 + k) number) [
-        | inl e ↦ so_far.left k (omega (arith, e)) ∙ sym (ap (λ b. if b then f (slice_index old k) else slice_index old k) (ap (contains s) e ∙ is))
-        | inr other ↦ so_far.done k (omega (arith, other, low))
+      old_length = so_far.old_length;
+      new_length = so_far.new_length;
+      changed_below = λ k low. elim (cases_eq (24 + k) number) [
+        | inl e ↦ so_far.same_from k (omega (arith, e)) ∙ sym (ap (λ b. if b then f (slice_index old k) else slice_index old k) (ap (contains s) e ∙ is))
+        | inr other ↦ so_far.changed_below k (omega (arith, other, low))
       ];
-      left = λ k past. so_far.left k (omega (arith, past));
+      same_from = λ k past. so_far.same_from k (omega (arith, past));
     }
 
 pub all_changed : (f : ℕ → ℕ) (number : ℕ) (s : Sources) (old new : Edges) → 32 ≤ number → IsChangedBelow f number s old new → new ≡ changed f s 24 old
 all_changed f number s old new past all =
-    same_lists new (changed f s 24 old) (all.as_long ∙ sym (length-changed f s 24 old ∙ all.long)) (λ k d in_list.
+    same_lists new (changed f s 24 old) (all.new_length ∙ sym (length-changed f s 24 old ∙ all.old_length)) (λ k d in_list.
     get_or_any new k d in_list
-    ∙ all.done k (omega (arith, past, in_list, all.as_long))
-    ∙ sym (get_or_any (changed f s 24 old) k d (omega (arith, in_list, all.as_long, all.long, length-changed f s 24 old)) ∙ get_or-changed f s 24 old k 0 (omega (arith, in_list, all.as_long, all.long))))
+    ∙ all.changed_below k (omega (arith, past, in_list, all.new_length))
+    ∙ sym (get_or_any (changed f s 24 old) k d (omega (arith, in_list, all.new_length, all.old_length, length-changed f s 24 old)) ∙ get_or-changed f s 24 old k 0 (omega (arith, in_list, all.new_length, all.old_length))))
   where
     get_or_any : (l : List ℕ) (k d : ℕ) → k < length l → get_or l k d ≡ slice_index l k
     get_or_any [] k d in_list = absurd (omega arith)

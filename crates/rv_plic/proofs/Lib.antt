@@ -1,7 +1,7 @@
-pub mod Above
-pub mod Asking
+pub mod AboveThreshold
+pub mod AskingSources
 pub mod Best
 pub mod Counts
-pub mod Exchanged
-pub mod Forwarded
+pub mod Forwarding
+pub mod LineOrder
 pub mod Words

@@ -1,4 +1,4 @@
--- Words of sources and the sets that they stand for.
+-- Words of sources, and the sets that they stand for.
 use Rattle.std.proofs.Common.{◌≡◌, ℕ, zero, suc, ◌+◌, ◌-◌, ◌*◌, ◌/◌, ◌%◌, ◌^◌, ◌<◌, ◌≤◌, Bool, false, cond, lit<, refl, sym, ◌∙◌, ap, arith, bit_and, bit_or, ◌∷◌, inl, inr}
 use Rattle.std.specs.Prelude.{◌==◌, ◌&&◌, ◌||◌, not, filter, max, min}
 use Rattle.std.specs.Ordering.{nat_cmp}
@@ -13,11 +13,11 @@ use Rattle.std.proofs.lemmas.Nat.Bits.{bit_at_lowest, bit_at_and, bit_at_or, bit
 use Rattle.rv_plic.specs.Sources.{sources, Sources, sources_of, word_of}
 use Rattle.rv_plic.specs.Words.{IsSourceWord, contains-sources_of, word_of-sources_of}
 
--- two words with the same sources are equal sets
+-- two sets with the same sources are equal
 pub same_sources : (s t : Sources) → ((q : ℕ) → contains s q ≡ contains t q) → s ≡ t
 same_sources = same_set nat_cmp_total nat_cmp-IsAntisymmetric
 
--- ---- operations
+-- ---- the operations of sets as those of words
 pub or_word : (a b : ℕ) → IsSourceWord a → IsSourceWord b → IsSourceWord (bit_or a b)
 or_word a b is also = record { fits = or_lt 32 a b is.fits also.fits; no_zero = omega (arith, bit_at_lowest a, bit_at_lowest b, bit_at_lowest (bit_or a b), bit_at_or a b 0) }
 

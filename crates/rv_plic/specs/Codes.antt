@@ -1,5 +1,5 @@
 -- Not to audit: private contracts alone cite this.
--- The states as data that can be told apart.
+-- The states as data whose equality is decided.
 use Rattle.std.specs.Prelude.{ℕ, List, refl}
 use Rattle.std.specs.Coded.{Coded, code_by, coded×, coded_list, coded_ℕ}
 use Rattle.std.specs.FinSet as set

@@ -1,50 +1,53 @@
 -- To audit: public contracts cite this.
--- Sources 24 to 31 are triggered by edges (PLIC Specification 1.0, "Interrupt Gateways": a gateway may count the edges that
--- come before the request of an earlier one is completed).
+-- Sources 24 to 31 are triggered by edges (PLIC Specification 1.0, "Interrupt Gateways": a gateway may count
+-- the edges that come before the request of an earlier one is completed).
 use Rattle.std.specs.Prelude.{ℕ, Bool, ◌+◌, ◌-◌, ◌&&◌, nat_lt, nat_le, if◌then◌else◌, List, [], ◌∷◌, slice_index, slice_set, replicate}
 use Rattle.std.specs.FinSet.{contains}
 use Rattle.rv_plic.specs.Sources.{Sources}
 
--- how many edges wait, of each source from 24 on
+-- the number of pending edges of each source from 24 on
 abbrev pub Edges : Type 0
 Edges = List ℕ
 
+-- no edge is pending
 abbrev pub none_waits : Edges
 none_waits = replicate 8 0
 
+-- whether a source is triggered by edges
 abbrev pub is_by_edge : ℕ → Bool
 is_by_edge source = nat_le 24 source
 
--- the waiting edges of a source: none of one that is triggered by its level
+-- the number of pending edges of a source: 0 for one that is triggered by its level
 abbrev pub edges_of : Edges → ℕ → ℕ
 edges_of edges source = if is_by_edge source then slice_index edges (source - 24) else 0
 
--- a count has 32 bits
+-- the largest count: it has 32 bits
 abbrev pub most : ℕ
 most = 4294967295
 
+-- whether edges are pending
 abbrev pub some_wait : ℕ → Bool
 some_wait count = nat_lt 0 count && nat_le count most
 
--- an edge more, unless the count is full, and an edge less
+-- a count with one edge more, unless it is full, and with one edge less, unless it is 0
 abbrev pub one_more : ℕ → ℕ
 one_more count = if nat_lt count most then count + 1 else count
 
 abbrev pub one_less : ℕ → ℕ
 one_less count = count - 1
 
--- the line of a source rises
+-- the counts after the line of a source rises
 abbrev pub after_rise : Edges → ℕ → Edges
 after_rise edges source =
     if is_by_edge source then slice_set edges (source - 24) (one_more (edges_of edges source)) else edges
 
--- the counts with those of the sources of a set changed, where the first count is that of this source
+-- the counts, where those of the sources of a set are changed and the first count is that of `source`
 unfoldable pub changed : (ℕ → ℕ) → Sources → ℕ → Edges → Edges
 changed change sources source [] = []
 changed change sources source (count ∷ counts) =
     (if contains sources source then change count else count) ∷ changed change sources (source + 1) counts
 
--- an edge of each source of a set is taken, and given back
+-- the counts after one edge of each source of a set is taken, and after it is given back
 abbrev pub taken : Sources → Edges → Edges
 taken sources edges = changed one_less sources 24 edges
 

@@ -1,8 +1,8 @@
+pub mod AboveThreshold
+pub mod Best
 pub mod Codes
 pub mod Edges
 pub mod Gateways
-pub mod Leads
 pub mod Plic
 pub mod Sources
 pub mod Words
-pub mod Kept

@@ -1,6 +1,6 @@
 -- Not to audit: private contracts alone cite this.
--- The law that the word of a set of sources is the word that the set was made of. It is no part of any definition: a
--- set of sources in the code is such a word.
+-- The law that the word of a set of sources is the word that the set was made of. No definition uses it: the
+-- code keeps a set of sources as such a word.
 use Rattle.std.proofs.Common.{◌≡◌, ℕ, zero, suc, ◌+◌, ◌*◌, ◌%◌, ◌^◌, ◌<◌, ◌≤◌, Bool, true, false, refl, sym, ◌∙◌, ap, arith, add-zero, inl, inr}
 use Rattle.std.specs.Prelude.{◌==◌, ◌&&◌, nat_eq, filter, if◌then◌else◌}
 use Rattle.std.specs.Ordering.{nat_cmp}
@@ -14,12 +14,12 @@ use Rattle.std.proofs.lemmas.List.Sums.{sum_by-cons}
 use Rattle.std.proofs.lemmas.Map.Views.{any-filter_same}
 use Rattle.rv_plic.specs.Sources.{sources, sources_of, word_of}
 
--- a word of sources: bit 0 is 0
+-- a word of sources has 32 bits, and bit 0 is 0
 pub record IsSourceWord (word : ℕ) : Type 0 where
   pub fits : word < 2 ^ 32
   pub no_zero : word % 2 ≡ 0
 
--- a test that one of n numbers from a on passes
+-- one of n numbers from a on passes a test
 pub any-range : (test : ℕ → Bool) (a n q : ℕ) → a ≤ q → q < a + n → test q ≡ true → list_any test (range_with_len a n) ≡ true
 any-range test a zero q low high is = absurd (omega arith)
 any-range test a (suc n) q low high is =
@@ -28,7 +28,7 @@ any-range test a (suc n) q low high is =
       | inr other ↦ or_right (test a) _ (any-range test (a + 1) n q (omega arith) (omega arith) is)
     ]
 
--- a bit of a word of sources is that of a source
+-- a bit that is 1 in a word of sources is that of a source
 source_bit : (word q : ℕ) → IsSourceWord word → bit_at word q ≡ 1 → (1 ≤ q) × (q < 1 + 31)
 source_bit word q is one = (grind (arith, bit_at_lowest word), grind (arith, bit_at_above word 32 q))
 

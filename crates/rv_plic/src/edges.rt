@@ -1,4 +1,4 @@
-//! Edges that wait.
+//! Pending edges: rises of lines that have not been forwarded as requests yet.
 ghost use Rattle.std.specs.Prelude.{◌≡◌, ◌-◌, ◌≤◌, ℕ, false, IsFalse, slice_set};
 ghost use Rattle.std.specs.FinSet as set;
 ghost use Rattle.rv_plic.specs.Edges.{none_waits, is_by_edge, edges_of};
@@ -7,10 +7,10 @@ use crate::Source;
 use crate::set::SourceSet;
 use std::marker::Model;
 
-/// The first source that is triggered by edges.
+/// The number of the first source that is triggered by edges.
 const FIRST: u8 = 24;
 
-/// How many edges of each source wait that is triggered by edges.
+/// The number of pending edges of each source that is triggered by edges.
 #[derive(Clone, Copy)]
 pub struct Edges {
     counts: [u32; 8],
@@ -29,7 +29,7 @@ impl Model for Edges {
     ghost inverse = { λ counts. record { counts = counts } };
 }
 
-/// Whether a source is triggered by edges, and not by its level.
+/// Returns whether a source is triggered by edges, as 24 to 31 are, and not by its level.
 pub fn is_by_edge(source: Source) -> bool
     ensures { result ≡ is_by_edge source }
 {
@@ -37,14 +37,14 @@ pub fn is_by_edge(source: Source) -> bool
 }
 
 impl Edges {
-    /// No edge waits.
+    /// Returns the counts with no edge pending.
     pub fn new() -> Edges
         ensures { result ≡ none_waits }
     {
         Edges { counts: [0; 8] }
     }
 
-    /// How many edges of a source wait.
+    /// Returns how many edges of a source are pending, which is 0 for one that is triggered by its level.
     pub fn count(&self, source: Source) -> u32
         ensures { result ≡ edges_of self.now source }
     {
@@ -55,14 +55,14 @@ impl Edges {
         }
     }
 
-    /// Whether edges of any of these sources are counted.
+    /// Returns whether the edges of any of these sources are counted: whether any is triggered by edges.
     pub fn counts_any(&self, sources: SourceSet) -> bool
         ensures { IsFalse result → (q : ℕ) → 24 ≤ q → set.contains sources q ≡ false }
     {
-        sources.has_by_edge()
+        sources.has_edge_triggered()
     }
 
-    /// So many edges of a source wait.
+    /// Sets how many edges of a source are pending.
     pub fn set(&mut self, source: Source, count: u32)
         requires by_edge { 24 ≤ source }
         ensures { self.new ≡ slice_set self.old (source - 24) count }

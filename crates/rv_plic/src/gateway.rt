@@ -8,13 +8,15 @@ use crate::edges::{Edges, is_by_edge};
 use crate::set::SourceSet;
 use std::marker::Model;
 
-/// The gateways of all sources: whose line is high, whose request is not completed, and the edges that wait.
+/// The gateways of all sources: the sources whose line is high, those with an outstanding request, and the
+/// pending edges.
 #[derive(Clone, Copy)]
 pub struct Gateways {
     high: SourceSet,
     outstanding: SourceSet,
     edges: Edges,
-    /// The sources that ask, by an edge that waits or by their level, so that a tick goes over no counts.
+    /// The sources that ask for a request, by a pending edge or by their level: kept, so that a tick reads no
+    /// counts.
     asking: SourceSet,
 }
 
@@ -31,14 +33,24 @@ impl Model for Gateways {
 
     ghost invariant = { λ g. asking_sources g.high g.edges ≡ g.asking };
 
-    ghost inverse = { λ g. record { high = g.high; outstanding = g.outstanding; edges = g.edges; asking = asking_sources g.high g.edges } };
+    ghost inverse = { λ g. record {
+      high = g.high;
+      outstanding = g.outstanding;
+      edges = g.edges;
+      asking = asking_sources g.high g.edges;
+    } };
 
-    ghost inverse_ok = { λ g h i. record { high = g.high; outstanding = g.outstanding; edges = g.edges; asking = h i } };
+    ghost inverse_ok = { λ g h i. record {
+      high = g.high;
+      outstanding = g.outstanding;
+      edges = g.edges;
+      asking = h i;
+    } };
 }
 
 impl Gateways {
-    /// All lines are low, and no request was made.
-    #[tactic(auto, using(crate::proofs::Asking::none_asks))]
+    /// Returns the gateways at reset: all lines low, no edge pending and no request outstanding.
+    #[tactic(auto, using(crate::proofs::AskingSources::none_asks))]
     pub fn new() -> Gateways
         ensures { result ≡ all_low }
     {
@@ -50,13 +62,14 @@ impl Gateways {
         }
     }
 
-    /// How many edges of a source wait.
+    /// Returns how many edges of a source are pending.
     pub fn edges(&self, source: Source) -> u32
         ensures { result ≡ edges_of self.now.edges source }
     {
         self.edges.count(source)
     }
 
+    /// Sets the level of a source's line. A rise of one of the sources 24 to 31 is counted as a pending edge.
     pub fn set_line(&mut self, source: Source, high: bool)
         ensures { self.new ≡ with_line self.old source high }
     {
@@ -67,40 +80,43 @@ impl Gateways {
         }
     }
 
-    /// The sources whose gateways have a request to forward, where those of `pending` wait already.
+    /// Returns the sources whose gateways have a request to forward, where those of `pending` are pending
+    /// already.
     pub fn requests(&self, pending: SourceSet) -> SourceSet
         ensures { result ≡ requests self.now pending }
     {
         self.asking.difference(self.outstanding).difference(pending)
     }
 
-    /// The sources whose gateways forward a request now, where those of `pending` wait already.
+    /// Forwards the request of each gateway that has one, where the sources of `pending` are pending already,
+    /// and returns the sources of these requests.
     pub fn forward(&mut self, pending: SourceSet) -> SourceSet
         ensures value { result ≡ requests self.old pending }
         ensures after { self.new ≡ after_requests self.old pending }
     {
         let requests = self.requests(pending);
         self.outstanding = self.outstanding.union(requests);
-        self.take(requests);
+        self.take_edges(requests);
         requests
     }
 
-    /// The gateways before these sources' requests were forwarded.
+    /// Undoes the forwarding of these sources' requests.
     pub fn withdraw(&mut self, requests: SourceSet)
         ensures { self.new ≡ withdrawn self.old requests }
     {
         self.outstanding = self.outstanding.difference(requests);
-        self.give_back(requests);
+        self.give_back_edges(requests);
     }
 
+    /// Completes the request of a source, so that its gateway may forward another.
     pub fn complete(&mut self, source: Source)
         ensures { self.new ≡ after_completion self.old source }
     {
         self.outstanding.remove(source);
     }
 
-    /// The line of a source is high. If it was low, that is an edge.
-    #[tactic(auto, using(crate::proofs::Asking::lines))]
+    /// Sets the line of a source high. If it was low, that is an edge.
+    #[tactic(auto, using(crate::proofs::AskingSources::lines))]
     fn raise(&mut self, source: Source)
         ensures { self.new ≡ with_line self.old source true }
     {
@@ -110,11 +126,12 @@ impl Gateways {
             self.asking.insert(source);
         } else if rises {
             let count = self.edges.count(source);
-            self.set_count(source, more(count));
+            self.set_count(source, one_more(count));
         }
     }
 
-    #[tactic(auto, using(crate::proofs::Asking::lines))]
+    /// Sets the line of a source low.
+    #[tactic(auto, using(crate::proofs::AskingSources::lines))]
     fn lower(&mut self, source: Source)
         ensures { self.new ≡ with_line self.old source false }
     {
@@ -124,8 +141,8 @@ impl Gateways {
         }
     }
 
-    /// So many edges of a source wait.
-    #[tactic(auto, using(crate::proofs::Asking::some_counted, crate::proofs::Asking::none_counted))]
+    /// Sets how many edges of a source are pending.
+    #[tactic(auto, using(crate::proofs::AskingSources::some_counted, crate::proofs::AskingSources::none_counted))]
     fn set_count(&mut self, source: Source, count: u32)
         requires by_edge { 24 ≤ source }
         ensures { self.new ≡ record self.old { edges = slice_set self.old.edges (source - 24) count } }
@@ -138,9 +155,9 @@ impl Gateways {
         }
     }
 
-    /// An edge of each of these sources is taken.
+    /// Takes one pending edge of each of these sources that is triggered by edges.
     #[tactic(auto, using(crate::proofs::Counts::changing, crate::proofs::Counts::nothing_changed))]
-    fn take(&mut self, sources: SourceSet)
+    fn take_edges(&mut self, sources: SourceSet)
         ensures { self.new ≡ record self.old { edges = taken sources self.old.edges } }
     {
         if !self.edges.counts_any(sources) {
@@ -149,14 +166,14 @@ impl Gateways {
         for number in 24..32u8 {
             if let Some(source) = sources.get(number as u32) {
                 let count = self.edges.count(source);
-                self.set_count(source, less(count));
+                self.set_count(source, one_less(count));
             }
         }
     }
 
-    /// An edge of each of these sources is given back.
+    /// Gives back one pending edge of each of these sources that is triggered by edges.
     #[tactic(auto, using(crate::proofs::Counts::changing, crate::proofs::Counts::nothing_changed))]
-    fn give_back(&mut self, sources: SourceSet)
+    fn give_back_edges(&mut self, sources: SourceSet)
         ensures { self.new ≡ record self.old { edges = given_back sources self.old.edges } }
     {
         if !self.edges.counts_any(sources) {
@@ -165,21 +182,21 @@ impl Gateways {
         for number in 24..32u8 {
             if let Some(source) = sources.get(number as u32) {
                 let count = self.edges.count(source);
-                self.set_count(source, more(count));
+                self.set_count(source, one_more(count));
             }
         }
     }
 }
 
-/// An edge more, unless the count is full.
-fn more(count: u32) -> u32
+/// Returns the count with one edge more, unless it is full.
+fn one_more(count: u32) -> u32
     ensures { result ≡ one_more count }
 {
     count.saturating_add(1)
 }
 
-/// An edge less, if there is one.
-fn less(count: u32) -> u32
+/// Returns the count with one edge less, unless it is 0.
+fn one_less(count: u32) -> u32
     ensures { result ≡ one_less count }
 {
     count.saturating_sub(1)

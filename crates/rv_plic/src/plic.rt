@@ -2,8 +2,8 @@
 ghost use Rattle.std.specs.Prelude.{◌≡◌, ◌%◌, ◌<◌, ◌&&◌, nat_lt, slice_index, slice_set, unwrap_or};
 ghost use Rattle.std.specs.FinSet as set;
 ghost use Rattle.rv_plic.specs.Edges.{edges_of};
-ghost use Rattle.rv_plic.specs.Kept.{sources_above};
-ghost use Rattle.rv_plic.specs.Leads.{Leads, LeadsBelow};
+ghost use Rattle.rv_plic.specs.AboveThreshold.{sources_above};
+ghost use Rattle.rv_plic.specs.Best.{IsBest, IsBestBelow};
 ghost use Rattle.rv_plic.specs.Plic.{PlicState, reset, with_line, ready, forwarded, withdrawn, best, is_notified, claimed, completed, word_at, with_word, load_value, after_load, stored};
 
 use crate::Source;
@@ -20,36 +20,59 @@ pub struct Plic {
     enabled: SourceSet,
     priorities: [u8; 32],
     threshold: u8,
-    /// The sources above the threshold, so that the external line is told by words.
+    /// The sources whose priority is above the threshold: kept, so that `external` looks at no priorities.
     above: SourceSet,
-    /// The sources whose gateways have a request to forward, so that a tick asks only whether there are any.
+    /// The sources whose gateways have a request to forward: kept, so that a tick only tests whether there
+    /// are any.
     ready: SourceSet,
 }
 
 impl Model for Plic {
+    ghost use Rattle.std.specs.Prelude.{◌≡◌};
+    ghost use Rattle.rv_plic.specs.AboveThreshold.{sources_above};
     ghost use Rattle.rv_plic.specs.Codes.{plic_code};
+    ghost use Rattle.rv_plic.specs.Gateways.{requests};
     ghost use Rattle.rv_plic.specs.Plic.{PlicState};
 
     ghost Value = { PlicState };
 
     ghost coded = { plic_code };
 
-    ghost view = { λ p. record { gateways = p.gateways; pending = p.pending; enabled = p.enabled; priorities = p.priorities; threshold = p.threshold } };
-
-    ghost use Rattle.std.specs.Prelude.{◌≡◌};
-    ghost use Rattle.rv_plic.specs.Gateways.{requests};
-    ghost use Rattle.rv_plic.specs.Kept.{sources_above};
+    ghost view = { λ p. record {
+      gateways = p.gateways;
+      pending = p.pending;
+      enabled = p.enabled;
+      priorities = p.priorities;
+      threshold = p.threshold;
+    } };
 
     ghost invariant = { λ p. (requests p.gateways p.pending ≡ p.ready) × (sources_above p.priorities p.threshold ≡ p.above) };
 
-    ghost inverse = { λ p. record { gateways = p.gateways; pending = p.pending; enabled = p.enabled; priorities = p.priorities; threshold = p.threshold; above = sources_above p.priorities p.threshold; ready = requests p.gateways p.pending } };
+    ghost inverse = { λ p. record {
+      gateways = p.gateways;
+      pending = p.pending;
+      enabled = p.enabled;
+      priorities = p.priorities;
+      threshold = p.threshold;
+      above = sources_above p.priorities p.threshold;
+      ready = requests p.gateways p.pending;
+    } };
 
-    ghost inverse_ok = { λ p h i. record { gateways = p.gateways; pending = p.pending; enabled = p.enabled; priorities = p.priorities; threshold = p.threshold; above = h.1 i; ready = h.0 i } };
+    ghost inverse_ok = { λ p h i. record {
+      gateways = p.gateways;
+      pending = p.pending;
+      enabled = p.enabled;
+      priorities = p.priorities;
+      threshold = p.threshold;
+      above = h.1 i;
+      ready = h.0 i;
+    } };
 }
 
 impl Plic {
-    /// The controller after a reset: all lines low, nothing pending or enabled, and priorities and threshold 0.
-    #[tactic(auto, using(crate::proofs::Forwarded::none_at_reset, crate::proofs::Above::none_above))]
+    /// Returns the controller at reset: all lines low, nothing pending or enabled, all priorities and the
+    /// threshold 0.
+    #[tactic(auto, using(crate::proofs::Forwarding::none_at_reset, crate::proofs::AboveThreshold::none_above))]
     pub fn new() -> Plic
         ensures { result ≡ reset }
     {
@@ -64,7 +87,8 @@ impl Plic {
         }
     }
 
-    /// Sets the level of a source's line, and nothing else but that a rise of one of the sources 24 to 31 waits as an edge.
+    /// Sets the level of a source's line. A rise of one of the sources 24 to 31 is counted as a pending edge;
+    /// nothing else changes before the next `forward`.
     pub fn set_line(&mut self, source: Source, high: bool)
         ensures { self.new ≡ with_line self.old source high }
     {
@@ -72,23 +96,23 @@ impl Plic {
         self.ready = self.gateways.requests(self.pending);
     }
 
-    /// How many edges of a source's line wait: those that were not forwarded yet of one of the sources 24 to 31, which
-    /// are triggered by edges, and 0 of the others.
+    /// Returns how many edges of a source are pending: the rises of its line that have not been forwarded
+    /// yet. It is 0 for the sources 1 to 23, which are triggered by their level.
     pub fn edges(&self, source: Source) -> u32
         ensures { result ≡ edges_of self.now.gateways.edges source }
     {
         self.gateways.edges(source)
     }
 
-    /// The sources whose gateways have a request to forward.
+    /// Returns the sources whose gateways have a request to forward.
     pub fn ready(&self) -> SourceSet
         ensures { result ≡ ready self.now }
     {
         self.ready
     }
 
-    /// Each gateway forwards its request, if it has one.
-    #[tactic(auto, using(crate::proofs::Forwarded::none_forwarded))]
+    /// Forwards the request of each gateway that has one: its source becomes pending.
+    #[tactic(auto, using(crate::proofs::Forwarding::none_forwarded))]
     pub fn forward(&mut self)
         ensures { self.new ≡ forwarded self.old }
     {
@@ -98,7 +122,7 @@ impl Plic {
         self.forward_ready();
     }
 
-    /// The gateways that have a request forward it. It is apart, since few ticks find one.
+    /// Forwards all requests. Out of line, since few ticks find one.
     #[cold]
     #[inline(never)]
     fn forward_ready(&mut self)
@@ -109,8 +133,8 @@ impl Plic {
         self.ready = self.gateways.requests(self.pending);
     }
 
-    /// The controller before the requests of these sources were forwarded.
-    #[tactic(auto, using(crate::proofs::Forwarded::withdrawn_forwarded))]
+    /// Undoes the forwarding of these sources' requests.
+    #[tactic(auto, using(crate::proofs::Forwarding::withdrawn_forwarded))]
     pub fn withdraw(&mut self, requests: SourceSet)
         ensures after { self.new ≡ withdrawn self.old requests }
         ensures undoes { (before : PlicState) → self.old ≡ forwarded before → requests ≡ ready before → self.new ≡ before }
@@ -120,7 +144,8 @@ impl Plic {
         self.ready = self.gateways.requests(self.pending);
     }
 
-    /// What a load at an offset gives. A load of the claim register claims. Where no register is, it gives 0.
+    /// Loads the word at an offset. A load of the claim register claims the best source. Where there is no
+    /// register, a load returns 0.
     #[tactic(auto, unfolding(crate::specs::Plic::load_value, crate::specs::Plic::after_load))]
     pub fn load(&mut self, off: u32) -> u32
         requires aligned { off % 4 ≡ 0 }
@@ -135,7 +160,7 @@ impl Plic {
         }
     }
 
-    /// What a load at an offset would give. Nothing is claimed.
+    /// Returns the word that a load at an offset would return, and claims nothing.
     #[tactic(auto, unfolding(crate::specs::Plic::load_value))]
     pub fn peek(&self, off: u32) -> u32
         requires aligned { off % 4 ≡ 0 }
@@ -148,7 +173,7 @@ impl Plic {
         }
     }
 
-    /// A store at an offset. Where no register is, nothing changes.
+    /// Stores a word at an offset. Where there is no register, nothing changes.
     #[tactic(auto, unfolding(crate::specs::Plic::stored))]
     pub fn store(&mut self, off: u32, word: u32)
         requires aligned { off % 4 ≡ 0 }
@@ -160,44 +185,39 @@ impl Plic {
         }
     }
 
-    /// The level of the external interrupt line.
-    #[tactic(auto, using(crate::proofs::Above::none_notified, crate::proofs::Above::some_notified))]
+    /// Returns the level of the external interrupt line: whether a pending and enabled source has a priority
+    /// above the threshold.
+    #[tactic(auto, using(crate::proofs::AboveThreshold::none_notified, crate::proofs::AboveThreshold::some_notified))]
     pub fn external(&self) -> bool
         ensures { result ≡ is_notified self.now }
     {
         let waiting = self.pending.intersection(self.enabled);
-        let notified = waiting.intersection(self.above);
-        !notified.is_empty()
+        !waiting.intersection(self.above).is_empty()
     }
 
-    #[tactic(auto, using(crate::proofs::Above::above_raised, crate::proofs::Above::above_lowered))]
+    /// Sets the priority of a source.
+    #[tactic(auto, using(crate::proofs::AboveThreshold::above_raised, crate::proofs::AboveThreshold::above_lowered))]
     fn set_priority(&mut self, source: Source, priority: u8)
         ensures { self.new ≡ record self.old { priorities = slice_set self.old.priorities source priority } }
     {
         self.priorities[source.number() as usize] = priority;
-        let levels = Levels {
-            priorities: self.priorities,
-            threshold: self.threshold,
-        };
-        if levels.is_above_threshold(source) {
+        if priority > self.threshold {
             self.above.insert(source);
         } else {
             self.above.remove(source);
         }
     }
 
+    /// Sets the threshold.
     fn set_threshold(&mut self, threshold: u8)
         ensures { self.new ≡ record self.old { threshold = threshold } }
     {
+        self.above = sources_above(&self.priorities, threshold);
         self.threshold = threshold;
-        let levels = Levels {
-            priorities: self.priorities,
-            threshold,
-        };
-        self.above = levels.above();
     }
 
-    #[tactic(auto, using(crate::proofs::Best::leading))]
+    /// Returns the word of a register, and claims nothing.
+    #[tactic(auto, using(crate::proofs::Best::best_rules))]
     fn read(&self, reg: PlicReg) -> u32
         ensures { result ≡ word_at self.now reg }
     {
@@ -206,13 +226,11 @@ impl Plic {
             PlicReg::Pending => self.pending.word(),
             PlicReg::Enables => self.enabled.word(),
             PlicReg::Threshold => self.threshold as u32,
-            PlicReg::Claim => match self.best() {
-                Some(source) => source.number() as u32,
-                None => 0,
-            },
+            PlicReg::Claim => self.best().map_or(0, |source| source.number() as u32),
         }
     }
 
+    /// Stores a word in a register.
     fn write(&mut self, reg: PlicReg, word: u32)
         ensures { self.new ≡ with_word self.old reg word }
     {
@@ -225,7 +243,9 @@ impl Plic {
         }
     }
 
-    #[tactic(auto, using(crate::proofs::Best::leading))]
+    /// Claims the best source, which is no longer pending then, and returns its number, or 0 if there is
+    /// none.
+    #[tactic(auto, using(crate::proofs::Best::best_rules))]
     fn claim(&mut self) -> u32
         ensures value { result ≡ unwrap_or (best self.old) 0 }
         ensures after { self.new ≡ claimed self.old (best self.old) }
@@ -240,6 +260,7 @@ impl Plic {
         }
     }
 
+    /// Completes the source whose number is `word`. Does nothing unless such a source is enabled.
     fn complete(&mut self, word: u32)
         ensures { self.new ≡ completed self.old word }
     {
@@ -249,10 +270,11 @@ impl Plic {
         }
     }
 
-    /// The source that a claim gives.
-    #[tactic(auto, using(crate::proofs::Best::leading))]
+    /// Returns the best source: of the pending and enabled ones with a priority above 0 the one with the
+    /// highest priority, and of equal priorities the one with the lowest number.
+    #[tactic(auto, using(crate::proofs::Best::best_rules))]
     fn best(&self) -> Option<Source>
-        ensures { Leads self.now result }
+        ensures { IsBest self.now result }
     {
         let waiting = self.pending.intersection(self.enabled);
         if waiting.is_empty() {
@@ -262,47 +284,28 @@ impl Plic {
     }
 }
 
-/// The priority of each source by its number, and the threshold: what tells which sources are above it.
-#[derive(Clone, Copy)]
-struct Levels {
-    priorities: [u8; 32],
-    threshold: u8,
-}
-
-impl Levels {
-    fn priority(&self, source: Source) -> u8
-        ensures { result ≡ slice_index self.now.priorities source }
-    {
-        self.priorities[source.number() as usize]
-    }
-
-    fn is_above_threshold(&self, source: Source) -> bool
-        ensures { result ≡ nat_lt self.now.threshold (slice_index self.now.priorities source) }
-    {
-        self.priority(source) > self.threshold
-    }
-
-    /// The sources whose priorities are above the threshold.
-    #[tactic(auto, using(crate::proofs::Above::gathering))]
-    fn above(&self) -> SourceSet
-        ensures { result ≡ sources_above self.now.priorities self.now.threshold }
-    {
-        let mut above = SourceSet::new();
-        for number in 1..32u8 {
-            if let Some(source) = Source::new(number)
-                && self.is_above_threshold(source)
-            {
-                above.insert(source);
-            }
+/// Returns the sources whose priority is above a threshold.
+#[tactic(auto, using(crate::proofs::AboveThreshold::collection))]
+fn sources_above(priorities: &[u8; 32], threshold: u8) -> SourceSet
+    ensures { result ≡ sources_above priorities.now threshold }
+{
+    let mut above = SourceSet::new();
+    for number in 1..32u8 {
+        let priority = priorities[number as usize];
+        if let Some(source) = Source::new(number)
+            && priority > threshold
+        {
+            above.insert(source);
         }
-        above
     }
+    above
 }
 
-/// Of the sources of a set with a priority above 0, the one of the highest priority, and of equal ones the one with the
-/// lowest number.
+/// Returns the source of a set with the highest priority, and of equal priorities the one with the lowest
+/// number. Sources of priority 0 are left out.
 fn highest(waiting: SourceSet, priorities: &[u8; 32]) -> Option<Source>
-    ensures { LeadsBelow 32 (λ s. set.contains waiting s && nat_lt 0 (slice_index priorities.now s)) (slice_index priorities.now) result }
+    ensures { IsBestBelow 32 (λ s. set.contains waiting s && nat_lt 0 (slice_index priorities.now s))
+        (slice_index priorities.now) result }
 {
     let mut best = None;
     let mut priority = 0;

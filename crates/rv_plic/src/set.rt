@@ -6,7 +6,7 @@ ghost use Rattle.rv_plic.specs.Sources.{sources_of, word_of};
 use crate::Source;
 use std::marker::Model;
 
-/// A set of sources, as the word that has bit s for source s.
+/// A set of sources, kept as the word whose bit s is 1 for each source s of the set.
 #[tactic(auto, using(crate::proofs::Words::words))]
 #[derive(Clone, Copy)]
 pub struct SourceSet {
@@ -34,34 +34,35 @@ impl Model for SourceSet {
 
 #[tactic(auto, using(crate::proofs::Words::words))]
 impl SourceSet {
-    /// The set without any source.
+    /// Returns the empty set.
     pub fn new() -> SourceSet
         ensures { result ≡ set.empty }
     {
         SourceSet { word: 0 }
     }
 
-    /// The sources whose bit is 1 in a word. There is no source 0.
+    /// Returns the sources whose bit is 1 in `word`. Bit 0 is ignored, since there is no source 0.
     pub fn from_word(word: u32) -> SourceSet
         ensures { result ≡ sources_of word }
     {
         SourceSet { word: word & !1 }
     }
 
-    /// The word that has bit s for source s.
+    /// Returns the word whose bit s is 1 for each source s of the set.
     pub fn word(&self) -> u32
         ensures { result ≡ word_of self.now }
     {
         self.word
     }
 
+    /// Returns whether the set has no source.
     pub fn is_empty(&self) -> bool
         ensures { IsTrue result ↔ (self.now ≡ set.empty) }
     {
         self.word == 0
     }
 
-    /// Whether the source of a number is in the set.
+    /// Returns whether the set has the source with number `number`.
     pub fn contains(&self, number: u32) -> bool
         ensures value { result ≡ set.contains self.now number }
         ensures range { IsTrue result → (0 < number) × (number < 32) }
@@ -69,15 +70,15 @@ impl SourceSet {
         number < 32 && (self.word >> number) & 1 == 1
     }
 
-    /// Whether any source that is triggered by edges is in the set.
-    #[tactic(auto, using(crate::proofs::Asking::none_from))]
-    pub fn has_by_edge(&self) -> bool
+    /// Returns whether the set has any of the sources 24 to 31, which are triggered by edges.
+    #[tactic(auto, using(crate::proofs::AskingSources::none_from))]
+    pub fn has_edge_triggered(&self) -> bool
         ensures { IsFalse result → (q : ℕ) → 24 ≤ q → set.contains self.now q ≡ false }
     {
         self.word >> 24 != 0
     }
 
-    /// The source of a number, if it is in the set.
+    /// Returns the source with number `number`, if the set has it.
     pub fn get(&self, number: u32) -> Option<Source>
         ensures { result ≡ (if set.contains self.now number then Some number else None) }
     {
@@ -88,18 +89,21 @@ impl SourceSet {
         }
     }
 
+    /// Adds a source to the set.
     pub fn insert(&mut self, source: Source)
         ensures { self.new ≡ set.insert self.old source }
     {
         self.word |= 1 << source.number();
     }
 
+    /// Removes a source from the set.
     pub fn remove(&mut self, source: Source)
         ensures { self.new ≡ set.remove self.old source }
     {
         self.word &= !(1 << source.number());
     }
 
+    /// Returns the sources of either set.
     pub fn union(&self, other: SourceSet) -> SourceSet
         ensures { result ≡ set.union self.now other }
     {
@@ -108,6 +112,7 @@ impl SourceSet {
         }
     }
 
+    /// Returns the sources of both sets.
     pub fn intersection(&self, other: SourceSet) -> SourceSet
         ensures { result ≡ set.intersection self.now other }
     {
@@ -116,7 +121,7 @@ impl SourceSet {
         }
     }
 
-    /// The sources of this set that the other lacks.
+    /// Returns the sources of this set that aren't in `other`.
     pub fn difference(&self, other: SourceSet) -> SourceSet
         ensures { result ≡ set.difference self.now other }
     {

@@ -3,7 +3,7 @@ ghost use Rattle.std.specs.Prelude.{◌≡◌, ◌<◌, ◌↔◌, IsSome, IfSom
 
 use std::marker::Model;
 
-/// An interrupt source, seen as its number from 1 to 31. The number 0 means that there is no interrupt.
+/// An interrupt source, seen as its number, 1 to 31. The number 0 stands for no source.
 #[derive(Clone, Copy, PartialEq, Eq, Debug)]
 pub struct Source {
     number: u8,
@@ -22,7 +22,7 @@ impl Model for Source {
 }
 
 impl Source {
-    /// The source of a number, if there is one.
+    /// Returns the source with number `number`, or `None` unless that is 1 to 31.
     pub fn new(number: u8) -> Option<Source>
         ensures valid { IsSome result ↔ ((0 < number) × (number < 32)) }
         ensures value { IfSome result (λ s. s ≡ number) }
@@ -34,7 +34,7 @@ impl Source {
         }
     }
 
-    /// The number of the source.
+    /// Returns the source's number.
     pub fn number(self) -> u8
         ensures value { result ≡ self }
         ensures range { (0 < result) × (result < 32) }

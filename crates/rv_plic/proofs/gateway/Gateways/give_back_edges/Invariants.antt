@@ -1,9 +1,9 @@
 use Rattle.std.specs.Prelude.{◌≡◌}
 use Rattle.rv_plic.specs.Edges.{one_more}
 use Rattle.rv_plic.proofs.Counts.{IsChangedBelow}
-use Rattle.rv_plic.proofs.gateway.Gateways.give_back.Given as goal
+use Rattle.rv_plic.proofs.gateway.Gateways.give_back_edges.Given as goal
 
--- the counts of the sources so far are changed, and nothing else
+-- only the counts of the sources so far are changed
 abbrev pub invariant-loop-number : goal.invariant-loop-number
 invariant-loop-number l = record {
   counts : IsChangedBelow one_more l.number l.sources l.fn.self.edges l.self.edges;

@@ -1,16 +1,16 @@
--- The sources above the threshold, as they are kept, and the external line by them.
+-- The sources above the threshold that the controller keeps, and the level of the external line by them.
 use Rattle.std.proofs.Common.{◌≡◌, ◌≢◌, ℕ, ◌+◌, ◌<◌, ◌≤◌, Bool, true, false, List, replicate, inl, inr, refl, sym, ◌∙◌, ap, arith}
-use Rattle.std.specs.Prelude.{◌==◌, ◌&&◌, ◌||◌, not, nat_lt, nat_le, slice_index, slice_set}
+use Rattle.std.specs.Prelude.{◌==◌, ◌&&◌, ◌||◌, not, nat_lt, nat_le, length, slice_index, slice_set}
 use Rattle.std.specs.FinSet.{contains, insert, remove, intersection, empty, contains-empty, contains-insert, contains-remove, contains-intersection}
 use Rattle.std.specs.Ordering.{nat_cmp}
 use Rattle.std.specs.Cmp.{nat_cmp_total, unsigned_tied}
 use Rattle.std.proofs.lemmas.Bool.{cases_eq, and_parts, and_from, and_left, and_right, ltb-true, leb-true, le-ltb, lt-ltb, le-leb, eq-eqb, ne_eqb, or_left, both_ways, false_from_ne_true}
 use Rattle.std.proofs.lemmas.Bool.Decides.{nat_tests}
-use Rattle.std.proofs.lemmas.List.{get_or-replicate, get_or-set_other}
+use Rattle.std.proofs.lemmas.List.{get_or-replicate, get_or-set_same, get_or-set_other}
 use Rattle.rv_plic.specs.Sources.{sources, Sources}
 use Rattle.rv_plic.specs.Words.{any-range, contains-filtered}
 use Rattle.rv_plic.specs.Plic.{PlicState, is_waiting, is_notified}
-use Rattle.rv_plic.specs.Kept.{is_above, sources_above}
+use Rattle.rv_plic.specs.AboveThreshold.{is_above, sources_above}
 use Rattle.rv_plic.proofs.Best.{and_unless, none-range}
 use Rattle.rv_plic.proofs.Words.{same_sources}
 
@@ -32,7 +32,7 @@ none_at q =
 pub none_above : (s : Sources) → s ≡ empty → sources_above (replicate 32 0) 0 ≡ s
 none_above s none = same_sources _ _ (λ q. contains-above (replicate 32 0) 0 q ∙ none_at q ∙ sym (ap (λ u. contains u q) none ∙ contains-empty nat_cmp q))
 
--- a priority is written
+-- ---- a priority is set
 other_above : (ps : List ℕ) (t s v q : ℕ) → (q ≡ s → ⊥) → is_above (slice_set ps s v) t q ≡ is_above ps t q
 other_above ps t s v q other = ap (λ n. nat_le 1 q && (nat_lt q 32 && nat_lt t n)) (get_or-set_other ps s q v 0 other)
 
@@ -43,66 +43,70 @@ this_above ps t s v q b low high e is =
     ∙ ap (λ c. c && nat_lt t (slice_index (slice_set ps s v) s)) (lt-ltb s 32 high)
     ∙ is
 
-pub above_raised : (ps : List ℕ) (t s v : ℕ) (kept : Sources) → sources_above ps t ≡ kept → 0 < s → s < 32 → nat_lt t (slice_index (slice_set ps s v) s) ≡ true → sources_above (slice_set ps s v) t ≡ insert kept s
-above_raised ps t s v kept is low high over =
+set_here : (ps : List ℕ) (t s v : ℕ) → length ps ≡ 32 → s < 32 → nat_lt t (slice_index (slice_set ps s v) s) ≡ nat_lt t v
+set_here ps t s v long high = ap (nat_lt t) (get_or-set_same ps s v 0 (omega (arith, long, high)))
+
+pub above_raised : (ps : List ℕ) (t s v : ℕ) (above : Sources) → sources_above ps t ≡ above → length ps ≡ 32 → 0 < s → s < 32 → t < v → sources_above (slice_set ps s v) t ≡ insert above s
+above_raised ps t s v above is long low high over =
     same_sources _ _ (λ q.
     contains-above (slice_set ps s v) t q
     ∙ elim (cases_eq q s) [
-      | inl e ↦ this_above ps t s v q true low high e over ∙ sym (or_left (q == s) _ (eq-eqb q s e))
+      | inl e ↦ this_above ps t s v q true low high e (set_here ps t s v long high ∙ lt-ltb t v over) ∙ sym (or_left (q == s) _ (eq-eqb q s e))
       | inr other ↦ other_above ps t s v q other ∙ sym (ap (λ b. b || is_above ps t q) (ne_eqb q s other))
     ]
-    ∙ sym (contains-insert nat_cmp_total kept s q ∙ (λ i. unsigned_tied q s i || (ap (λ u. contains u q) (sym is) ∙ contains-above ps t q) i)))
+    ∙ sym (contains-insert nat_cmp_total above s q ∙ (λ i. unsigned_tied q s i || (ap (λ u. contains u q) (sym is) ∙ contains-above ps t q) i)))
 
-pub above_lowered : (ps : List ℕ) (t s v : ℕ) (kept : Sources) → sources_above ps t ≡ kept → 0 < s → s < 32 → nat_lt t (slice_index (slice_set ps s v) s) ≡ false → sources_above (slice_set ps s v) t ≡ remove kept s
-above_lowered ps t s v kept is low high under =
+pub above_lowered : (ps : List ℕ) (t s v : ℕ) (above : Sources) → sources_above ps t ≡ above → length ps ≡ 32 → 0 < s → s < 32 → v ≤ t → sources_above (slice_set ps s v) t ≡ remove above s
+above_lowered ps t s v above is long low high under =
     same_sources _ _ (λ q.
     contains-above (slice_set ps s v) t q
     ∙ elim (cases_eq q s) [
-      | inl e ↦ this_above ps t s v q false low high e under ∙ sym (ap (λ b. not b && is_above ps t q) (eq-eqb q s e))
+      | inl e ↦ this_above ps t s v q false low high e (set_here ps t s v long high ∙ le-ltb t v under) ∙ sym (ap (λ b. not b && is_above ps t q) (eq-eqb q s e))
       | inr other ↦ other_above ps t s v q other ∙ sym (ap (λ b. not b && is_above ps t q) (ne_eqb q s other))
     ]
-    ∙ sym (contains-remove nat_cmp_total kept s q ∙ (λ i. not (unsigned_tied q s i) && (ap (λ u. contains u q) (sym is) ∙ contains-above ps t q) i)))
+    ∙ sym (contains-remove nat_cmp_total above s q ∙ (λ i. not (unsigned_tied q s i) && (ap (λ u. contains u q) (sym is) ∙ contains-above ps t q) i)))
 
 -- ---- the external line
-in_notified : (plic : PlicState) (kept : Sources) (q : ℕ) → sources_above plic.priorities plic.threshold ≡ kept → contains (intersection (intersection plic.pending plic.enabled) kept) q ≡ (is_waiting plic q && is_above plic.priorities plic.threshold q)
-in_notified plic kept q is =
-    contains-intersection nat_cmp_total (intersection plic.pending plic.enabled) kept q
+in_notified : (plic : PlicState) (above : Sources) (q : ℕ) → sources_above plic.priorities plic.threshold ≡ above → contains (intersection (intersection plic.pending plic.enabled) above) q ≡ (is_waiting plic q && is_above plic.priorities plic.threshold q)
+in_notified plic above q is =
+    contains-intersection nat_cmp_total (intersection plic.pending plic.enabled) above q
     ∙ (λ i. contains-intersection nat_cmp_total plic.pending plic.enabled q i && (ap (λ u. contains u q) (sym is) ∙ contains-above plic.priorities plic.threshold q) i)
 
 with_range : (w : Bool) (ps : List ℕ) (t q : ℕ) → 1 ≤ q → q < 32 → (w && nat_lt t (slice_index ps q)) ≡ (w && is_above ps t q)
 with_range w ps t q low high =
     ap (λ b. w && b) (sym (ap (λ c. c && (nat_lt q 32 && nat_lt t (slice_index ps q))) (le-leb 1 q low) ∙ ap (λ c. c && nat_lt t (slice_index ps q)) (lt-ltb q 32 high)))
 
-pub none_notified : (plic : PlicState) (kept : Sources) → sources_above plic.priorities plic.threshold ≡ kept → intersection (intersection plic.pending plic.enabled) kept ≡ empty → is_notified plic ≡ false
+pub none_notified : (plic : PlicState) (above : Sources) → sources_above plic.priorities plic.threshold ≡ above → intersection (intersection plic.pending plic.enabled) above ≡ empty → is_notified plic ≡ false
 unfolding is_notified sources
-none_notified plic kept is none =
+none_notified plic above is none =
     none-range (λ s. is_waiting plic s && nat_lt plic.threshold (slice_index plic.priorities s)) 1 31 (λ q low high.
     with_range (is_waiting plic q) plic.priorities plic.threshold q low high
-    ∙ sym (in_notified plic kept q is) ∙ ap (λ u. contains u q) none ∙ contains-empty nat_cmp q)
+    ∙ sym (in_notified plic above q is) ∙ ap (λ u. contains u q) none ∙ contains-empty nat_cmp q)
 
-some_other : (plic : PlicState) (kept : Sources) → sources_above plic.priorities plic.threshold ≡ kept → is_notified plic ≡ false → intersection (intersection plic.pending plic.enabled) kept ≡ empty
+some_other : (plic : PlicState) (above : Sources) → sources_above plic.priorities plic.threshold ≡ above → is_notified plic ≡ false → intersection (intersection plic.pending plic.enabled) above ≡ empty
 unfolding is_notified sources
-some_other plic kept is quiet =
-    same_sources _ _ (λ q. in_notified plic kept q is ∙ not_one q ∙ sym (contains-empty nat_cmp q))
+some_other plic above is quiet =
+    same_sources _ _ (λ q. in_notified plic above q is ∙ not_one q ∙ sym (contains-empty nat_cmp q))
   where
     not_one : (q : ℕ) → (is_waiting plic q && is_above plic.priorities plic.threshold q) ≡ false
     not_one q = false_from_ne_true _ (λ one.
         let range = in_range plic.priorities plic.threshold q (and_parts _ _ one).1 in
         both_ways _ quiet (any-range (λ s. is_waiting plic s && nat_lt plic.threshold (slice_index plic.priorities s)) 1 31 q range.0 range.1 (with_range (is_waiting plic q) plic.priorities plic.threshold q range.0 range.1 ∙ one)))
 
-pub some_notified : (plic : PlicState) (kept : Sources) → sources_above plic.priorities plic.threshold ≡ kept → intersection (intersection plic.pending plic.enabled) kept ≢ empty → is_notified plic ≡ true
-some_notified plic kept is some = by_level (is_notified plic) refl
+pub some_notified : (plic : PlicState) (above : Sources) → sources_above plic.priorities plic.threshold ≡ above → intersection (intersection plic.pending plic.enabled) above ≢ empty → is_notified plic ≡ true
+some_notified plic above is some = by_level (is_notified plic) refl
   where
     by_level : (b : Bool) → is_notified plic ≡ b → is_notified plic ≡ true
     by_level true e = e
-    by_level false e = absurd (some (some_other plic kept is e))
+    by_level false e = absurd (some (some_other plic above is e))
 
--- ---- the sources above the threshold, gathered one by one
-abbrev pub GathersBelow : ℕ → List ℕ → ℕ → Sources → Type 0
-GathersBelow number ps t s = (q : ℕ) → contains s q ≡ (nat_lt q number && is_above ps t q)
+-- ---- the sources above the threshold, collected one by one
+-- a set has the sources above the threshold with numbers below `number`, and no others
+abbrev pub HasThoseBelow : ℕ → List ℕ → ℕ → Sources → Type 0
+HasThoseBelow number ps t s = (q : ℕ) → contains s q ≡ (nat_lt q number && is_above ps t q)
 
-pub none_gathered : (ps : List ℕ) (t : ℕ) (s : Sources) → s ≡ empty → GathersBelow 1 ps t s
-none_gathered ps t s none q = ap (λ u. contains u q) none ∙ contains-empty nat_cmp q ∙ sym (nothing q)
+pub starts_empty : (ps : List ℕ) (t : ℕ) (s : Sources) → s ≡ empty → HasThoseBelow 1 ps t s
+starts_empty ps t s none q = ap (λ u. contains u q) none ∙ contains-empty nat_cmp q ∙ sym (nothing q)
   where
     below : (q : ℕ) → q < 1 → nat_le 1 q ≡ false
     below q low = grind (arith, nat_tests)
@@ -123,27 +127,27 @@ its_number q n e = lt-ltb q (n + 1) (omega arith)
 no_number : (q n : ℕ) → q ≡ n → nat_lt q n ≡ false
 no_number q n e = le-ltb q n (omega arith)
 
-pub one_gathered : (ps : List ℕ) (t n : ℕ) (s : Sources) → GathersBelow n ps t s → 0 < n → n < 32 → nat_lt t (slice_index ps n) ≡ true → GathersBelow (n + 1) ps t (insert s n)
-one_gathered ps t n s so_far low high over q =
+pub with_next : (ps : List ℕ) (t n : ℕ) (s : Sources) → HasThoseBelow n ps t s → 0 < n → n < 32 → t < slice_index ps n → HasThoseBelow (n + 1) ps t (insert s n)
+with_next ps t n s so_far low high over q =
     (contains-insert nat_cmp_total s n q ∙ (λ i. unsigned_tied q n i || so_far q i))
     ∙ elim (cases_eq q n) [
-      | inl e ↦ or_left (q == n) _ (eq-eqb q n e) ∙ sym (and_from _ _ (its_number q n e) (ap (is_above ps t) e ∙ at_number ps t n true low high over))
+      | inl e ↦ or_left (q == n) _ (eq-eqb q n e) ∙ sym (and_from _ _ (its_number q n e) (ap (is_above ps t) e ∙ at_number ps t n true low high (lt-ltb t (slice_index ps n) over)))
       | inr other ↦ ap (λ b. b || (nat_lt q n && is_above ps t q)) (ne_eqb q n other) ∙ ap (λ b. b && is_above ps t q) (next_number q n other)
     ]
 
-pub none_more : (ps : List ℕ) (t n : ℕ) (s : Sources) → GathersBelow n ps t s → 0 < n → n < 32 → nat_lt t (slice_index ps n) ≡ false → GathersBelow (n + 1) ps t s
-none_more ps t n s so_far low high under q =
+pub without_next : (ps : List ℕ) (t n : ℕ) (s : Sources) → HasThoseBelow n ps t s → 0 < n → n < 32 → slice_index ps n ≤ t → HasThoseBelow (n + 1) ps t s
+without_next ps t n s so_far low high under q =
     so_far q
     ∙ elim (cases_eq q n) [
-      | inl e ↦ and_left (nat_lt q n) _ (no_number q n e) ∙ sym (and_right (nat_lt q (n + 1)) _ (ap (is_above ps t) e ∙ at_number ps t n false low high under))
+      | inl e ↦ and_left (nat_lt q n) _ (no_number q n e) ∙ sym (and_right (nat_lt q (n + 1)) _ (ap (is_above ps t) e ∙ at_number ps t n false low high (le-ltb t (slice_index ps n) under)))
       | inr other ↦ ap (λ b. b && is_above ps t q) (next_number q n other)
     ]
 
-pub all_gathered : (ps : List ℕ) (t n : ℕ) (s : Sources) → 32 ≤ n → GathersBelow n ps t s → s ≡ sources_above ps t
-all_gathered ps t n s past all = same_sources _ _ (λ q. all q ∙ limit q (is_above ps t q) refl ∙ sym (contains-above ps t q))
+pub has_all : (ps : List ℕ) (t n : ℕ) (s : Sources) → 32 ≤ n → HasThoseBelow n ps t s → s ≡ sources_above ps t
+has_all ps t n s past all = same_sources _ _ (λ q. all q ∙ limit q (is_above ps t q) refl ∙ sym (contains-above ps t q))
   where
     limit : (q : ℕ) (b : Bool) → is_above ps t q ≡ b → (nat_lt q n && is_above ps t q) ≡ is_above ps t q
     limit q true e = let high : q < 1 + 31 = (in_range ps t q e).1 in and_from _ _ (lt-ltb q n (omega arith)) e ∙ sym e
     limit q false e = and_right (nat_lt q n) _ e ∙ sym e
 
-pub ruleset gathering = (none_gathered, one_gathered, none_more, all_gathered)
+pub ruleset collection = (starts_empty, with_next, without_next, has_all)

@@ -1,0 +1,6 @@
+use Rattle.rv_plic.proofs.AboveThreshold.{HasThoseBelow}
+use Rattle.rv_plic.proofs.plic.sources_above.Given as goal
+
+-- the set has the sources above the threshold of the numbers so far
+abbrev pub invariant-loop-number : goal.invariant-loop-number
+invariant-loop-number l = HasThoseBelow l.number l.priorities l.threshold l.above
