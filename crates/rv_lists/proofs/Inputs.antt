@@ -1,4 +1,4 @@
--- Inputs behind others.
+-- Inputs following others.
 use Rattle.std.proofs.Common.{◌≡◌, ◌∙◌, ℕ, suc, ◌-◌, ◌<◌, ◌≤◌, Bool, true, false, cond, List, [], ◌∷◌, ◌++◌, length, get_or, refl, sym, ap, arith, append-nil, append_assoc}
 use Rattle.std.proofs.lemmas.Bool.Decides.{nat_tests}
 use Rattle.std.specs.Prelude.{Option, Some, None, nat_le, nat_lt, ◌&&◌, codes}
@@ -9,16 +9,16 @@ use Rattle.rv_lists.specs.declared.input.Input.TheVariants.{Rx}
 use Rattle.rv_lists.specs.declared.input.TimedInput.{TimedInput}
 use Rattle.rv_base.specs.Numbers.{byte_of}
 use Rattle.rv_lists.specs.Timed.{joined, all_of, byte_input, received, driven, inputs_of, at, never_falls}
-use Rattle.rv_lists.specs.Reading.{latest, with_inputs, behind}
+use Rattle.rv_lists.specs.Reading.{latest_step, with_inputs, with_line}
 
-pub latest_is : (xs : List TimedInput) (d : TimedInput) → 0 < length xs → (get_or xs (length xs - 1) d).step ≡ latest xs
+pub latest_is : (xs : List TimedInput) (d : TimedInput) → 0 < length xs → (get_or xs (length xs - 1) d).step ≡ latest_step xs
 latest_is [] d h = absurd (omega arith)
 latest_is (x ∷ []) d h = refl
 latest_is (x ∷ y ∷ more) d h =
     let e : suc (suc (length more)) - 1 ≡ suc (length (y ∷ more) - 1) = omega arith in
     rw e (latest_is (y ∷ more) d (omega arith))
 
--- ---- received bytes
+-- ---- the bytes of a line
 
 pub received_all : (ws : List (List ℕ)) → nat_lt 0 (length ws) ≡ true → all_of byte_input ws ≡ received ws
 received_all [] h = absurd cc
@@ -45,7 +45,7 @@ pub received_end : (before : List TimedInput) (step : ℕ) (words : List (List �
 unfolding all_of
 received_end before step words e = rw e (ap (λ x. Some x) (append-nil before))
 
--- ---- the inputs of one step behind those before it
+-- ---- the inputs of one step, following others
 
 level : (m n : ℕ) → m ≤ n → nat_le m n ≡ true
 level m n h = grind (arith, nat_tests)
@@ -77,8 +77,8 @@ at_once step [] = refl
 at_once step (i ∷ []) = refl
 at_once step (i ∷ j ∷ is) = rw (level step step (omega arith)) (at_once step (j ∷ is))
 
--- whether the steps fall is told by the last before and the first behind
-falls_between : (before : List TimedInput) (step : ℕ) (i : Input) (is : List Input) → never_falls before ≡ true → never_falls (before ++ at step (i ∷ is)) ≡ nat_le (latest before) step
+-- whether the steps fall depends only on the last input before and the first input after
+falls_between : (before : List TimedInput) (step : ℕ) (i : Input) (is : List Input) → never_falls before ≡ true → never_falls (before ++ at step (i ∷ is)) ≡ nat_le (latest_step before) step
 unfolding never_falls
 falls_between [] step i is h = at_once step (i ∷ is) ∙ sym (level 0 step (omega arith))
 falls_between (x ∷ []) step i is h = ap (λ b. nat_le x.step step && b) (at_once step (i ∷ is)) ∙ and_true (nat_le x.step step)
@@ -86,22 +86,22 @@ falls_between (x ∷ y ∷ more) step i is h =
     rw (and_left (nat_le x.step y.step) (never_falls (y ∷ more)) h)
     (falls_between (y ∷ more) step i is (and_right (nat_le x.step y.step) (never_falls (y ∷ more)) h))
 
-pub behind_none : (before : List TimedInput) (r : Option (List TimedInput)) → r ≡ None → behind before r ≡ None
-behind_none before r e = rw e refl
+pub with_line-none : (before : List TimedInput) (r : Option (List TimedInput)) → r ≡ None → with_line before r ≡ None
+with_line-none before r e = rw e refl
 
-pub behind_nothing : (before : List TimedInput) (r : Option (List TimedInput)) → never_falls before ≡ true → r ≡ Some [] → behind before r ≡ Some before
-behind_nothing before r h e = rw (e, append-nil, h) refl
+pub with_line-nothing : (before : List TimedInput) (r : Option (List TimedInput)) → never_falls before ≡ true → r ≡ Some [] → with_line before r ≡ Some before
+with_line-nothing before r h e = rw (e, append-nil, h) refl
 
 module _ (before : List TimedInput) (rising : never_falls before ≡ true) (step : ℕ) where
-  pub behind_step : nat_lt step (latest before) ≡ false → (r : Option (List Input)) → ((is : List Input) → r ≡ Some is → 0 < length is) → behind before (option_map (at step) r) ≡ with_inputs before step r
-  behind_step le None some = refl
-  behind_step le (Some []) some = absurd (omega (arith, some [] refl))
-  behind_step le (Some (i ∷ is)) some = rw (falls_between before step i is rising, level (latest before) step (not_below step (latest before) le)) refl
+  pub with_line-step : nat_lt step (latest_step before) ≡ false → (r : Option (List Input)) → ((is : List Input) → r ≡ Some is → 0 < length is) → with_line before (option_map (at step) r) ≡ with_inputs before step r
+  with_line-step le None some = refl
+  with_line-step le (Some []) some = absurd (omega (arith, some [] refl))
+  with_line-step le (Some (i ∷ is)) some = rw (falls_between before step i is rising, level (latest_step before) step (not_below step (latest_step before) le)) refl
 
-  pub behind_fallen : nat_lt step (latest before) ≡ true → (r : Option (List Input)) → ((is : List Input) → r ≡ Some is → 0 < length is) → behind before (option_map (at step) r) ≡ None
-  behind_fallen lt None some = refl
-  behind_fallen lt (Some []) some = absurd (omega (arith, some [] refl))
-  behind_fallen lt (Some (i ∷ is)) some = rw (falls_between before step i is rising, above (latest before) step (below step (latest before) lt)) refl
+  pub with_line-fallen : nat_lt step (latest_step before) ≡ true → (r : Option (List Input)) → ((is : List Input) → r ≡ Some is → 0 < length is) → with_line before (option_map (at step) r) ≡ None
+  with_line-fallen lt None some = refl
+  with_line-fallen lt (Some []) some = absurd (omega (arith, some [] refl))
+  with_line-fallen lt (Some (i ∷ is)) some = rw (falls_between before step i is rising, above (latest_step before) step (below step (latest_step before) lt)) refl
 
 -- ---- a timed line has an input
 

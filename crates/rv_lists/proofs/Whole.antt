@@ -1,10 +1,10 @@
--- How far the lines of a timed list have been read.
+-- Reading the lines of a timed list, one by one.
 use Rattle.std.proofs.Common.{◌≡◌, ◌∙◌, ℕ, zero, suc, ◌+◌, ◌<◌, Bool, true, false, cond, List, [], ◌∷◌, ◌++◌, length, take, drop, refl, sym, ap, arith, add-one, append-nil, append_assoc, length-drop, below_more}
 use Rattle.std.specs.Prelude.{Option, Some, None, is_some, option_and_then}
 use Rattle.std.proofs.lemmas.List.{take_all}
 use Rattle.rv_lists.specs.declared.input.TimedInput.{TimedInput}
 use Rattle.rv_lists.specs.Timed.{joined, all_of, said, never_falls, unless_falling, timed, IsFirstRefused}
-use Rattle.rv_lists.specs.Reading.{behind}
+use Rattle.rv_lists.specs.Reading.{with_line}
 
 joined_assoc : {B : Type 0} (a b c : Option (List B)) → joined a (joined b c) ≡ joined (joined a b) c
 joined_assoc None b c = refl
@@ -22,7 +22,7 @@ unfolding all_of
 all_of_more meaning [] x = joined_nothing (meaning x)
 all_of_more meaning (y ∷ ys) x = ap (joined (meaning y)) (all_of_more meaning ys x) ∙ joined_assoc (meaning y) (all_of meaning ys) (meaning x)
 
--- ---- what has a list
+-- ---- lines that have a list
 
 rising_by : (xs before : List TimedInput) (b : Bool) → never_falls xs ≡ b → cond b (Some xs) None ≡ Some before → (xs ≡ before) × (never_falls xs ≡ true)
 rising_by xs before true e h = (cc, e)
@@ -39,16 +39,16 @@ listed texts before h = listed_by (all_of said texts) before h
 pub rising : (texts : List (List ℕ)) (before : List TimedInput) → timed texts ≡ Some before → never_falls before ≡ true
 rising texts before h = (listed texts before h).1
 
-behind_by : (before : List TimedInput) (s : Option (List TimedInput)) → option_and_then unless_falling (joined (Some before) s) ≡ behind before s
-behind_by before None = refl
-behind_by before (Some xs) = refl
+with_line_by : (before : List TimedInput) (s : Option (List TimedInput)) → option_and_then unless_falling (joined (Some before) s) ≡ with_line before s
+with_line_by before None = refl
+with_line_by before (Some xs) = refl
 
 -- one more line
-timed_more : (texts : List (List ℕ)) (text : List ℕ) (before : List TimedInput) → timed texts ≡ Some before → timed (texts ++ text ∷ []) ≡ behind before (said text)
+timed_more : (texts : List (List ℕ)) (text : List ℕ) (before : List TimedInput) → timed texts ≡ Some before → timed (texts ++ text ∷ []) ≡ with_line before (said text)
 unfolding timed
-timed_more texts text before h = rw (all_of_more said texts text, (listed texts before h).0) (behind_by before (said text))
+timed_more texts text before h = rw (all_of_more said texts text, (listed texts before h).0) (with_line_by before (said text))
 
--- ---- the first n texts have these inputs, and the others are left
+-- ---- the first n lines have these inputs, and the others are left
 
 pub record SoFar (texts rest : List (List ℕ)) (n : ℕ) (inputs : List TimedInput) : Type 0 where
   pub left : rest ≡ drop n texts
@@ -80,19 +80,19 @@ module _ (texts rest : List (List ℕ)) (n : ℕ) (inputs : List TimedInput) (so
     next : IsAt texts n text after
     next = dropped texts n text after (sym so.left ∙ cut)
 
-    next_is : timed (take (n + 1) texts) ≡ behind inputs (said text)
+    next_is : timed (take (n + 1) texts) ≡ with_line inputs (said text)
     next_is = rw (add-one, next.front) (timed_more (take n texts) text inputs so.inputs_are)
 
-    more_taken : (new : List TimedInput) → behind inputs (said text) ≡ Some new → (k : ℕ) → k < n + 1 + 1 → is_some (timed (take k texts)) ≡ true
+    more_taken : (new : List TimedInput) → with_line inputs (said text) ≡ Some new → (k : ℕ) → k < n + 1 + 1 → is_some (timed (take k texts)) ≡ true
     more_taken new e = below_more (λ k. is_some (timed (take k texts)) ≡ true) (n + 1) so.taken (rw (next_is, e) refl)
 
-    pub read_more : (new : List TimedInput) → behind inputs (said text) ≡ Some new → SoFar texts after (n + 1) new
+    pub read_more : (new : List TimedInput) → with_line inputs (said text) ≡ Some new → SoFar texts after (n + 1) new
     read_more new e = record { left = rw add-one (sym next.back); inputs_are = next_is ∙ e; taken = more_taken new e }
 
-    first_refused : behind inputs (said text) ≡ None → IsFirstRefused texts (n + 1)
+    first_refused : with_line inputs (said text) ≡ None → IsFirstRefused texts (n + 1)
     first_refused e = record { counted = omega arith; within = omega (arith, next.below); refused = next_is ∙ e; taken = so.taken }
 
-    pub refused : behind inputs (said text) ≡ None → (k : ℕ) → k ≡ n + 1 → IsFirstRefused texts k
+    pub refused : with_line inputs (said text) ≡ None → (k : ℕ) → k ≡ n + 1 → IsFirstRefused texts k
     refused e k is = rw is (first_refused e)
 
   pub read_all : rest ≡ [] → timed texts ≡ Some inputs

@@ -1,9 +1,10 @@
 -- To audit: public contracts cite this.
--- Timed lists: the inputs of a text, or its first refused line. None is what can't be read.
--- This project's own language.
+-- Timed lists: the inputs of a text, or its first refused line. None stands for a text that can't be read.
+-- The language is this project's own: docs/MONITOR.md.
 use Rattle.std.specs.Prelude.{◌≡◌, ℕ, ◌<◌, ◌≤◌, ◌&&◌, Bool, true, false, List, [], ◌∷◌, ◌++◌, length, map, take, if◌then◌else◌, nat_le, nat_lt, Option, Some, None, Result, Ok, Err, codes, option_and_then, is_some}
 use Rattle.std.specs.Option.{option_map}
 use Rattle.std.specs.Str.{bytes_eq}
+use Rattle.rv_base.specs.Limits.{line_limit}
 use Rattle.rv_base.specs.Lines.{lines}
 use Rattle.rv_lists.specs.declared.input.Input.{Input}
 use Rattle.rv_lists.specs.declared.input.Input.TheVariants.{Rx, Line}
@@ -13,88 +14,89 @@ use Rattle.rv_lists.specs.declared.fault.TimelineFault.TheVariants.{BadLine, Out
 use Rattle.rv_base.specs.Numbers.{decimal, byte_of}
 use Rattle.rv_base.specs.Words.{words, begins_comment}
 
--- both lists, one after the other, where both are there
+-- one list followed by the other, if there are both
 abbrev pub joined : {B : Type 0} → Option (List B) → Option (List B) → Option (List B)
 joined a b = option_and_then (λ xs. option_map (λ ys. xs ++ ys) b) a
 
--- what all parts stand for, in order, where each stands for something
+-- the meanings of all parts, in order, if each has one
 unfoldable pub all_of : {A B : Type 0} → (A → Option (List B)) → List A → Option (List B)
 all_of meaning [] = Some []
 all_of meaning (x ∷ xs) = joined (meaning x) (all_of meaning xs)
 
--- ---- what a line says
+-- ---- the inputs of a line
 
--- STEP: one to ten decimal digits, which are no more than 9999999999
+-- STEP: one to ten decimal digits
 unfoldable pub step_of : List ℕ → Option ℕ
 step_of word = if nat_le (length word) 10 then decimal 9999999999 word else None
 
--- N of `line`: a number from 1 to 31
+-- N of `line`: a decimal number from 1 to 31
 unfoldable pub source_of : List ℕ → Option ℕ
 source_of word = option_and_then (λ n. if nat_le 1 n then Some n else None) (decimal 31 word)
 
--- V of `line`
+-- V of `line`: 0 for low, 1 for high
 abbrev pub level_of : List ℕ → Option Bool
 level_of word = if bytes_eq word (codes "0") then Some false else (if bytes_eq word (codes "1") then Some true else None)
 
--- HH: a byte at the serial port
+-- HH: a byte that the serial port receives
 abbrev pub byte_input : List ℕ → Option (List Input)
 byte_input word = option_map (λ b. Rx b ∷ []) (byte_of word)
 
--- behind `rx`: a byte for each word, at least one
+-- the words following `rx`: a byte each, at least one
 abbrev pub received : List (List ℕ) → Option (List Input)
 received [] = None
 received (word ∷ more) = all_of byte_input (word ∷ more)
 
--- behind `line`: two words
+-- the words following `line`: a source and a level
 abbrev pub driven : List (List ℕ) → Option Input
 driven (n ∷ v ∷ []) = option_and_then (λ source. option_map (λ high. Line source high) (level_of v)) (source_of n)
 driven _ = None
 
--- the inputs that the words behind STEP say
+-- the inputs of the words following STEP
 unfoldable pub inputs_of : List (List ℕ) → Option (List Input)
 inputs_of [] = None
 inputs_of (kind ∷ more) =
     if bytes_eq kind (codes "rx") then received more
     else (if bytes_eq kind (codes "line") then option_map (λ input. input ∷ []) (driven more) else None)
 
--- inputs, each at this step
+-- inputs, all at one step
 abbrev pub at : ℕ → List Input → List TimedInput
 at step inputs = map (λ input. record { step = step; input = input }) inputs
 
--- the inputs of a line by its words: none where it is blank or a comment
+-- the inputs of a line by its words: none if it is blank or a comment
 abbrev pub said_by : List (List ℕ) → Option (List TimedInput)
 said_by [] = Some []
 said_by (word ∷ more) =
     if begins_comment word then Some []
     else option_and_then (λ step. option_map (at step) (inputs_of more)) (step_of word)
 
--- the inputs of a line; one of over 1,024 bytes is refused whatever it says
+-- the inputs of a line; a line of more than 1,024 bytes is refused whatever it says
 unfoldable pub said : List ℕ → Option (List TimedInput)
-said line = if nat_lt 1024 (length line) then None else said_by (words line)
+said line = if nat_lt line_limit (length line) then None else said_by (words line)
 
--- ---- what a text says
+-- ---- the inputs of a text
 
--- no step is below the one before it
+-- whether no step is below the one before it
 unfoldable pub never_falls : List TimedInput → Bool
 never_falls [] = true
 never_falls (x ∷ []) = true
 never_falls (x ∷ y ∷ more) = nat_le x.step y.step && never_falls (y ∷ more)
 
+-- inputs, unless a step falls
 abbrev pub unless_falling : List TimedInput → Option (List TimedInput)
 unless_falling inputs = if never_falls inputs then Some inputs else None
 
--- the inputs of all lines in order, where each line can be read and no step falls
+-- the inputs of all lines, in order, if each line can be read and no step falls
 unfoldable pub timed : List (List ℕ) → Option (List TimedInput)
 timed texts = option_and_then unless_falling (all_of said texts)
 
--- line n, counted from 1, is the first refused: the lines up to it have no list, and those before it have one
+-- line n, counted from 1, is the first refused: the first n lines have no list, and any fewer of them have one
 pub record IsFirstRefused (texts : List (List ℕ)) (n : ℕ) : Type 0 where
   pub counted : 0 < n
   pub within : n ≤ length texts
   pub refused : timed (take n texts) ≡ None
   pub taken : (k : ℕ) → k < n → is_some (timed (take k texts)) ≡ true
 
--- a text is read: its list, or its first refused line, or memory ran out
+-- a text is read: the result is its list, its first refused line, or out of memory
 abbrev pub IsRead : List ℕ → Result (List TimedInput) TimelineFault → Type 0
 IsRead text (Ok inputs) = timed (lines text) ≡ Some inputs
 IsRead text (Err (BadLine n)) = IsFirstRefused (lines text) n

@@ -1,10 +1,10 @@
-//! Why a timed list can't be read.
+//! The fault of a timed list.
 
-/// Why a timed list can't be read.
+/// The reason why a timed list can't be read.
 #[derive(Clone, Copy, PartialEq, Eq, Debug)]
 pub enum TimelineFault {
-    /// The first refused line, counted from 1.
+    /// The number of the first refused line, counted from 1.
     BadLine(usize),
-    /// The allocator refused a growth; this is no fault of the list.
+    /// Out of memory: not a fault of the list.
     OutOfMemory,
 }

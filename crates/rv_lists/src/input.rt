@@ -1,25 +1,25 @@
-//! What comes in at a board, and when.
+//! Inputs of a board, and their times.
 use rv_plic::Source;
 
-/// What comes in at a board from outside.
+/// An input of a board.
 #[derive(Clone, Copy, PartialEq, Eq, Debug)]
 pub enum Input {
-    /// A byte at the serial port.
+    /// A byte that the serial port receives.
     Rx(u8),
-    /// The line of an interrupt source rises or falls.
+    /// A level of the line of an interrupt source.
     Line {
         /// The source.
         source: Source,
-        /// The line's new level.
+        /// Whether the line is high from now on.
         high: bool,
     },
 }
 
-/// An input and its time.
+/// An input with its time.
 #[derive(Clone, Copy, PartialEq, Eq, Debug)]
 pub struct TimedInput {
-    /// The number of the step, from 0, that the input comes before.
+    /// The number of the step, counted from 0, that the input comes before.
     pub step: u64,
-    /// What comes in.
+    /// The input.
     pub input: Input,
 }

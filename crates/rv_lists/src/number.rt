@@ -5,10 +5,10 @@ ghost use Rattle.rv_lists.specs.Timed.{step_of, source_of, level_of};
 use rv_base::decimal;
 use rv_plic::Source;
 
-/// The largest number of ten digits.
+/// The largest step that an input comes before: ten decimal digits.
 const LAST_STEP: u64 = 9999999999;
 
-/// The number of a step: one to ten digits.
+/// Reads the number of a step: one to ten decimal digits.
 #[tactic(auto, unfolding(crate::specs::Timed::step_of))]
 pub fn step(word: &[u8]) -> Option<u64>
     ensures { result ≡ step_of word.now }
@@ -19,7 +19,7 @@ pub fn step(word: &[u8]) -> Option<u64>
     decimal(LAST_STEP, word)
 }
 
-/// The source of a number from 1 to 31.
+/// Reads an interrupt source: a decimal number from 1 to 31.
 #[tactic(auto, unfolding(crate::specs::Timed::source_of))]
 pub fn source(word: &[u8]) -> Option<Source>
     ensures { result ≡ source_of word.now }
@@ -28,15 +28,13 @@ pub fn source(word: &[u8]) -> Option<Source>
     Source::new(number as u8)
 }
 
-/// The level that `0` or `1` stands for.
+/// Reads a level: `0` for low, `1` for high.
 pub fn level(word: &[u8]) -> Option<bool>
     ensures { result ≡ level_of word.now }
 {
-    if word == b"0".as_slice() {
-        Some(false)
-    } else if word == b"1".as_slice() {
-        Some(true)
-    } else {
-        None
+    match word {
+        b"0" => Some(false),
+        b"1" => Some(true),
+        _ => None,
     }
 }

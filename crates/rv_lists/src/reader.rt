@@ -1,33 +1,34 @@
-//! Reads lines.
+//! Reads the lines of a timed list.
 ghost use Rattle.std.specs.Prelude.{◌≡◌, ◌∷◌, ◌++◌, [], true, Some, nat_lt};
+ghost use Rattle.std.specs.Option.{option_map};
 ghost use Rattle.rv_base.specs.Words.{words};
 ghost use Rattle.rv_lists.specs.Timed.{received, driven, inputs_of, said, never_falls};
-ghost use Rattle.rv_lists.specs.Reading.{Becomes, latest, with_inputs, behind};
+ghost use Rattle.rv_lists.specs.Reading.{Becomes, latest_step, with_inputs, with_line};
 
+use crate::line_refusal::LineRefusal;
 use crate::number::{level, source, step};
-use crate::refusal::Refusal;
 use crate::{Input, TimedInput};
 use rv_base::{LINE_LIMIT, begins_comment, first_word, has_word, hex_byte};
 
 /// Appends an input.
-fn append(out: &mut Vec<TimedInput>, step: u64, input: Input) -> Result<(), Refusal>
+fn append(out: &mut Vec<TimedInput>, step: u64, input: Input) -> Result<(), LineRefusal>
     ensures { Becomes out.new.items result (Some (out.old.items ++ record { step = step; input = input } ∷ [])) }
 {
     out.push(TimedInput { step, input })?;
     Ok(())
 }
 
-/// Appends a byte for each word of a text.
-fn read_bytes(step: u64, text: &[u8], out: &mut Vec<TimedInput>) -> Result<(), Refusal>
+/// Reads the words following `rx`, one or more bytes, and appends an input for each.
+fn read_bytes(step: u64, text: &[u8], out: &mut Vec<TimedInput>) -> Result<(), LineRefusal>
     ensures { Becomes out.new.items result (with_inputs out.old.items step (received (words text.now))) }
 {
     if !has_word(text) {
-        return Err(Refusal::BadLine);
+        return Err(LineRefusal::BadLine);
     }
     let mut rest = text;
     while let Some((word, more)) = first_word(rest) {
         let Some(byte) = hex_byte(word) else {
-            return Err(Refusal::BadLine);
+            return Err(LineRefusal::BadLine);
         };
         append(out, step, Input::Rx(byte))?;
         rest = more;
@@ -35,8 +36,8 @@ fn read_bytes(step: u64, text: &[u8], out: &mut Vec<TimedInput>) -> Result<(), R
     Ok(())
 }
 
-/// The level of a source that two words say.
-fn driven(text: &[u8]) -> Option<Input>
+/// Reads a source and its level.
+fn line_input(text: &[u8]) -> Option<Input>
     ensures { result ≡ driven (words text.now) }
 {
     let (number, rest) = first_word(text)?;
@@ -49,30 +50,35 @@ fn driven(text: &[u8]) -> Option<Input>
     Some(Input::Line { source, high })
 }
 
-/// Appends the inputs that the words behind a step say.
-#[tactic(auto, unfolding(crate::specs::Timed::inputs_of))]
-fn read_inputs(step: u64, text: &[u8], out: &mut Vec<TimedInput>) -> Result<(), Refusal>
-    ensures { Becomes out.new.items result (with_inputs out.old.items step (inputs_of (words text.now))) }
+/// Reads the words following `line`, and appends their input.
+fn read_level(step: u64, text: &[u8], out: &mut Vec<TimedInput>) -> Result<(), LineRefusal>
+    ensures { Becomes out.new.items result (with_inputs out.old.items step (option_map (λ input. input ∷ []) (driven (words text.now)))) }
 {
-    let Some((kind, rest)) = first_word(text) else {
-        return Err(Refusal::BadLine);
-    };
-    if kind == b"rx".as_slice() {
-        return read_bytes(step, rest, out);
-    }
-    if kind != b"line".as_slice() {
-        return Err(Refusal::BadLine);
-    }
-    let Some(input) = driven(rest) else {
-        return Err(Refusal::BadLine);
+    let Some(input) = line_input(text) else {
+        return Err(LineRefusal::BadLine);
     };
     append(out, step, input)
 }
 
-/// The step of the last input, or 0.
+/// Reads the words following a step, and appends their inputs.
+#[tactic(auto, unfolding(crate::specs::Timed::inputs_of))]
+fn read_inputs(step: u64, text: &[u8], out: &mut Vec<TimedInput>) -> Result<(), LineRefusal>
+    ensures { Becomes out.new.items result (with_inputs out.old.items step (inputs_of (words text.now))) }
+{
+    let Some((kind, rest)) = first_word(text) else {
+        return Err(LineRefusal::BadLine);
+    };
+    match kind {
+        b"rx" => read_bytes(step, rest, out),
+        b"line" => read_level(step, rest, out),
+        _ => Err(LineRefusal::BadLine),
+    }
+}
+
+/// Returns the step of the last input, or 0 if there is none.
 #[tactic(auto, using(crate::proofs::Inputs::latest_is))]
-fn latest(inputs: &[TimedInput]) -> u64
-    ensures { result ≡ latest inputs.now }
+fn latest_step(inputs: &[TimedInput]) -> u64
+    ensures { result ≡ latest_step inputs.now }
 {
     match inputs {
         [] => 0,
@@ -80,20 +86,20 @@ fn latest(inputs: &[TimedInput]) -> u64
     }
 }
 
-/// Whether a step is below that of the last input.
+/// Returns whether a step is below that of the last input.
 fn falls(step: u64, before: &[TimedInput]) -> bool
-    ensures { result ≡ nat_lt step (latest before.now) }
+    ensures { result ≡ nat_lt step (latest_step before.now) }
 {
-    step < latest(before)
+    step < latest_step(before)
 }
 
-/// Appends the inputs of a line.
-pub fn read_line(line: &[u8], out: &mut Vec<TimedInput>) -> Result<(), Refusal>
+/// Reads a line, and appends its inputs.
+pub fn read_line(line: &[u8], out: &mut Vec<TimedInput>) -> Result<(), LineRefusal>
     requires { never_falls out.old.items ≡ true }
-    ensures { Becomes out.new.items result (behind out.old.items (said line.now)) }
+    ensures { Becomes out.new.items result (with_line out.old.items (said line.now)) }
 {
     if line.len() > LINE_LIMIT {
-        return Err(Refusal::BadLine);
+        return Err(LineRefusal::BadLine);
     }
     let Some((first, rest)) = first_word(line) else {
         return Ok(());
@@ -102,10 +108,10 @@ pub fn read_line(line: &[u8], out: &mut Vec<TimedInput>) -> Result<(), Refusal>
         return Ok(());
     }
     let Some(step) = step(first) else {
-        return Err(Refusal::BadLine);
+        return Err(LineRefusal::BadLine);
     };
     if falls(step, out) {
-        return Err(Refusal::BadLine);
+        return Err(LineRefusal::BadLine);
     }
     read_inputs(step, rest, out)
 }

@@ -1,19 +1,19 @@
 //! Timed lists.
 ghost use Rattle.rv_lists.specs.Timed.{IsRead};
 
+use crate::line_refusal::LineRefusal;
 use crate::reader::read_line;
-use crate::refusal::Refusal;
 use crate::{TimedInput, TimelineFault};
 use rv_base::cut_lines;
 use std::alloc::Global;
 use std::marker::Model;
 
-/// The inputs of a board, each with the number of the step that it comes before, which never falls; seen as their list.
+/// The timed inputs of a board, in order: their steps never fall. Its view is their list.
 pub struct Timeline {
     inputs: Vec<TimedInput>,
 }
 
-// Written out, so that to let it go is one call where it is owned, and not one for each of its parts.
+// Hand-written: a derived `Drop` would be proved anew at each exit (docs/PROVING.md).
 impl Drop for Timeline {
     fn drop(self) {
         let Timeline { inputs: _ } = self;
@@ -40,7 +40,8 @@ impl Timeline {
     ///
     /// # Errors
     ///
-    /// `BadLine` with the first refused line, counted from 1; `OutOfMemory` may come in place of any answer.
+    /// - `BadLine` with the number of the first refused line, counted from 1.
+    /// - `OutOfMemory` may come in place of any result.
     pub fn read(alloc: Global, text: &[u8]) -> Result<Timeline, TimelineFault>
         ensures { IsRead text.now result }
     {
@@ -50,14 +51,14 @@ impl Timeline {
             number += 1;
             match read_line(line, &mut inputs) {
                 Ok(()) => {}
-                Err(Refusal::BadLine) => return Err(TimelineFault::BadLine(number)),
-                Err(Refusal::OutOfMemory) => return Err(TimelineFault::OutOfMemory),
+                Err(LineRefusal::BadLine) => return Err(TimelineFault::BadLine(number)),
+                Err(LineRefusal::OutOfMemory) => return Err(TimelineFault::OutOfMemory),
             }
         }
         Ok(Timeline { inputs })
     }
 
-    /// The inputs in order: their steps never fall.
+    /// Returns the inputs in order: their steps never fall.
     pub fn inputs(&self) -> &[TimedInput]
         ensures value { result.now ≡ self.now }
         ensures rising { never_falls result.now ≡ true }
