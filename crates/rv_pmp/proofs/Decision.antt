@@ -26,14 +26,20 @@ use Rattle.rv_pmp.specs.Span.{span, span_of, holds, meets, no_bytes}
 
 -- the answer of the entry at a place, or of the rest
 step : Mode → Access → ℕ → ℕ → ActiveEntry → Option Bool → Option Bool
-step mode access first last a rest = if meets a.span first last then Some (holds a.span first last && entry_grants a.entry mode access) else rest
+step mode access first last a rest =
+    if meets a.span first last
+    then Some (holds a.span first last && entry_grants a.entry mode access) else rest
 
-step-some : (mode : Mode) (access : Access) (first last : ℕ) (a : ActiveEntry) (rest : Option Bool) (granted : Bool)
+step-some : (mode : Mode) (access : Access) (first last : ℕ) (a : ActiveEntry) (rest : Option Bool)
+    (granted : Bool)
     → entry_answer mode access first last a ≡ Some granted → step mode access first last a rest ≡ Some granted
 unfolding step
 step-some mode access first last a rest granted h = go (meets a.span first last) h where
-  go : (b : Bool) → (if b then Some (holds a.span first last && entry_grants a.entry mode access) else None) ≡ Some granted
-      → (if b then Some (holds a.span first last && entry_grants a.entry mode access) else rest) ≡ Some granted
+  go : (b : Bool)
+      → (if b then Some (holds a.span first last && entry_grants a.entry mode access) else None)
+      ≡ Some granted
+      → (if b then Some (holds a.span first last && entry_grants a.entry mode access) else rest)
+      ≡ Some granted
   go true h = h
   go false h = cc
 
@@ -41,27 +47,34 @@ step-none : (mode : Mode) (access : Access) (first last : ℕ) (a : ActiveEntry)
     → entry_answer mode access first last a ≡ None → step mode access first last a rest ≡ rest
 unfolding step
 step-none mode access first last a rest h = go (meets a.span first last) h where
-  go : (b : Bool) → (if b then Some (holds a.span first last && entry_grants a.entry mode access) else None) ≡ None
+  go : (b : Bool)
+      → (if b then Some (holds a.span first last && entry_grants a.entry mode access) else None) ≡ None
       → (if b then Some (holds a.span first last && entry_grants a.entry mode access) else rest) ≡ rest
   go true h = cc
   go false h = refl
 
-decision-drop : (mode : Mode) (access : Access) (first last : ℕ) (xs : List ActiveEntry) (i : ℕ) (a : ActiveEntry) → i < length xs
+decision-drop : (mode : Mode) (access : Access) (first last : ℕ) (xs : List ActiveEntry) (i : ℕ)
+    (a : ActiveEntry)
+    → i < length xs
     → decision mode access first last (drop i xs)
     ≡ step mode access first last (get_or xs i a) (decision mode access first last (drop (suc i) xs))
 unfolding decision step
 decision-drop mode access first last [] i a h = absurd (omega arith)
 decision-drop mode access first last (x ∷ xs) zero a h = refl
-decision-drop mode access first last (x ∷ xs) (suc i) a h = decision-drop mode access first last xs i a (omega arith)
+decision-drop mode access first last (x ∷ xs) (suc i) a h =
+    decision-drop mode access first last xs i a (omega arith)
 
-pub decision-entry_answer : (mode : Mode) (access : Access) (first last : ℕ) (xs : List ActiveEntry) (i : ℕ) (a : ActiveEntry) (granted : Bool)
+pub decision-entry_answer : (mode : Mode) (access : Access) (first last : ℕ) (xs : List ActiveEntry) (i : ℕ)
+    (a : ActiveEntry) (granted : Bool)
     → i < length xs → entry_answer mode access first last (get_or xs i a) ≡ Some granted
     → decision mode access first last (drop i xs) ≡ Some granted
 decision-entry_answer mode access first last xs i a granted h e =
     decision-drop mode access first last xs i a h
-    ∙ step-some mode access first last (get_or xs i a) (decision mode access first last (drop (suc i) xs)) granted e
+    ∙ step-some mode access first last (get_or xs i a)
+    (decision mode access first last (drop (suc i) xs)) granted e
 
-pub decision-passed : (mode : Mode) (access : Access) (first last : ℕ) (xs : List ActiveEntry) (i : ℕ) (a : ActiveEntry)
+pub decision-passed : (mode : Mode) (access : Access) (first last : ℕ) (xs : List ActiveEntry) (i : ℕ)
+    (a : ActiveEntry)
     → i < length xs → entry_answer mode access first last (get_or xs i a) ≡ None
     → decision mode access first last (drop (i + 1) xs) ≡ decision mode access first last (drop i xs)
 decision-passed mode access first last xs i a h e =
@@ -74,7 +87,8 @@ unfolding decision
 decision-end mode access first last [] zero h = refl
 decision-end mode access first last [] (suc i) h = refl
 decision-end mode access first last (x ∷ xs) zero h = absurd (omega arith)
-decision-end mode access first last (x ∷ xs) (suc i) h = decision-end mode access first last xs i (omega arith)
+decision-end mode access first last (x ∷ xs) (suc i) h =
+    decision-end mode access first last xs i (omega arith)
 
 -- ---- a region as a span
 
@@ -87,8 +101,10 @@ record IsWhole (s : Span) : Type 0 where
 whole_no_bytes : IsWhole no_bytes
 whole_no_bytes = record { first_word = refl; last_word = refl; some_byte = inr refl }
 
-whole_top : (b : Bool) (lower address : ℕ) → nat_lt lower address ≡ b → IsWhole (if b then record { first = 4 * lower; «end» = 4 * address } else no_bytes)
-whole_top true lower address e = record { first_word = omega arith; last_word = omega arith; some_byte = inl (grind (arith, nat_tests)) }
+whole_top : (b : Bool) (lower address : ℕ) → nat_lt lower address ≡ b
+    → IsWhole (if b then record { first = 4 * lower; «end» = 4 * address } else no_bytes)
+whole_top true lower address e =
+    record { first_word = omega arith; last_word = omega arith; some_byte = inl (grind (arith, nat_tests)) }
 whole_top false lower address e = whole_no_bytes
 
 pow_word : (k : ℕ) → (2 ^ (k + 3) % 4 ≡ 0) × (0 < 2 ^ (k + 3))
@@ -97,7 +113,8 @@ pow_word k = (omega (arith, pow-add 2 k 3), omega (arith, pow_pos (k + 3)))
 whole_span : (m : Matching) (lower address : ℕ) → IsWhole (span m lower address)
 whole_span Off lower address = whole_no_bytes
 whole_span Tor lower address = whole_top (nat_lt lower address) lower address refl
-whole_span Na4 lower address = record { first_word = omega arith; last_word = omega arith; some_byte = inl (omega arith) }
+whole_span Na4 lower address =
+    record { first_word = omega arith; last_word = omega arith; some_byte = inl (omega arith) }
 whole_span Napot lower address =
     let p = pow_word (trailing_ones 32 address) in
     record { first_word = omega arith; last_word = omega arith; some_byte = inl (omega arith) }
@@ -110,17 +127,21 @@ between_none : (f l byte : ℕ) → l ≤ f → is_between f l byte ≡ false
 between_none f l byte h = grind (arith, nat_tests)
 
 top_between : (b : Bool) (lower address byte : ℕ) → nat_lt lower address ≡ b
-    → is_between (4 * lower) (4 * address) byte ≡ is_between (if b then record { first = 4 * lower; «end» = 4 * address } else no_bytes).first (if b then record { first = 4 * lower; «end» = 4 * address } else no_bytes).«end» byte
+    → is_between (4 * lower) (4 * address) byte
+    ≡ is_between (if b then record { first = 4 * lower; «end» = 4 * address } else no_bytes).first
+    (if b then record { first = 4 * lower; «end» = 4 * address } else no_bytes).«end» byte
 top_between true lower address byte e = refl
 top_between false lower address byte e = grind (arith, nat_tests)
 
-matched-between : (m : Matching) (lower address byte : ℕ) → matched m lower address byte ≡ is_between (span m lower address).first (span m lower address).«end» byte
+matched-between : (m : Matching) (lower address byte : ℕ)
+    → matched m lower address byte ≡ is_between (span m lower address).first (span m lower address).«end» byte
 matched-between Off lower address byte = grind (arith, nat_tests)
 matched-between Tor lower address byte = top_between (nat_lt lower address) lower address byte refl
 matched-between Na4 lower address byte = refl
 matched-between Napot lower address byte = refl
 
-region-between : (lower : ℕ) (e : Entry) (byte : ℕ) → region lower e byte ≡ is_between (span_of lower e).first (span_of lower e).«end» byte
+region-between : (lower : ℕ) (e : Entry) (byte : ℕ)
+    → region lower e byte ≡ is_between (span_of lower e).first (span_of lower e).«end» byte
 unfolding region span_of
 region-between lower e byte = matched-between e.matching lower e.address byte
 
@@ -134,50 +155,68 @@ list_all-same : (p q : ℕ → Bool) → ((x : ℕ) → p x ≡ q x) → (xs : L
 list_all-same p q same [] = refl
 list_all-same p q same (x ∷ xs) = cc (same x, list_all-same p q same xs)
 
-any_between : (f l a n : ℕ) → list_any (is_between f l) (bytes_from a (suc n)) ≡ (nat_lt f l && (nat_lt f (a + suc n) && nat_lt a l))
+any_between : (f l a n : ℕ)
+    → list_any (is_between f l) (bytes_from a (suc n)) ≡ (nat_lt f l && (nat_lt f (a + suc n) && nat_lt a l))
 any_between f l a zero = grind (arith, nat_tests)
 any_between f l a (suc n) = grind (arith, nat_tests, any_between f l (a + 1) n)
 
-all_between : (f l a n : ℕ) → list_all (is_between f l) (bytes_from a (suc n)) ≡ (nat_le f a && nat_le (a + suc n) l)
+all_between : (f l a n : ℕ)
+    → list_all (is_between f l) (bytes_from a (suc n)) ≡ (nat_le f a && nat_le (a + suc n) l)
 all_between f l a zero = grind (arith, nat_tests)
 all_between f l a (suc n) = grind (arith, nat_tests, all_between f l (a + 1) n)
 
-any_meets : (s : Span) (a n : ℕ) → IsWhole s → list_any (is_between s.first s.«end») (bytes_from a (suc n)) ≡ meets s a (a + suc n)
-any_meets s a n w = any_between s.first s.«end» a n ∙ elim w.some_byte [ inl some ↦ grind (arith, nat_tests) | inr none ↦ grind (arith, nat_tests) ]
+any_meets : (s : Span) (a n : ℕ) → IsWhole s
+    → list_any (is_between s.first s.«end») (bytes_from a (suc n)) ≡ meets s a (a + suc n)
+any_meets s a n w =
+    any_between s.first s.«end» a n
+    ∙ elim w.some_byte [ inl some ↦ grind (arith, nat_tests) | inr none ↦ grind (arith, nat_tests) ]
 
-list_any-region : (lower : ℕ) (e : Entry) (a n : ℕ) → list_any (region lower e) (bytes_from a (suc n)) ≡ meets (span_of lower e) a (a + suc n)
-list_any-region lower e a n = list_any-same (region lower e) (is_between (span_of lower e).first (span_of lower e).«end») (region-between lower e) (bytes_from a (suc n)) ∙ any_meets (span_of lower e) a n (whole lower e)
+list_any-region : (lower : ℕ) (e : Entry) (a n : ℕ)
+    → list_any (region lower e) (bytes_from a (suc n)) ≡ meets (span_of lower e) a (a + suc n)
+list_any-region lower e a n =
+    list_any-same (region lower e) (is_between (span_of lower e).first (span_of lower e).«end»)
+    (region-between lower e) (bytes_from a (suc n))
+    ∙ any_meets (span_of lower e) a n (whole lower e)
 
-list_all-region : (lower : ℕ) (e : Entry) (a n : ℕ) → list_all (region lower e) (bytes_from a (suc n)) ≡ holds (span_of lower e) a (a + suc n)
-list_all-region lower e a n = list_all-same (region lower e) (is_between (span_of lower e).first (span_of lower e).«end») (region-between lower e) (bytes_from a (suc n)) ∙ all_between (span_of lower e).first (span_of lower e).«end» a n
+list_all-region : (lower : ℕ) (e : Entry) (a n : ℕ)
+    → list_all (region lower e) (bytes_from a (suc n)) ≡ holds (span_of lower e) a (a + suc n)
+list_all-region lower e a n =
+    list_all-same (region lower e) (is_between (span_of lower e).first (span_of lower e).«end»)
+    (region-between lower e) (bytes_from a (suc n))
+    ∙ all_between (span_of lower e).first (span_of lower e).«end» a n
 
 -- ---- the decision by spans is the one by regions
 
 -- an entry that matches no address meets no byte
-off_meets : (m : Matching) (lower address first last : ℕ) → is_matching m ≡ false → meets (span m lower address) first last ≡ false
+off_meets : (m : Matching) (lower address first last : ℕ) → is_matching m ≡ false
+    → meets (span m lower address) first last ≡ false
 off_meets Off lower address first last h = grind (arith, nat_tests)
 off_meets Tor lower address first last h = cc
 off_meets Na4 lower address first last h = cc
 off_meets Napot lower address first last h = cc
 
--- the decision of the entries from one on: the answer of that one, whether it matches addresses or not, or of the rest
+-- the decision of the entries from one on: the answer of that one, whether it matches addresses or not, or of
+-- the rest
 decision-more : (mode : Mode) (access : Access) (first last lower : ℕ) (e : Entry) (es : List Entry)
     → decision mode access first last (actives_from lower (e ∷ es))
-    ≡ step mode access first last (active_of lower e) (decision mode access first last (actives_from e.address es))
+    ≡ step mode access first last (active_of lower e)
+    (decision mode access first last (actives_from e.address es))
 unfolding decision actives_from step span_of
 decision-more mode access first last lower e es = go (is_matching e.matching) refl where
   rest : Option Bool
   rest = decision mode access first last (actives_from e.address es)
 
   go : (b : Bool) → is_matching e.matching ≡ b
-      → decision mode access first last (cond b (active_of lower e ∷ actives_from e.address es) (actives_from e.address es))
+      → decision mode access first last
+      (cond b (active_of lower e ∷ actives_from e.address es) (actives_from e.address es))
       ≡ step mode access first last (active_of lower e) rest
   go true m = refl
   go false m = rw (off_meets e.matching lower e.address first last m) refl
 
 pub decision-spans : (mode : Mode) (access : Access) (a n lower : ℕ) (es : List Entry)
     → unwrap_or (decision mode access a (a + suc n) (actives_from lower es)) (is_machine mode)
-    ≡ answer mode access (bytes_from a (suc n)) (find (λ g. list_any g.region (bytes_from a (suc n))) (guards_from lower es))
+    ≡ answer mode access (bytes_from a (suc n))
+    (find (λ g. list_any g.region (bytes_from a (suc n))) (guards_from lower es))
 unfolding decision actives_from guards_from step
 decision-spans mode access a n lower [] = refl
 decision-spans mode access a n lower (e ∷ es) =
@@ -187,9 +226,16 @@ decision-spans mode access a n lower (e ∷ es) =
     rest : Option Bool
     rest = decision mode access a (a + suc n) (actives_from e.address es)
 
-    go : (b : Bool) → unwrap_or rest (is_machine mode) ≡ answer mode access (bytes_from a (suc n)) (find (λ g. list_any g.region (bytes_from a (suc n))) (guards_from e.address es))
-        → unwrap_or (if b then Some (holds (span_of lower e) a (a + suc n) && entry_grants e mode access) else rest) (is_machine mode)
-        ≡ answer mode access (bytes_from a (suc n)) (cond b (Some (record { entry = e; region = region lower e })) (find (λ g. list_any g.region (bytes_from a (suc n))) (guards_from e.address es)))
+    go : (b : Bool)
+        → unwrap_or rest (is_machine mode)
+        ≡ answer mode access (bytes_from a (suc n))
+        (find (λ g. list_any g.region (bytes_from a (suc n))) (guards_from e.address es))
+        → unwrap_or
+        (if b then Some (holds (span_of lower e) a (a + suc n) && entry_grants e mode access) else rest)
+        (is_machine mode)
+        ≡ answer mode access (bytes_from a (suc n))
+        (cond b (Some (record { entry = e; region = region lower e }))
+        (find (λ g. list_any g.region (bytes_from a (suc n))) (guards_from e.address es)))
     go true h = ap (λ b. b && entry_grants e mode access) (sym (list_all-region lower e a n))
     go false h = h
 
@@ -213,7 +259,8 @@ decision-off mode access first last lower (e ∷ es) off =
     rw parts.0 (decision-off mode access first last e.address es parts.1)
 
 -- a span that has any byte of a part of a word has all of it
-word_held : (s : Span) (first last : ℕ) → IsWhole s → first < last → first % 4 + (last - first) ≤ 4 → meets s first last ≡ true → holds s first last ≡ true
+word_held : (s : Span) (first last : ℕ) → IsWhole s → first < last → first % 4 + (last - first) ≤ 4
+    → meets s first last ≡ true → holds s first last ≡ true
 word_held s first last w some within m =
     let parts = both (nat_lt s.first last) (nat_lt first s.«end») m in
     let below : s.first < last = ltb-true s.first last parts.0 in
@@ -232,20 +279,25 @@ unfolding decision actives_from step
 decision-word access first last lower [] free some within = refl
 decision-word access first last lower (e ∷ es) free some within =
     let parts = neither e.locked (some_locked es) free in
-    rw (decision-more Machine access first last lower e es) (go (meets (span_of lower e) first last) refl parts.0 (decision-word access first last e.address es parts.1 some within))
+    rw (decision-more Machine access first last lower e es)
+    (go (meets (span_of lower e) first last) refl parts.0
+    (decision-word access first last e.address es parts.1 some within))
   where
     rest : Option Bool
     rest = decision Machine access first last (actives_from e.address es)
 
     go : (b : Bool) → meets (span_of lower e) first last ≡ b → e.locked ≡ false → unwrap_or rest true ≡ true
-        → unwrap_or (if b then Some (holds (span_of lower e) first last && entry_grants e Machine access) else rest) true ≡ true
+        → unwrap_or
+        (if b then Some (holds (span_of lower e) first last && entry_grants e Machine access)
+        else rest) true ≡ true
     go true m l r = rw (word_held (span_of lower e) first last (whole lower e) some within m, l) refl
     go false m l r = r
 
 -- ---- the answer of the registers
 
 pub decision-grants : (pmp : PmpState) (mode : Mode) (access : Access) (first count : ℕ) → 0 < count
-    → unwrap_or (decision mode access first (first + count) (actives_from 0 pmp.entries)) (is_machine mode) ≡ grants pmp mode access first count
+    → unwrap_or (decision mode access first (first + count) (actives_from 0 pmp.entries)) (is_machine mode)
+    ≡ grants pmp mode access first count
 unfolding grants
 decision-grants pmp mode access first zero h = absurd (omega arith)
 decision-grants pmp mode access first (suc n) h = decision-spans mode access first n 0 pmp.entries
@@ -253,49 +305,68 @@ decision-grants pmp mode access first (suc n) h = decision-spans mode access fir
 pub grants-off : (pmp : PmpState) (mode : Mode) (access : Access) (first count : ℕ) → 0 < count
     → some_on pmp.entries ≡ false → grants pmp mode access first count ≡ is_machine mode
 grants-off pmp mode access first count h off =
-    sym (decision-grants pmp mode access first count h) ∙ ap (λ o. unwrap_or o (is_machine mode)) (decision-off mode access first (first + count) 0 pmp.entries off)
+    sym (decision-grants pmp mode access first count h)
+    ∙ ap (λ o. unwrap_or o (is_machine mode))
+    (decision-off mode access first (first + count) 0 pmp.entries off)
 
 pub grants-word : (pmp : PmpState) (access : Access) (first count : ℕ) → 0 < count
     → some_locked pmp.entries ≡ false → first % 4 + count ≤ 4 → grants pmp Machine access first count ≡ true
 grants-word pmp access first count h free within =
-    sym (decision-grants pmp Machine access first count h) ∙ decision-word access first (first + count) 0 pmp.entries free (omega arith) (omega arith)
+    sym (decision-grants pmp Machine access first count h)
+    ∙ decision-word access first (first + count) 0 pmp.entries free (omega arith) (omega arith)
 
 -- so if no entry is locked, machine mode is granted every aligned access
 pub grants-aligned : (pmp : PmpState) (access : Access) (first : ℕ) (w : Width)
     → locks pmp ≡ false → first % bytes_of w ≡ 0 → grants pmp Machine access first (bytes_of w) ≡ true
-grants-aligned pmp access first One free aligned = grants-word pmp access first 1 (omega arith) free (omega arith)
-grants-aligned pmp access first Two free aligned = grants-word pmp access first 2 (omega arith) free (omega arith)
-grants-aligned pmp access first Four free aligned = grants-word pmp access first 4 (omega arith) free (omega arith)
+grants-aligned pmp access first One free aligned =
+    grants-word pmp access first 1 (omega arith) free (omega arith)
+grants-aligned pmp access first Two free aligned =
+    grants-word pmp access first 2 (omega arith) free (omega arith)
+grants-aligned pmp access first Four free aligned =
+    grants-word pmp access first 4 (omega arith) free (omega arith)
 
 -- ---- bytes that are granted together are granted one by one
 
-any_byte : (p : ℕ → Bool) (first count i : ℕ) → i < count → list_any p (bytes_from first count) ≡ false → p (first + i) ≡ false
+any_byte : (p : ℕ → Bool) (first count i : ℕ) → i < count → list_any p (bytes_from first count) ≡ false
+    → p (first + i) ≡ false
 any_byte p first zero i h none = absurd (omega arith)
 any_byte p first (suc count) zero h none = rw add-zero ((neither (p first) _ none).0)
-any_byte p first (suc count) (suc i) h none = subst (λ a. p a ≡ false) (omega arith) (any_byte p (first + 1) count i (omega arith) ((neither (p first) _ none).1))
+any_byte p first (suc count) (suc i) h none =
+    subst (λ a. p a ≡ false) (omega arith)
+    (any_byte p (first + 1) count i (omega arith) ((neither (p first) _ none).1))
 
-all_bytes : (p : ℕ → Bool) (first count i : ℕ) → i < count → list_all p (bytes_from first count) ≡ true → p (first + i) ≡ true
+all_bytes : (p : ℕ → Bool) (first count i : ℕ) → i < count → list_all p (bytes_from first count) ≡ true
+    → p (first + i) ≡ true
 all_bytes p first zero i h all = absurd (omega arith)
 all_bytes p first (suc count) zero h all = rw add-zero ((both (p first) _ all).0)
-all_bytes p first (suc count) (suc i) h all = subst (λ a. p a ≡ true) (omega arith) (all_bytes p (first + 1) count i (omega arith) ((both (p first) _ all).1))
+all_bytes p first (suc count) (suc i) h all =
+    subst (λ a. p a ≡ true) (omega arith)
+    (all_bytes p (first + 1) count i (omega arith) ((both (p first) _ all).1))
 
 answer_of : Mode → Access → ℕ → ℕ → ℕ → List Entry → Bool
-answer_of mode access first count lower es = answer mode access (bytes_from first count) (find (λ g. list_any g.region (bytes_from first count)) (guards_from lower es))
+answer_of mode access first count lower es =
+    answer mode access (bytes_from first count)
+    (find (λ g. list_any g.region (bytes_from first count)) (guards_from lower es))
 
 answer_each : (mode : Mode) (access : Access) (first count i lower : ℕ) (es : List Entry) → i < count
     → answer_of mode access first count lower es ≡ true → answer_of mode access (first + i) 1 lower es ≡ true
 unfolding answer_of guards_from
 answer_each mode access first count i lower [] h granted = granted
 answer_each mode access first count i lower (e ∷ es) h granted =
-    go (list_any (region lower e) (bytes_from first count)) refl (answer_each mode access first count i e.address es h) granted
+    go (list_any (region lower e) (bytes_from first count)) refl
+    (answer_each mode access first count i e.address es h) granted
   where
     rest : ℕ → ℕ → Option Guard
     rest a n = find (λ g. list_any g.region (bytes_from a n)) (guards_from e.address es)
 
     go : (b : Bool) → list_any (region lower e) (bytes_from first count) ≡ b
-        → (answer mode access (bytes_from first count) (rest first count) ≡ true → answer mode access (bytes_from (first + i) 1) (rest (first + i) 1) ≡ true)
-        → answer mode access (bytes_from first count) (cond b (Some (record { entry = e; region = region lower e })) (rest first count)) ≡ true
-        → answer mode access (bytes_from (first + i) 1) (cond (region lower e (first + i) || false) (Some (record { entry = e; region = region lower e })) (rest (first + i) 1)) ≡ true
+        → (answer mode access (bytes_from first count) (rest first count) ≡ true
+        → answer mode access (bytes_from (first + i) 1) (rest (first + i) 1) ≡ true)
+        → answer mode access (bytes_from first count)
+        (cond b (Some (record { entry = e; region = region lower e })) (rest first count)) ≡ true
+        → answer mode access (bytes_from (first + i) 1)
+        (cond (region lower e (first + i) || false) (Some (record { entry = e; region = region lower e }))
+        (rest (first + i) 1)) ≡ true
     go true m tail r =
         let parts = both (list_all (region lower e) (bytes_from first count)) (entry_grants e mode access) r in
         let held = all_bytes (region lower e) first count i h parts.0 in
@@ -305,15 +376,21 @@ answer_each mode access first count i lower (e ∷ es) h granted =
 pub grants_each : (pmp : PmpState) (mode : Mode) (access : Access) (first count i : ℕ) → i < count
     → grants pmp mode access first count ≡ true → grants pmp mode access (first + i) 1 ≡ true
 unfolding grants answer_of
-grants_each pmp mode access first count i h granted = answer_each mode access first count i 0 pmp.entries h granted
+grants_each pmp mode access first count i h granted =
+    answer_each mode access first count i 0 pmp.entries h granted
 
 -- the answer of `allows`: that of the entry that decides, or that of the mode
-pub grants-some : (pmp : PmpState) (mode : Mode) (access : Access) (first count : ℕ) (granted : Bool) → 0 < count
-    → decision mode access first (first + count) (actives_from 0 pmp.entries) ≡ Some granted → grants pmp mode access first count ≡ granted
-grants-some pmp mode access first count granted h d = sym (decision-grants pmp mode access first count h) ∙ ap (λ o. unwrap_or o (is_machine mode)) d
+pub grants-some : (pmp : PmpState) (mode : Mode) (access : Access) (first count : ℕ) (granted : Bool)
+    → 0 < count
+    → decision mode access first (first + count) (actives_from 0 pmp.entries) ≡ Some granted
+    → grants pmp mode access first count ≡ granted
+grants-some pmp mode access first count granted h d =
+    sym (decision-grants pmp mode access first count h) ∙ ap (λ o. unwrap_or o (is_machine mode)) d
 
 pub grants-none : (pmp : PmpState) (mode : Mode) (access : Access) (first count : ℕ) → 0 < count
-    → decision mode access first (first + count) (actives_from 0 pmp.entries) ≡ None → grants pmp mode access first count ≡ is_machine mode
-grants-none pmp mode access first count h d = sym (decision-grants pmp mode access first count h) ∙ ap (λ o. unwrap_or o (is_machine mode)) d
+    → decision mode access first (first + count) (actives_from 0 pmp.entries) ≡ None
+    → grants pmp mode access first count ≡ is_machine mode
+grants-none pmp mode access first count h d =
+    sym (decision-grants pmp mode access first count h) ∙ ap (λ o. unwrap_or o (is_machine mode)) d
 
 pub ruleset quick_answers = (grants-off, grants-word, grants-some, grants-none)

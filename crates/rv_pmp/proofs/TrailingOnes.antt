@@ -24,7 +24,8 @@ trailing_ones-most (suc n) p = go (p % 2 == 1) (trailing_ones n (p / 2)) (traili
   go false k h = omega arith
 
 -- they are the trailing zeros of the complement
-pub count_trailing_zeros-complement : (n p : ℕ) → p < 2 ^ n → count_trailing_zeros n (2 ^ n - 1 - p) ≡ trailing_ones n p
+pub count_trailing_zeros-complement : (n p : ℕ) → p < 2 ^ n
+    → count_trailing_zeros n (2 ^ n - 1 - p) ≡ trailing_ones n p
 unfolding trailing_ones count_trailing_zeros
 count_trailing_zeros-complement zero p h = refl
 count_trailing_zeros-complement (suc n) p h =
@@ -34,7 +35,10 @@ count_trailing_zeros-complement (suc n) p h =
     let tail : count_trailing_zeros n (rest / 2) ≡ trailing_ones n (p / 2) = ap (count_trailing_zeros n) half ∙ count_trailing_zeros-complement n (p / 2) below in
     go (p % 2 == 1) refl (rest % 2) refl tail
   where
-    go : (b : Bool) → (p % 2 == 1) ≡ b → (r : ℕ) → (2 ^ suc n - 1 - p) % 2 ≡ r → count_trailing_zeros n ((2 ^ suc n - 1 - p) / 2) ≡ trailing_ones n (p / 2) → under r (count_trailing_zeros n ((2 ^ suc n - 1 - p) / 2)) ≡ if b then suc (trailing_ones n (p / 2)) else 0
+    go : (b : Bool) → (p % 2 == 1) ≡ b → (r : ℕ) → (2 ^ suc n - 1 - p) % 2 ≡ r
+        → count_trailing_zeros n ((2 ^ suc n - 1 - p) / 2) ≡ trailing_ones n (p / 2)
+        → under r (count_trailing_zeros n ((2 ^ suc n - 1 - p) / 2)) ≡ if b
+        then suc (trailing_ones n (p / 2)) else 0
     go true odd zero e t = ap suc t
     go true odd (suc r) e t = absurd (omega (arith, pow-suc 2 n, eqb-true (p % 2) 1 odd))
     go false even zero e t = absurd (grind (arith, nat_tests, pow-suc 2 n))

@@ -14,27 +14,34 @@ both : (a b : Bool) → (a && b) ≡ true → a ≡ true
 both true b h = refl
 both false b h = cc
 
-configured-readable : (e : Entry) (byte : ℕ) → (IsTrue e.writable → IsTrue e.readable) → IsTrue (configured e byte).writable → IsTrue (configured e byte).readable
+configured-readable : (e : Entry) (byte : ℕ) → (IsTrue e.writable → IsTrue e.readable)
+    → IsTrue (configured e byte).writable → IsTrue (configured e byte).readable
 unfolding configured
 configured-readable e byte h = go e.locked where
-  go : (b : Bool) → IsTrue (if b then e else with_fields e byte).writable → IsTrue (if b then e else with_fields e byte).readable
+  go : (b : Bool) → IsTrue (if b then e else with_fields e byte).writable
+      → IsTrue (if b then e else with_fields e byte).readable
   go true w = h w
   go false w = both (byte % 2 == 1) (byte / 2 % 2 == 1) w
 
-addressed-readable : (e : Entry) (word : ℕ) → (IsTrue e.writable → IsTrue e.readable) → IsTrue (addressed e word).writable → IsTrue (addressed e word).readable
+addressed-readable : (e : Entry) (word : ℕ) → (IsTrue e.writable → IsTrue e.readable)
+    → IsTrue (addressed e word).writable → IsTrue (addressed e word).readable
 unfolding addressed
 addressed-readable e word h = go e.locked where
-  go : (b : Bool) → IsTrue (if b then e else record e { address = word }).writable → IsTrue (if b then e else record e { address = word }).readable
+  go : (b : Bool) → IsTrue (if b then e else record e { address = word }).writable
+      → IsTrue (if b then e else record e { address = word }).readable
   go true w = h w
   go false w = h w
 
-changed-at : (es : List Entry) (place : ℕ) (f : Entry → Entry) (e : Entry) → place < length es → changed_at es place f ≡ slice_set es place (f (get_or es place e))
+changed-at : (es : List Entry) (place : ℕ) (f : Entry → Entry) (e : Entry) → place < length es
+    → changed_at es place f ≡ slice_set es place (f (get_or es place e))
 changed-at es place f e h = rw (slice_get-get_or es place e h) refl
 
-changed-past : (es : List Entry) (place : ℕ) (f : Entry → Entry) → length es ≤ place → changed_at es place f ≡ es
+changed-past : (es : List Entry) (place : ℕ) (f : Entry → Entry) → length es ≤ place
+    → changed_at es place f ≡ es
 changed-past es place f h = rw (slice_get_past es place h) refl
 
-pub with_config-at : (es : List Entry) (place byte : ℕ) (e : Entry) → place < length es → with_config es place byte ≡ slice_set es place (configured (get_or es place e) byte)
+pub with_config-at : (es : List Entry) (place byte : ℕ) (e : Entry) → place < length es
+    → with_config es place byte ≡ slice_set es place (configured (get_or es place e) byte)
 unfolding with_config
 with_config-at es place byte e h = changed-at es place (λ x. configured x byte) e h
 
@@ -42,29 +49,36 @@ pub with_config-past : (es : List Entry) (place byte : ℕ) → length es ≤ pl
 unfolding with_config
 with_config-past es place byte h = changed-past es place (λ x. configured x byte) h
 
-pub config-readable : (es : List Entry) (place byte : ℕ) (e : Entry) → place < length es → AllReadable es → AllReadable (slice_set es place (configured (get_or es place e) byte))
+pub config-readable : (es : List Entry) (place byte : ℕ) (e : Entry) → place < length es → AllReadable es
+    → AllReadable (slice_set es place (configured (get_or es place e) byte))
 config-readable es place byte e h all =
-    All-set IsReadable es place (configured (get_or es place e) byte) (configured-readable (get_or es place e) byte (All-get_or IsReadable es place e h all)) all
+    All-set IsReadable es place (configured (get_or es place e) byte)
+    (configured-readable (get_or es place e) byte (All-get_or IsReadable es place e h all)) all
 
-pub with_address-at : (es : List Entry) (place word : ℕ) (e : Entry) → place < length es → is_locked_top es (place + 1) ≡ false
+pub with_address-at : (es : List Entry) (place word : ℕ) (e : Entry) → place < length es
+    → is_locked_top es (place + 1) ≡ false
     → with_address es place word ≡ slice_set es place (addressed (get_or es place e) word)
 unfolding with_address
 with_address-at es place word e h free = rw free (changed-at es place (λ x. addressed x word) e h)
 
-pub with_address-locked : (es : List Entry) (place word : ℕ) → is_locked_top es (place + 1) ≡ true → with_address es place word ≡ es
+pub with_address-locked : (es : List Entry) (place word : ℕ) → is_locked_top es (place + 1) ≡ true
+    → with_address es place word ≡ es
 unfolding with_address
 with_address-locked es place word locked = rw locked refl
 
-pub with_address-past : (es : List Entry) (place word : ℕ) → length es ≤ place → with_address es place word ≡ es
+pub with_address-past : (es : List Entry) (place word : ℕ) → length es ≤ place
+    → with_address es place word ≡ es
 unfolding with_address
 with_address-past es place word h = go (is_locked_top es (place + 1)) where
   go : (b : Bool) → (if b then es else changed_at es place (λ x. addressed x word)) ≡ es
   go true = refl
   go false = changed-past es place (λ x. addressed x word) h
 
-pub address-readable : (es : List Entry) (place word : ℕ) (e : Entry) → place < length es → AllReadable es → AllReadable (slice_set es place (addressed (get_or es place e) word))
+pub address-readable : (es : List Entry) (place word : ℕ) (e : Entry) → place < length es → AllReadable es
+    → AllReadable (slice_set es place (addressed (get_or es place e) word))
 address-readable es place word e h all =
-    All-set IsReadable es place (addressed (get_or es place e) word) (addressed-readable (get_or es place e) word (All-get_or IsReadable es place e h all)) all
+    All-set IsReadable es place (addressed (get_or es place e) word)
+    (addressed-readable (get_or es place e) word (All-get_or IsReadable es place e h all)) all
 
 pub ruleset config_steps = (with_config-at, with_config-past, config-readable)
 

@@ -1,4 +1,5 @@
--- The entries that match addresses, with their spans, and the decision by them: what the code keeps beside the registers.
+-- The entries that match addresses, with their spans, and the decision by them: what the code keeps beside
+-- the registers.
 -- Not to audit: private contracts alone cite this.
 use Rattle.std.specs.Prelude.{◌≡◌, ℕ, ◌&&◌, if◌then◌else◌, Bool, true, false, Option, Some, None, List, [], ◌∷◌}
 use Rattle.std.specs.List.{list_any}
@@ -61,5 +62,6 @@ entry_answer mode access first end active =
 unfoldable pub decision : Mode → Access → ℕ → ℕ → List ActiveEntry → Option Bool
 decision mode access first end [] = None
 decision mode access first end (active ∷ actives) =
-    if meets active.span first end then Some (holds active.span first end && entry_grants active.entry mode access)
+    if meets active.span first end
+    then Some (holds active.span first end && entry_grants active.entry mode access)
     else decision mode access first end actives

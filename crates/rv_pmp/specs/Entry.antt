@@ -11,7 +11,8 @@ use Rattle.rv_pmp.specs.declared.entry.Matching.TheVariants.{Off, Tor, Na4, Napo
 use Rattle.rv_pmp.specs.declared.mode.Mode.{Mode}
 use Rattle.rv_pmp.specs.Mode.{is_machine}
 
--- ---- the configuration byte: R in bit 0, W in bit 1, X in bit 2, A in bits 4 and 3, L in bit 7; bits 6 and 5 are zero
+-- ---- the configuration byte: R in bit 0, W in bit 1, X in bit 2, A in bits 4 and 3, L in bit 7; bits 6 and
+-- 5 are zero
 
 -- the value of the field A
 abbrev pub matching_code : Matching → ℕ
@@ -62,8 +63,8 @@ permits entry Read = entry.readable
 permits entry Write = entry.writable
 permits entry Execute = entry.executable
 
--- whether the entry grants an access whose bytes are all in its region: an entry that isn't locked lets machine mode do
--- everything; otherwise the bit decides
+-- whether the entry grants an access whose bytes are all in its region: an entry that isn't locked lets
+-- machine mode do everything; otherwise the bit decides
 abbrev pub entry_grants : Entry → Mode → Access → Bool
 entry_grants entry mode access = (is_machine mode && not entry.locked) || permits entry access
 
@@ -78,9 +79,10 @@ unfoldable pub trailing_ones : ℕ → ℕ → ℕ
 trailing_ones zero number = 0
 trailing_ones (suc n) number = if number % 2 == 1 then suc (trailing_ones n (number / 2)) else 0
 
--- whether a byte is matched, where `lower` is the address register of the entry before; an address register holds an
--- address divided by 4. TOR: the bytes from the address of the entry before up to but not including the entry's own. NA4:
--- the four bytes at its address. NAPOT with k trailing ones: the 2 ^ (k + 3) bytes from its address without these ones on
+-- whether a byte is matched, where `lower` is the address register of the entry before; an address register
+-- holds an address divided by 4. TOR: the bytes from the address of the entry before up to but not including
+-- the entry's own. NA4: the four bytes at its address. NAPOT with k trailing ones: the 2 ^ (k + 3) bytes from
+-- its address without these ones on
 abbrev pub matched : Matching → ℕ → ℕ → ℕ → Bool
 matched Off lower address byte = false
 matched Tor lower address byte = is_between (4 * lower) (4 * address) byte

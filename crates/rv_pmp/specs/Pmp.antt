@@ -1,4 +1,5 @@
--- Physical memory protection: its registers, and what they grant. RISC-V Privileged Architecture 20211203, section 3.7.1.
+-- Physical memory protection: its registers, and what they grant. RISC-V Privileged Architecture 20211203,
+-- section 3.7.1.
 -- To audit: public contracts cite this.
 use Rattle.std.specs.Prelude.{◌≡◌, ℕ, zero, suc, ◌+◌, ◌-◌, ◌*◌, ◌/◌, ◌%◌, ◌^◌, Bool, false, ◌&&◌, nat_le, if◌then◌else◌, IsTrue, List, [], ◌∷◌, replicate, All, find, slice_get, slice_set, Option, Some, None}
 use Rattle.std.specs.List.{list_any, list_all}
@@ -18,7 +19,8 @@ pub record PmpState : Type 0 where
 
 -- an entry that matches nothing
 abbrev pub off_entry : Entry
-off_entry = record { address = 0; readable = false; writable = false; executable = false; locked = false; matching = Off }
+off_entry =
+    record { address = 0; readable = false; writable = false; executable = false; locked = false; matching = Off }
 
 -- the registers after a reset: sixteen entries
 abbrev pub reset : PmpState
@@ -41,22 +43,23 @@ pub record Guard : Type 0 where
 -- each entry with its region; `lower` is the address register of the entry before
 unfoldable pub guards_from : ℕ → List Entry → List Guard
 guards_from lower [] = []
-guards_from lower (entry ∷ entries) = record { entry = entry; region = region lower entry } ∷ guards_from entry.address entries
+guards_from lower (entry ∷ entries) =
+    record { entry = entry; region = region lower entry } ∷ guards_from entry.address entries
 
 -- the bytes of an access: `count` bytes from `first` on
 abbrev pub bytes_from : ℕ → ℕ → List ℕ
 bytes_from first zero = []
 bytes_from first (suc count) = first ∷ bytes_from (first + 1) count
 
--- whether the access is granted, by the entry that decides: its region has to hold all bytes. Without such an entry only
--- machine mode is granted the access
+-- whether the access is granted, by the entry that decides: its region has to hold all bytes. Without such an
+-- entry only machine mode is granted the access
 abbrev pub answer : Mode → Access → List ℕ → Option Guard → Bool
 answer mode access bytes None = is_machine mode
 answer mode access bytes (Some guard) =
     list_all guard.region bytes && entry_grants guard.entry mode access
 
--- whether a mode is granted an access to `count` bytes from `first` on: the lowest-numbered entry whose region has any of
--- these bytes decides
+-- whether a mode is granted an access to `count` bytes from `first` on: the lowest-numbered entry whose
+-- region has any of these bytes decides
 unfoldable pub grants : PmpState → Mode → Access → ℕ → ℕ → Bool
 grants pmp mode access first count =
     let bytes = bytes_from first count in
@@ -66,8 +69,8 @@ grants pmp mode access first count =
 abbrev pub locks : PmpState → Bool
 locks pmp = list_any (λ entry. entry.locked) pmp.entries
 
--- ---- the registers: pmpcfg0 to pmpcfg3, each with the configuration bytes of four entries, low byte first; and pmpaddr0
--- to pmpaddr15
+-- ---- the registers: pmpcfg0 to pmpcfg3, each with the configuration bytes of four entries, low byte first;
+-- and pmpaddr0 to pmpaddr15
 
 -- the register at an address of the control registers, if there is one
 unfoldable pub register_at : ℕ → Option PmpRegister
@@ -92,7 +95,8 @@ word_of pmp (Address place) = address_at pmp place
 
 -- the entries with the one at a place changed, if there is one
 abbrev pub changed_at : List Entry → ℕ → (Entry → Entry) → List Entry
-changed_at entries place change = option_map_or (λ entry. slice_set entries place (change entry)) (slice_get entries place) entries
+changed_at entries place change =
+    option_map_or (λ entry. slice_set entries place (change entry)) (slice_get entries place) entries
 
 -- byte i of a word, from 0 for the lowest
 abbrev pub byte_of : ℕ → ℕ → ℕ
@@ -104,9 +108,11 @@ with_config entries place byte = changed_at entries place (λ entry. configured 
 
 -- whether the entry at a place is locked and its region begins at the address of the entry before
 unfoldable pub is_locked_top : List Entry → ℕ → Bool
-is_locked_top entries place = option_map_or (λ entry. entry.locked && is_top entry.matching) (slice_get entries place) false
+is_locked_top entries place =
+    option_map_or (λ entry. entry.locked && is_top entry.matching) (slice_get entries place) false
 
--- the entries after a write to the address register of the one at a place: unchanged if a locked region begins there
+-- the entries after a write to the address register of the one at a place: unchanged if a locked region
+-- begins there
 unfoldable pub with_address : List Entry → ℕ → ℕ → List Entry
 with_address entries place word =
     if is_locked_top entries (place + 1) then entries
@@ -127,7 +133,8 @@ load pmp addr = option_map (word_of pmp) (register_at addr)
 
 -- the registers after a write at an address, if a register is there
 unfoldable pub store : PmpState → ℕ → ℕ → Option PmpState
-store pmp addr word = option_map (λ register. record { entries = with_word pmp.entries register word }) (register_at addr)
+store pmp addr word =
+    option_map (λ register. record { entries = with_word pmp.entries register word }) (register_at addr)
 
 -- the result of a write at an address, and the registers after it: None if no register is there
 abbrev pub Stores : PmpState → ℕ → ℕ → PmpState → Option Unit → Type 0

@@ -21,7 +21,8 @@ meets span first end = nat_lt span.first end && nat_lt first span.end
 -- the region of an entry that matches in this way, where `lower` is the address register of the entry before
 abbrev pub span : Matching → ℕ → ℕ → Span
 span Off lower address = no_bytes
-span Tor lower address = if nat_lt lower address then record { first = 4 * lower; end = 4 * address } else no_bytes
+span Tor lower address =
+    if nat_lt lower address then record { first = 4 * lower; end = 4 * address } else no_bytes
 span Na4 lower address = record { first = 4 * address; end = 4 * address + 4 }
 span Napot lower address =
     let k = trailing_ones 32 address in

@@ -34,8 +34,8 @@ impl ActiveEntry {
         }
     }
 
-    /// Returns whether the entry grants the bytes from `first` up to but not including `end`, or None if it has none of
-    /// them.
+    /// Returns whether the entry grants the bytes from `first` up to but not including `end`, or None if it
+    /// has none of them.
     pub(crate) fn answer(&self, mode: Mode, access: Access, first: u64, end: u64) -> Option<bool>
         ensures { result ≡ entry_answer mode access first end self.now }
     {
@@ -45,7 +45,8 @@ impl ActiveEntry {
         Some(self.span.holds(first, end) && self.entry.grants(mode, access))
     }
 
-    /// Returns the part of `free`, the bytes that no entry before has, in which this entry grants user mode the access.
+    /// Returns the part of `free`, the bytes that no entry before has, in which this entry grants user mode
+    /// the access.
     pub(crate) fn permitted_part(&self, access: Access, free: Span) -> Span
         ensures { result ≡ spec.permitted_part self.now access free }
     {

@@ -6,13 +6,14 @@ ghost use Rattle.rv_pmp.specs.ActiveEntries.{is_matching};
 
 use crate::{Access, Mode};
 
-/// The ways to match addresses: the field A of a configuration byte. Privileged Architecture 20211203, section 3.7.1.
+/// The ways to match addresses: the field A of a configuration byte. Privileged Architecture 20211203,
+/// section 3.7.1.
 #[derive(Clone, Copy)]
 pub enum Matching {
     /// OFF: no byte.
     Off,
-    /// TOR: the bytes from the address of the entry before, or from 0 for the first entry, up to but not including the
-    /// entry's own address.
+    /// TOR: the bytes from the address of the entry before, or from 0 for the first entry, up to but not
+    /// including the entry's own address.
     Tor,
     /// NA4: the four bytes at the entry's address.
     Na4,
@@ -54,8 +55,8 @@ impl Matching {
     }
 }
 
-/// An entry as its registers hold it: the address register, and the fields of the configuration byte. Privileged
-/// Architecture 20211203, section 3.7.1.
+/// An entry as its registers hold it: the address register, and the fields of the configuration byte.
+/// Privileged Architecture 20211203, section 3.7.1.
 #[derive(Clone, Copy)]
 pub struct Entry {
     /// The address register: an address divided by 4.
@@ -102,8 +103,8 @@ impl Entry {
             + self.locked as u8 * 128
     }
 
-    /// Returns the entry after a write to its configuration byte. A locked entry stays as it is, and W is kept only
-    /// together with R.
+    /// Returns the entry after a write to its configuration byte. A locked entry stays as it is, and W is
+    /// kept only together with R.
     #[tactic(auto, unfolding(crate::specs::Entry::configured))]
     pub(crate) fn with_config(self, byte: u8) -> Entry
         ensures { result ≡ spec.configured self byte }

@@ -24,8 +24,9 @@ pub(crate) const ENTRIES: usize = 16;
 
 /// The registers of physical memory protection.
 ///
-/// What most accesses need is computed when a register is written: the entries that match addresses, with the spans of
-/// their regions, and whether any entry is on or locked. The permission cache answers most accesses of user mode.
+/// What most accesses need is computed when a register is written: the entries that match addresses, with the
+/// spans of their regions, and whether any entry is on or locked. The permission cache answers most accesses
+/// of user mode.
 #[derive(Drop)]
 pub struct Pmp {
     entries: [Entry; ENTRIES],
@@ -77,9 +78,9 @@ impl Pmp {
         PmpRegister::at(addr).map(|register| self.word(register))
     }
 
-    /// Writes the control register at address `addr`. The registers of a locked entry stay as they are, and so does the
-    /// address at which the region of a locked entry begins. Returns None, and changes nothing, if no register of
-    /// protection is there.
+    /// Writes the control register at address `addr`. The registers of a locked entry stay as they are, and
+    /// so does the address at which the region of a locked entry begins. Returns None, and changes nothing,
+    /// if no register of protection is there.
     #[tactic(auto, unfolding(crate::specs::Pmp::store))]
     pub fn write_csr(&mut self, addr: u16, value: u32) -> Option<()>
         ensures stored { Stores self.old addr value self.new result }
@@ -118,7 +119,8 @@ impl Pmp {
         self.entries.get(place).map_or(0, |entry| entry.config())
     }
 
-    /// Whether any entry is locked. If none is, machine mode is granted every access at a multiple of its width.
+    /// Whether any entry is locked. If none is, machine mode is granted every access at a multiple of its
+    /// width.
     pub fn locks(&self) -> bool
         ensures { result ≡ locks self.now }
     {
@@ -137,7 +139,8 @@ impl Pmp {
         self.entries_grant(mode, access, addr, width)
     }
 
-    /// Whether the entries grant the access. Out of line, so that `allows` stays short for when no entry is on.
+    /// Whether the entries grant the access. Out of line, so that `allows` stays short for when no entry is
+    /// on.
     #[inline(never)]
     #[tactic(auto, using(crate::proofs::Decision::quick_answers))]
     fn entries_grant(&self, mode: Mode, access: Access, addr: u32, width: Width) -> bool
@@ -160,8 +163,9 @@ impl Pmp {
         }
     }
 
-    /// Returns what `allows` does, by the permission cache. If user mode is granted an access, the cache keeps the span
-    /// round it in which user mode is granted all accesses of that kind, so that the next ones there ask no entry.
+    /// Returns what `allows` does, by the permission cache. If user mode is granted an access, the cache
+    /// keeps the span round it in which user mode is granted all accesses of that kind, so that the next ones
+    /// there ask no entry.
     #[inline(always)]
     #[tactic(auto, using(crate::proofs::Widest::granted_within))]
     pub fn admits(&mut self, mode: Mode, access: Access, addr: u32, width: Width) -> bool
@@ -179,8 +183,8 @@ impl Pmp {
         }
     }
 
-    /// Whether the entries grant user mode the access, which is outside of the span in the permission cache. Out of line,
-    /// since few accesses are.
+    /// Whether the entries grant user mode the access, which is outside of the span in the permission cache.
+    /// Out of line, since few accesses are.
     #[inline(never)]
     #[tactic(auto, using(crate::proofs::Widest::holds_widest))]
     fn admits_user(&mut self, access: Access, addr: u32, width: Width) -> bool
@@ -196,8 +200,8 @@ impl Pmp {
         granted
     }
 
-    /// Returns the widest span round `addr` in which user mode is granted all accesses of a kind: no bytes if it isn't
-    /// granted the byte at `addr`.
+    /// Returns the widest span round `addr` in which user mode is granted all accesses of a kind: no bytes if
+    /// it isn't granted the byte at `addr`.
     #[tactic(auto, using(crate::proofs::Widest::widest_clauses))]
     fn widest_user_span(&self, access: Access, addr: u32) -> Span
         ensures granted { IsGranted self.now access result }
@@ -253,7 +257,8 @@ fn set_config(entries: &mut [Entry; ENTRIES], place: usize, byte: u8)
     }
 }
 
-/// Writes the address register of the entry at `place`, if there is one, unless a locked region begins at that address.
+/// Writes the address register of the entry at `place`, if there is one, unless a locked region begins at
+/// that address.
 #[tactic(auto, using(crate::proofs::Writes::address_steps))]
 fn set_address(entries: &mut [Entry; ENTRIES], place: usize, word: u32)
     requires small { place < 2 ^ 8 }
@@ -279,11 +284,13 @@ fn is_locked_top(entries: &[Entry; ENTRIES], place: usize) -> bool
 /// Law: bytes that are granted together are granted one by one.
 #[tactic(auto, using(crate::proofs::Decision::grants_each))]
 pub fn bytes_are_granted_alone()
-    ensures { (pmp : PmpState) (mode : Mode) (access : Access) (first count i : ℕ)
-        → i < count → grants pmp mode access first count ≡ true → grants pmp mode access (first + i) 1 ≡ true }
+    ensures { (pmp : PmpState) (mode : Mode) (access : Access) (first count i : ℕ) → i < count
+        → grants pmp mode access first count ≡ true
+        → grants pmp mode access (first + i) 1 ≡ true }
 {}
 
-/// Returns the answer of the first entry that has some of the bytes from `first` up to but not including `end`.
+/// Returns the answer of the first entry that has some of the bytes from `first` up to but not including
+/// `end`.
 fn decide(actives: &[ActiveEntry], mode: Mode, access: Access, first: u64, end: u64) -> Option<bool>
     ensures { result ≡ decision mode access first end actives.now }
 {
@@ -295,8 +302,8 @@ fn decide(actives: &[ActiveEntry], mode: Mode, access: Access, first: u64, end: 
     None
 }
 
-/// Returns the widest span round `addr` in which the entries grant user mode the access: the permitted part, of the first
-/// entry that has `addr`, of the bytes that no entry before it has.
+/// Returns the widest span round `addr` in which the entries grant user mode the access: the permitted part,
+/// of the first entry that has `addr`, of the bytes that no entry before it has.
 fn widest_span(actives: &[ActiveEntry], access: Access, addr: u64) -> Span
     requires small { addr < 2 ^ 64 - 1 }
     requires forward { AreForward actives.now }

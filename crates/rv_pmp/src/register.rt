@@ -2,7 +2,8 @@
 ghost use Rattle.std.specs.Prelude.{◌≡◌};
 ghost use Rattle.rv_pmp.specs.Pmp.{register_at};
 
-/// A control register of protection, with the entry that it belongs to: the first of four for a configuration register.
+/// A control register of protection, with the entry that it belongs to: the first of four for a configuration
+/// register.
 #[derive(Clone, Copy)]
 pub enum PmpRegister {
     /// One of pmpcfg0 to pmpcfg3: the configuration bytes of four entries from this one on, low byte first.
@@ -12,7 +13,8 @@ pub enum PmpRegister {
 }
 
 impl PmpRegister {
-    /// Returns the register at address `addr` of the control registers, or None if no register of protection is there.
+    /// Returns the register at address `addr` of the control registers, or None if no register of protection
+    /// is there.
     #[tactic(auto, unfolding(crate::specs::Pmp::register_at))]
     pub(crate) fn at(addr: u16) -> Option<PmpRegister>
         ensures { result ≡ register_at addr }

@@ -4,7 +4,8 @@ use Rattle.rv_pmp.specs.Entry.{trailing_ones}
 use Rattle.rv_pmp.proofs.span.trailing_ones.Goals as goal
 
 pub returns-clause-value : goal.returns-clause-value
-returns-clause-value c = c.trailing_ones.ensures ∙ count_trailing_zeros-complement 32 c.args.number (omega arith)
+returns-clause-value c =
+    c.trailing_ones.ensures ∙ count_trailing_zeros-complement 32 c.args.number (omega arith)
 
 pub returns-clause-below : goal.returns-clause-below
 returns-clause-below c =
