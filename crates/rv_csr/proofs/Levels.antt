@@ -56,13 +56,19 @@ register_at-user addr h =
 protection-user : (addr : ℕ) → addr / 2 ^ 8 % 4 ≡ 0 → protection.register_at addr ≡ None
 unfolding protection.register_at
 protection-user addr h =
-    rw (other_range addr 0x3 0xA0 0xA3 h refl (omega arith) (omega arith), other_range addr 0x3 0xB0 0xBF h refl (omega arith) (omega arith)) refl
+    rw (
+      other_range addr 0x3 0xA0 0xA3 h refl (omega arith)
+          (omega arith),
+      other_range addr 0x3 0xB0 0xBF h refl (omega arith) (omega arith),
+    ) refl
 
 -- ---- so user mode may access none, neither one of the table nor one of protection
 
-pub no_register : {A : Type 0} (x : Option A) (addr : ℕ) (mode : Mode) (found : Option Register) (register : Register)
+pub no_register : {A : Type 0} (x : Option A) (addr : ℕ) (mode : Mode) (found : Option Register)
+    (register : Register)
     → may_read addr mode ≡ true → mode ≡ User → found ≡ register_at addr → found ≡ Some register → x ≡ None
-no_register x addr mode found register may user at is = let none = register_at-user addr (level_0 addr (rw user at may)) in cc
+no_register x addr mode found register may user at is =
+    let none = register_at-user addr (level_0 addr (rw user at may)) in cc
 
 pub no_load : (pmp : PmpState) (addr : ℕ) (mode : Mode) (result : Option ℕ)
     → may_read addr mode ≡ true → mode ≡ User → result ≡ protection.load pmp addr → result ≡ None
@@ -79,7 +85,10 @@ pub no_store : (old : PmpState) (addr word : ℕ) (new : PmpState) (mode : Mode)
     → may_write addr mode ≡ true → mode ≡ User → protection.Stores old addr word new result → result ≡ None
 unfolding protection.store
 no_store old addr word new mode (Some done) may user stores = let none = protection-user addr (level_0 addr (rw user at (may_read-from_write addr mode may))) in absurd (gone none stores) where
-  gone : protection.register_at addr ≡ None → option_map (λ register. record { entries = protection.with_word old.entries register word }) (protection.register_at addr) ≡ Some new → ⊥
+  gone : protection.register_at addr ≡ None
+      → option_map (λ register. record { entries = protection.with_word old.entries register word })
+      (protection.register_at addr) ≡ Some new
+      → ⊥
   gone none e = let q = rw none at e in cc
 no_store old addr word new mode None may user stores = refl
 
@@ -88,7 +97,8 @@ pub nothing_read : (state : CsrState) (addr : ℕ) (lines : InterruptLines) → 
 unfolding read protection.load
 nothing_read state addr lines = by_level (may_read addr User) refl
   where
-    by_level : (b : Bool) → may_read addr User ≡ b → (if b then value_at state lines addr (register_at addr) else None) ≡ None
+    by_level : (b : Bool) → may_read addr User ≡ b
+        → (if b then value_at state lines addr (register_at addr) else None) ≡ None
     by_level true may =
         ap (value_at state lines addr) (register_at-user addr (level_0 addr may))
         ∙ ap (option_map (protection.word_of state.pmp)) (protection-user addr (level_0 addr may))

@@ -1,5 +1,5 @@
--- The table of the control registers: their addresses, the value of a read, the state after a write, and which modes may
--- do either.
+-- The table of the control registers: their addresses, the value of a read, the state after a write, and
+-- which modes may do either.
 -- RISC-V Privileged Architecture 20211203, section 2.1 for the addresses and 3.1 for the registers.
 -- To audit: public contracts cite this.
 use Rattle.std.specs.Prelude.{◌≡◌, ℕ, ◌+◌, ◌*◌, ◌/◌, ◌%◌, ◌^◌, Bool, false, ◌==◌, ◌&&◌, ◌||◌, not, nat_le, if◌then◌else◌, Option, Some, None}
@@ -22,11 +22,13 @@ use Rattle.rv_csr.specs.declared.mstatus.Mstatus as mstatus
 abbrev pub is_from_to : ℕ → ℕ → ℕ → Bool
 is_from_to first last addr = nat_le first addr && nat_le addr last
 
--- whether a register is one that reads 0. These ignore writes: mcounteren, menvcfg, mstatush, menvcfgh, mcountinhibit, mhpmevent3
--- to 31, mhpmcounter3 to 31 and their high halves. These are read-only: mvendorid, marchid, mimpid, mhartid, mconfigptr
+-- whether a register is one that reads 0. These ignore writes: mcounteren, menvcfg, mstatush, menvcfgh,
+-- mcountinhibit, mhpmevent3 to 31, mhpmcounter3 to 31 and their high halves. These are read-only: mvendorid,
+-- marchid, mimpid, mhartid, mconfigptr
 abbrev pub is_zero : ℕ → Bool
 is_zero addr =
-    (addr == 0x306) || (addr == 0x30A) || (addr == 0x310) || (addr == 0x31A) || (addr == 0x320) || is_from_to 0x323 0x33F addr
+    (addr == 0x306) || (addr == 0x30A) || (addr == 0x310) || (addr == 0x31A) || (addr == 0x320)
+    || is_from_to 0x323 0x33F addr
     || is_from_to 0xB03 0xB1F addr || is_from_to 0xB83 0xB9F addr || is_from_to 0xF11 0xF15 addr
 
 -- the register at an address, if there is one that isn't of physical memory protection
@@ -53,8 +55,8 @@ abbrev pub level : Mode → ℕ
 level User = 0
 level Machine = 3
 
--- whether a mode may read, and write, at an address: bits 9 and 8 are the lowest level that may access it, and if bits 11
--- and 10 are both 1 it is read-only
+-- whether a mode may read, and write, at an address: bits 9 and 8 are the lowest level that may access it,
+-- and if bits 11 and 10 are both 1 it is read-only
 abbrev pub may_read : ℕ → Mode → Bool
 may_read addr mode = nat_le (addr / 2 ^ 8 % 4) (level mode)
 
@@ -152,7 +154,8 @@ value_at state lines addr None = protection.load state.pmp addr
 
 abbrev pub with_value_at : CsrState → ℕ → ℕ → Option Register → Option CsrState
 with_value_at state addr word (Some register) = Some (with_value state register word)
-with_value_at state addr word None = option_map (λ pmp. record state { pmp = pmp }) (protection.store state.pmp addr word)
+with_value_at state addr word None =
+    option_map (λ pmp. record state { pmp = pmp }) (protection.store state.pmp addr word)
 
 -- the value that a mode reads at an address, while the interrupt lines have these levels; None if it may not
 unfoldable pub read : CsrState → ℕ → Mode → InterruptLines → Option ℕ
@@ -160,7 +163,8 @@ read state addr mode lines = if may_read addr mode then value_at state lines add
 
 -- the state after a mode's write at an address; None if it may not
 unfoldable pub write : CsrState → ℕ → Mode → ℕ → Option CsrState
-write state addr mode word = if may_write addr mode then with_value_at state addr word (register_at addr) else None
+write state addr mode word =
+    if may_write addr mode then with_value_at state addr word (register_at addr) else None
 
 -- the result of a write, and the state after it: unchanged if the mode may not write
 abbrev pub Writes : CsrState → ℕ → Mode → ℕ → CsrState → Option Unit → Type 0
@@ -182,8 +186,8 @@ wrote_retired (Some addr) = (addr == 0xB02) || (addr == 0xB82)
 abbrev pub next_count : ℕ → ℕ
 next_count number = (number + 1) % 2 ^ 64
 
--- the counters after a step: mcycle grows in each, minstret if an instruction retired; but a counter that the instruction
--- wrote a half of keeps what was written
+-- the counters after a step: mcycle grows in each, minstret if an instruction retired; but a counter that the
+-- instruction wrote a half of keeps what was written
 unfoldable pub counted : Counters → Bool → Option ℕ → Counters
 counted counters retired wrote = record {
   cycles = if wrote_cycles wrote then counters.cycles else next_count counters.cycles;

@@ -9,7 +9,8 @@ use Rattle.rv_csr.specs.declared.counters.Counters.{Counters}
 use Rattle.rv_csr.specs.declared.mstatus.Mstatus.{Mstatus}
 use Rattle.rv_csr.specs.declared.trap.TrapRegisters.{TrapRegisters}
 
--- mstatus; the interrupts that mie enables; the registers of traps; mcycle and minstret; physical memory protection
+-- mstatus; the interrupts that mie enables; the registers of traps; mcycle and minstret; physical memory
+-- protection
 pub record CsrState : Type 0 where
   pub status : Mstatus
   pub enables : InterruptLines
@@ -20,7 +21,8 @@ pub record CsrState : Type 0 where
 -- the state after a reset: all 0
 abbrev pub reset : CsrState
 reset = record {
-  status = record { interrupts = false; previous_interrupts = false; previous_mode = User; modify_privilege = false; timeout_wait = false };
+  status =
+      record { interrupts = false; previous_interrupts = false; previous_mode = User; modify_privilege = false; timeout_wait = false };
   enables = record { software = false; timer = false; external = false };
   trap = record { vector = 0; scratch = 0; epc = 0; cause = 0; value = 0 };
   counters = record { cycles = 0; retired = 0 };

@@ -1,4 +1,5 @@
--- Interrupts, traps and the return from them. RISC-V Privileged Architecture 20211203, sections 3.1.6, 3.1.7, 3.1.9 and 3.3.2.
+-- Interrupts, traps and the return from them. RISC-V Privileged Architecture 20211203, sections 3.1.6, 3.1.7,
+-- 3.1.9 and 3.3.2.
 -- To audit: public contracts cite this.
 use Rattle.std.specs.Prelude.{ℕ, Bool, ◌||◌, ◌+◌, ◌-◌, ◌*◌, ◌%◌, ◌^◌, true, false, ◌==◌, ◌&&◌, not, nat_le, if◌then◌else◌, Option, Some, None}
 use Rattle.rv_isa.specs.declared.InterruptLines.{InterruptLines}
@@ -33,7 +34,8 @@ unfoldable pub pending : CsrState → Mode → InterruptLines → Option ℕ
 pending state mode lines =
     if is_machine mode && not state.status.interrupts then None else first_enabled lines state.enables
 
--- whether an interrupt would be taken in a mode if its line were high: any is enabled, and in machine mode MIE is set
+-- whether an interrupt would be taken in a mode if its line were high: any is enabled, and in machine mode
+-- MIE is set
 abbrev pub takes_interrupts : CsrState → Mode → Bool
 takes_interrupts state mode =
     not (not state.status.interrupts && is_machine mode)
@@ -41,21 +43,25 @@ takes_interrupts state mode =
 
 -- ---- trap entry and return
 
--- the state after a trap is entered: MPIE becomes MIE, MIE 0, and MPP the mode; mepc, mcause and mtval are set
+-- the state after a trap is entered: MPIE becomes MIE, MIE 0, and MPP the mode; mepc, mcause and mtval are
+-- set
 unfoldable pub entered : CsrState → ℕ → ℕ → ℕ → Mode → CsrState
 entered state cause epc tval mode = record state {
-  status = record state.status { interrupts = false; previous_interrupts = state.status.interrupts; previous_mode = mode };
+  status =
+      record state.status { interrupts = false; previous_interrupts = state.status.interrupts; previous_mode = mode };
   trap = record state.trap { epc = aligned epc; cause = cause; value = tval };
 }
 
--- the address of the trap handler: the base of mtvec, or, for an interrupt in vectored mode, the base plus 4 times its code
+-- the address of the trap handler: the base of mtvec, or, for an interrupt in vectored mode, the base plus 4
+-- times its code
 unfoldable pub trap_pc : CsrState → ℕ → ℕ
 trap_pc state cause =
     let base = aligned state.trap.vector in
-    if (state.trap.vector % 2 == 1) && nat_le (2 ^ 31) cause then (base + 4 * (cause - 2 ^ 31)) % 2 ^ 32 else base
+    if (state.trap.vector % 2 == 1) && nat_le (2 ^ 31) cause
+    then (base + 4 * (cause - 2 ^ 31)) % 2 ^ 32 else base
 
--- the state after the return from a trap: MIE becomes MPIE, MPIE 1, and MPP user mode; MPRV is cleared unless the return is
--- to machine mode
+-- the state after the return from a trap: MIE becomes MPIE, MPIE 1, and MPP user mode; MPRV is cleared unless
+-- the return is to machine mode
 unfoldable pub left : CsrState → CsrState
 left state = record state {
   status = record state.status {

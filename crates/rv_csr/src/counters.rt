@@ -14,8 +14,8 @@ pub struct Counters {
 }
 
 impl Counters {
-    /// Counts a step. `retired` is whether its instruction retired, and `wrote` the address of the control register that
-    /// it wrote, if any: a counter that the step wrote a half of keeps what was written.
+    /// Counts a step. `retired` is whether its instruction retired, and `wrote` the address of the control
+    /// register that it wrote, if any: a counter that the step wrote a half of keeps what was written.
     #[tactic(auto, unfolding(crate::specs::Registers::counted))]
     pub(crate) fn count(&mut self, retired: bool, wrote: Option<u16>)
         ensures { self.new ≡ counted self.old retired wrote }

@@ -44,7 +44,13 @@ impl Model for Csrs {
 
     ghost Value = { CsrState };
 
-    ghost view = { λ c. record { status = c.status; enables = c.enables; trap = c.trap; counters = c.counters; pmp = c.pmp } };
+    ghost view = { λ c. record {
+      status = c.status;
+      enables = c.enables;
+      trap = c.trap;
+      counters = c.counters;
+      pmp = c.pmp;
+    } };
 
     ghost invariant = { λ c. c.trap.epc % 4 ≡ 0 };
 }
@@ -82,8 +88,8 @@ impl Csrs {
         }
     }
 
-    /// Reads the register at address `addr` in a mode, while the interrupt lines have the levels `lines`. Returns None if no
-    /// register is there or the mode may not read it. User mode may read none.
+    /// Reads the register at address `addr` in a mode, while the interrupt lines have the levels `lines`.
+    /// Returns None if no register is there or the mode may not read it. User mode may read none.
     #[tactic(auto, using(crate::proofs::Levels::no_load), unfolding(crate::specs::Registers::read))]
     pub fn read(&self, addr: u16, mode: Mode, lines: InterruptLines) -> Option<u32>
         ensures value { result ≡ registers.read self.now addr mode lines }
@@ -120,8 +126,9 @@ impl Csrs {
         }
     }
 
-    /// Writes the register at address `addr` in a mode. The register keeps those bits of the value that it has. Returns
-    /// None, and changes nothing, if no register is there, the mode may not access it, or it is read-only.
+    /// Writes the register at address `addr` in a mode. The register keeps those bits of the value that it
+    /// has. Returns None, and changes nothing, if no register is there, the mode may not access it, or it is
+    /// read-only.
     #[tactic(auto, using(crate::proofs::Levels::no_store), unfolding(crate::specs::Registers::write))]
     pub fn write(&mut self, addr: u16, mode: Mode, value: u32) -> Option<()>
         ensures written { Writes self.old addr mode value self.new result }
@@ -165,8 +172,8 @@ impl Csrs {
         }
     }
 
-    /// Whether an interrupt would be taken in a mode if its line were high: any is enabled, and in machine mode MIE is set.
-    /// If not, the caller needn't ask for the lines.
+    /// Whether an interrupt would be taken in a mode if its line were high: any is enabled, and in machine
+    /// mode MIE is set. If not, the caller needn't ask for the lines.
     #[tactic(auto, using(crate::proofs::Pending::none_pending))]
     pub fn takes_interrupts(&self, mode: Mode) -> bool
         ensures value { result ≡ traps.takes_interrupts self.now mode }
@@ -178,8 +185,9 @@ impl Csrs {
         self.enables.software || self.enables.timer || self.enables.external
     }
 
-    /// Returns the cause of the interrupt to be taken in a mode, if any, while the interrupt lines have the levels `lines`.
-    /// Of several the external interrupt comes first, then the software interrupt, then that of the timer.
+    /// Returns the cause of the interrupt to be taken in a mode, if any, while the interrupt lines have the
+    /// levels `lines`. Of several the external interrupt comes first, then the software interrupt, then that
+    /// of the timer.
     #[tactic(auto, unfolding(crate::specs::Traps::pending))]
     pub fn pending(&self, mode: Mode, lines: InterruptLines) -> Option<u32>
         ensures { result ≡ traps.pending self.now mode lines }
@@ -198,8 +206,8 @@ impl Csrs {
         }
     }
 
-    /// Enters a trap from a mode: sets mcause, mepc and mtval, and moves MIE and the mode to MPIE and MPP. Returns the
-    /// address of the trap handler. The caller goes on there in machine mode.
+    /// Enters a trap from a mode: sets mcause, mepc and mtval, and moves MIE and the mode to MPIE and MPP.
+    /// Returns the address of the trap handler. The caller goes on there in machine mode.
     #[tactic(auto, unfolding(crate::specs::Traps::entered, crate::specs::Traps::trap_pc))]
     pub fn enter_trap(&mut self, cause: u32, epc: u32, tval: u32, mode: Mode) -> u32
         ensures state { self.new ≡ traps.entered self.old cause epc tval mode }
@@ -220,7 +228,8 @@ impl Csrs {
         }
     }
 
-    /// Returns from a trap: restores MIE from MPIE. Returns the mode and the address at which the program goes on.
+    /// Returns from a trap: restores MIE from MPIE. Returns the mode and the address at which the program
+    /// goes on.
     #[tactic(auto, unfolding(crate::specs::Traps::left))]
     pub fn leave_trap(&mut self) -> (Mode, u32)
         ensures state { self.new ≡ traps.left self.old }
@@ -237,7 +246,8 @@ impl Csrs {
         (mode, self.trap.epc)
     }
 
-    /// Returns the mode whose permissions loads and stores in a mode have: MPP if MPRV is set, else the mode itself.
+    /// Returns the mode whose permissions loads and stores in a mode have: MPP if MPRV is set, else the mode
+    /// itself.
     pub fn data_mode(&self, mode: Mode) -> Mode
         ensures { result ≡ traps.data_mode self.now mode }
     {
@@ -255,8 +265,8 @@ impl Csrs {
         self.status.timeout_wait
     }
 
-    /// Counts a step. `retired` is whether its instruction retired, and `wrote` the address of the control register that
-    /// it wrote, if any.
+    /// Counts a step. `retired` is whether its instruction retired, and `wrote` the address of the control
+    /// register that it wrote, if any.
     pub fn count(&mut self, retired: bool, wrote: Option<u16>)
         ensures { self.new ≡ record self.old { counters = registers.counted self.old.counters retired wrote } }
     {

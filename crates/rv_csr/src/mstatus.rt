@@ -1,4 +1,5 @@
-//! The fields of mstatus, and the bits of mie and mip. Privileged Architecture 20211203, sections 3.1.6 and 3.1.9.
+//! The fields of mstatus, and the bits of mie and mip. Privileged Architecture 20211203, sections 3.1.6 and
+//! 3.1.9.
 ghost use Rattle.std.specs.Prelude.{◌≡◌, ◌<◌, ◌≤◌, ◌^◌};
 ghost use Rattle.rv_csr.specs.Registers.{flag, level, mode_kept, with_status, status_word};
 ghost use Rattle.rv_csr.specs.Registers as spec;

@@ -1,5 +1,5 @@
-//! The addresses of the control registers, and which modes may access them. Privileged Architecture 20211203, section
-//! 2.1 and table 2.5.
+//! The addresses of the control registers, and which modes may access them. Privileged Architecture 20211203,
+//! section 2.1 and table 2.5.
 ghost use Rattle.std.specs.Prelude.{◌≡◌};
 ghost use Rattle.rv_csr.specs.Registers.{register_at};
 ghost use Rattle.rv_csr.specs.Registers as spec;
@@ -7,10 +7,12 @@ ghost use Rattle.rv_csr.specs.Registers as spec;
 use crate::mstatus::mode_level;
 use rv_pmp::Mode;
 
-/// A control register that isn't one of physical memory protection. Privileged Architecture 20211203, section 3.1.
+/// A control register that isn't one of physical memory protection. Privileged Architecture 20211203, section
+/// 3.1.
 #[derive(Clone, Copy)]
 pub enum Register {
-    /// mstatus: the global interrupt enable, the state before the last trap, and how loads, stores and WFI behave.
+    /// mstatus: the global interrupt enable, the state before the last trap, and how loads, stores and WFI
+    /// behave.
     Mstatus,
     /// misa: the instruction sets that the hart implements.
     Misa,

@@ -3,7 +3,8 @@
 /// The registers of traps.
 #[derive(Clone, Copy)]
 pub struct TrapRegisters {
-    /// mtvec: the address of the trap handler, and in the lowest bit whether each interrupt has a handler of its own.
+    /// mtvec: the address of the trap handler, and in the lowest bit whether each interrupt has a handler of
+    /// its own.
     pub vector: u32,
     /// mscratch: a word for the trap handler.
     pub scratch: u32,

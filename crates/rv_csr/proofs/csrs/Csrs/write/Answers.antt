@@ -5,4 +5,6 @@ use Rattle.rv_csr.proofs.csrs.Csrs.write.Goals as goal
 
 pub returns-in-Some-clause-user : goal.returns-in-Some-clause-user
 returns-in-Some-clause-user c h =
-    no_register _ c.args.addr c.args.mode c.at.result c.in-Some.register (may_read-from_write c.args.addr c.args.mode (sym c.if-not-may_write.ensures)) h c.at.ensures c.in-Some.is
+    no_register _ c.args.addr c.args.mode c.at.result c.in-Some.register
+    (may_read-from_write c.args.addr c.args.mode
+    (sym c.if-not-may_write.ensures)) h c.at.ensures c.in-Some.is
