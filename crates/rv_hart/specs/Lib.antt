@@ -1,8 +1,8 @@
 pub mod State
 pub mod Coherent
-pub mod Known
+pub mod Shortcuts
 pub mod Effect
-pub mod Fetched
+pub mod Fetch
 pub mod Keeps
 pub mod Step
-pub mod Tries
+pub mod StepParts

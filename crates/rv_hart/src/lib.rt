@@ -1,9 +1,9 @@
-//! The hart: registers, program counter, modes, control registers and the instructions, over a bus and a cache of
-//! decoded instructions.
+//! The hart: registers, program counter, mode and control registers, and what each instruction does with
+//! them, over a bus and a decoded cache.
 #![tactic(auto)]
 
 mod hart;
-mod known;
+mod shortcuts;
 mod trap;
 mod values;
 

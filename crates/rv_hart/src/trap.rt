@@ -1,25 +1,25 @@
-//! Traps, and what a step did.
+//! Traps, and the outcome of a step.
 use rv_base::NoMemory;
 
-/// Why an instruction was not done: an exception (Privileged Architecture 20211203, sections 3.1.15 and 3.1.16).
+/// An exception or an interrupt. Privileged Architecture 20211203, sections 3.1.15 and 3.1.16.
 #[derive(Clone, Copy)]
 pub struct Trap {
-    /// The number of the cause.
+    /// The cause, as mcause holds it.
     pub cause: u32,
     /// The address or the word that the cause is about, or 0.
     pub tval: u32,
 }
 
-/// What a step did.
+/// The outcome of a step.
 #[derive(Clone, Copy)]
 pub enum Outcome {
     /// An instruction retired.
     Retired,
     /// A trap was taken.
     Trapped {
-        /// The number of the cause.
+        /// The cause, as mcause holds it.
         cause: u32,
-        /// The address of the instruction that was not done.
+        /// The address of the instruction that did not retire.
         epc: u32,
         /// The address or the word that the cause is about, or 0.
         tval: u32,
@@ -28,31 +28,33 @@ pub enum Outcome {
     Halted,
 }
 
-/// Why an instruction came to no end: it trapped, or a growth was refused.
+/// The error of an instruction that did not retire.
 #[derive(Clone, Copy)]
-pub(crate) enum Stop {
+pub(crate) enum StepError {
+    /// It trapped.
     Trap(Trap),
+    /// It was a store, for which the allocator refused room.
     NoMemory,
 }
 
-impl From<Trap> for Stop {
+impl From<Trap> for StepError {
     ghost use Rattle.std.specs.Prelude.{◌≡◌};
-    ghost use Rattle.rv_hart.specs.declared.trap.Stop.TheVariants as stop;
+    ghost use Rattle.rv_hart.specs.declared.trap.StepError.TheVariants as error;
 
-    ghost from_gives = { λ t e. e ≡ stop.Trap t };
+    ghost from_gives = { λ t e. e ≡ error.Trap t };
 
     fn from(trap: Trap) -> Self {
-        Stop::Trap(trap)
+        StepError::Trap(trap)
     }
 }
 
-impl From<NoMemory> for Stop {
+impl From<NoMemory> for StepError {
     ghost use Rattle.std.specs.Prelude.{◌≡◌};
-    ghost use Rattle.rv_hart.specs.declared.trap.Stop.TheVariants as stop;
+    ghost use Rattle.rv_hart.specs.declared.trap.StepError.TheVariants as error;
 
-    ghost from_gives = { λ _ e. e ≡ stop.NoMemory };
+    ghost from_gives = { λ _ e. e ≡ error.NoMemory };
 
     fn from(_: NoMemory) -> Self {
-        Stop::NoMemory
+        StepError::NoMemory
     }
 }

@@ -1,23 +1,23 @@
-//! What instructions compute beside the operations of `rv_isa`: addresses, extended loads, and the values of control
-//! registers.
+//! The values that instructions compute, other than by the operations of `rv_isa`: addresses, loaded values,
+//! values of control registers, and traps.
 ghost use Rattle.std.specs.Prelude.{◌≡◌, Err};
 ghost use Rattle.rv_isa.specs.Word as spec;
-ghost use Rattle.rv_hart.specs.Effect.{plus, target_checked, extended, is_write, combined, csr_written, call_from};
+ghost use Rattle.rv_hart.specs.Effect.{plus, target_check, load_value, is_write, csr_value, csr_written, call_from};
 
 use crate::trap::Trap;
 use rv_isa::{AluOp, CsrOp, Instr, Kind, LoadOp, alu, encode};
 use rv_pmp::Mode;
 
-/// An address so far from another, modulo 2^32.
+/// Returns the address `offset` bytes from `base`, modulo 2^32.
 pub(crate) fn offset_by(base: u32, offset: i32) -> u32
     ensures { result ≡ plus base offset }
 {
     base.wrapping_add(offset.cast_unsigned())
 }
 
-/// A target that is not a multiple of 4 is an exception of the jump itself.
+/// Checks the target of a jump: one that is not a multiple of 4 is an exception of the jump itself.
 pub(crate) fn check_target(target: u32) -> Result<(), Trap>
-    ensures { result ≡ target_checked target }
+    ensures { result ≡ target_check target }
 {
     if target % 4 == 0 {
         Ok(())
@@ -29,7 +29,8 @@ pub(crate) fn check_target(target: u32) -> Result<(), Trap>
     }
 }
 
-/// The set and clear forms whose source field is 0 don't write.
+/// Whether an instruction on a control register writes it: the set and clear forms don't if their source
+/// field is 0.
 pub(crate) fn is_write(op: CsrOp, field: u8) -> bool
     ensures { result ≡ is_write op field }
 {
@@ -39,9 +40,9 @@ pub(crate) fn is_write(op: CsrOp, field: u8) -> bool
     }
 }
 
-/// What is written, by what the register held and the operand.
-pub(crate) fn combine(op: CsrOp, old: u32, operand: u32) -> u32
-    ensures { result ≡ combined op old operand }
+/// Returns the value to write to a control register that held `old`.
+pub(crate) fn csr_value(op: CsrOp, old: u32, operand: u32) -> u32
+    ensures { result ≡ csr_value op old operand }
 {
     match op {
         CsrOp::Write => operand,
@@ -50,9 +51,9 @@ pub(crate) fn combine(op: CsrOp, old: u32, operand: u32) -> u32
     }
 }
 
-/// The control register that an instruction writes, where it retires.
+/// Returns the address of the control register that an instruction writes when it retires, if any.
 #[tactic(auto, unfolding(crate::specs::Effect::csr_written))]
-pub(crate) fn written(instr: Instr) -> Option<u16>
+pub(crate) fn csr_written_by(instr: Instr) -> Option<u16>
     ensures { result ≡ csr_written instr }
 {
     match instr.kind() {
@@ -72,7 +73,8 @@ pub(crate) fn written(instr: Instr) -> Option<u16>
     }
 }
 
-pub(crate) fn illegal(instr: Instr) -> Trap
+/// Returns the exception of an illegal instruction, whose tval is the word.
+pub(crate) fn illegal_instruction(instr: Instr) -> Trap
     ensures { result ≡ record { cause = 2; tval = spec.word instr } }
 {
     Trap {
@@ -81,7 +83,7 @@ pub(crate) fn illegal(instr: Instr) -> Trap
     }
 }
 
-/// An environment call.
+/// Returns the exception of an environment call from a mode.
 pub(crate) fn call_from(mode: Mode) -> Trap
     ensures { Err result ≡ call_from mode }
 {
@@ -91,9 +93,9 @@ pub(crate) fn call_from(mode: Mode) -> Trap
     }
 }
 
-/// What a load leaves in its register of the bytes that it read.
-pub(crate) fn extend(op: LoadOp, value: u32) -> u32
-    ensures { result ≡ extended op value }
+/// Returns the value that a load leaves in its register, by the bytes that it read.
+pub(crate) fn load_value(op: LoadOp, value: u32) -> u32
+    ensures { result ≡ load_value op value }
 {
     match op {
         LoadOp::Lb if value >= 0x80 => value.wrapping_add(0xffff_ff00),

@@ -1,25 +1,25 @@
-//! The instructions on control registers, the return from a trap, and waiting.
+//! The instructions on control registers, the return from a trap, and the wait for an interrupt.
 ghost use Rattle.std.specs.Prelude.{◌≡◌};
 ghost use Rattle.rv_isa.specs.Word as spec;
 ghost use Rattle.rv_isa.specs.declared.kind.Kind.{Kind};
 ghost use Rattle.rv_csr.specs.Registers.{Writes};
 ghost use Rattle.rv_hart.specs.Effect.{reg, csr_effect, return_effect, wait_effect};
-ghost use Rattle.rv_hart.specs.Tries.{Does};
+ghost use Rattle.rv_hart.specs.StepParts.{Does};
 
 use super::Hart;
-use crate::known::Known;
+use crate::shortcuts::Shortcuts;
 use crate::trap::Trap;
-use crate::values::{combine, illegal, is_write};
+use crate::values::{csr_value, illegal_instruction, is_write};
 use rv_cache::Decoded;
 use rv_isa::{CsrOp, Instr, Kind, Reg};
 use rv_pmp::Mode;
 use rv_ram::ByteMemory;
 
-/// What an instruction on a control register asks for.
+/// The fields of an instruction on a control register, with the value of its operand.
 #[derive(Clone, Copy)]
 struct Exchange {
     op: CsrOp,
-    /// The source field: a register's number, or the operand.
+    /// The source field: the number of a register, or the operand itself.
     field: u8,
     operand: u32,
     rd: Reg,
@@ -27,7 +27,7 @@ struct Exchange {
 }
 
 impl<M: ByteMemory, C: Decoded> Hart<M, C> {
-    /// An instruction on a control register that takes its operand from a register.
+    /// Executes an instruction on a control register whose operand is in a register.
     #[inline(always)]
     pub(super) fn exchange_register(
         &mut self,
@@ -50,7 +50,7 @@ impl<M: ByteMemory, C: Decoded> Hart<M, C> {
         Ok(())
     }
 
-    /// An instruction on a control register whose operand is a number.
+    /// Executes an instruction on a control register whose operand is a number of its own.
     #[inline(always)]
     pub(super) fn exchange_number(
         &mut self,
@@ -73,28 +73,30 @@ impl<M: ByteMemory, C: Decoded> Hart<M, C> {
         Ok(())
     }
 
-    /// An instruction on a control register. It is apart, so that other instructions pay nothing for it.
+    /// Reads a control register into `rd`, and writes it. Out of line, so that other instructions pay nothing
+    /// for it.
     #[inline(never)]
     #[tactic(auto, unfolding(crate::specs::Effect::csr_effect))]
     fn exchange(&mut self, instr: Instr, exchange: Exchange) -> Result<(), Trap>
-        ensures { Does self.old self.new result (csr_effect instr self.old.machine exchange.op exchange.field exchange.operand exchange.rd exchange.csr) }
+        ensures { Does self.old self.new result
+            (csr_effect instr self.old.machine exchange.op exchange.field exchange.operand exchange.rd exchange.csr) }
     {
         let Some(old) = self.csrs.read(exchange.csr, self.mode, self.bus.lines()) else {
-            return Err(illegal(instr));
+            return Err(illegal_instruction(instr));
         };
         if is_write(exchange.op, exchange.field) {
-            let value = combine(exchange.op, old, exchange.operand);
+            let value = csr_value(exchange.op, old, exchange.operand);
             match self.write_csr(exchange.csr, value) {
                 Some(()) => (),
-                None => return Err(illegal(instr)),
+                None => return Err(illegal_instruction(instr)),
             }
         }
-        self.retire(exchange.rd, old);
+        self.retire_with(exchange.rd, old);
         Ok(())
     }
 
-    /// Writes a control register, and works out again what follows from them. None where the mode may not: nothing has
-    /// changed.
+    /// Writes a control register, and computes the shortcuts anew. Returns None, and changes nothing, if the
+    /// mode may not write it.
     fn write_csr(&mut self, addr: u16, value: u32) -> Option<()>
         ensures written { Writes self.old.machine.csrs addr self.old.machine.mode value self.new.machine.csrs result }
         ensures machine { self.new.machine ≡ record self.old.machine { csrs = self.new.machine.csrs } }
@@ -102,13 +104,13 @@ impl<M: ByteMemory, C: Decoded> Hart<M, C> {
     {
         let mode = self.mode;
         let written = self.csrs.write(addr, mode, value);
-        self.known = Known::of(&self.csrs, mode);
+        self.shortcuts = Shortcuts::of(&self.csrs, mode);
         written
     }
 
-    /// The return from a trap. The word is that of MRET.
+    /// Returns from a trap, which only machine mode may do. `word` is the word of MRET.
     #[tactic(auto, unfolding(crate::specs::Effect::return_effect))]
-    pub(super) fn leave(&mut self, word: u32) -> Result<(), Trap>
+    pub(super) fn leave_trap(&mut self, word: u32) -> Result<(), Trap>
         requires { word ≡ spec.word Kind.Mret }
         ensures { Does self.old self.new result (return_effect self.old.machine self.old.machine.mode) }
     {
@@ -123,13 +125,14 @@ impl<M: ByteMemory, C: Decoded> Hart<M, C> {
                 let (mode, pc) = self.csrs.leave_trap();
                 self.mode = mode;
                 self.pc = pc;
-                self.known = Known::of(&self.csrs, self.mode);
+                self.shortcuts = Shortcuts::of(&self.csrs, self.mode);
                 return Ok(());
             }
         }
     }
 
-    /// Waiting for an interrupt, which ends at once. The word is that of WFI.
+    /// Waits for an interrupt, which ends at once. In user mode TW makes it illegal. `word` is the word of
+    /// WFI.
     #[tactic(auto, unfolding(crate::specs::Effect::wait_effect))]
     pub(super) fn wait(&mut self, word: u32) -> Result<(), Trap>
         requires { word ≡ spec.word Kind.Wfi }
@@ -141,7 +144,7 @@ impl<M: ByteMemory, C: Decoded> Hart<M, C> {
                 tval: word,
             });
         }
-        self.pass();
+        self.advance();
         Ok(())
     }
 }
