@@ -4,18 +4,23 @@ use Rattle.rv_ram.specs.Bytes.{zeros}
 use Rattle.rv_ram.proofs.Zeros.{drop_zeros}
 use Rattle.rv_board.specs.Boot.{ram_with}
 
-pub image_over : (image ram : List ℕ) → ram ≡ zeros (length ram) → image ++ drop (length image) ram ≡ ram_with image (length ram)
-image_over image ram e = ap (λ bs. image ++ bs) (ap (drop (length image)) e ∙ drop_zeros (length image) (length ram))
+pub image_over : (image ram : List ℕ) → ram ≡ zeros (length ram)
+    → image ++ drop (length image) ram ≡ ram_with image (length ram)
+image_over image ram e =
+    ap (λ bs. image ++ bs) (ap (drop (length image)) e ∙ drop_zeros (length image) (length ram))
 
-stored : (image old : List ℕ) (i : ℕ) → i < length image → length image ≤ length old
+take-set : (image old : List ℕ) (i : ℕ) → i < length image → length image ≤ length old
     → set (take i image ++ drop i old) i (get_or image i 0) ≡ take (suc i) image ++ drop (suc i) old
-stored [] old i within fits = absurd (omega (arith, within))
-stored (x ∷ image) [] i within fits = absurd (omega (arith, fits))
-stored (x ∷ image) (y ∷ old) zero within fits = refl
-stored (x ∷ image) (y ∷ old) (suc i) within fits = ap (λ bs. x ∷ bs) (stored image old i (omega (arith, within)) (omega (arith, fits)))
+take-set [] old i within fits = absurd (omega (arith, within))
+take-set (x ∷ image) [] i within fits = absurd (omega (arith, fits))
+take-set (x ∷ image) (y ∷ old) zero within fits = refl
+take-set (x ∷ image) (y ∷ old) (suc i) within fits =
+    ap (λ bs. x ∷ bs) (take-set image old i (omega (arith, within)) (omega (arith, fits)))
 
--- a memory with the bytes before one, where that one is stored, has one more
+-- a memory that has the first bytes of an image has one more after the next one is stored
 pub one_more_byte : (image old now new : List ℕ) (i : ℕ) → i < length image → length image ≤ length old
-    → now ≡ take i image ++ drop i old → new ≡ set now i (get_or image i 0) → new ≡ take (i + 1) image ++ drop (i + 1) old
+    → now ≡ take i image ++ drop i old → new ≡ set now i (get_or image i 0)
+    → new ≡ take (i + 1) image ++ drop (i + 1) old
 one_more_byte image old now new i within fits was is =
-    is ∙ (ap (λ bs. set bs i (get_or image i 0)) was ∙ (stored image old i within fits ∙ ap (λ n. take n image ++ drop n old) (sym (add-one i))))
+    is ∙ (ap (λ bs. set bs i (get_or image i 0)) was
+    ∙ (take-set image old i within fits ∙ ap (λ n. take n image ++ drop n old) (sym (add-one i))))

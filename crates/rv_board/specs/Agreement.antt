@@ -18,20 +18,21 @@ pmp_of b = b.machine.csrs.pmp
 abbrev pub with_memory : BoardState → List ℕ → BoardState
 with_memory b ram = record b { machine = record b.machine { bus = record b.machine.bus { ram = ram } } }
 
--- protection lets user mode read or execute the byte at an address, and lets it write there
+-- whether protection lets user mode read or execute the byte at an address, and whether it lets it write
+-- there
 abbrev pub user_sees : PmpState → ℕ → Bool
 user_sees pmp addr = grants pmp User Read addr 1 || grants pmp User Execute addr 1
 
 abbrev pub user_writes : PmpState → ℕ → Bool
 user_writes pmp addr = grants pmp User Write addr 1
 
--- the boards are equal, but for bytes of the memory that user mode may neither read nor execute
+-- the boards are equal, except for bytes of the memory that user mode may neither read nor execute
 pub record AgreeForUser (one other : BoardState) : Type 0 where
   pub size : length (memory_of other) ≡ length (memory_of one)
   pub seen : (addr : ℕ) → user_sees (pmp_of one) addr ≡ true → byte_of other addr ≡ byte_of one addr
   pub rest : other ≡ with_memory one (memory_of other)
 
--- user code runs: the mode is user mode, and the board isn't halted
+-- whether user code runs: the mode is user mode, and the board isn't halted
 abbrev pub runs_user_by : Mode → Option ℕ → Bool
 runs_user_by User None = true
 runs_user_by User (Some code) = false

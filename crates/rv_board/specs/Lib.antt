@@ -1,8 +1,8 @@
-pub mod State
-pub mod Boot
-pub mod Fits
-pub mod Move
 pub mod Agreement
+pub mod Boot
 pub mod Exchange
-pub mod UserRun
+pub mod ImageFit
+pub mod Move
+pub mod State
 pub mod Steps
+pub mod UserRun

@@ -1,4 +1,4 @@
--- What events make of a board.
+-- The board after events.
 -- To audit: public contracts cite this.
 use Rattle.std.specs.Prelude.{◌≡◌, ◌<◌, ℕ, Bool, true, false, ◌+◌, ◌%◌, ◌^◌, List, [], ◌∷◌, ◌++◌, length, take, slice_get, Option, Some, None}
 use Rattle.circular_buffer.specs.Buffer.{keep_last}
@@ -12,23 +12,25 @@ use Rattle.rv_board.specs.declared.event.Event.{Event}
 use Rattle.rv_board.specs.declared.event.Event.TheVariants.{Step, Line, Rx}
 use Rattle.rv_board.specs.declared.event.TrapRecord.{TrapRecord}
 
--- the last 64 traps
+-- the last 64 traps after a step, by its outcome
 abbrev pub with_trap : List TrapRecord → Outcome → List TrapRecord
 with_trap ts Retired = ts
 with_trap ts Halted = ts
-with_trap ts (Trapped cause epc tval) = keep_last 64 (ts ++ record { cause = cause; epc = epc; tval = tval } ∷ [])
+with_trap ts (Trapped cause epc tval) =
+    keep_last 64 (ts ++ record { cause = cause; epc = epc; tval = tval } ∷ [])
 
-abbrev pub stepped : BoardState → Machine × Outcome → BoardState
-stepped b (m, o) = record { machine = m; traps = with_trap b.traps o; steps = (b.steps + 1) % 2 ^ 64 }
+-- the board after a step, by the machine after it and its outcome
+abbrev pub after_step : BoardState → Machine × Outcome → BoardState
+after_step b (m, o) = record { machine = m; traps = with_trap b.traps o; steps = (b.steps + 1) % 2 ^ 64 }
 
--- what an event makes of a board by its halt code: a halted one stays
+-- the board after an event, by its halt code: a halted board stays as it is
 abbrev pub happens : Option ℕ → BoardState → Event → BoardState
 happens (Some code) b e = b
-happens None b Step = stepped b (step b.machine)
+happens None b Step = after_step b (step b.machine)
 happens None b (Line source high) = record b { machine = with_line b.machine source high }
 happens None b (Rx byte) = record b { machine = receive b.machine byte }
 
--- what an event makes of a board
+-- the board after an event
 unfoldable pub moved : BoardState → Event → BoardState
 moved b e = happens b.machine.bus.halt b e
 
@@ -38,17 +40,18 @@ writes_by None b Step = hart.writes b.machine
 writes_by None b (Line source high) = false
 writes_by None b (Rx byte) = false
 
--- the event is a step that retires a store for which room has to be made: in a page of the memory that has only zeros, or
--- in a console that may have none left
+-- whether an event is a step that retires a store for which room has to be made: in a page of the memory that
+-- has only zeros, or in a console that may have none left
 unfoldable pub writes : BoardState → Event → Bool
 writes b e = writes_by b.machine.bus.halt b e
 
--- what events make of it, one after another
+-- the board after events, one after another
 abbrev pub run : BoardState → List Event → BoardState
 run b [] = b
 run b (e ∷ es) = run (moved b e) es
 
--- the board stands after the first done events, of more, and the next one is a step that writes
+-- a run was refused: the new board is the old one after the first `done` events, and the next event is a step
+-- that writes
 pub record IsStopped (old new : BoardState) (events : List Event) (done : ℕ) : Type 0 where
   pub within : done < length events
   pub state : new ≡ run old (take done events)

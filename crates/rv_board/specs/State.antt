@@ -1,4 +1,4 @@
--- All that a board is.
+-- The state of a board.
 -- To audit: public contracts cite this.
 use Rattle.std.specs.Prelude.{ℕ, List, slice_index, Option}
 use Rattle.rv_plic.specs.Plic.{PlicState}
@@ -11,13 +11,13 @@ use Rattle.rv_bus.specs.Access.{ram_byte, lines_of}
 use Rattle.rv_hart.specs.State as hart
 use Rattle.rv_board.specs.declared.event.TrapRecord.{TrapRecord}
 
--- the machine, the last traps, oldest first, and the count of steps
+-- the machine, the last traps, oldest first, and the number of steps
 pub record BoardState : Type 0 where
   pub machine : hart.Machine
   pub traps : List TrapRecord
   pub steps : ℕ
 
--- ---- what others may see of it
+-- ---- what can be read of a board
 
 abbrev pub reg_of : BoardState → ℕ → ℕ
 reg_of b r = slice_index b.machine.registers r
@@ -28,7 +28,7 @@ pc_of b = b.machine.pc
 abbrev pub mode_of : BoardState → Mode
 mode_of b = b.machine.mode
 
--- as machine mode reads it
+-- a control register, as machine mode reads it
 abbrev pub csr_of : BoardState → ℕ → Option ℕ
 csr_of b addr = read b.machine.csrs addr Machine (lines_of b.machine.bus)
 

@@ -1,4 +1,4 @@
--- What a run of user code is, and what it can't do.
+-- A run of user code, and what it can't do.
 -- To audit: public contracts cite this.
 use Rattle.std.specs.Prelude.{◌≡◌, ℕ, true, false, ◌<◌, ◌≤◌, List, length, take, slice_get, Some, Result, Ok, Err}
 use Rattle.rv_board.specs.State.{BoardState, byte_of}
@@ -7,7 +7,7 @@ use Rattle.rv_board.specs.Move.{run, writes}
 use Rattle.rv_board.specs.declared.event.Event.{Event}
 use Rattle.rv_board.specs.declared.event.Stopped.{Stopped}
 
--- how many events were done
+-- the number of events that were done
 abbrev pub done_of : Result ℕ Stopped → ℕ
 done_of (Ok n) = n
 done_of (Err s) = s.done
@@ -18,11 +18,11 @@ pub record RanUser (old new : BoardState) (events : List Event) (n : ℕ) : Type
   pub state : new ≡ run old (take n events)
   pub user : (k : ℕ) → k < n → runs_user (run old (take k events)) ≡ true
 
--- it ended where no event is left, or where user code doesn't run any more
+-- the run ended after the last event, or where user code no longer runs
 abbrev pub HasEnded : BoardState → List Event → ℕ → Type 0
 HasEnded new events n = n < length events → runs_user new ≡ false
 
--- it was stopped: user code still runs, and the next event is a step that writes
+-- the run was refused: user code still runs, and the next event is a step that writes
 pub record IsRefused (new : BoardState) (events : List Event) (n : ℕ) : Type 0 where
   pub within : n < length events
   pub user : runs_user new ≡ true
@@ -30,9 +30,12 @@ pub record IsRefused (new : BoardState) (events : List Event) (n : ℕ) : Type 0
 
 -- no byte of the memory changed that user mode may not write
 abbrev pub KeepsUnwritten : BoardState → BoardState → Type 0
-KeepsUnwritten old new = (addr : ℕ) → user_writes (pmp_of old) addr ≡ false → byte_of new addr ≡ byte_of old addr
+KeepsUnwritten old new =
+    (addr : ℕ) → user_writes (pmp_of old) addr ≡ false → byte_of new addr ≡ byte_of old addr
 
--- on every board that agrees with the old one for user code, the first n events leave a board that agrees with the new one:
--- what is seen afterwards depends on no byte that user mode may neither read nor execute
+-- on every board that agrees with the old one for user code, the first n events make a board that agrees with
+-- the new one: nothing that can be read afterwards depends on a byte that user mode may neither read nor
+-- execute
 abbrev pub ShowsNothing : BoardState → BoardState → List Event → ℕ → Type 0
-ShowsNothing old new events n = (other : BoardState) → AgreeForUser old other → AgreeForUser new (run other (take n events))
+ShowsNothing old new events n =
+    (other : BoardState) → AgreeForUser old other → AgreeForUser new (run other (take n events))

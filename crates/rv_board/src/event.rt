@@ -1,10 +1,13 @@
-//! What may happen to a board, and what it answers.
+//! The events of a board, its errors, and its traps.
+use rv_base::NoMemory;
 use rv_plic::Source;
+use std::alloc::AllocError;
 
-/// One atomic action of one of the board's actors. Every interleaving of them is a list of events.
+/// What may happen to a board: one atomic action of the hart or of the world outside. Every interleaving of
+/// their actions is a list of events.
 #[derive(Clone, Copy)]
 pub enum Event {
-    /// Time passes by one tick, and the hart does one step.
+    /// Time passes by one tick, and the hart executes one step.
     Step,
     /// The line of an interrupt source rises or falls.
     Line {
@@ -17,32 +20,54 @@ pub enum Event {
     Rx(u8),
 }
 
-/// A run stopped for want of memory.
+/// The error of a run that stopped out of memory.
 #[derive(Clone, Copy, Debug, PartialEq, Eq)]
 pub struct Stopped {
-    /// How many events were done. The board stands after them; the next one was refused.
+    /// The number of events that were done. The board is as they made it; the next event was refused.
     pub done: usize,
 }
 
-/// Why a board does not start. The cases are checked in this order.
+/// The error of a board that is not booted. The first that applies is given, in this order.
 #[derive(Clone, Copy, Debug, PartialEq, Eq)]
 pub enum BootFault {
-    /// The memory is to have 1 to 4096 pages.
+    /// The number of pages is not from 1 to 4096.
     BadPages,
-    /// The cache is to have a power of two of slots, from 64 to 4096.
+    /// The number of slots is not a power of two from 64 to 4096.
     BadSlots,
-    /// The image does not fit into the memory.
+    /// The image is larger than the memory.
     ImageTooLarge,
-    /// A growth was refused.
+    /// Out of memory.
     OutOfMemory,
+}
+
+impl From<NoMemory> for BootFault {
+    ghost use Rattle.std.specs.Prelude.{◌≡◌};
+    ghost use Rattle.rv_board.specs.declared.event.BootFault.TheVariants as fault;
+
+    ghost from_gives = { λ _ e. e ≡ fault.OutOfMemory };
+
+    fn from(_: NoMemory) -> Self {
+        BootFault::OutOfMemory
+    }
+}
+
+impl From<AllocError> for BootFault {
+    ghost use Rattle.std.specs.Prelude.{◌≡◌};
+    ghost use Rattle.rv_board.specs.declared.event.BootFault.TheVariants as fault;
+
+    ghost from_gives = { λ _ e. e ≡ fault.OutOfMemory };
+
+    fn from(_: AllocError) -> Self {
+        BootFault::OutOfMemory
+    }
 }
 
 /// A trap that was taken.
 #[derive(Clone, Copy, Debug, PartialEq, Eq)]
 pub struct TrapRecord {
-    /// The number of the cause.
+    /// The cause, as mcause holds it.
     pub cause: u32,
-    /// The address of the instruction that was not done.
+    /// The address of the instruction that did not retire.
     pub epc: u32,
     /// The address or the word that the cause is about, or 0.
     pub tval: u32,

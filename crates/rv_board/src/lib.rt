@@ -1,4 +1,5 @@
-//! The board: a hart with its memory and devices, its last traps and the count of its steps, moved by events.
+//! The board: a hart with its memory and devices, its last traps and the number of its steps, and what events
+//! make of it.
 #![tactic(auto)]
 
 mod board;

@@ -7,7 +7,8 @@ loop-i-preserved g c =
     let within : c.loop-i.i < length c.args.image.now = omega arith in
     let stored : g.M.ByteMemory.bytes c.write.new.self ≡ set (g.M.ByteMemory.bytes c.loop-i.memory) c.loop-i.i (get_or c.args.image.now c.loop-i.i 0) = search rules in
     record {
-      bytes = one_more_byte c.args.image.now (g.M.ByteMemory.bytes c.args.memory.now) (g.M.ByteMemory.bytes c.loop-i.memory) (g.M.ByteMemory.bytes c.write.new.self)
+      bytes = one_more_byte c.args.image.now (g.M.ByteMemory.bytes c.args.memory.now)
+          (g.M.ByteMemory.bytes c.loop-i.memory) (g.M.ByteMemory.bytes c.write.new.self)
           c.loop-i.i within c.requires.fits c.loop-i.invariant.bytes stored;
       len = search rules;
     }
