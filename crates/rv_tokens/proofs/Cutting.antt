@@ -5,7 +5,8 @@ use Rattle.rv_tokens.specs.declared.token.Token.{Token}
 use Rattle.rv_tokens.specs.declared.fault.LineFault.{LineFault}
 use Rattle.rv_tokens.specs.declared.fault.LineFault.TheVariants.{BadByte, LineTooLong, Syntax, UnknownWord, BadOperands, OutOfMemory}
 use Rattle.rv_tokens.specs.Faults.{Fails}
-use Rattle.rv_tokens.specs.Tokens.{cut, with_tokens, is_blank, begins_comment, front, fault_at}
+use Rattle.rv_base.specs.Words.{is_blank}
+use Rattle.rv_tokens.specs.Tokens.{cut, with_tokens, begins_comment, front, fault_at}
 
 pub cut_drop : (line : List ℕ) (n : ℕ) → cut line n ≡ cut (drop n line) 0
 unfolding cut

@@ -3,13 +3,14 @@ use Rattle.std.proofs.Common.{◌≡◌, ℕ, suc, ◌+◌, ◌*◌, ◌<◌, �
 use Rattle.std.specs.List.{list_all}
 use Rattle.std.proofs.Math.Nat.{mul-le-mul_right}
 use Rattle.std.proofs.lemmas.Bool.Decides.{nat_tests}
-use Rattle.std.specs.Prelude.{None, Some, ◌⊎◌, nat_le, nat_lt, ◌&&◌, ◌||◌}
-use Rattle.std.specs.Char.{is_ascii_digit}
+use Rattle.std.specs.Prelude.{Option, None, Some, ◌⊎◌, nat_le, nat_lt, ◌&&◌}
+use Rattle.std.specs.Option.{option_map_or, unwrap_or}
+use Rattle.rv_base.specs.Numbers.{hex_digit}
 use Rattle.std.proofs.lemmas.Bool.{false≢true}
 use Rattle.std.proofs.Math.Seq.{drop-cons}
 use Rattle.std.proofs.lemmas.List.{drop_all}
-use Rattle.rv_tokens.specs.Literals.{value, digit_value, is_hex_letter, is_digit, number_in}
-use Rattle.rv_tokens.proofs.Bools.{and_right, list_all_split, below_of}
+use Rattle.rv_tokens.specs.Literals.{value, digit_value, is_digit, number_in}
+use Rattle.rv_tokens.proofs.Bools.{list_all_split, below_of}
 
 -- the first i bytes are digits, of the value sum
 pub record SoFar (base : ℕ) (digits : List ℕ) (i sum : ℕ) : Type 0 where
@@ -74,8 +75,12 @@ whole base ds i sum long end so =
 
 -- ---- short numbers
 
+digit_below_by : (base : ℕ) (o : Option ℕ) → option_map_or (λ d. nat_lt d base) o false ≡ true → unwrap_or o 0 < base
+digit_below_by base None h = absurd cc
+digit_below_by base (Some d) h = below_of d base h
+
 digit_below : (base b : ℕ) → is_digit base b ≡ true → digit_value b < base
-digit_below base b h = below_of (digit_value b) base (and_right (is_ascii_digit b || is_hex_letter b) (nat_lt (digit_value b) base) h)
+digit_below base b h = digit_below_by base (hex_digit b) h
 
 four_below : (a b c d : ℕ) → a < 10 → b < 10 → c < 10 → d < 10 → 10 * (10 * (10 * (10 * 0 + a) + b) + c) + d < 10000
 four_below a b c d p q r s = omega arith

@@ -12,7 +12,8 @@ use Rattle.std.proofs.lemmas.List.{take-append-drop}
 use Rattle.rv_tokens.specs.declared.token.Token.{Token}
 use Rattle.rv_tokens.specs.declared.fault.LineFault.{LineFault}
 use Rattle.rv_tokens.specs.declared.fault.LineFault.TheVariants.{BadByte, LineTooLong, Syntax, UnknownWord, BadOperands, OutOfMemory}
-use Rattle.rv_tokens.specs.Tokens.{token_of, token_in, may_precede, front, is_blank, begins_comment, fault_at, with_tokens, cut, tokens}
+use Rattle.rv_base.specs.Words.{is_blank}
+use Rattle.rv_tokens.specs.Tokens.{token_of, token_in, may_precede, front, begins_comment, fault_at, with_tokens, cut, tokens}
 use Rattle.rv_tokens.specs.Parts.{Spells, IsLongest, BeginsWith, IsOver, IsStuck, IsTokensThen, IsCutInto}
 use Rattle.rv_tokens.proofs.Bools.{list_all_split}
 use Rattle.rv_tokens.proofs.Longest.{longest_is, longest_found, longest_none, longest_missing}

@@ -11,6 +11,7 @@ use Rattle.std.proofs.lemmas.Bool.Decides.{nat_tests}
 use Rattle.std.proofs.lemmas.List.{take-take, drop-take, drop-drop}
 use Rattle.std.proofs.lemmas.List.Folds.{list_all_at}
 use Rattle.std.proofs.Math.Seq.{drop-cons}
+use Rattle.rv_base.specs.Numbers.{hex_digit}
 use Rattle.rv_tokens.specs.declared.token.Token.{Token}
 use Rattle.rv_tokens.specs.declared.token.Token.TheVariants.{Text}
 use Rattle.rv_tokens.specs.Literals.{longest, is_digit, number_in, byte_in, escape, spelled, is_plain_in_string, between, first_byte, bytes_after, bytes_of, string}
@@ -26,6 +27,7 @@ byte_digits base ds None b e h = absurd cc
 byte_digits base ds (Some n) b e h = let p = number_in_is base ds n e in p.0
 
 no_quote : (base : ℕ) (ds : List ℕ) (b i : ℕ) → byte_in base ds ≡ Some b → i < length ds → get_or ds i 0 ≡ 34 → ⊥
+unfolding hex_digit
 no_quote base ds b i h lt q =
     let digit : is_digit base (get_or ds i 0) ≡ false = rw q refl in
     false≢true (sym (list_all_at (is_digit base) ds i 0 lt digit) ∙ byte_digits base ds (number_in base ds) b refl h)

@@ -1,6 +1,6 @@
 -- Results that may be a fault.
 -- To audit: public contracts cite this.
--- Own language; see docs/ASSEMBLER.md.
+-- The language is this project's own: docs/ASSEMBLER.md.
 use Rattle.std.specs.Prelude.{◌≡◌, Result, Ok, Err}
 use Rattle.rv_tokens.specs.declared.fault.LineFault.{LineFault}
 use Rattle.rv_tokens.specs.declared.fault.LineFault.TheVariants.{OutOfMemory}

@@ -1,10 +1,10 @@
 -- The spelling of numbers, characters and strings.
 -- To audit: public contracts cite this.
--- Own language; see docs/ASSEMBLER.md.
-use Rattle.std.specs.Prelude.{ℕ, zero, suc, pred, ◌+◌, ◌-◌, ◌*◌, Bool, not, ◌&&◌, ◌||◌, List, [], ◌∷◌, length, take, drop, fold, if◌then◌else◌, ◌==◌, nat_le, nat_lt, Option, Some, None, option_and_then, slice_index}
+-- The language is this project's own: docs/ASSEMBLER.md.
+use Rattle.std.specs.Prelude.{ℕ, zero, suc, pred, ◌+◌, ◌-◌, ◌*◌, Bool, false, not, ◌&&◌, ◌||◌, List, [], ◌∷◌, length, take, drop, fold, if◌then◌else◌, ◌==◌, nat_le, nat_lt, Option, Some, None, option_and_then, slice_index}
 use Rattle.std.specs.List.{list_all}
-use Rattle.std.specs.Option.{option_map, option_or}
-use Rattle.std.specs.Char.{is_ascii_digit}
+use Rattle.std.specs.Option.{option_map, option_map_or, option_or, unwrap_or}
+use Rattle.rv_base.specs.Numbers.{hex_digit}
 
 -- Of the prefixes of a text up to n bytes, the longest that spells something: what it spells, and its length.
 -- `spells n` is what the prefix of n bytes spells.
@@ -14,17 +14,13 @@ longest spells (suc n) = option_or (option_map (λ x. (x, suc n)) (spells (suc n
 
 -- ---- numbers
 
--- `a` to `f` or `A` to `F`
-abbrev pub is_hex_letter : ℕ → Bool
-is_hex_letter b = (nat_le 97 b && nat_le b 102) || (nat_le 65 b && nat_le b 70)
-
--- the value of a hexadecimal digit
+-- the value of a digit, or 0 for any other byte
 abbrev pub digit_value : ℕ → ℕ
-digit_value b = if nat_le b 57 then b - 48 else (if nat_le b 70 then b - 55 else b - 87)
+digit_value b = unwrap_or (hex_digit b) 0
 
--- whether a byte is a digit in a base
+-- whether a byte is a digit in a base of at most 16
 abbrev pub is_digit : ℕ → ℕ → Bool
-is_digit base b = (is_ascii_digit b || is_hex_letter b) && nat_lt (digit_value b) base
+is_digit base b = option_map_or (λ d. nat_lt d base) (hex_digit b) false
 
 -- the value of digits in a base, the highest first
 abbrev pub value : ℕ → List ℕ → ℕ

@@ -1,13 +1,15 @@
 -- The parts of a line: its tokens, each the longest at its place, with blanks between them and at most one comment.
 --
 -- To audit: public contracts cite this.
--- Own language; see docs/ASSEMBLER.md.
+-- The language is this project's own: docs/ASSEMBLER.md.
 use Rattle.std.specs.Prelude.{◌≡◌, ◌⊎◌, ◌↔◌, ℕ, ◌<◌, ◌≤◌, true, false, List, [], ◌∷◌, ◌++◌, length, Some, Result, Ok, Err}
 use Rattle.std.specs.List.{list_all}
 use Rattle.rv_tokens.specs.declared.token.Token.{Token}
 use Rattle.rv_tokens.specs.declared.fault.LineFault.{LineFault}
 use Rattle.rv_tokens.specs.declared.fault.LineFault.TheVariants.{LineTooLong}
-use Rattle.rv_tokens.specs.Tokens.{token_of, may_precede, is_blank, begins_comment, fault_at, tokens}
+use Rattle.rv_base.specs.Limits.{line_limit}
+use Rattle.rv_base.specs.Words.{is_blank}
+use Rattle.rv_tokens.specs.Tokens.{token_of, may_precede, begins_comment, fault_at, tokens}
 
 -- a text spells a token that may precede the rest of the line
 abbrev pub Spells : List ℕ → List ℕ → Token → Type 0
@@ -54,9 +56,9 @@ IsTokensThen End (t ∷ ts) line = (rest : List ℕ) × BeginsWith line t rest �
 
 -- a line is these tokens and no more, or has this fault after some tokens; a line that is too long has no tokens
 abbrev pub IsCutInto : List ℕ → Result (List Token) LineFault → Type 0
-IsCutInto line (Ok ts) = (length line ≤ 1024) × IsTokensThen IsOver ts line
-IsCutInto line (Err LineTooLong) = 1024 < length line
-IsCutInto line (Err fault) = (length line ≤ 1024) × ((ts : List Token) × IsTokensThen (IsStuck fault) ts line)
+IsCutInto line (Ok ts) = (length line ≤ line_limit) × IsTokensThen IsOver ts line
+IsCutInto line (Err LineTooLong) = line_limit < length line
+IsCutInto line (Err fault) = (length line ≤ line_limit) × ((ts : List Token) × IsTokensThen (IsStuck fault) ts line)
 
 -- a line is cut into exactly what `tokens` says
 abbrev pub OneCut : Type 0

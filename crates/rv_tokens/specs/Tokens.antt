@@ -1,11 +1,13 @@
 -- The spelling of tokens, and the tokens of a line.
 -- To audit: public contracts cite this.
--- Own language; see docs/ASSEMBLER.md.
+-- The language is this project's own: docs/ASSEMBLER.md.
 use Rattle.std.specs.Prelude.{ℕ, zero, suc, pred, ◌-◌, Bool, true, not, ◌&&◌, ◌||◌, List, [], ◌∷◌, ◌++◌, length, take, drop, if◌then◌else◌, ◌==◌, nat_le, nat_lt, Option, Some, None, option_and_then, Result, Ok, Err, slice_index, codes}
 use Rattle.std.specs.List.{list_all}
 use Rattle.std.specs.Option.{option_map, option_or}
 use Rattle.std.specs.Char.{is_ascii_digit, is_ascii_alphabetic}
 use Rattle.std.specs.Str.{bytes_eq}
+use Rattle.rv_base.specs.Limits.{line_limit}
+use Rattle.rv_base.specs.Words.{is_blank}
 use Rattle.rv_tokens.specs.declared.token.Direction.TheVariants.{Backward, Forward}
 use Rattle.rv_tokens.specs.declared.token.Token.{Token}
 use Rattle.rv_tokens.specs.declared.token.Token.TheVariants.{Name, Digits, Number, Local, Character, Text, Comma, Open, Close, Plus, Minus, Colon, At, High, Low}
@@ -88,10 +90,6 @@ token_in line n = option_and_then (λ t. if may_precede t (drop n line) then Som
 abbrev pub front : List ℕ → Option (Token × ℕ)
 front line = longest (token_in line) (length line)
 
--- a space or a tab
-abbrev pub is_blank : ℕ → Bool
-is_blank b = (b == 32) || (b == 9)
-
 -- a comment begins with `#` or `//`
 abbrev pub begins_comment : List ℕ → Bool
 begins_comment line =
@@ -121,4 +119,4 @@ cut (b ∷ bs) zero =
 
 -- the tokens of a line of at most 1,024 bytes
 unfoldable pub tokens : List ℕ → Result (List Token) LineFault
-tokens line = if nat_lt 1024 (length line) then Err LineTooLong else cut line 0
+tokens line = if nat_lt line_limit (length line) then Err LineTooLong else cut line 0

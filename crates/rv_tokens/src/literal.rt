@@ -1,35 +1,22 @@
 //! Numbers, characters and strings.
-ghost use Rattle.std.specs.Prelude.{◌≡◌, ◌||◌, ◌<◌, ◌≤◌, IsTrue, IfSome, length};
-ghost use Rattle.std.specs.Char.{is_ascii_digit};
-ghost use Rattle.rv_tokens.specs.Literals.{is_hex_letter, digit_value, is_digit, number_in, has_prefix, has_leading_zero, number, short_decimal, letter_escape, byte_in, escape, escaped, spelled, is_plain_in_character, is_plain_in_string, character, first_byte};
+ghost use Rattle.std.specs.Prelude.{◌≡◌, ◌<◌, ◌≤◌, IfSome, length};
+ghost use Rattle.rv_tokens.specs.Literals.{digit_value, is_digit, number_in, has_prefix, has_leading_zero, number, short_decimal, letter_escape, byte_in, escape, escaped, spelled, is_plain_in_character, is_plain_in_string, character, first_byte};
 
-/// Returns whether a byte is a hexadecimal digit of either case that isn't decimal.
-fn is_hex_letter(b: u8) -> bool
-    ensures { result ≡ is_hex_letter b }
-{
-    (b >= b'a' && b <= b'f') || (b >= b'A' && b <= b'F')
-}
+use rv_base::hex_digit;
 
-/// Returns the value of a hexadecimal digit.
+/// Returns the value of a digit, or 0 for any other byte.
 fn digit_value(b: u8) -> u8
-    requires { IsTrue (is_ascii_digit b || is_hex_letter b) }
     ensures is { result ≡ digit_value b }
     ensures below { result < 16 }
 {
-    if b <= b'9' {
-        b - b'0'
-    } else if b <= b'F' {
-        b - b'A' + 10
-    } else {
-        b - b'a' + 10
-    }
+    hex_digit(b).unwrap_or(0)
 }
 
 /// Returns whether a byte is a digit in a base of at most 16.
 fn is_digit(base: u64, b: u8) -> bool
     ensures { result ≡ is_digit base b }
 {
-    (b.is_ascii_digit() || is_hex_letter(b)) && u64::from(digit_value(b)) < base
+    hex_digit(b).is_some_and(|value| u64::from(value) < base)
 }
 
 /// Reads a number in a base: one or more digits whose value fits into 32 bits.

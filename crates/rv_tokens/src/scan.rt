@@ -3,15 +3,13 @@ ghost use Rattle.std.specs.Prelude.{◌≡◌, ◌==◌, IfOk, IsTrue, ◌<◌, 
 ghost use Rattle.std.specs.List.{list_all};
 ghost use Rattle.rv_tokens.specs.Faults.{Gives};
 ghost use Rattle.rv_tokens.specs.Parts.{IsCutInto, OneCut};
-ghost use Rattle.rv_tokens.specs.Tokens.{is_name_start, is_name_byte, local, word, sign, half, front, begins_comment, begins_with_name_byte, fault_at, is_blank, cut, tokens};
+ghost use Rattle.rv_tokens.specs.Tokens.{is_name_start, is_name_byte, local, word, sign, half, front, begins_comment, begins_with_name_byte, fault_at, cut, tokens};
 
 use crate::literal::{character, first_byte, number, short_decimal};
 use crate::token::{Text, Token};
 use crate::{Direction, LineFault, Name};
+use rv_base::{LINE_LIMIT, is_blank};
 use std::alloc::Global;
-
-/// The largest number of bytes in a line.
-const LONGEST_LINE: usize = 1024;
 
 /// Returns whether a name may begin with a byte.
 fn is_name_start(b: u8) -> bool
@@ -115,13 +113,6 @@ fn begins_comment(line: &[u8]) -> bool
     ensures { result ≡ begins_comment line.now }
 {
     line[0] == b'#' || (line.len() > 1 && line[0] == b'/' && line[1] == b'/')
-}
-
-/// Returns whether a byte is a space or a tab.
-fn is_blank(b: u8) -> bool
-    ensures { result ≡ is_blank b }
-{
-    b == b' ' || b == b'\t'
 }
 
 /// Returns the fault at a byte where no token begins.
@@ -270,7 +261,7 @@ pub fn cut_line<'a>(alloc: Global, line: &'a [u8]) -> Result<Vec<Token<'a>>, Lin
     ensures parts { IsCutInto line.now (tokens line.now) }
     ensures short { IfOk result (λ v. length v.items ≤ 1024) }
 {
-    if line.len() > LONGEST_LINE {
+    if line.len() > LINE_LIMIT {
         return Err(LineFault::LineTooLong);
     }
     cut(alloc, line)
