@@ -1,4 +1,4 @@
--- How far the digits of an address have been read.
+-- Reading the digits of an address, one by one.
 use Rattle.std.proofs.Common.{◌≡◌, ℕ, suc, ◌+◌, ◌*◌, ◌^◌, ◌<◌, ◌≤◌, Bool, true, false, cond, List, [], ◌∷◌, length, drop, fold, get_or, refl, sym, ap, ◌∙◌, arith, add-one}
 use Rattle.std.specs.List.{list_all}
 use Rattle.std.specs.Prelude.{None, Some, nat_le, ◌&&◌, is_some, unwrap_or}
@@ -11,20 +11,20 @@ use Rattle.std.proofs.Math.Seq.{drop-cons}
 use Rattle.rv_base.specs.Numbers.{hex_digit}
 use Rattle.rv_commands.specs.Addresses.{hex_value, hexadecimal}
 
--- the digits from the first on, and the others
+-- whether a byte is a digit, and the value with one more digit
 abbrev is_digit : ℕ → Bool
 is_digit b = is_some (hex_digit b)
 
 abbrev step : ℕ → ℕ → ℕ
 step v b = 16 * v + unwrap_or (hex_digit b) 0
 
--- the first i digits are digits and stand for sum
+-- the first i bytes are digits, of the value sum
 pub record SoFar (digits : List ℕ) (i sum : ℕ) : Type 0 where
   pub below : sum < 16 ^ i
   pub sum_is : fold step sum (drop i digits) ≡ hex_value digits
   pub all_are : list_all is_digit (drop i digits) ≡ list_all is_digit digits
 
--- how many digits there may be
+-- whether an address may have n digits
 abbrev is_count : ℕ → Bool
 is_count n = nat_le 1 n && nat_le n 8
 
@@ -48,17 +48,17 @@ hexadecimal-bad : (ds : List ℕ) → list_all is_digit ds ≡ false → None �
 unfolding hexadecimal
 hexadecimal-bad ds h = none_at (is_count (length ds)) (list_all is_digit ds) (hex_value ds) h
 
--- a byte that is no digit
+-- a byte isn't a digit
 pub not_a_digit : (ds : List ℕ) (i : ℕ) → i < length ds → hex_digit (get_or ds i 0) ≡ None → None ≡ hexadecimal ds
 not_a_digit ds i h e = hexadecimal-bad ds (list_all_at is_digit ds i 0 h (rw e refl))
 
--- there is room for a digit more
+-- the value with one more digit fits into 32 bits
 pub fits : (ds : List ℕ) (i sum d : ℕ) → is_count (length ds) ≡ true → i < length ds → SoFar ds i sum → d < 16 → 16 * sum + d < 2 ^ 32
 fits ds i sum d count h so small =
     let most = (few (length ds) count).1 in
     omega (arith, so.below, most, pow-le-pow_right {n = 16} (omega arith) {i = i} {j = 7} (omega (arith, most)))
 
--- one digit more
+-- with one more digit
 sum_next : (sum x d : ℕ) (xs : List ℕ) → hex_digit x ≡ Some d → fold step sum (x ∷ xs) ≡ fold step (16 * sum + d) xs
 sum_next sum x d xs e = ap (λ o. fold step (16 * sum + unwrap_or o 0) xs) e
 
@@ -75,7 +75,7 @@ next_so_far ds i sum d h so digit small =
       all_are = ap (list_all is_digit) rest ∙ (sym (all_next (get_or ds i 0) d (drop (suc i) ds) digit) ∙ (ap (list_all is_digit) (sym e) ∙ so.all_are));
     }
 
--- all digits
+-- all bytes are digits
 pub whole : (ds : List ℕ) (i sum : ℕ) → is_count (length ds) ≡ true → length ds ≤ i → SoFar ds i sum → Some sum ≡ hexadecimal ds
 unfolding hexadecimal
 whole ds i sum count end so =

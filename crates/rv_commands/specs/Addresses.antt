@@ -1,13 +1,13 @@
 -- To audit: public contracts cite this.
--- Addresses, as a command spells them.
--- This project's own language.
+-- The addresses of commands.
+-- The language is this project's own: docs/MONITOR.md.
 use Rattle.std.specs.Prelude.{ℕ, ◌+◌, ◌*◌, ◌^◌, ◌&&◌, ℤ, List, length, drop, fold, if◌then◌else◌, nat_eq, nat_le, Option, Some, None, codes, is_some, unwrap_or}
 use Rattle.std.specs.Option.{option_map}
 use Rattle.std.specs.List.{list_all, starts_with}
 use Rattle.rv_isa.specs.Number.{modulo}
 use Rattle.rv_base.specs.Numbers.{hex_digit}
 
--- what hexadecimal digits stand for, the first of them the highest
+-- the value of hexadecimal digits, the highest first
 abbrev pub hex_value : List ℕ → ℕ
 hex_value digits = fold (λ v b. 16 * v + unwrap_or (hex_digit b) 0) 0 digits
 
@@ -18,7 +18,8 @@ hexadecimal digits =
     then Some (hex_value digits)
     else None
 
--- ADDR: `0x` and one to eight hexadecimal digits, or a symbol, modulo 2 ^ 32; symbols: the value of each name that has one
+-- ADDR: `0x` and one to eight hexadecimal digits, or a symbol, modulo 2 ^ 32; symbols gives the value of each name that
+-- has one
 unfoldable pub address_of : (List ℕ → Option ℤ) → List ℕ → Option ℕ
 address_of symbols word =
     if starts_with nat_eq word (codes "0x") then hexadecimal (drop 2 word)

@@ -1,28 +1,29 @@
 -- To audit: public contracts cite this.
--- Command lines: what each says. None is a line that says nothing that can be done.
--- This project's own language.
+-- The command of each command line, or None if it isn't a command.
+-- The language is this project's own: docs/MONITOR.md.
 use Rattle.std.specs.Prelude.{◌≡◌, ℕ, ℤ, ⊤, ◌&&◌, List, [], ◌∷◌, length, if◌then◌else◌, nat_le, nat_lt, Option, Some, None, codes, option_and_then}
 use Rattle.std.specs.Option.{option_map}
 use Rattle.std.specs.Str.{bytes_eq}
 use Rattle.rv_base.specs.Tables.{lookup}
 use Rattle.rv_isa.specs.Names.{csr_names}
+use Rattle.rv_base.specs.Limits.{line_limit}
 use Rattle.rv_base.specs.Numbers.{decimal}
 use Rattle.rv_base.specs.Words.{words, begins_comment}
 use Rattle.rv_commands.specs.Addresses.{address_of}
 use Rattle.rv_commands.specs.declared.command.Command.{Command}
 use Rattle.rv_commands.specs.declared.command.Command.TheVariants.{Step, Go, SetBreak, ClearBreak, Registers, ControlRegister, Memory, Instruction, Traps, Edges, Quit, Nothing}
 
--- ---- the words behind the first
+-- ---- the words following the first
 
--- N: decimal digits, which are no more than 1,000,000,000
+-- N: a decimal number of at most 1,000,000,000
 abbrev pub number_of : List ℕ → Option ℕ
 number_of word = decimal 1000000000 word
 
--- the N of `m`: from 1 to 256
+-- N of `m`: from 1 to 256
 unfoldable pub byte_count : List ℕ → Option ℕ
 byte_count word = option_and_then (λ n. if nat_le 1 n && nat_le n 256 then Some n else None) (number_of word)
 
--- the N of `e`: a source that is triggered by edges, 24 to 31
+-- N of `e`: an edge source, 24 to 31
 unfoldable pub edge_source : List ℕ → Option ℕ
 edge_source word = option_and_then (λ n. if nat_le 24 n && nat_le n 31 then Some n else None) (number_of word)
 
@@ -31,14 +32,14 @@ abbrev pub only : List (List ℕ) → Option (List ℕ)
 only (word ∷ []) = Some word
 only _ = None
 
--- N alone, and ADDR alone
+-- N or ADDR, the only word
 unfoldable pub number_alone : List (List ℕ) → Option ℕ
 number_alone more = option_and_then number_of (only more)
 
 unfoldable pub address_alone : (List ℕ → Option ℤ) → List (List ℕ) → Option ℕ
 address_alone symbols more = option_and_then (address_of symbols) (only more)
 
--- no word
+-- a command without a word following its first
 abbrev pub alone : Command → List (List ℕ) → Option Command
 alone command [] = Some command
 alone command _ = None
@@ -68,7 +69,7 @@ memory symbols _ = None
 unfoldable pub edges : List (List ℕ) → Option Command
 edges more = option_map (λ source. Edges source) (option_and_then edge_source (only more))
 
--- ---- a command by its first word and those behind it: one row a command
+-- ---- a command by its first word and the words following it: one row a command
 
 unfoldable pub row : (List ℕ → Option ℤ) → List ℕ → List (List ℕ) → Option Command
 row symbols word more =
@@ -85,16 +86,16 @@ row symbols word more =
     else (if bytes_eq word (codes "q") then alone Quit more
     else None))))))))))
 
--- a line by its words: nothing where it is blank or a comment
+-- a line by its words; a blank line or a comment does nothing
 abbrev pub said_by : (List ℕ → Option ℤ) → List (List ℕ) → Option Command
 said_by symbols [] = Some Nothing
 said_by symbols (word ∷ more) = if begins_comment word then Some Nothing else row symbols word more
 
--- a line; one of over 1,024 bytes is refused whatever it says
+-- a line; a line of more than 1,024 bytes is refused whatever it says
 unfoldable pub command_of : List ℕ → (List ℕ → Option ℤ) → Option Command
-command_of line symbols = if nat_lt 1024 (length line) then None else said_by symbols (words line)
+command_of line symbols = if nat_lt line_limit (length line) then None else said_by symbols (words line)
 
--- a command's control register is that of its name
+-- the control register of a command is the one with its name
 abbrev pub IsNamed : Command → Type 0
 IsNamed (ControlRegister name csr) = lookup name csr_names ≡ Some csr
 IsNamed _ = ⊤

@@ -1,60 +1,60 @@
-//! What a command line says.
+//! Commands.
 use rv_plic::Source;
 use rv_tokens::Name;
 
-/// What a command line says.
+/// A command of the monitor.
 #[derive(Drop)]
 pub enum Command<'a> {
-    /// Steps.
+    /// `s [N]`: takes steps.
     Step {
-        /// How many: at most 1,000,000,000.
+        /// The number of steps, at most 1,000,000,000.
         count: u64,
     },
-    /// Steps up to a breakpoint.
+    /// `c [N]`: takes steps up to a breakpoint.
     Go {
-        /// The most of them, at most 1,000,000,000; None for all that are left.
+        /// The most steps, at most 1,000,000,000. None for all steps that are left.
         count: Option<u64>,
     },
-    /// A breakpoint is set.
+    /// `b ADDR`: sets a breakpoint.
     SetBreak {
-        /// Its address.
+        /// The address.
         addr: u32,
     },
-    /// A breakpoint is cleared.
+    /// `d ADDR`: clears a breakpoint.
     ClearBreak {
-        /// Its address.
+        /// The address.
         addr: u32,
     },
-    /// All registers, the pc and the mode are shown.
+    /// `r`: shows the registers, the pc and the mode.
     Registers,
-    /// A control register is shown.
+    /// `p NAME`: shows a control register.
     ControlRegister {
-        /// Its name, as the line gives it.
+        /// The name, as the line has it.
         name: Name<'a>,
-        /// Its number.
+        /// The number of the control register with this name.
         csr: u16,
     },
-    /// Bytes of memory are shown.
+    /// `m ADDR N`: shows bytes of memory.
     Memory {
-        /// The address of the first.
+        /// The address of the first byte.
         addr: u32,
-        /// How many: 1 to 256.
+        /// The number of bytes, 1 to 256.
         count: u32,
     },
-    /// An instruction is shown.
+    /// `i ADDR`: shows an instruction.
     Instruction {
-        /// Its address.
+        /// The address.
         addr: u32,
     },
-    /// The kept traps are shown.
+    /// `t`: shows the last traps.
     Traps,
-    /// The waiting edges of a source are shown.
+    /// `e N`: shows the pending edges of a source.
     Edges {
-        /// The source: one of those that are triggered by edges, 24 to 31.
+        /// The edge source, 24 to 31.
         source: Source,
     },
-    /// The commands end.
+    /// `q`: ends the commands.
     Quit,
-    /// The line is blank or a comment.
+    /// A blank line or a comment: does nothing.
     Nothing,
 }

@@ -1,17 +1,18 @@
-//! Command lines of the monitor: what each says.
+//! Command lines of the monitor.
 //!
-//! A line is cut into words at spaces and tabs. A line of over 1,024 bytes is refused before it is looked at. A line
-//! without a word, and one whose first word begins with `#`, says nothing. Any other line is one of these:
+//! A line is cut into words at spaces and tabs. A line of more than 1,024 bytes is refused whatever it says. A line without
+//! a word, or whose first word begins with `#`, does nothing. Any other line is one of these:
 //!
-//! - `s [N]`: N steps, or one;
-//! - `c [N]`: up to N steps, or all that are left, up to a breakpoint;
-//! - `b ADDR`, `d ADDR`: a breakpoint is set or cleared;
-//! - `r`: all registers are shown;
-//! - `p NAME`: the control register of this name is shown;
-//! - `m ADDR N`: N bytes of memory are shown, from 1 to 256;
-//! - `i ADDR`: the instruction at an address is shown;
-//! - `t`: the kept traps are shown;
-//! - `q`: the commands end.
+//! - `s [N]`: takes N steps, or one;
+//! - `c [N]`: takes up to N steps, or all that are left, up to a breakpoint;
+//! - `b ADDR`, `d ADDR`: sets or clears a breakpoint;
+//! - `r`: shows all registers, the pc and the mode;
+//! - `p NAME`: shows the control register with this name;
+//! - `m ADDR N`: shows N bytes of memory, from 1 to 256;
+//! - `i ADDR`: shows the instruction at an address;
+//! - `t`: shows the last traps;
+//! - `e N`: shows the pending edges of source N, from 24 to 31;
+//! - `q`: ends the commands.
 //!
 //! ADDR is `0x` with one to eight hexadecimal digits of either case, or a symbol, whose value is taken modulo 2^32. N is
 //! a decimal number of at most 1,000,000,000, with any number of leading zeros.

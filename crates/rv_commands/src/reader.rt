@@ -1,4 +1,4 @@
-//! Reads command lines.
+//! Reads commands.
 ghost use Rattle.std.specs.Prelude.{◌≡◌, ◌≤◌, IfSome};
 ghost use Rattle.std.specs.Option.{option_copied};
 ghost use Rattle.rv_base.specs.Words.{words};
@@ -6,25 +6,22 @@ ghost use Rattle.rv_commands.specs.Commands.{number_of, byte_count, edge_source,
 
 use crate::address::address;
 use crate::{Command, SymbolLookup};
-use rv_base::{begins_comment, decimal, first_word, has_word};
+use rv_base::{LINE_LIMIT, begins_comment, decimal, first_word, has_word};
 use rv_isa::csr_named;
 use rv_plic::Source;
 use rv_tokens::Name;
 
-/// The longest line that is looked at.
-const LONGEST_LINE: usize = 1024;
-
-/// The most steps that a command asks for.
+/// The largest number in a command.
 const MOST_STEPS: u64 = 1_000_000_000;
 
-/// The number of steps or bytes that a word stands for.
+/// Reads a decimal number of at most 1,000,000,000.
 fn number(word: &[u8]) -> Option<u64>
     ensures { result ≡ number_of word.now }
 {
     decimal(MOST_STEPS, word)
 }
 
-/// How many bytes a word asks for: 1 to 256.
+/// Reads a number of bytes, 1 to 256.
 #[tactic(auto, unfolding(crate::specs::Commands::byte_count))]
 fn byte_count(word: &[u8]) -> Option<u32>
     ensures { result ≡ byte_count word.now }
@@ -35,7 +32,7 @@ fn byte_count(word: &[u8]) -> Option<u32>
     }
 }
 
-/// The source that is triggered by edges and that a word stands for: 24 to 31.
+/// Reads the number of an edge source, 24 to 31.
 #[tactic(auto, unfolding(crate::specs::Commands::edge_source))]
 fn edge_source(word: &[u8]) -> Option<Source>
     ensures { result ≡ edge_source word.now }
@@ -46,7 +43,7 @@ fn edge_source(word: &[u8]) -> Option<Source>
     }
 }
 
-/// The only word of a text.
+/// Returns the only word of a text.
 fn only_word<'a>(text: &'a [u8]) -> Option<&'a [u8]>
     ensures { option_copied result ≡ only (words text.now) }
 {
@@ -54,7 +51,7 @@ fn only_word<'a>(text: &'a [u8]) -> Option<&'a [u8]>
     if has_word(rest) { None } else { Some(word) }
 }
 
-/// The number that the only word of a text stands for.
+/// Reads a number, the only word of a text.
 #[tactic(auto, unfolding(crate::specs::Commands::number_alone))]
 fn only_number(text: &[u8]) -> Option<u64>
     ensures { result ≡ number_alone (words text.now) }
@@ -62,7 +59,7 @@ fn only_number(text: &[u8]) -> Option<u64>
     number(only_word(text)?)
 }
 
-/// The address that the only word of a text stands for.
+/// Reads an address, the only word of a text.
 #[tactic(auto, unfolding(crate::specs::Commands::address_alone))]
 fn only_address<S: SymbolLookup>(text: &[u8], symbols: &S) -> Option<u32>
     ensures { result ≡ address_alone (S.symbols symbols.now) (words text.now) }
@@ -70,9 +67,9 @@ fn only_address<S: SymbolLookup>(text: &[u8], symbols: &S) -> Option<u32>
     address(only_word(text)?, symbols)
 }
 
-/// Behind `s`: how many steps, or none for one.
+/// Reads the words following `s`: a number of steps, or nothing for one step.
 #[tactic(auto, unfolding(crate::specs::Commands::steps))]
-fn steps<'a>(text: &[u8]) -> Option<Command<'a>>
+fn read_step<'a>(text: &[u8]) -> Option<Command<'a>>
     ensures { result ≡ steps (words text.now) }
 {
     if !has_word(text) {
@@ -82,9 +79,9 @@ fn steps<'a>(text: &[u8]) -> Option<Command<'a>>
     Some(Command::Step { count })
 }
 
-/// Behind `c`: the most steps, or none for all that are left.
+/// Reads the words following `c`: the most steps, or nothing for all that are left.
 #[tactic(auto, unfolding(crate::specs::Commands::going))]
-fn going<'a>(text: &[u8]) -> Option<Command<'a>>
+fn read_go<'a>(text: &[u8]) -> Option<Command<'a>>
     ensures { result ≡ going (words text.now) }
 {
     if !has_word(text) {
@@ -94,9 +91,9 @@ fn going<'a>(text: &[u8]) -> Option<Command<'a>>
     Some(Command::Go { count: Some(count) })
 }
 
-/// Behind `p`: the name of a control register.
+/// Reads the words following `p`: the name of a control register.
 #[tactic(auto, unfolding(crate::specs::Commands::control_register))]
-fn control_register<'a>(text: &'a [u8]) -> Option<Command<'a>>
+fn read_control_register<'a>(text: &'a [u8]) -> Option<Command<'a>>
     ensures { result ≡ control_register (words text.now) }
 {
     let name = only_word(text)?;
@@ -105,9 +102,9 @@ fn control_register<'a>(text: &'a [u8]) -> Option<Command<'a>>
     Some(Command::ControlRegister { name, csr })
 }
 
-/// Behind `m`: an address, and how many bytes.
+/// Reads the words following `m`: an address and a number of bytes.
 #[tactic(auto, unfolding(crate::specs::Commands::memory))]
-fn memory<'a, S: SymbolLookup>(text: &[u8], symbols: &S) -> Option<Command<'a>>
+fn read_memory<'a, S: SymbolLookup>(text: &[u8], symbols: &S) -> Option<Command<'a>>
     ensures { result ≡ memory (S.symbols symbols.now) (words text.now) }
 {
     let (first, rest) = first_word(text)?;
@@ -117,30 +114,30 @@ fn memory<'a, S: SymbolLookup>(text: &[u8], symbols: &S) -> Option<Command<'a>>
     Some(Command::Memory { addr, count })
 }
 
-/// Behind `e`: the number of a source that is triggered by edges.
+/// Reads the words following `e`: the number of an edge source.
 #[tactic(auto, unfolding(crate::specs::Commands::edges))]
-fn edges<'a>(text: &[u8]) -> Option<Command<'a>>
+fn read_edges<'a>(text: &[u8]) -> Option<Command<'a>>
     ensures { result ≡ edges (words text.now) }
 {
     let source = edge_source(only_word(text)?)?;
     Some(Command::Edges { source })
 }
 
-/// A command with no word behind its first.
-fn alone<'a>(command: Command<'a>, text: &[u8]) -> Option<Command<'a>>
+/// Returns a command if no word follows its first.
+fn without_operands<'a>(command: Command<'a>, text: &[u8]) -> Option<Command<'a>>
     ensures { result ≡ alone command.entry (words text.now) }
 {
     if has_word(text) { None } else { Some(command) }
 }
 
-/// A command by its first word and what follows it.
+/// Reads a command, given its first word and the text following it.
 #[tactic(auto, unfolding(crate::specs::Commands::row))]
-fn row<'a, S: SymbolLookup>(word: &[u8], rest: &'a [u8], symbols: &S) -> Option<Command<'a>>
+fn read_row<'a, S: SymbolLookup>(word: &[u8], rest: &'a [u8], symbols: &S) -> Option<Command<'a>>
     ensures { result ≡ row (S.symbols symbols.now) word.now (words rest.now) }
 {
     match word {
-        b"s" => steps(rest),
-        b"c" => going(rest),
+        b"s" => read_step(rest),
+        b"c" => read_go(rest),
         b"b" => {
             let addr = only_address(rest, symbols)?;
             Some(Command::SetBreak { addr })
@@ -149,26 +146,26 @@ fn row<'a, S: SymbolLookup>(word: &[u8], rest: &'a [u8], symbols: &S) -> Option<
             let addr = only_address(rest, symbols)?;
             Some(Command::ClearBreak { addr })
         }
-        b"r" => alone(Command::Registers, rest),
-        b"p" => control_register(rest),
-        b"m" => memory(rest, symbols),
+        b"r" => without_operands(Command::Registers, rest),
+        b"p" => read_control_register(rest),
+        b"m" => read_memory(rest, symbols),
         b"i" => {
             let addr = only_address(rest, symbols)?;
             Some(Command::Instruction { addr })
         }
-        b"t" => alone(Command::Traps, rest),
-        b"e" => edges(rest),
-        b"q" => alone(Command::Quit, rest),
+        b"t" => without_operands(Command::Traps, rest),
+        b"e" => read_edges(rest),
+        b"q" => without_operands(Command::Quit, rest),
         _ => None,
     }
 }
 
-/// What a line says.
+/// Reads a command line, as `read_command`.
 #[tactic(auto, unfolding(crate::specs::Commands::command_of))]
 fn read<'a, S: SymbolLookup>(line: &'a [u8], symbols: &S) -> Option<Command<'a>>
     ensures { result ≡ command_of line.now (S.symbols symbols.now) }
 {
-    if line.len() > LONGEST_LINE {
+    if line.len() > LINE_LIMIT {
         return None;
     }
     let Some((first, rest)) = first_word(line) else {
@@ -177,11 +174,11 @@ fn read<'a, S: SymbolLookup>(line: &'a [u8], symbols: &S) -> Option<Command<'a>>
     if begins_comment(first) {
         return Some(Command::Nothing);
     }
-    row(first, rest, symbols)
+    read_row(first, rest, symbols)
 }
 
-/// What a line says, or None where it is no command. Symbols stand for their values.
-#[tactic(auto, using(crate::proofs::Named::is_named))]
+/// Reads a command line. Symbols stand for their values. None if the line isn't a command.
+#[tactic(auto, using(crate::proofs::CommandNames::is_named))]
 pub fn read_command<'a, S: SymbolLookup>(line: &'a [u8], symbols: &S) -> Option<Command<'a>>
     ensures value { result ≡ command_of line.now (S.symbols symbols.now) }
     ensures named { IfSome result IsNamed }

@@ -1,4 +1,4 @@
--- A command's control register is that of its name.
+-- The control register of a command is the one with its name.
 use Rattle.std.proofs.Common.{◌≡◌, ℕ, ℤ, Bool, true, false, cond, List, [], ◌∷◌, length, refl, sym, subst}
 use Rattle.std.specs.Prelude.{Option, Some, None, IfSome, codes, nat_lt, option_and_then}
 use Rattle.std.specs.Option.{option_map}
@@ -6,17 +6,18 @@ use Rattle.std.specs.Str.{bytes_eq}
 use Rattle.rv_base.specs.Tables.{lookup}
 use Rattle.rv_isa.specs.Names.{csr_names}
 use Rattle.rv_base.specs.Words.{words, begins_comment}
+use Rattle.rv_base.specs.Limits.{line_limit}
 use Rattle.rv_commands.specs.Addresses.{address_of}
 use Rattle.rv_commands.specs.Commands.{IsNamed, byte_count, only, number_alone, address_alone, alone, steps, going, control_register, memory, edge_source, edges, row, said_by, command_of}
 use Rattle.rv_commands.specs.declared.command.Command.{Command}
 use Rattle.rv_commands.specs.declared.command.Command.TheVariants.{Step, Go, SetBreak, ClearBreak, Registers, ControlRegister, Memory, Instruction, Traps, Edges, Quit, Nothing}
 
--- of two commands one
+-- one of two commands
 either : (b : Bool) (x y : Option Command) → IfSome x IsNamed → IfSome y IsNamed → IfSome (cond b x y) IsNamed
 either true x y h k = h
 either false x y h k = k
 
--- a command with an argument
+-- a command with one operand
 with_one : (command : ℕ → Command) (o : Option ℕ) → ((n : ℕ) → IsNamed (command n)) → IfSome (option_map command o) IsNamed
 with_one command None h = tt
 with_one command (Some n) h = h n
@@ -83,7 +84,7 @@ said_named symbols (w ∷ ws) = either (begins_comment w) (Some Nothing) (row sy
 
 line_named : (line : List ℕ) (symbols : List ℕ → Option ℤ) → IfSome (command_of line symbols) IsNamed
 unfolding command_of
-line_named line symbols = either (nat_lt 1024 (length line)) None (said_by symbols (words line)) tt (said_named symbols (words line))
+line_named line symbols = either (nat_lt line_limit (length line)) None (said_by symbols (words line)) tt (said_named symbols (words line))
 
 pub is_named : (command : Option Command) (line : List ℕ) (symbols : List ℕ → Option ℤ) → command ≡ command_of line symbols → IfSome command IsNamed
 is_named command line symbols e = let P : Option Command → Type 0 = λ o. IfSome o IsNamed in subst P (sym e) (line_named line symbols)
