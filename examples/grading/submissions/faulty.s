@@ -1,0 +1,3 @@
+# Di: the language has no semicolon.
+sum:    li      a0,0;
+        ret
