@@ -1,4 +1,4 @@
-pub mod Room
+pub mod ConsoleRoom
 pub mod Halt
 pub mod Serial
 pub mod Timer

@@ -1,56 +1,59 @@
 -- To audit: public contracts cite this.
--- The serial port: a queue of received bytes, and a console of sent ones.
+-- The serial port: a queue of received bytes, and the console, which is the bytes that were sent.
 use Rattle.std.specs.Prelude.{ℕ, Bool, true, false, ◌+◌, ◌%◌, ◌==◌, nat_lt, if◌then◌else◌, List, [], ◌∷◌, ◌++◌, length, drop, slice_get, Option, Some, None}
 use Rattle.rv_mmio.specs.declared.serial.SerialReg.{SerialReg}
 use Rattle.rv_mmio.specs.declared.serial.SerialReg.TheVariants.{Tx, Rx, Status}
 
--- the received bytes that wait, oldest first; the bytes sent, oldest first; whether a received byte was lost
+-- the received bytes that are waiting, oldest first; the bytes that were sent, oldest first; whether a
+-- received byte was lost
 pub record SerialState : Type 0 where
   pub waiting : List ℕ
   pub sent : List ℕ
   pub overrun : Bool
 
+-- the port at reset
 abbrev pub reset : SerialState
 reset = record { waiting = []; sent = []; overrun = false }
 
--- the waiting byte, or a word that no byte has
+-- the word of a waiting byte, or one that no byte has
 abbrev pub received_word : Option ℕ → ℕ
 received_word (Some byte) = byte
 received_word None = 0x80000000
 
--- a byte waits, a byte may be sent, a byte was lost
+-- the status: bit 0 where a byte is waiting, bit 1 since a byte may always be sent, bit 2 where a byte was
+-- lost
 abbrev pub status_word : SerialState → ℕ
 status_word serial = (if nat_lt 0 (length serial.waiting) then 1 else 0) + 2 + (if serial.overrun then 4 else 0)
 
--- what a load gives
+-- the word that a load of a register returns
 abbrev pub load_value : SerialState → SerialReg → ℕ
 load_value serial Tx = 0
 load_value serial Rx = received_word (slice_get serial.waiting 0)
 load_value serial Status = status_word serial
 
--- what it leaves: the oldest byte is taken, or the overrun is cleared
+-- the port after a load of a register: the oldest byte is taken, or the overrun cleared
 abbrev pub after_load : SerialState → SerialReg → SerialState
 after_load serial Tx = serial
 after_load serial Rx = record serial { waiting = drop 1 serial.waiting }
 after_load serial Status = record serial { overrun = false }
 
--- what a store leaves
+-- the port after a store of a word to a register
 abbrev pub stored : SerialState → SerialReg → ℕ → SerialState
 stored serial Tx word = record serial { sent = serial.sent ++ (word % 256) ∷ [] }
 stored serial Rx word = serial
 stored serial Status word = serial
 
--- the console may have no room left: it is made for 4096 bytes at a time
+-- whether the console may have no room left: room is made for 4096 bytes at a time
 unfoldable pub is_full : SerialState → Bool
 is_full serial = length serial.sent % 4096 == 0
 
--- a store there has to make room where the console has none
+-- whether a store to a register may have to make room
 abbrev pub wants_room : SerialState → SerialReg → Bool
 wants_room serial Tx = is_full serial
 wants_room serial Rx = false
 wants_room serial Status = false
 
--- a byte comes. The queue holds 16, and a byte beyond them is lost
+-- the port after it received a byte: the queue holds 16, and a byte beyond them is lost
 abbrev pub received : SerialState → ℕ → SerialState
 received serial byte =
     if nat_lt (length serial.waiting) 16 then record serial { waiting = serial.waiting ++ byte ∷ [] }

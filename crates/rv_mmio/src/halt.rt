@@ -4,7 +4,7 @@ ghost use Rattle.rv_mmio.specs.Halt.{halted_by};
 
 use std::marker::Model;
 
-/// The halt register. It keeps the code of the last store that halted the board.
+/// The halt register, seen as the code of the last store that halted the board, if there was one.
 #[derive(Clone, Copy)]
 pub struct Halt {
     code: Option<u16>,
@@ -21,15 +21,15 @@ impl Model for Halt {
 }
 
 impl Halt {
-    /// No store has halted the board yet.
+    /// Returns the register before any store.
     pub fn new() -> Halt
         ensures { result ≡ None }
     {
         Halt { code: None }
     }
 
-    /// A store of a word. The low half 0x5555 halts with code 0, the low half 0x3333 with the high half as code, and
-    /// any other word changes nothing.
+    /// Stores a word. One with the low half 0x5555 halts the board with code 0, one with the low half 0x3333
+    /// with its high half as the code, and any other changes nothing.
     pub fn store(&mut self, word: u32)
         ensures { self.new ≡ halted_by self.old word }
     {
@@ -40,7 +40,7 @@ impl Halt {
         }
     }
 
-    /// The code with which the board was halted, if it was.
+    /// Returns the code that the board was halted with, if it was halted.
     pub fn code(&self) -> Option<u16>
         ensures { result ≡ self.now }
     {

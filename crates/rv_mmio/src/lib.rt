@@ -1,4 +1,4 @@
-//! The devices of the board that programs reach by loads and stores: timer, serial port and halt register.
+//! The devices that programs access by loads and stores: timer, serial port and halt register.
 #![tactic(auto)]
 
 mod halt;

@@ -8,24 +8,28 @@ use rv_base::NoMemory;
 use std::alloc::Global;
 use std::marker::Model;
 
-/// How many received bytes wait at most.
+/// The most received bytes that the queue holds.
 const QUEUE: usize = 16;
 
-/// For how many bytes at least the console makes room when it has none.
+/// The bytes that the console makes room for, at the least, when it has none.
 const ROOM: usize = 4096;
+
+/// The word that a load of the receive register returns where no byte is waiting: a word that no byte has.
+const NO_BYTE: u32 = 0x8000_0000;
 
 /// A register of the serial port.
 #[derive(Clone, Copy)]
 pub enum SerialReg {
-    /// Sends a byte.
+    /// The transmit register: a store sends the low byte of its word.
     Tx,
-    /// Takes the oldest received byte.
+    /// The receive register: a load takes the oldest received byte.
     Rx,
-    /// What waits and what was lost.
+    /// The status register: bit 0 says that a received byte is waiting, bit 1 that a byte may be sent, which
+    /// is always so, and bit 2 that a received byte was lost.
     Status,
 }
 
-/// The serial port: the received bytes that wait, at most 16, and the console, which is all that was sent.
+/// The serial port: a queue of at most 16 received bytes, and the console, which is all bytes that were sent.
 #[derive(Drop)]
 pub struct Serial {
     waiting: HeapCircularBuffer<u8>,
@@ -36,17 +40,17 @@ pub struct Serial {
 impl Model for Serial {
     ghost use Rattle.std.specs.Prelude.{◌≡◌, vec_len, vec_capacity};
     ghost use Rattle.rv_mmio.specs.Serial.{SerialState};
-    ghost use Rattle.rv_mmio.specs.Room.{HasRoom};
+    ghost use Rattle.rv_mmio.specs.ConsoleRoom.{HasConsoleRoom};
 
     ghost Value = { SerialState };
 
     ghost view = { λ s. record { waiting = s.waiting.items; sent = s.sent.items; overrun = s.overrun } };
 
-    ghost invariant = { λ s. (s.waiting.capacity ≡ 16) × HasRoom (vec_len s.sent) (vec_capacity s.sent) };
+    ghost invariant = { λ s. (s.waiting.capacity ≡ 16) × HasConsoleRoom (vec_len s.sent) (vec_capacity s.sent) };
 }
 
 impl Serial {
-    /// A port at which nothing was received or sent. It makes the room of the receive queue.
+    /// Returns a port with an empty queue and an empty console. Allocates the queue.
     pub fn new(alloc: Global) -> Result<Serial, NoMemory>
         ensures { IfOk result (λ s. s ≡ reset) }
     {
@@ -57,17 +61,16 @@ impl Serial {
         })
     }
 
-    /// A byte comes from outside. Where 16 wait it is lost, which sets the overrun.
+    /// Receives a byte from outside. Where 16 are waiting already, the byte is lost and the overrun is set.
     pub fn receive(&mut self, byte: u8)
         ensures { self.new ≡ received self.old byte }
     {
-        match self.waiting.try_push_back(byte) {
-            Ok(()) => (),
-            Err(_) => self.overrun = true,
+        if self.waiting.try_push_back(byte).is_err() {
+            self.overrun = true;
         }
     }
 
-    /// What a load of a register gives. A load of the receive register takes the byte, one of the status clears the
+    /// Loads a register. A load of the receive register takes the byte, one of the status register clears the
     /// overrun.
     pub fn load(&mut self, reg: SerialReg) -> u32
         ensures value { result ≡ load_value self.old reg }
@@ -80,8 +83,9 @@ impl Serial {
         }
     }
 
-    /// A store to a register. One to the transmit register appends the low byte to the console; the others change
-    /// nothing. It is refused only where the console has to make room, which it does for 4096 bytes at a time.
+    /// Stores a word in a register. A store to the transmit register appends the low byte to the console; the
+    /// others change nothing. A store is refused only where the console has to make room, which it does for
+    /// 4096 bytes at a time.
     pub fn store(&mut self, reg: SerialReg, word: u32) -> Result<(), NoMemory>
         ensures ok { OnOk result (self.new ≡ stored self.old reg word) }
         ensures err { OnErr result (self.new ≡ self.old) }
@@ -93,14 +97,14 @@ impl Serial {
         }
     }
 
-    /// All bytes that were sent, oldest first.
+    /// Returns the console: all bytes that were sent, oldest first.
     pub fn console(&self) -> &[u8]
         ensures { result.now ≡ self.now.sent }
     {
         self.sent.as_slice()
     }
 
-    /// How many received bytes wait.
+    /// Returns how many received bytes are waiting.
     pub fn waiting(&self) -> usize
         ensures count { result ≡ length self.now.waiting }
         ensures bound { result ≤ 16 }
@@ -108,13 +112,14 @@ impl Serial {
         self.waiting.len()
     }
 
-    /// Whether a received byte was lost since the last load of the status.
+    /// Returns whether a received byte was lost since the last load of the status register.
     pub fn overrun(&self) -> bool
         ensures { result ≡ self.now.overrun }
     {
         self.overrun
     }
 
+    /// Appends a byte to the console.
     #[tactic(auto, unfolding(crate::specs::Serial::is_full))]
     fn send(&mut self, byte: u8) -> Result<(), NoMemory>
         ensures ok { OnOk result (self.new ≡ record self.old { sent = self.old.sent ++ byte ∷ [] }) }
@@ -124,34 +129,33 @@ impl Serial {
         if self.sent.len() % ROOM == 0 {
             make_room(&mut self.sent)?;
         }
-        match self.sent.push(byte) {
-            Ok(()) => Ok(()),
-            Err(_) => Err(NoMemory),
-        }
+        self.sent.push(byte).map_err(|_| NoMemory)
     }
 
+    /// Takes the oldest received byte, if one is waiting.
     fn take_byte(&mut self) -> u32
         ensures value { result ≡ load_value self.old Rx }
         ensures after { self.new ≡ after_load self.old Rx }
     {
         match self.waiting.pop_front() {
             Some(byte) => byte as u32,
-            None => 0x8000_0000,
+            None => NO_BYTE,
         }
     }
 
+    /// Returns the status word, and clears the overrun.
     fn take_status(&mut self) -> u32
         ensures value { result ≡ status_word self.old }
         ensures after { self.new ≡ after_load self.old Status }
     {
-        let waits = if self.waiting.is_empty() { 0 } else { 1 };
+        let received = if self.waiting.is_empty() { 0 } else { 1 };
         let lost = if self.overrun { 4 } else { 0 };
         self.overrun = false;
-        waits + 2 + lost
+        received + 2 + lost
     }
 }
 
-/// Makes room in a console that may have none.
+/// Makes room for 4096 more bytes in a console.
 fn make_room(sent: &mut Vec<u8>) -> Result<(), NoMemory>
     ensures ok { OnOk result (vec_len sent.old + ROOM ≤ vec_capacity sent.new) }
     ensures items { sent.new.items ≡ sent.old.items }

@@ -1,29 +1,30 @@
 //! The machine timer.
-ghost use Rattle.std.specs.Prelude.{◌≡◌, ◌/◌, ◌%◌, ◌^◌};
-ghost use Rattle.rv_mmio.specs.Timer.{reset, ticked, is_due, register_at, word_of, with_low, with_high, with_word, load, Stores};
+ghost use Rattle.std.specs.Prelude.{◌≡◌};
+ghost use Rattle.rv_mmio.specs.Timer.{reset, ticked, is_due, register_at, word_of, with_word, load, Stores};
 
+use rv_base::{high_word, low_word, with_high_word, with_low_word};
 use std::marker::Model;
 
-/// A register of the timer, a word long, each at an offset of its own.
+/// A register of the timer: one word, at an offset of its own.
 ///
-/// Privileged Architecture 20211203, section 3.2.1: mtime and mtimecmp have 64 bits, and a hart of 32 bits reaches
-/// each of their words alone.
+/// Privileged Architecture 20211203, section 3.2.1: mtime and mtimecmp have 64 bits, and a hart of 32 bits
+/// accesses them word by word.
 #[derive(Clone, Copy)]
 pub enum TimerReg {
-    /// The software interrupt bit in bit 0, at 0 (section 3.1.9).
+    /// The software interrupt bit msip, in bit 0, at 0 (section 3.1.9).
     Msip,
-    /// The low word of the time to compare with, at 0x4000.
+    /// The low word of mtimecmp, the time to compare with, at 0x4000.
     MtimecmpLow,
-    /// The high word of the time to compare with, at 0x4004.
+    /// The high word of mtimecmp, at 0x4004.
     MtimecmpHigh,
-    /// The low word of the time, at 0xBFF8.
+    /// The low word of mtime, the time, at 0xBFF8.
     MtimeLow,
-    /// The high word of the time, at 0xBFFC.
+    /// The high word of mtime, at 0xBFFC.
     MtimeHigh,
 }
 
 impl TimerReg {
-    /// The register at an offset, if there is one.
+    /// Returns the register at an offset, if there is one.
     #[tactic(auto, unfolding(crate::specs::Timer::register_at))]
     fn at(off: u32) -> Option<TimerReg>
         ensures { result ≡ register_at off }
@@ -39,7 +40,8 @@ impl TimerReg {
     }
 }
 
-/// The machine timer: the time, the time at which its line rises, and the line that software sets.
+/// The machine timer: the time, the time at which its interrupt line rises, and the level of the software
+/// interrupt line.
 #[derive(Clone, Copy, PartialEq, Eq, Debug)]
 pub struct Timer {
     software: bool,
@@ -58,7 +60,8 @@ impl Model for Timer {
 }
 
 impl Timer {
-    /// The timer after a reset: time 0, and the largest time to compare with.
+    /// Returns the timer at reset: time 0, the largest time to compare with, and the software interrupt line
+    /// low.
     pub fn new() -> Timer
         ensures { result ≡ reset }
     {
@@ -69,70 +72,61 @@ impl Timer {
         }
     }
 
-    /// The time grows by one, modulo 2^64.
+    /// Advances the time by one, modulo 2^64.
     pub fn tick(&mut self)
         ensures { self.new ≡ ticked self.old }
     {
         self.time = self.time.wrapping_add(1);
     }
 
-    /// The time.
+    /// Returns the time.
     pub fn time(&self) -> u64
         ensures { result ≡ self.now.time }
     {
         self.time
     }
 
-    /// This timer at another time.
+    /// Returns this timer with another time.
     pub fn at_time(&self, time: u64) -> Timer
         ensures { result ≡ record self.now { time = time } }
     {
-        Timer {
-            software: self.software,
-            time,
-            compare: self.compare,
-        }
+        Timer { time, ..*self }
     }
 
-    /// What a load at an offset gives, or None where no register is.
+    /// Returns the word of the register at an offset, or `None` where there is no register.
     #[tactic(auto, unfolding(crate::specs::Timer::load))]
     pub fn load(&self, off: u32) -> Option<u32>
         ensures { result ≡ load self.now off }
     {
-        match TimerReg::at(off) {
-            Some(reg) => Some(self.word(reg)),
-            None => None,
-        }
+        TimerReg::at(off).map(|reg| self.word(reg))
     }
 
-    /// A store at an offset. None where no register is: nothing has changed.
+    /// Stores a word in the register at an offset. Where there is no register, returns `None` and changes
+    /// nothing.
     #[tactic(auto, unfolding(crate::specs::Timer::store))]
     pub fn store(&mut self, off: u32, word: u32) -> Option<()>
         ensures { Stores self.old off word self.new result }
     {
-        match TimerReg::at(off) {
-            Some(reg) => {
-                self.set_word(reg, word);
-                Some(())
-            }
-            None => None,
-        }
+        let reg = TimerReg::at(off)?;
+        self.set_word(reg, word);
+        Some(())
     }
 
-    /// The level of the software interrupt line.
+    /// Returns the level of the software interrupt line.
     pub fn software(&self) -> bool
         ensures { result ≡ self.now.software }
     {
         self.software
     }
 
-    /// The level of the timer interrupt line: whether the time to compare with is reached.
+    /// Returns the level of the timer interrupt line: whether the time has reached the time to compare with.
     pub fn due(&self) -> bool
         ensures { result ≡ is_due self.now }
     {
         self.time >= self.compare
     }
 
+    /// Returns the word of a register.
     fn word(&self, reg: TimerReg) -> u32
         ensures { result ≡ word_of self.now reg }
     {
@@ -145,6 +139,7 @@ impl Timer {
         }
     }
 
+    /// Sets the word of a register. The software interrupt bit keeps bit 0.
     fn set_word(&mut self, reg: TimerReg, word: u32)
         ensures { self.new ≡ with_word self.old reg word }
     {
@@ -156,28 +151,4 @@ impl Timer {
             TimerReg::MtimeHigh => self.time = with_high_word(self.time, word),
         }
     }
-}
-
-fn low_word(number: u64) -> u32
-    ensures { result ≡ number % 2 ^ 32 }
-{
-    (number % (1 << 32)) as u32
-}
-
-fn high_word(number: u64) -> u32
-    ensures { result ≡ number / 2 ^ 32 }
-{
-    (number >> 32) as u32
-}
-
-fn with_low_word(number: u64, word: u32) -> u64
-    ensures { result ≡ with_low number word }
-{
-    (number >> 32 << 32) + word as u64
-}
-
-fn with_high_word(number: u64, word: u32) -> u64
-    ensures { result ≡ with_high number word }
-{
-    number % (1 << 32) + ((word as u64) << 32)
 }
