@@ -1,4 +1,4 @@
--- Values that are put into lists of bytes.
+-- Writes of values to lists of bytes.
 use Rattle.std.proofs.Common.{◌≡◌, ℕ, ◌+◌, ◌-◌, ◌/◌, ◌%◌, ◌^◌, ◌<◌, ◌≤◌, List, ◌++◌, true, length, slice_set, arith, refl, ap, ◌∙◌}
 use Rattle.std.proofs.Math.ListN.{set}
 use Rattle.std.proofs.lemmas.Bool.{eqb-true}
@@ -11,7 +11,7 @@ use Rattle.rv_ram.specs.Bytes.{zeros, put}
 use Rattle.rv_ram.specs.Pages.{is_zero}
 use Rattle.rv_ram.proofs.Zeros.{set_zero}
 
--- zeros that are put among zeros change nothing
+-- a write of zeros changes nothing among zeros
 pub put_zeros : (n i v : ℕ) (w : Width) → is_zero w v ≡ true → put (zeros n) i w v ≡ zeros n
 put_zeros n i v One z = set_zero n i _ (eqb-true (v % 256) 0 z)
 put_zeros n i v Two z =
@@ -28,14 +28,14 @@ length_put bs off v One = grind (arith, common_steps)
 length_put bs off v Two = grind (arith, common_steps)
 length_put bs off v Four = grind (arith, common_steps)
 
--- a word is two halves
+-- a write of a word is one of its low half and one of its high half
 pub put_halves : (bs : List ℕ) (i v : ℕ) → v < 2 ^ 32 → put (put bs i Two v) (i + 2) Two (v / 65536) ≡ put bs i Four v
 put_halves bs i v l =
     let k : i + 2 + 1 ≡ i + 3 = omega arith in
     let e : v / 65536 / 256 % 256 ≡ v / 16777216 = omega arith in
     ap (λ j. set (set (put bs i Two v) (i + 2) (v / 65536 % 256)) j (v / 65536 / 256 % 256)) k ∙ ap (λ b. set (set (put bs i Two v) (i + 2) (v / 65536 % 256)) (i + 3) b) e
 
--- a write to the front one of two joined lists
+-- a write to the first of two joined lists
 pub put_left : (xs ys : List ℕ) (o v : ℕ) (w : Width) → o + bytes_of w ≤ length xs → put (xs ++ ys) o w v ≡ put xs o w v ++ ys
 put_left xs ys o v One l = set-append_left xs ys o _ (omega arith)
 put_left xs ys o v Two l =
@@ -53,7 +53,7 @@ put_left xs ys o v Four l =
 set_right : (xs ys : List ℕ) (n k j x : ℕ) → length xs ≡ n → j ≡ n + k → set (xs ++ ys) j x ≡ xs ++ set ys k x
 set_right xs ys n k j x e q = let d : j - n ≡ k = omega arith in set-append_right xs ys n j x e (omega arith) ∙ ap (λ i. xs ++ set ys i x) d
 
--- a write to the second one
+-- a write to the second of two joined lists
 pub put_right : (xs ys : List ℕ) (n o v : ℕ) (w : Width) → length xs ≡ n → put (xs ++ ys) (n + o) w v ≡ xs ++ put ys o w v
 put_right xs ys n o v One e = set_right xs ys n o (n + o) _ e refl
 put_right xs ys n o v Two e =

@@ -1,4 +1,4 @@
-//! A memory whose bytes stand in one block.
+//! A memory in one block.
 ghost use Rattle.std.specs.Prelude.{◌≡◌, ◌+◌, ◌*◌, ◌%◌, ◌^◌, ◌<◌, ◌≤◌, length, slice_index, IfOk, IsOk, OnOk, OnErr};
 ghost use Rattle.rv_isa.specs.Width.{bytes_of};
 ghost use Rattle.rv_ram.specs.Bytes.{word_at, put, zeros};
@@ -10,7 +10,7 @@ use rv_isa::Width;
 use std::alloc::Global;
 use std::marker::Model;
 
-/// A memory whose bytes were all made at once, so that no write is ever refused.
+/// A memory that allocates all its bytes at once, so that no write is ever refused.
 #[derive(Drop)]
 pub struct FlatMemory {
     bytes: Vec<u8>,
@@ -28,7 +28,7 @@ impl Model for FlatMemory {
 }
 
 impl FlatMemory {
-    /// A memory of so many pages, all zero.
+    /// Returns a memory of `pages` pages, all zero.
     #[tactic(auto, using(crate::proofs::Zeros::length_zeros), unfolding(crate::specs::Bytes::zeros))]
     pub fn new(alloc: Global, pages: u32) -> Result<FlatMemory, NoMemory>
         requires some { 1 ≤ pages }

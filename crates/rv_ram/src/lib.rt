@@ -1,7 +1,7 @@
-//! Memories: lists of bytes, low byte first.
+//! Memories, seen as lists of bytes.
 //!
-//! - `ByteMemory` is what the layers above know of a memory: its size and its bytes.
-//! - `FlatMemory` makes all its bytes at once, and `PagedRam` a page at the first write that needs it.
+//! - `ByteMemory` is the trait that the layers above use a memory by.
+//! - `FlatMemory` allocates all its bytes at once, and `PagedRam` each page at the first write that needs it.
 #![tactic(auto)]
 
 mod flat;
@@ -19,39 +19,41 @@ pub use paged::PagedRam;
 use rv_base::NoMemory;
 use rv_isa::Width;
 
-/// How many bytes a page has. A memory has 1 to 4096 pages.
+/// The bytes of a page. A memory has 1 to 4096 pages.
 pub const PAGE_BYTES: u32 = 4096;
 
-/// A memory that is seen as its bytes, by their offsets from the memory's first byte.
+/// A memory, seen as its bytes by their offsets from its first byte.
 ///
-/// Words stand low byte first (RISC-V Unprivileged ISA 20191213, section 1.4). A write may have to
-/// make room for its page of 4096 bytes; a refused one leaves every byte as it was. Only one that stores something
-/// other than zeros in a page that has only zeros may be refused.
+/// The bytes of a word stand low byte first (RISC-V Unprivileged ISA 20191213, section 1.4). A write may have
+/// to make room for its page of 4096 bytes: it is refused where the allocator has none, and then leaves every
+/// byte as it was. Only a write that stores something other than zeros in a page that has only zeros may be
+/// refused.
 pub trait ByteMemory: Drop {
     ghost use Rattle.std.specs.Prelude.{List, ℕ};
 
     /// The bytes, from offset 0 on.
     ghost bytes: { Self → List ℕ };
 
-    /// How many bytes there are: 4096 for each of 1 to 4096 pages, always.
+    /// Returns the number of bytes: 4096 for each of 1 to 4096 pages. It never changes.
     fn size(&self) -> u32
         ensures size { result ≡ length (bytes self.now) }
         ensures least { 4096 ≤ result }
         ensures most { result ≤ 2 ^ 24 }
         ensures pages { result % 4096 ≡ 0 };
 
-    /// The byte at an offset.
+    /// Returns the byte at an offset.
     fn read(&self, off: u32) -> u8
         requires { off < length (bytes self.now) }
         ensures { result ≡ slice_index (bytes self.now) off };
 
-    /// The word at an offset that is a multiple of 4.
+    /// Returns the word at an offset that is a multiple of 4.
     fn read_word(&self, off: u32) -> u32
         requires in_range { off + 4 ≤ length (bytes self.now) }
         requires aligned { off % 4 ≡ 0 }
         ensures { result ≡ word_at (bytes self.now) off };
 
-    /// Puts the low bytes of a value at an offset that is a multiple of their number.
+    /// Writes the low bytes of a value, as many as `width` has, at an offset that is a multiple of their
+    /// number.
     fn write(&mut self, off: u32, width: Width, value: u32) -> Result<(), NoMemory>
         requires in_range { off + bytes_of width ≤ length (bytes self.old) }
         requires aligned { off % bytes_of width ≡ 0 }

@@ -1,4 +1,4 @@
-//! A page, which takes room only once something other than zeros is stored in it.
+//! A page of memory, which is allocated once something other than zeros is stored in it.
 ghost use Rattle.std.specs.Prelude.{◌≡◌, ◌+◌, ◌<◌, ◌≤◌, ◌||◌, not, false, length, slice_index, OnOk, OnErr};
 ghost use Rattle.std.specs.Vec.{vec_len};
 ghost use Rattle.rv_isa.specs.Width.{bytes_of};
@@ -13,7 +13,7 @@ use rv_isa::Width;
 use std::alloc::Global;
 use std::marker::Model;
 
-/// The 4096 bytes of a page. A page that does not exist yet keeps none of them, and reads as zeros.
+/// A page of 4096 bytes. A page that does not exist yet keeps none of them, and reads as zeros.
 #[derive(Drop)]
 pub struct Page {
     bytes: Vec<u8>,
@@ -31,7 +31,7 @@ impl Model for Page {
 }
 
 impl Page {
-    /// A page that does not exist yet. Takes no memory.
+    /// Returns a page that does not exist yet. Allocates nothing.
     #[tactic(auto, using(crate::proofs::Zeros::length_zeros))]
     pub fn new(alloc: Global) -> Page
         ensures { result ≡ new_page }
@@ -41,7 +41,7 @@ impl Page {
         }
     }
 
-    /// The byte at a place.
+    /// Returns the byte at an offset in the page.
     #[tactic(auto, using(crate::proofs::Table::byte_of, crate::proofs::Table::no_byte))]
     pub fn read(&self, at: usize) -> u8
         requires { at < 4096 }
@@ -54,7 +54,7 @@ impl Page {
         }
     }
 
-    /// The word at a place.
+    /// Returns the word at an offset in the page.
     #[tactic(auto, using(crate::proofs::Table::word_of_page, crate::proofs::Table::no_word))]
     pub fn read_word(&self, at: usize) -> u32
         requires { at + 4 ≤ 4096 }
@@ -67,8 +67,8 @@ impl Page {
         }
     }
 
-    /// Puts the low bytes of a value at a place. Only a page that does not exist yet takes memory, and only
-    /// for something other than zeros; a refused write changes nothing.
+    /// Writes the low bytes of a value at an offset in the page. Allocates the page where it does not exist
+    /// yet and something other than zeros is written; a refused write changes nothing.
     #[tactic(auto, using(crate::proofs::Put::length_put, crate::proofs::Zeros::length_zeros, crate::proofs::Table::put_unmade, crate::proofs::Table::unmade_bytes, crate::proofs::Table::unmade, crate::proofs::Table::made_bytes, crate::proofs::Table::is_made_page))]
     pub fn write(&mut self, at: usize, width: Width, value: u32) -> Result<(), NoMemory>
         requires { at + bytes_of width ≤ 4096 }
@@ -84,18 +84,18 @@ impl Page {
             if stores_zeros(width, value) {
                 return Ok(());
             }
-            make(&mut self.bytes, PAGE_BYTES as usize)?;
+            make_zeros(&mut self.bytes, PAGE_BYTES as usize)?;
         }
         put_value(&mut self.bytes, at, width, value);
         Ok(())
     }
 }
 
-/// Makes the zeros of a page. It is apart, so that a write to a page that exists stays short.
+/// Makes the zeros of a page. Out of line, so that a write to a page that exists stays short.
 #[cold]
 #[inline(never)]
 #[tactic(auto, unfolding(crate::specs::Bytes::zeros))]
-fn make(bytes: &mut Vec<u8>, count: usize) -> Result<(), NoMemory>
+fn make_zeros(bytes: &mut Vec<u8>, count: usize) -> Result<(), NoMemory>
     requires { vec_len bytes.old ≡ 0 }
     ensures ok { OnOk result (bytes.new.items ≡ zeros count) }
     ensures err { OnErr result (bytes.new.items ≡ bytes.old.items) }

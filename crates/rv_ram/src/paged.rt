@@ -1,4 +1,4 @@
-//! A memory whose pages come as they are written.
+//! A memory whose pages are allocated as they are written.
 ghost use Rattle.std.specs.Prelude.{◌≡◌, ◌+◌, ◌*◌, ◌/◌, ◌%◌, ◌^◌, ◌<◌, ◌≤◌, true, false, length, slice_index, IfOk, IsOk, OnOk, OnErr};
 ghost use Rattle.rv_isa.specs.Width.{bytes_of};
 ghost use Rattle.rv_ram.specs.Bytes.{word_at, put, zeros};
@@ -12,15 +12,15 @@ use rv_isa::Width;
 use std::alloc::Global;
 use std::marker::Model;
 
-/// A memory whose pages take room only once something other than zeros is stored in them.
+/// A memory whose pages exist once something other than zeros is stored in them.
 ///
-/// The table of the pages is made with the memory. So a write may be refused only where it is the first to store
-/// something other than zeros in its page; reads, and all other writes, take no memory.
+/// The table of the pages is allocated with the memory. So a write may be refused only where it is the first
+/// to store something other than zeros in its page; reads, and all other writes, allocate nothing.
 pub struct PagedRam {
     pages: Vec<Page>,
 }
 
-// Written out, so that to let it go is one call where it is owned, and not one for each of its parts.
+// Hand-written: a derived `Drop` would be proved anew at each exit (docs/PROVING.md).
 impl Drop for PagedRam {
     fn drop(self) {
         let PagedRam { pages: _ } = self;
@@ -29,16 +29,16 @@ impl Drop for PagedRam {
 
 impl Model for PagedRam {
     ghost use Rattle.rv_ram.specs.Pages.{PagedBytes};
-    ghost use Rattle.rv_ram.specs.Table.{joined, made_of, IsTable};
+    ghost use Rattle.rv_ram.specs.Table.{all_bytes, made_of, IsTable};
 
     ghost Value = { PagedBytes };
 
-    ghost view = { λ m. record { bytes = joined m.pages.items; made = made_of m.pages.items } };
+    ghost view = { λ m. record { bytes = all_bytes m.pages.items; made = made_of m.pages.items } };
 
     ghost invariant = { λ m. IsTable m.pages.items };
 }
 
-/// A table of so many pages, of which none exists yet.
+/// Returns a table of `pages` pages, of which none exists yet.
 #[tactic(auto, using(crate::proofs::Table::new_more, crate::proofs::Table::new_zero))]
 fn blank_pages(alloc: Global, pages: u32) -> Result<Vec<Page>, NoMemory>
     ensures { IfOk result (λ table. table.items ≡ new_table pages) }
@@ -53,8 +53,8 @@ fn blank_pages(alloc: Global, pages: u32) -> Result<Vec<Page>, NoMemory>
 }
 
 impl PagedRam {
-    /// A memory of so many pages, all zero, of which none exists yet.
-    #[tactic(auto, using(crate::proofs::Table::joined_new, crate::proofs::Table::made_new, crate::proofs::Table::is_table_new, crate::proofs::Zeros::length_zeros))]
+    /// Returns a memory of `pages` pages, all zero, of which none exists yet.
+    #[tactic(auto, using(crate::proofs::Table::all_bytes_new, crate::proofs::Table::made_new, crate::proofs::Table::is_table_new, crate::proofs::Zeros::length_zeros))]
     pub fn new(alloc: Global, pages: u32) -> Result<PagedRam, NoMemory>
         requires some { 1 ≤ pages }
         requires most { pages ≤ 4096 }
@@ -62,32 +62,33 @@ impl PagedRam {
         ensures pages { IfOk result (λ m. m.made ≡ none_made pages) }
         ensures size { IfOk result (λ m. length m.bytes ≡ 4096 * pages) }
     {
-        let pages = blank_pages(alloc, pages)?;
-        Ok(PagedRam { pages })
+        Ok(PagedRam {
+            pages: blank_pages(alloc, pages)?,
+        })
     }
 }
 
 impl ByteMemory for PagedRam {
     ghost bytes = { λ m. m.bytes };
 
-    #[tactic(auto, using(crate::proofs::Table::length_joined))]
+    #[tactic(auto, using(crate::proofs::Table::length_all_bytes))]
     fn size(&self) -> u32 {
         PAGE_BYTES * self.pages.len() as u32
     }
 
-    #[tactic(auto, using(crate::proofs::Table::index_in, crate::proofs::Table::byte_joined))]
+    #[tactic(auto, using(crate::proofs::Table::index_in, crate::proofs::Table::byte_of_all))]
     fn read(&self, off: u32) -> u8 {
         let page = &self.pages[(off / PAGE_BYTES) as usize];
         page.read((off % PAGE_BYTES) as usize)
     }
 
-    #[tactic(auto, using(crate::proofs::Table::index_in, crate::proofs::Table::word_joined))]
+    #[tactic(auto, using(crate::proofs::Table::index_in, crate::proofs::Table::word_of_all))]
     fn read_word(&self, off: u32) -> u32 {
         let page = &self.pages[(off / PAGE_BYTES) as usize];
         page.read_word((off % PAGE_BYTES) as usize)
     }
 
-    #[tactic(auto, using(crate::proofs::Table::index_in, crate::proofs::Table::in_page, crate::proofs::Table::joined_put, crate::proofs::Table::made_of_set, crate::proofs::Table::made_of_get, crate::proofs::Blank::blank_page))]
+    #[tactic(auto, using(crate::proofs::Table::index_in, crate::proofs::Table::in_page, crate::proofs::Table::all_bytes_put, crate::proofs::Table::made_of_set, crate::proofs::Table::made_of_get, crate::proofs::Blank::blank_page))]
     fn write(&mut self, off: u32, width: Width, value: u32) -> Result<(), NoMemory>
         requires in_range { off + bytes_of width ≤ length self.old.bytes }
         requires aligned { off % bytes_of width ≡ 0 }

@@ -1,4 +1,4 @@
-//! Values in a run of bytes, low byte first.
+//! Values in a slice of bytes, low byte first.
 ghost use Rattle.std.specs.Prelude.{◌≡◌, ◌+◌, ◌*◌, ◌≤◌, length};
 ghost use Rattle.rv_isa.specs.Width.{bytes_of};
 ghost use Rattle.rv_ram.specs.Bytes.{word_at, put};
@@ -6,7 +6,7 @@ ghost use Rattle.rv_ram.specs.Pages.{is_zero};
 
 use rv_isa::Width;
 
-/// The word at a place: four neighbours, which the compiler reads as one.
+/// Returns the word at an index: four neighbouring bytes, which the compiler reads at once.
 pub fn word_of(bytes: &[u8], at: usize) -> u32
     requires { at + 4 ≤ length bytes.now }
     ensures { result ≡ word_at bytes.now at }
@@ -18,7 +18,7 @@ pub fn word_of(bytes: &[u8], at: usize) -> u32
     b0 + (b1 << 8) + (b2 << 16) + (b3 << 24)
 }
 
-/// Puts the low bytes of a value at a place.
+/// Writes the low bytes of a value, as many as `width` has, at an index.
 #[tactic(auto, using(crate::proofs::Put::put_halves))]
 pub fn put_value(bytes: &mut [u8], at: usize, width: Width, value: u32)
     requires { at + bytes_of width ≤ length bytes.old }
@@ -34,7 +34,7 @@ pub fn put_value(bytes: &mut [u8], at: usize, width: Width, value: u32)
     }
 }
 
-/// Puts the two low bytes of a value at a place.
+/// Writes the two low bytes of a value at an index.
 fn put_half(bytes: &mut [u8], at: usize, value: u32)
     requires { at + 2 ≤ length bytes.old }
     ensures { bytes.new ≡ put bytes.old at Width.Two value }
@@ -43,7 +43,7 @@ fn put_half(bytes: &mut [u8], at: usize, value: u32)
     bytes[at + 1] = (value / 256 % 256) as u8;
 }
 
-/// Whether the low bytes of a value are all zero.
+/// Returns whether the low bytes of a value are all zero.
 pub fn stores_zeros(width: Width, value: u32) -> bool
     ensures { result ≡ is_zero width value }
 {
