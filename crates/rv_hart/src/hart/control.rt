@@ -15,14 +15,18 @@ use rv_isa::{CsrOp, Instr, Kind, Reg};
 use rv_pmp::Mode;
 use rv_ram::ByteMemory;
 
-/// The fields of an instruction on a control register, with the value of its operand.
+/// An instruction on a control register.
 #[derive(Clone, Copy)]
 struct Exchange {
+    /// The operation.
     op: CsrOp,
     /// The source field: the number of a register, or the operand itself.
     field: u8,
+    /// The value of the operand.
     operand: u32,
+    /// The register that receives the old value.
     rd: Reg,
+    /// The address of the control register.
     csr: u16,
 }
 
