@@ -1,4 +1,4 @@
--- What stands before a base, and the base.
+-- Offsets and their bases.
 use Rattle.std.proofs.Common.{◌≡◌, ℕ, List, take, drop, Bool, true, false, refl}
 use Rattle.std.specs.Prelude.{Option, Some, None, option_and_then}
 use Rattle.std.specs.List.{position}

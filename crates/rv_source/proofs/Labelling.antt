@@ -1,4 +1,4 @@
--- Lines, label by label.
+-- Reading the labels of a line, one by one.
 use Rattle.std.proofs.Common.{◌≡◌, List, [], ◌∷◌, ◌++◌, drop, ap, sym, ◌∙◌, refl, append_assoc}
 use Rattle.std.specs.Prelude.{Some, None, Result, Ok, Err}
 use Rattle.rv_tokens.specs.declared.fault.LineFault.{LineFault}
@@ -13,19 +13,19 @@ use Rattle.rv_source.specs.Said.{Said}
 some_same : {A : Type 0} (x y : A) → Some x ≡ Some y → x ≡ y
 some_same x y e = cc
 
--- a label in front
+-- a line that begins with a label
 pub line_label : (ts : List Token) (t : Token) (l : Label) → Some t ≡ before_colon ts → label_of t ≡ Some l → line_of ts ≡ with_labels (l ∷ []) (line_of (drop 2 ts))
 unfolding line_of
 line_label (u ∷ Colon ∷ us) t l e h = ap (λ r. labelled r (line_of us)) (ap label_of (sym (some_same t u e)) ∙ h)
 line_label _ t l e h = cc
 
--- what is no label, before a colon
+-- a colon after a token that isn't a label
 pub line_no_label : (ts : List Token) (t : Token) → Some t ≡ before_colon ts → label_of t ≡ None → line_of ts ≡ Err Syntax
 unfolding line_of
 line_no_label (u ∷ Colon ∷ us) t e h = ap (λ r. labelled r (line_of us)) (ap label_of (sym (some_same t u e)) ∙ h)
 line_no_label _ t e h = cc
 
--- no label in front
+-- a line that doesn't begin with a label
 pub line_rest : (ts : List Token) → None ≡ before_colon ts → line_of ts ≡ (rest_of ts >>= λ s. Ok (record { labels = []; statement = s }))
 unfolding line_of
 line_rest (u ∷ Colon ∷ us) e = cc

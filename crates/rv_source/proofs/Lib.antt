@@ -1,7 +1,6 @@
 pub mod Sums
 pub mod Pieces
 pub mod Placed
-pub mod Rowed
 pub mod Fronts
 pub mod Listed
 pub mod Labelling

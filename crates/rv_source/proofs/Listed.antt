@@ -1,4 +1,4 @@
--- Values and strings, operand by operand.
+-- Reading values and strings, operand by operand.
 use Rattle.std.proofs.Common.{◌≡◌, ℕ, Bool, true, false, List, [], ◌∷◌, ◌++◌, ap, sym, refl, append_assoc, append-nil, length}
 use Rattle.std.specs.Prelude.{Option, Some, None}
 use Rattle.std.specs.Option.{option_map}
@@ -12,7 +12,7 @@ use Rattle.rv_source.specs.Partial.{Refuses}
 use Rattle.rv_source.proofs.Pieces.{no_operand}
 use Rattle.rv_source.specs.Statements.{values, strings, string, of_some}
 
--- those so far, and those of the rest
+-- the elements so far, and those of the rest
 abbrev pub with_items : {A : Type 0} → List A → Option (List A) → Option (List A)
 with_items so_far rest = option_map (λ more. so_far ++ more) rest
 
@@ -20,12 +20,12 @@ with_items_append : {A : Type 0} (xs ys : List A) (rest : Option (List A)) → w
 with_items_append xs ys None = refl
 with_items_append xs ys (Some zs) = ap (λ r. Some r) (sym (append_assoc xs ys zs))
 
--- a value more
+-- one more value
 pub values_more : (out : List (List Term)) (x : List Token) (xs : List (List Token)) (e : List Term) → value x ≡ Some e → with_items out (values (x ∷ xs)) ≡ with_items (out ++ e ∷ []) (values xs)
 unfolding values
 values_more out x xs e h = rw h (with_items_append out (e ∷ []) (values xs))
 
--- an operand that is no value
+-- an operand that isn't a value
 pub values_none : (out : List (List Term)) (x : List Token) (xs : List (List Token)) → value x ≡ None → with_items out (values (x ∷ xs)) ≡ None
 unfolding values
 values_none out x xs h = rw h refl
@@ -42,12 +42,12 @@ not_added : (o : Option (List ℕ)) (out : List ℕ) (rest : Option (List ℕ)) 
 not_added None out rest h = refl
 not_added (Some bs) out rest h = cc
 
--- a string more
+-- one more string
 pub strings_more : (terminated : Bool) (out new : List ℕ) (x : List Token) (xs : List (List Token)) → option_map (λ bs. out ++ bs) (string terminated x) ≡ Some new → with_items out (strings terminated (x ∷ xs)) ≡ with_items new (strings terminated xs)
 unfolding strings
 strings_more terminated out new x xs h = added (string terminated x) out new (strings terminated xs) h
 
--- an operand that is no string
+-- an operand that isn't a string
 pub strings_none : (terminated : Bool) (out : List ℕ) (x : List Token) (xs : List (List Token)) → option_map (λ bs. out ++ bs) (string terminated x) ≡ None → with_items out (strings terminated (x ∷ xs)) ≡ None
 unfolding strings
 strings_none terminated out x xs h = not_added (string terminated x) out (strings terminated xs) h
@@ -68,7 +68,7 @@ no_operands f (x ∷ xs) h = cc
 pub no_tokens : {A : Type 0} (f : List (List Token) → Option A) (ts : List Token) → length ts ≡ 0 → of_some f (operands_of ts) ≡ None
 no_tokens f ts h = no_operands f (operands_of ts) (no_operand ts h)
 
--- what is made of all of one or more operands
+-- the statement made of one or more operands
 pub listed : {A B : Type 0} (f : List (List Token) → Option (List A)) (make : List A → B) (operands rest : List (List Token)) (out new : List A)
     → is_nothing operands ≡ false → with_items out (f rest) ≡ f operands → rest ≡ [] → with_items out (f []) ≡ Some out → new ≡ out
     → option_map make (of_some f operands) ≡ Some (make new)

@@ -1,4 +1,4 @@
--- Operands, piece by piece.
+-- Splitting operands, one by one.
 use Rattle.std.proofs.Common.{◌≡◌, ℕ, suc, ◌+◌, ◌<◌, ◌≤◌, Bool, true, false, cond, List, [], ◌∷◌, length, take, drop, refl, sym, ap, arith, add-one}
 use Rattle.std.proofs.Math.Numerals.{one-add}
 use Rattle.std.specs.Prelude.{◌==◌, Some, None, nat_lt}
@@ -7,7 +7,7 @@ use Rattle.std.proofs.lemmas.Bool.Decides.{nat_tests}
 use Rattle.rv_tokens.specs.declared.token.Token.{Token}
 use Rattle.rv_source.specs.Operands.{is_comma, is_nothing, before, pieces, operands_of}
 
--- how many tokens stand before the first comma
+-- the number of tokens before the first comma
 abbrev pub until_comma : List Token → ℕ
 until_comma ts = position_or_len is_comma ts
 
@@ -46,7 +46,7 @@ cut_pieces ts n e h =
     let is = at_comma ts n (nat_lt (until_comma ts) (length ts)) refl (sym e) in
     rw (add-one, is) (pieces_comma ts (grind (arith, is, h)))
 
--- and of tokens without one
+-- the pieces of tokens without a comma
 pub one_piece : (ts : List Token) → None ≡ position is_comma ts → pieces ts ≡ ts ∷ []
 one_piece ts e = pieces_last ts (at_end ts (nat_lt (until_comma ts) (length ts)) refl (sym e))
 
@@ -60,7 +60,7 @@ unfolding pieces
 some_pieces [] = refl
 some_pieces (t ∷ ts) = some_step (is_comma t) t (pieces ts) (pieces ts)
 
--- operands without a token, and with one
+-- whether there are operands, by whether there are tokens
 pub no_operand : (ts : List Token) → length ts ≡ 0 → is_nothing (operands_of ts) ≡ true
 unfolding operands_of
 no_operand [] h = refl

@@ -1,4 +1,4 @@
--- Operands that are refused at their places.
+-- Statements of two or three operands, one of which is refused.
 use Rattle.std.proofs.Common.{◌≡◌, ℕ, List, refl}
 use Rattle.std.specs.Prelude.{Option, Some}
 use Rattle.rv_tokens.specs.declared.token.Token.{Token}

@@ -5,6 +5,5 @@ pub mod Statements
 pub mod Said
 pub mod Reading
 pub mod Partial
-pub mod Rows
 pub mod Registers
 pub mod Takers

@@ -1,6 +1,6 @@
--- Operands, as tokens spell them.
+-- The operands that tokens spell.
 -- To audit: public contracts cite this.
--- Own language; see docs/ASSEMBLER.md.
+-- The language is this project's own: docs/ASSEMBLER.md.
 use Rattle.std.specs.Prelude.{ℕ, ◌+◌, Bool, true, false, ◌||◌, List, [], ◌∷◌, take, drop, Option, Some, None, option_and_then, is_some, if◌then◌else◌}
 use Rattle.std.specs.List.{position}
 use Rattle.std.specs.Option.{option_map}
@@ -24,12 +24,12 @@ abbrev pub is_nothing : {A : Type 0} → List A → Bool
 is_nothing [] = true
 is_nothing (_ ∷ _) = false
 
--- whether there is one that is so
+-- whether an option has a value, and the value passes a test
 abbrev pub holds : {A : Type 0} → (A → Bool) → Option A → Bool
 holds is None = false
 holds is (Some x) = is x
 
--- ---- the shapes of operands, with what they have in them
+-- ---- the shapes of operands, with their contents
 
 -- a string
 abbrev pub string_of : List Token → Option (List ℕ)
@@ -52,20 +52,20 @@ abbrev pub base_of : List Token → Option (List ℕ)
 base_of (t.Open ∷ t.Name name ∷ t.Close ∷ []) = Some name
 base_of _ = None
 
--- E(name) or (name): what stands before the first bracket, and the name
+-- E(name) or (name): the tokens before the first bracket, and the name
 unfoldable pub indexed_of : List Token → Option (List Token × List ℕ)
 indexed_of ts = option_and_then (λ n. option_map (λ name. (take n ts, name)) (base_of (drop n ts))) (position is_open ts)
 
--- what stands in the brackets that come first, and what stands behind them
+-- tokens that begin with a bracket: those inside the brackets, and those following them
 abbrev pub bracketed : List Token → Option (List Token × List Token)
 bracketed (t.Open ∷ ts) = option_map (λ n. (take n ts, drop (n + 1) ts)) (position is_close ts)
 bracketed _ = None
 
--- behind `%hi` or `%lo`, (E): what stands in the brackets
+-- (E), the part following `%hi` or `%lo`: the tokens inside the brackets
 unfoldable pub part_of : List Token → Option (List Token)
 part_of ts = option_and_then (λ p. if is_nothing p.1 then Some p.0 else None) (bracketed ts)
 
--- behind `%lo`, (E)(name): what stands in the first brackets, and the name
+-- (E)(name), the part following `%lo`: the tokens inside the first brackets, and the name
 unfoldable pub part_indexed_of : List Token → Option (List Token × List ℕ)
 part_indexed_of ts = option_and_then (λ p. option_map (λ name. (p.0, name)) (base_of p.1)) (bracketed ts)
 
@@ -73,7 +73,7 @@ part_indexed_of ts = option_and_then (λ p. option_map (λ name. (p.0, name)) (b
 abbrev pub is_value : List Token → Bool
 is_value ts = is_some (value ts)
 
--- whether what stands before (name) is E or nothing
+-- whether the tokens before (name) are E or nothing
 abbrev pub is_offset : List Token → Bool
 is_offset ts = is_nothing ts || is_value ts
 
@@ -84,7 +84,7 @@ is_operand (t.High ∷ ts) = holds is_value (part_of ts)
 is_operand (t.Low ∷ ts) = holds is_value (part_of ts) || holds (λ p. is_value p.0) (part_indexed_of ts)
 is_operand ts = is_value ts || holds (λ p. is_offset p.0) (indexed_of ts)
 
--- ---- the operands behind a word
+-- ---- the operands of a mnemonic or directive
 
 -- a token in front of the first piece
 abbrev pub before : Token → List (List Token) → List (List Token)
@@ -96,22 +96,22 @@ unfoldable pub pieces : List Token → List (List Token)
 pieces [] = [] ∷ []
 pieces (t ∷ ts) = if is_comma t then [] ∷ pieces ts else before t (pieces ts)
 
--- the operands behind a word, each as its tokens
+-- the operands of a mnemonic or directive by the tokens following it, each as its tokens
 unfoldable pub operands_of : List Token → List (List Token)
 operands_of [] = []
 operands_of (t ∷ ts) = pieces (t ∷ ts)
 
--- the only one of operands
+-- the operand, if there is one
 abbrev pub only : List (List Token) → Option (List Token)
 only (x ∷ []) = Some x
 only _ = None
 
--- both of two operands
+-- the operands, if there are two
 abbrev pub pair : List (List Token) → Option (List Token × List Token)
 pair (x ∷ y ∷ []) = Some (x, y)
 pair _ = None
 
--- all of three operands
+-- the operands, if there are three
 abbrev pub triple : List (List Token) → Option (List Token × List Token × List Token)
 triple (x ∷ y ∷ z ∷ []) = Some (x, y, z)
 triple _ = None

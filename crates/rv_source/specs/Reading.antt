@@ -1,6 +1,6 @@
--- What a line of a source says, or what is wrong with it.
+-- The labels and the statement of a line, or its fault.
 -- To audit: public contracts cite this.
--- Own language; see docs/ASSEMBLER.md.
+-- The language is this project's own: docs/ASSEMBLER.md.
 use Rattle.std.specs.Prelude.{ℕ, Bool, true, false, List, [], ◌∷◌, ◌++◌, Option, Some, None, Result, Ok, Err, if◌then◌else◌}
 use Rattle.std.specs.Option.{ok_or}
 use Rattle.std.specs.List.{list_all}
@@ -27,24 +27,24 @@ abbrev pub is_marker : Option Form → Bool
 is_marker (Some (form.Directive Marker)) = true
 is_marker _ = false
 
--- what operands mean behind a word of this form
+-- the statement of a form with these operands
 abbrev pub said_by : Option Form → List (List Token) → Result Statement LineFault
 said_by None operands = Err UnknownWord
 said_by (Some form) operands = ok_or (meaning form operands) BadOperands
 
--- a word and its operands; behind a marker any tokens may stand
+-- the statement of a word and the tokens following it, which may be any tokens if it is a marker
 unfoldable pub statement_of : List ℕ → List Token → Result Statement LineFault
 statement_of word ts =
     if is_marker (form_of word) then Ok s.Marker
     else (if list_all is_operand (operands_of ts) then said_by (form_of word) (operands_of ts) else Err Syntax)
 
--- at most one statement
+-- a statement, or nothing
 abbrev pub rest_of : List Token → Result (Option Statement) LineFault
 rest_of [] = Ok None
 rest_of (Name word ∷ ts) = statement_of word ts >>= λ s. Ok (Some s)
 rest_of _ = Err Syntax
 
--- what may stand before a colon: a name other than `.`, or a short number
+-- the label of a token before a colon: a name other than `.`, or a short number
 abbrev pub label_of : Token → Option Label
 label_of (Name name) = if is_symbol name then Some (label.Name name) else None
 label_of (Digits n) = Some (label.Local n)
@@ -55,21 +55,21 @@ abbrev pub with_labels : List Label → Result Said LineFault → Result Said Li
 with_labels labels (Ok line) = Ok (record { labels = labels ++ line.labels; statement = line.statement })
 with_labels labels (Err fault) = Err fault
 
--- what stands before a colon, in front of the rest
+-- a label in front of the rest; Syntax if the token before the colon isn't one
 abbrev pub labelled : Option Label → Result Said LineFault → Result Said LineFault
 labelled (Some label) rest = with_labels (label ∷ []) rest
 labelled None rest = Err Syntax
 
--- the first token, where a colon stands behind it
+-- the first token, if a colon follows it
 abbrev pub before_colon : List Token → Option Token
 before_colon (t ∷ Colon ∷ ts) = Some t
 before_colon _ = None
 
--- labels, and then at most one statement
+-- labels, followed by a statement or nothing
 unfoldable pub line_of : List Token → Result Said LineFault
 line_of (t ∷ Colon ∷ ts) = labelled (label_of t) (line_of ts)
 line_of ts = rest_of ts >>= λ s. Ok (record { labels = []; statement = s })
 
--- The tokens of the whole line come first.
+-- A fault in cutting the line into tokens takes precedence.
 unfoldable pub said : List ℕ → Result Said LineFault
 said line = tokens line >>= line_of

@@ -1,6 +1,6 @@
--- What a word and its operands stand for: the statements, form by form.
+-- The statements of mnemonics and directives with their operands, form by form.
 -- To audit: public contracts cite this.
--- Own language; see docs/ASSEMBLER.md.
+-- The language is this project's own: docs/ASSEMBLER.md.
 use Rattle.std.specs.Prelude.{ℕ, ◌+◌, ◌*◌, Bool, not, ◌&&◌, List, [], ◌∷◌, ◌++◌, Option, Some, None, option_and_then, if◌then◌else◌, ◌==◌, nat_lt, pos, negsuc}
 use Rattle.std.specs.Option.{option_map, option_or}
 use Rattle.rv_base.specs.Tables.{lookup}
@@ -33,13 +33,13 @@ use Rattle.rv_source.specs.declared.form.Form.TheVariants as form
 use Rattle.rv_source.specs.Expressions.{is_symbol, value}
 use Rattle.rv_source.specs.Operands.{is_nothing, string_of, name_of, number_of, indexed_of, part_of, part_indexed_of, only, pair, triple}
 
--- ---- what a place takes
+-- ---- the kinds of operands
 
 -- the register with a name
 abbrev pub register_named : List ℕ → Option ℕ
 register_named name = lookup name register_names
 
--- the name of a register
+-- a register, by its name
 unfoldable pub register : List Token → Option ℕ
 register ts = option_and_then register_named (name_of ts)
 
@@ -47,7 +47,7 @@ register ts = option_and_then register_named (name_of ts)
 abbrev pub csr_number : ℕ → Option ℕ
 csr_number n = if nat_lt n 4096 then Some n else None
 
--- the name of a control register, or a number
+-- a control register, by its name or its number
 unfoldable pub csr : List Token → Option ℕ
 csr ts =
     option_or (option_and_then (λ name. option_and_then csr_number (lookup name csr_names)) (name_of ts))
@@ -63,16 +63,16 @@ unfoldable pub upper : List Token → Option Upper
 upper (t.High ∷ ts) = option_map (λ e. u.High e) (option_and_then value (part_of ts))
 upper ts = option_map (λ e. u.Sum e) (value ts)
 
--- E or nothing before the base
+-- the offset before a base: E, or nothing for 0
 abbrev pub offset : List Token → Option Immediate
 offset [] = Some i.Zero
 offset (t ∷ ts) = option_map (λ e. i.Sum e) (value (t ∷ ts))
 
--- E in `%lo(E)` before the base
+-- the offset before a base: E of `%lo(E)`
 abbrev pub low_offset : List Token → Option Immediate
 low_offset ts = option_map (λ e. i.Low e) (value ts)
 
--- an offset, as its tokens, and the name of a base
+-- an offset and a base, by the tokens of the offset and the name of the base
 abbrev pub based : (List Token → Option Immediate) → Option (List Token × List ℕ) → Option (Immediate × ℕ)
 based offset place = option_and_then (λ p. option_and_then (λ base. option_map (λ o. (o, base)) (offset p.0)) (register_named p.1)) place
 
@@ -85,12 +85,12 @@ memory ts = based offset (indexed_of ts)
 unfoldable pub symbol : List Token → Option (List ℕ)
 symbol ts = option_and_then (λ name. if is_symbol name then Some name else None) (name_of ts)
 
--- 1 where the letter stands first and else 0, and what follows
+-- 1 if the letter comes first, else 0, and the rest
 abbrev pub letter : ℕ → List ℕ → ℕ × List ℕ
 letter l [] = (0, [])
 letter l (b ∷ bs) = if b == l then (1, bs) else (0, b ∷ bs)
 
--- letters of i, o, r and w in this order, at least one
+-- the set of one or more of the letters i, o, r and w, in this order
 unfoldable pub fence_letters : List ℕ → Option ℕ
 fence_letters name =
     let i = letter 105 name in
@@ -99,11 +99,11 @@ fence_letters name =
     let w = letter 119 r.1 in
     if is_nothing w.1 && not (is_nothing name) then Some (8 * i.0 + 4 * o.0 + 2 * r.0 + w.0) else None
 
--- what a fence orders
+-- a set of accesses that a fence orders
 unfoldable pub fence_set : List Token → Option ℕ
 fence_set ts = option_and_then fence_letters (name_of ts)
 
--- ---- so many operands, each at its place
+-- ---- statements of none, one, two or three operands, by their kinds
 
 -- no operand
 abbrev pub none : Statement → List (List Token) → Option Statement
@@ -130,25 +130,25 @@ all a b c operands = option_and_then (λ x. option_and_then (λ p. option_and_th
 abbrev pub three : {A B C : Type 0} → (List Token → Option A) → (List Token → Option B) → (List Token → Option C) → (A → B → C → Statement) → List (List Token) → Option Statement
 three a b c s operands = option_map (λ p. s p.0 p.1 p.2) (all a b c operands)
 
--- one of two shapes
+-- one of two forms
 abbrev pub either : (List (List Token) → Option Statement) → (List (List Token) → Option Statement) → List (List Token) → Option Statement
 either a b operands = option_or (a operands) (b operands)
 
--- the values of operands, where each is an expression
+-- the expressions of operands, if each is one
 unfoldable pub values : List (List Token) → Option (List (List Term))
 values [] = Some []
 values (x ∷ xs) = option_and_then (λ e. option_map (λ es. e ∷ es) (values xs)) (value x)
 
--- the bytes of a string, with a byte 0 behind them or not
+-- the bytes of a string, followed by a byte 0 if it is terminated
 abbrev pub string : Bool → List Token → Option (List ℕ)
 string terminated ts = option_map (λ bytes. if terminated then bytes ++ 0 ∷ [] else bytes) (string_of ts)
 
--- the bytes of operands, where each is a string
+-- the bytes of operands, if each is a string
 unfoldable pub strings : Bool → List (List Token) → Option (List ℕ)
 strings terminated [] = Some []
 strings terminated (x ∷ xs) = option_and_then (λ bs. option_map (λ more. bs ++ more) (strings terminated xs)) (string terminated x)
 
--- of one or more operands
+-- a meaning of one or more operands
 abbrev pub of_some : {A : Type 0} → (List (List Token) → Option A) → List (List Token) → Option A
 of_some f [] = None
 of_some f (x ∷ xs) = f (x ∷ xs)
@@ -173,14 +173,14 @@ store width =
     either (two register memory (λ source m. s.WithImmediate (takes_imm.Store width source m.1) m.0))
     (three register value register (λ source target scratch. s.WithValue (takes.StoreTo width source scratch) target))
 
--- iorw,iorw where no sets are written
+-- two sets, or nothing for `iorw,iorw`
 abbrev pub fence : List (List Token) → Option Statement
 fence = either (none (s.Instruction (k.Fence 0 0 255))) (two fence_set fence_set (λ p q. s.Instruction (k.Fence 0 0 (16 * p + q))))
 
 abbrev pub space : List (List Token) → Option Statement
 space = either (one value (λ size. s.Space size None)) (two value value (λ size fill. s.Space size (Some fill)))
 
--- what an instruction's word and its operands stand for
+-- the statement of an instruction with its operands
 unfoldable pub instruction : Instruction → List (List Token) → Option Statement
 instruction f.Lui = two register upper (λ rd imm. s.Lui rd imm)
 instruction f.Auipc = two register value (λ rd imm. s.WithValue (takes.Auipc rd) imm)
@@ -201,7 +201,7 @@ instruction f.Ebreak = none (s.Instruction k.Ebreak)
 instruction f.Mret = none (s.Instruction k.Mret)
 instruction f.Wfi = none (s.Instruction k.Wfi)
 
--- what a word that stands for other instructions and its operands stand for
+-- the statement of a pseudo-instruction with its operands
 unfoldable pub pseudo : Pseudo → List (List Token) → Option Statement
 pseudo p.Nop = none (s.Instruction (k.OpImm Addi 0 0 (pos 0)))
 pseudo p.Mv = two register register (λ rd rs. s.Instruction (k.OpImm Addi rd rs (pos 0)))
@@ -225,7 +225,7 @@ pseudo p.La = two register value (λ rd target. s.WithValue (takes.La rd) target
 pseudo p.Call = one value (λ target. s.WithValue (takes.Call 1 1) target)
 pseudo p.Tail = one value (λ target. s.WithValue (takes.Call 0 6) target)
 
--- what a directive and its operands stand for
+-- the statement of a directive with its operands
 unfoldable pub directive : Directive → List (List Token) → Option Statement
 directive (d.Data width) = λ operands. option_map (λ es. s.Data width es) (of_some values operands)
 directive (d.Text terminated) = λ operands. option_map (λ bytes. s.Bytes bytes) (of_some (strings terminated) operands)
@@ -235,7 +235,7 @@ directive d.Balign = one value (λ multiple. s.WithValue takes.Balign multiple)
 directive d.Constant = two symbol value (λ name v. s.Constant name v)
 directive d.Marker = λ _. Some s.Marker
 
--- what a form and its operands stand for, or none where it doesn't take them
+-- the statement of a form with its operands, or None if the form doesn't take them
 abbrev pub meaning : Form → List (List Token) → Option Statement
 meaning (form.Instruction form) operands = instruction form operands
 meaning (form.Pseudo form) operands = pseudo form operands

@@ -1,9 +1,9 @@
--- The words of statements, and the form of each: the tables of docs/ASSEMBLER.md, row by row.
+-- Mnemonics and directives with their forms: the tables of docs/ASSEMBLER.md, row by row.
 -- To audit: public contracts cite this.
--- Own language; see docs/ASSEMBLER.md.
-use Rattle.std.specs.Prelude.{ℕ, true, false, List, [], ◌∷◌, Option, Some, None, if◌then◌else◌, codes}
+-- The language is this project's own: docs/ASSEMBLER.md.
+use Rattle.std.specs.Prelude.{ℕ, true, false, List, [], ◌∷◌, Option, codes}
 use Rattle.std.specs.Option.{option_map, option_or}
-use Rattle.std.specs.Str.{bytes_eq}
+use Rattle.rv_base.specs.Tables.{lookup}
 use Rattle.rv_isa.specs.declared.op.AluOp.TheVariants as AluOp
 use Rattle.rv_isa.specs.declared.op.Cond.TheVariants as Cond
 use Rattle.rv_isa.specs.declared.op.CsrOp.TheVariants as CsrOp
@@ -20,7 +20,7 @@ use Rattle.rv_source.specs.declared.form.Directive.TheVariants as d
 use Rattle.rv_source.specs.declared.form.Form.{Form}
 use Rattle.rv_source.specs.declared.form.Form.TheVariants as form
 
--- instructions
+-- the mnemonics of instructions
 unfoldable pub instruction_words : List (List ℕ × Instruction)
 instruction_words =
     (codes "lui", f.Lui)
@@ -82,7 +82,7 @@ instruction_words =
     ∷ (codes "wfi", f.Wfi)
     ∷ []
 
--- words that stand for other instructions
+-- the mnemonics of pseudo-instructions
 unfoldable pub pseudo_words : List (List ℕ × Pseudo)
 pseudo_words =
     (codes "nop", p.Nop)
@@ -120,7 +120,7 @@ pseudo_words =
     ∷ (codes "tail", p.Tail)
     ∷ []
 
--- directives
+-- the directives
 unfoldable pub directive_words : List (List ℕ × Directive)
 directive_words =
     (codes ".word", d.Data Width.Four)
@@ -157,14 +157,9 @@ directive_words =
     ∷ (codes ".attribute", d.Marker)
     ∷ []
 
--- what stands in the row of a word, or none
-abbrev pub row_of : {A : Type 0} → List ℕ → List (List ℕ × A) → Option A
-row_of word [] = None
-row_of word (row ∷ rows) = if bytes_eq row.0 word then Some row.1 else row_of word rows
-
--- the form of a word, or none where no statement begins with it
+-- the form of a word, or None if it is neither a mnemonic nor a directive
 unfoldable pub form_of : List ℕ → Option Form
 form_of word =
-    option_or (option_map (λ x. form.Instruction x) (row_of word instruction_words))
-    (option_or (option_map (λ x. form.Pseudo x) (row_of word pseudo_words))
-    (option_map (λ x. form.Directive x) (row_of word directive_words)))
+    option_or (option_map (λ x. form.Instruction x) (lookup word instruction_words))
+    (option_or (option_map (λ x. form.Pseudo x) (lookup word pseudo_words))
+    (option_map (λ x. form.Directive x) (lookup word directive_words)))

@@ -1,4 +1,4 @@
-//! Directives.
+//! Reads the operands of directives.
 ghost use Rattle.std.specs.Prelude.{◌≡◌, ◌≤◌, ◌++◌, length};
 ghost use Rattle.std.specs.Option.{option_map};
 ghost use Rattle.rv_source.specs.declared.form.Directive.TheVariants as d;
@@ -17,7 +17,7 @@ use rv_isa::Width;
 use rv_tokens::Token;
 use std::alloc::Global;
 
-/// The values of one or more operands.
+/// Reads one or more expressions, the values of a data directive.
 #[tactic(auto, using(crate::proofs::Listed::no_tokens), unfolding(crate::specs::Statements::directive))]
 fn data<'a>(alloc: Global, width: Width, tokens: &[Token<'a>]) -> Result<Statement<'a>, Refusal>
     requires { length tokens.now ≤ 1024 }
@@ -38,7 +38,7 @@ fn data<'a>(alloc: Global, width: Width, tokens: &[Token<'a>]) -> Result<Stateme
     })
 }
 
-/// Appends the bytes of a string, with a byte 0 behind them where it is terminated.
+/// Reads a string, and appends its bytes, followed by a byte 0 if it is terminated.
 fn append_string(out: &mut Vec<u8>, terminated: bool, operand: &[Token]) -> Result<(), Refusal>
     ensures { Becomes out.new.items result (option_map (λ bs. out.old.items ++ bs) (string terminated operand.now)) }
 {
@@ -55,7 +55,7 @@ fn append_string(out: &mut Vec<u8>, terminated: bool, operand: &[Token]) -> Resu
     Ok(())
 }
 
-/// The bytes of one or more strings, each with a byte 0 behind it where it is terminated.
+/// Reads one or more strings, each followed by a byte 0 if it is terminated.
 #[tactic(auto, using(crate::proofs::Listed::no_tokens), unfolding(crate::specs::Statements::directive))]
 fn text<'a>(alloc: Global, terminated: bool, tokens: &[Token<'a>]) -> Result<Statement<'a>, Refusal>
     requires { length tokens.now ≤ 1024 }
@@ -72,7 +72,7 @@ fn text<'a>(alloc: Global, terminated: bool, tokens: &[Token<'a>]) -> Result<Sta
     Ok(Statement::Bytes(Bytes::new(out)))
 }
 
-/// What a directive and its operands stand for.
+/// Reads the statement of a directive with these operands.
 #[tactic(auto, unfolding(crate::specs::Statements::directive))]
 pub fn read_directive<'a>(
     alloc: Global,

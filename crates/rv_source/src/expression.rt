@@ -1,34 +1,34 @@
-//! Expressions: what is summed where a value is wanted.
+//! Expressions: sums of terms, each a number, a name or the line's own address.
 use rv_tokens::{Direction, Name};
 use std::marker::Model;
 
-/// What stands for one value.
+/// An atom of an expression: it has one value.
 #[derive(Drop)]
 pub enum Atom<'a> {
     /// A number, or the byte of a character.
     Number(u32),
-    /// A name other than `.`: the address of a label, or a constant.
+    /// A name other than `.`: a label or a constant.
     Symbol(Name<'a>),
-    /// A local label: its number, 0 to 9999, and where it stands.
+    /// A reference to a local label with a number from 0 to 9999.
     Local { number: u16, direction: Direction },
     /// `.`: the address of the statement.
     Here,
 }
 
-/// An atom that is added or subtracted.
+/// A term: an atom that is added or subtracted.
 #[derive(Drop)]
 pub struct Term<'a> {
     pub negative: bool,
     pub atom: Atom<'a>,
 }
 
-/// Atoms with their signs, to be summed as whole numbers; seen as the list of them. It has at most as many as a line
-/// has bytes: 1,024.
+/// An expression: the sum of its terms as whole numbers. It has at most as many terms as a line has bytes,
+/// 1,024. Its view is the list of them.
 pub struct Expression<'a> {
     terms: Vec<Term<'a>>,
 }
 
-// Written out, so that to let it go is one call where it is owned, and not one for each of its parts.
+// Hand-written: a derived `Drop` would be proved anew at each exit (docs/PROVING.md).
 impl<'a> Drop for Expression<'a> {
     fn drop(self) {
         let Expression { terms: _ } = self;
@@ -49,7 +49,7 @@ impl<'a> Model for Expression<'a> {
 impl<'a> Expression<'a> {
     ghost use Rattle.std.specs.Prelude.{◌≡◌, ◌≤◌, length};
 
-    /// The sum of these terms.
+    /// Makes the sum of these terms.
     pub(crate) fn new(terms: Vec<Term<'a>>) -> Self
         requires { length terms.items ≤ 1024 }
         ensures { result ≡ terms.entry.items }
@@ -57,7 +57,7 @@ impl<'a> Expression<'a> {
         Expression { terms }
     }
 
-    /// The terms, in the order in which they are written.
+    /// Returns the terms, from left to right.
     pub fn terms(&self) -> &[Term<'a>]
         ensures value { result.now ≡ self.now }
         ensures short { length result.now ≤ 1024 }
@@ -66,16 +66,16 @@ impl<'a> Expression<'a> {
     }
 }
 
-/// What may stand next in an expression.
+/// The tokens that may come next in an expression.
 #[derive(Clone, Copy)]
 pub enum Wanted {
-    /// A sign; the expression may also end.
+    /// A sign, or the end of the expression.
     Sign,
-    /// A value, or one sign more before it.
+    /// A value, possibly with one more sign before it.
     Value {
-        /// Whether the value is subtracted, by the signs before it.
+        /// Whether the signs before the value subtract it.
         negative: bool,
-        /// Whether one sign more may stand before it.
+        /// Whether one more sign may come before the value.
         more: bool,
     },
 }

@@ -1,4 +1,4 @@
-//! What a fence orders.
+//! The instruction `fence`.
 ghost use Rattle.std.specs.Prelude.{◌≡◌, ◌<◌, ◌≤◌, ◌+◌, ◌*◌};
 ghost use Rattle.rv_isa.specs.declared.kind.Kind.TheVariants as k;
 ghost use Rattle.rv_source.specs.Statements.{letter, fence_letters};
@@ -13,7 +13,7 @@ use rv_tokens::Token;
 use std::alloc::Global;
 use std::marker::Model;
 
-/// What a fence orders, below 16.
+/// A set of accesses that a fence orders: `i` 8, `o` 4, `r` 2 and `w` 1, added up.
 #[derive(Clone, Copy)]
 pub struct FenceSet(u16);
 
@@ -29,7 +29,7 @@ impl Model for FenceSet {
     ghost inverse = { λ n. record { 0 = n } };
 }
 
-/// 1 where a letter stands first and else 0, and what follows.
+/// Takes a letter off the front of a text, if it is there: returns 1 or 0, and the rest.
 fn letter(wanted: u8, text: &[u8]) -> (u16, &[u8])
     ensures count { result.0 ≡ (letter wanted text.now).0 }
     ensures rest { result.1.now ≡ (letter wanted text.now).1 }
@@ -47,7 +47,7 @@ fn letter(wanted: u8, text: &[u8]) -> (u16, &[u8])
     }
 }
 
-/// What letters of `iorw` say that a fence orders: `i` 8, `o` 4, `r` 2 and `w` 1.
+/// Reads the letters of a set: one or more of `iorw`, in this order.
 #[tactic(auto, unfolding(crate::specs::Statements::fence_letters))]
 fn fence_letters(name: &[u8]) -> Option<FenceSet>
     ensures { result ≡ fence_letters name.now }
@@ -63,7 +63,7 @@ fn fence_letters(name: &[u8]) -> Option<FenceSet>
     }
 }
 
-/// Letters of `iorw`.
+/// A set: letters of `iorw`.
 impl<'a> Place<'a> for FenceSet {
     ghost use Rattle.rv_source.specs.Statements.{fence_set};
 
@@ -78,7 +78,7 @@ impl<'a> Place<'a> for FenceSet {
     }
 }
 
-/// A fence between two sets.
+/// Returns the fence between two sets.
 pub fn ordered(first: u16, second: u16) -> Kind
     requires first { first < 16 }
     requires second { second < 16 }
@@ -91,7 +91,7 @@ pub fn ordered(first: u16, second: u16) -> Kind
     }
 }
 
-/// `fence`: two sets
+/// The form of `fence`: two sets.
 #[derive(Clone, Copy)]
 pub struct Fence;
 

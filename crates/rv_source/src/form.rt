@@ -1,19 +1,19 @@
-//! What a word takes, and what it stands for.
+//! The forms of mnemonics and directives.
 use rv_isa::{AluOp, Cond, CsrOp, ImmOp, LoadOp, ShiftOp, Width};
 
-/// What a word of a statement takes, and what it stands for: see docs/ASSEMBLER.md for each.
+/// The form of a mnemonic or directive: its operands and its meaning, as docs/ASSEMBLER.md gives them.
 #[derive(Clone, Copy)]
 pub enum Form {
     /// An instruction.
     Instruction(Instruction),
-    /// A word that stands for other instructions.
+    /// A pseudo-instruction.
     Pseudo(Pseudo),
     /// A directive.
     Directive(Directive),
 }
 
-/// The forms of instructions: RISC-V Unprivileged ISA 20191213, chapters 2, 3, 7 and 9, and Privileged Architecture
-/// 20211203, section 3.3.
+/// The forms of instructions: RISC-V Unprivileged ISA 20191213, chapters 2, 3, 7 and 9, and Privileged
+/// Architecture 20211203, section 3.3.
 #[derive(Clone, Copy)]
 pub enum Instruction {
     /// `rd,imm`
@@ -40,7 +40,7 @@ pub enum Instruction {
     Csr(CsrOp),
     /// `rd,csr,imm`
     CsrImm(CsrOp),
-    /// two sets of `i`, `o`, `r`, `w`, or nothing
+    /// two sets of `i`, `o`, `r` and `w`, or nothing
     Fence,
     FenceI,
     Ecall,
@@ -49,7 +49,7 @@ pub enum Instruction {
     Wfi,
 }
 
-/// The forms of words that stand for other instructions.
+/// The forms of pseudo-instructions.
 #[derive(Clone, Copy)]
 pub enum Pseudo {
     Nop,
@@ -71,7 +71,7 @@ pub enum Pseudo {
     BranchZero(Cond),
     /// `rs,target`: a branch on x0 and a register
     ZeroBranch(Cond),
-    /// `rs,rt,target`: a branch on two registers, the second of them first
+    /// `rs,rt,target`: a branch on the second register and the first
     BranchSwapped(Cond),
     /// `target`
     Jump,
@@ -80,7 +80,7 @@ pub enum Pseudo {
     Return,
     /// `rd,csr`
     CsrRead,
-    /// `csr,rs`: a change of a control register whose old value isn't wanted
+    /// `csr,rs`: a change of a control register that drops its old value
     CsrChange(CsrOp),
     /// `csr,imm`
     CsrChangeImm(CsrOp),
@@ -97,9 +97,9 @@ pub enum Pseudo {
 /// The forms of directives.
 #[derive(Clone, Copy)]
 pub enum Directive {
-    /// Values, each in as many bytes as the width has.
+    /// Values of a width.
     Data(Width),
-    /// Strings, each with a byte 0 behind it or not.
+    /// Strings, each followed by a byte 0 if they are terminated.
     Text { terminated: bool },
     /// `size`, or `size,fill`
     Space,
@@ -109,6 +109,6 @@ pub enum Directive {
     Balign,
     /// `name,value`
     Constant,
-    /// A directive that has no effect, whatever follows it.
+    /// A directive without effect, with any tokens following it.
     Marker,
 }

@@ -1,4 +1,4 @@
-//! What the words of instructions and their operands stand for.
+//! Reads the operands of instructions.
 ghost use Rattle.std.specs.Prelude.{◌≡◌, ◌<◌, ◌≤◌, ◌^◌, length, pos};
 ghost use Rattle.rv_isa.specs.Number.{IsWithin};
 ghost use Rattle.rv_isa.specs.Word.{IsInRange};
@@ -31,7 +31,7 @@ pub fn x(number: u8) -> Reg
     reg
 }
 
-/// The statement of an instruction whose fields are in range.
+/// Returns the statement of an instruction whose fields are in range.
 pub fn instruction<'a>(kind: Kind) -> Statement<'a>
     requires { IsInRange kind }
     ensures { result ≡ s.Instruction kind }
@@ -42,9 +42,9 @@ pub fn instruction<'a>(kind: Kind) -> Statement<'a>
     Statement::Instruction(instr)
 }
 
-// That a register's number is below 32 is known once it is asked.
+// `number()` is called for its postcondition, `< 32`.
 
-/// A jump to what a register says.
+/// Returns a jump to the address in a register.
 fn jump_to<'a>(rd: Reg, base: Reg) -> Statement<'a>
     ensures { result ≡ s.Instruction (k.Jalr rd base (pos 0)) }
 {
@@ -56,7 +56,7 @@ fn jump_to<'a>(rd: Reg, base: Reg) -> Statement<'a>
     })
 }
 
-/// An operation on a register and an immediate of twelve bits.
+/// Returns an operation on a register and a 12-bit immediate.
 fn op_imm<'a>(op: ImmOp, rd: Reg, rs1: Reg, imm: i32) -> Statement<'a>
     requires { IsWithin (2 ^ 11) imm }
     ensures { result ≡ s.Instruction (k.OpImm op rd rs1 imm) }
@@ -65,7 +65,7 @@ fn op_imm<'a>(op: ImmOp, rd: Reg, rs1: Reg, imm: i32) -> Statement<'a>
     instruction(Kind::OpImm { op, rd, rs1, imm })
 }
 
-/// An operation on two registers.
+/// Returns an operation on two registers.
 fn op<'a>(op: AluOp, rd: Reg, rs1: Reg, rs2: Reg) -> Statement<'a>
     ensures { result ≡ s.Instruction (k.Op op rd rs1 rs2) }
 {
@@ -73,7 +73,7 @@ fn op<'a>(op: AluOp, rd: Reg, rs1: Reg, rs2: Reg) -> Statement<'a>
     instruction(Kind::Op { op, rd, rs1, rs2 })
 }
 
-/// A change of a control register by a register.
+/// Returns a change of a control register by a register.
 fn csr_op<'a>(op: CsrOp, rd: Reg, rs1: Reg, csr: Csr) -> Statement<'a>
     ensures { result ≡ s.Instruction (k.Csr op rd rs1 csr) }
 {
@@ -86,7 +86,7 @@ fn csr_op<'a>(op: CsrOp, rd: Reg, rs1: Reg, csr: Csr) -> Statement<'a>
     })
 }
 
-/// An instruction that takes no operands.
+/// Reads an instruction without operands.
 #[tactic(auto, using(crate::proofs::Pieces::no_operand, crate::proofs::Pieces::an_operand))]
 pub fn alone<'a>(kind: Kind, tokens: &[Token<'a>]) -> Result<Statement<'a>, Refusal>
     requires { IsInRange kind }
@@ -99,7 +99,7 @@ pub fn alone<'a>(kind: Kind, tokens: &[Token<'a>]) -> Result<Statement<'a>, Refu
     }
 }
 
-/// `rd,target`, or `target` alone with x1 as the link
+/// Reads `jal`: `rd,target`, or `target` alone with x1 as the link.
 fn jal<'a>(alloc: Global, tokens: &[Token<'a>]) -> Result<Statement<'a>, Refusal>
     requires { length tokens.now ≤ 1024 }
     ensures { Finds (λ s. s) result (jal (operands_of tokens.now)) }
@@ -110,10 +110,10 @@ fn jal<'a>(alloc: Global, tokens: &[Token<'a>]) -> Result<Statement<'a>, Refusal
     }
 }
 
-/// A jump to what a register says, by how it links.
+/// A jump to the address in a register, by its link.
 #[derive(Clone, Copy)]
 pub enum JumpTo {
-    /// With no link.
+    /// Without a link.
     Plain,
     /// With x1 as the link.
     Linked,
@@ -134,7 +134,7 @@ impl<'a> OfOne<'a, Reg> for JumpTo {
     }
 }
 
-/// What a word that takes two registers does with them.
+/// The instruction of a mnemonic that takes two registers.
 #[derive(Clone, Copy)]
 pub enum OnTwo {
     /// `addi` of 0
@@ -147,7 +147,7 @@ pub enum OnTwo {
     WithZero(AluOp),
     /// An operation on x0 and the second register.
     OnZero(AluOp),
-    /// A jump to what the second register says.
+    /// A jump to the address in the second register.
     Jump,
 }
 
@@ -206,7 +206,7 @@ impl<'a> OfTwo<'a, Csr, Reg> for CsrOp {
     }
 }
 
-/// `rd,csr`, without a change
+/// `rd,csr`: reads without a change
 impl<'a> OfTwo<'a, Reg, Csr> for CsrOp {
     ghost use Rattle.rv_isa.specs.declared.kind.Kind.TheVariants as k;
     ghost use Rattle.rv_source.specs.declared.statement.Statement.TheVariants as s;
@@ -218,7 +218,7 @@ impl<'a> OfTwo<'a, Reg, Csr> for CsrOp {
     }
 }
 
-/// `rd,rs1`, `rd,m`, `rd,rs1,i`, or `rs1` with x1 as the link
+/// Reads `jalr`: `rd,rs1`, `rd,m`, `rd,rs1,i`, or `rs1` with x1 as the link.
 fn jalr<'a>(alloc: Global, tokens: &[Token<'a>]) -> Result<Statement<'a>, Refusal>
     requires { length tokens.now ≤ 1024 }
     ensures { Finds (λ s. s) result (jalr (operands_of tokens.now)) }
@@ -235,7 +235,7 @@ fn jalr<'a>(alloc: Global, tokens: &[Token<'a>]) -> Result<Statement<'a>, Refusa
     }
 }
 
-/// `rd,m` or `rd,E`
+/// Reads a load: `rd,m` or `rd,E`.
 fn load<'a>(alloc: Global, op: LoadOp, tokens: &[Token<'a>]) -> Result<Statement<'a>, Refusal>
     requires { length tokens.now ≤ 1024 }
     ensures { Finds (λ s. s) result (load op (operands_of tokens.now)) }
@@ -250,7 +250,7 @@ fn load<'a>(alloc: Global, op: LoadOp, tokens: &[Token<'a>]) -> Result<Statement
     }
 }
 
-/// `rs2,m` or `rs,E,rt`
+/// Reads a store: `rs2,m` or `rs,E,rt`.
 fn store<'a>(alloc: Global, width: Width, tokens: &[Token<'a>]) -> Result<Statement<'a>, Refusal>
     requires { length tokens.now ≤ 1024 }
     ensures { Finds (λ s. s) result (store width (operands_of tokens.now)) }
@@ -261,7 +261,7 @@ fn store<'a>(alloc: Global, width: Width, tokens: &[Token<'a>]) -> Result<Statem
     }
 }
 
-/// Two sets, or none
+/// Reads `fence`: two sets, or nothing.
 fn fence<'a>(alloc: Global, tokens: &[Token<'a>]) -> Result<Statement<'a>, Refusal>
     requires { length tokens.now ≤ 1024 }
     ensures { Finds (λ s. s) result (fence (operands_of tokens.now)) }
@@ -272,7 +272,7 @@ fn fence<'a>(alloc: Global, tokens: &[Token<'a>]) -> Result<Statement<'a>, Refus
     }
 }
 
-/// What an instruction's word and its operands stand for.
+/// Reads the statement of an instruction with these operands.
 #[tactic(auto, unfolding(crate::specs::Statements::instruction))]
 pub fn read_instruction<'a>(
     alloc: Global,

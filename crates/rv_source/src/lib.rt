@@ -1,4 +1,4 @@
-//! What a line of a source says.
+//! Reads a line of a source: its labels and its statement.
 //!
 //! The language is this project's own: see docs/ASSEMBLER.md.
 #![tactic(auto)]

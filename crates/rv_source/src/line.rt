@@ -1,24 +1,24 @@
-//! What a line says.
+//! Lines of a source.
 use crate::Statement;
 use rv_tokens::Name;
 use std::marker::Model;
 
-/// What is defined as the address of what follows.
+/// A label: it stands for the address of the next statement.
 #[derive(Drop)]
 pub enum Label<'a> {
-    /// A name other than `.`, which has one definition in a source.
+    /// A name other than `.`, which is defined once in a source.
     Name(Name<'a>),
-    /// A number from 0 to 9999, which may be defined again and again.
+    /// A local label: a number from 0 to 9999, which may be defined any number of times.
     Local(u16),
 }
 
-/// A line that was read: its labels and its statement.
+/// A line as read: its labels and its statement.
 pub struct Line<'a> {
     labels: Vec<Label<'a>>,
     statement: Option<Statement<'a>>,
 }
 
-// Written out, so that to let it go is one call where it is owned, and not one for each of its parts.
+// Hand-written: a derived `Drop` would be proved anew at each exit (docs/PROVING.md).
 impl<'a> Drop for Line<'a> {
     fn drop(self) {
         let Line {
@@ -46,14 +46,14 @@ impl<'a> Line<'a> {
         Line { labels, statement }
     }
 
-    /// The labels, from left to right.
+    /// Returns the labels, from left to right.
     pub fn labels(&self) -> &[Label<'a>]
         ensures { result.now ≡ self.now.labels }
     {
         self.labels.as_slice()
     }
 
-    /// The statement, if the line has one.
+    /// Returns the statement, if the line has one.
     pub fn statement(&self) -> Option<&Statement<'a>>
         ensures { option_map (λ s. s.now) result ≡ self.now.statement }
     {

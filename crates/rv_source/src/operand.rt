@@ -1,4 +1,4 @@
-//! Operands: the tokens of each, and the shapes that they may have.
+//! Operands, and their shapes.
 ghost use Rattle.std.specs.Prelude.{◌≡◌, ◌<◌, ◌≤◌, ◌+◌, length, drop, IfSome};
 ghost use Rattle.std.specs.List.{position, list_all};
 ghost use Rattle.rv_source.specs.Partial.{Picks, front_of, indexed_by, is_mark, may_be_offset};
@@ -8,7 +8,7 @@ use crate::terms::is_value;
 use rv_tokens::{Name, Token};
 use std::marker::Model;
 
-/// What parts operands, and what encloses a part of one.
+/// A token between operands, or around a part of one.
 #[derive(Clone, Copy)]
 pub enum Mark {
     Comma,
@@ -16,7 +16,7 @@ pub enum Mark {
     Close,
 }
 
-/// Whether a token is such a mark.
+/// Returns whether a token is this mark.
 fn is_mark(mark: Mark, token: &Token) -> bool
     ensures { result ≡ is_mark mark token.now }
 {
@@ -27,7 +27,7 @@ fn is_mark(mark: Mark, token: &Token) -> bool
     }
 }
 
-/// The place of the first such mark.
+/// Returns the index of the first of these marks.
 fn place(mark: Mark, tokens: &[Token]) -> Option<usize>
     ensures value { result ≡ position (is_mark mark) tokens.now }
     ensures below { IfSome result (λ n. n < length tokens.now) }
@@ -35,7 +35,7 @@ fn place(mark: Mark, tokens: &[Token]) -> Option<usize>
     tokens.iter().position(|t| is_mark(mark, t))
 }
 
-/// What stands behind a token.
+/// Returns the tokens following the one at an index.
 pub fn behind<'t, 'a>(tokens: &'t [Token<'a>], index: usize) -> &'t [Token<'a>]
     requires { index < length tokens.now }
     ensures value { result.now ≡ drop (index + 1) tokens.now }
@@ -44,7 +44,7 @@ pub fn behind<'t, 'a>(tokens: &'t [Token<'a>], index: usize) -> &'t [Token<'a>]
     tokens.split_at(index + 1).1
 }
 
-/// The operands that are left behind a word, from left to right, each as its tokens.
+/// The operands of a mnemonic or directive that are left, from left to right, each as its tokens.
 #[derive(Drop)]
 pub struct Operands<'t, 'a> {
     rest: Option<&'t [Token<'a>]>,
@@ -67,7 +67,7 @@ impl<'t, 'a> Operands<'t, 'a> {
     ghost use Rattle.rv_source.specs.Operands.{operands_of};
     ghost use Rattle.rv_source.specs.Partial.{Follows};
 
-    /// The operands that the tokens behind a word are.
+    /// Makes the operands of the tokens following a mnemonic or directive.
     #[tactic(auto, unfolding(crate::specs::Operands::operands_of))]
     pub fn of(tokens: &'t [Token<'a>]) -> Self
         requires { length tokens.now ≤ 1024 }
@@ -80,7 +80,7 @@ impl<'t, 'a> Operands<'t, 'a> {
         }
     }
 
-    /// Takes the next operand.
+    /// Takes the next operand off.
     pub fn next(&mut self) -> Option<&'t [Token<'a>]>
         ensures value { Follows self.old result self.new }
         ensures short { IfSome result (λ ts. length ts.now ≤ 1024) }
@@ -101,7 +101,7 @@ impl<'t, 'a> Operands<'t, 'a> {
     }
 }
 
-/// The name that the tokens are.
+/// Reads the tokens as a name.
 pub fn name<'a>(tokens: &[Token<'a>]) -> Option<Name<'a>>
     ensures { result ≡ name_of tokens.now }
 {
@@ -114,7 +114,7 @@ pub fn name<'a>(tokens: &[Token<'a>]) -> Option<Name<'a>>
     }
 }
 
-/// The name in brackets that the tokens are.
+/// Reads the tokens as `(name)`.
 pub fn base<'a>(tokens: &[Token<'a>]) -> Option<Name<'a>>
     ensures { result ≡ base_of tokens.now }
 {
@@ -127,7 +127,7 @@ pub fn base<'a>(tokens: &[Token<'a>]) -> Option<Name<'a>>
     }
 }
 
-/// The tokens in the brackets that come first, and those behind them.
+/// Splits tokens that begin with a bracket: those inside the brackets, and those following them.
 fn bracketed<'t, 'a>(tokens: &'t [Token<'a>]) -> Option<(&'t [Token<'a>], &'t [Token<'a>])>
     ensures { Picks (λ p. (p.0.now, p.1.now)) (λ p. length p.0.now ≤ length tokens.now) result (bracketed tokens.now) }
 {
@@ -145,7 +145,7 @@ fn bracketed<'t, 'a>(tokens: &'t [Token<'a>]) -> Option<(&'t [Token<'a>], &'t [T
     }
 }
 
-/// `(E)` behind `%hi` or `%lo`: the tokens in the brackets.
+/// Returns the tokens inside the brackets of `(E)`, the part following `%hi` or `%lo`.
 #[tactic(auto, unfolding(crate::specs::Operands::part_of))]
 pub fn part<'t, 'a>(tokens: &'t [Token<'a>]) -> Option<&'t [Token<'a>]>
     ensures { Picks (λ ts. ts.now) (λ ts. length ts.now ≤ length tokens.now) result (part_of tokens.now) }
@@ -156,8 +156,8 @@ pub fn part<'t, 'a>(tokens: &'t [Token<'a>]) -> Option<&'t [Token<'a>]>
     }
 }
 
-/// What stands before a base, and the tokens of the base: the brackets that come first and what is behind them, as in
-/// `%lo`, or what stands before the first bracket.
+/// Splits an operand into its offset and its base: for `%lo`, into the tokens inside the first brackets and
+/// those following them, and else before the first bracket.
 pub fn front<'t, 'a>(
     is_low: bool,
     tokens: &'t [Token<'a>],
@@ -173,7 +173,7 @@ pub fn front<'t, 'a>(
     }
 }
 
-/// Whether the tokens are `(E)`.
+/// Returns whether the tokens are `(E)`.
 fn is_part(tokens: &[Token]) -> bool
     ensures { result ≡ holds is_value (part_of tokens.now) }
 {
@@ -183,7 +183,7 @@ fn is_part(tokens: &[Token]) -> bool
     }
 }
 
-/// Whether the tokens may stand before a base.
+/// Returns whether the tokens may be an offset.
 fn is_offset(is_low: bool, tokens: &[Token]) -> bool
     ensures { result ≡ may_be_offset is_low tokens.now }
 {
@@ -193,7 +193,7 @@ fn is_offset(is_low: bool, tokens: &[Token]) -> bool
     tokens.is_empty() || is_value(tokens)
 }
 
-/// Whether the tokens are `E(name)` or `(name)`, or `(E)(name)` behind `%lo`.
+/// Returns whether the tokens are `E(name)` or `(name)`, or, following `%lo`, `(E)(name)`.
 #[tactic(auto, using(crate::proofs::Fronts::front_is))]
 fn is_indexed(is_low: bool, tokens: &[Token]) -> bool
     ensures { result ≡ holds (λ p. may_be_offset is_low p.0) (indexed_by is_low tokens.now) }
@@ -207,7 +207,7 @@ fn is_indexed(is_low: bool, tokens: &[Token]) -> bool
     }
 }
 
-/// Whether the tokens are an operand.
+/// Returns whether the tokens are an operand.
 #[tactic(auto, unfolding(crate::specs::Operands::is_operand, crate::specs::Operands::indexed_of, crate::specs::Expressions::value, crate::specs::Expressions::terms))]
 fn is_operand(tokens: &[Token]) -> bool
     ensures { result ≡ is_operand tokens.now }
@@ -223,7 +223,7 @@ fn is_operand(tokens: &[Token]) -> bool
     }
 }
 
-/// Whether all tokens behind a word are operands.
+/// Returns whether the tokens following a mnemonic or directive are operands.
 pub fn are_operands(tokens: &[Token]) -> bool
     requires { length tokens.now ≤ 1024 }
     ensures { result ≡ list_all is_operand (operands_of tokens.now) }
@@ -237,7 +237,7 @@ pub fn are_operands(tokens: &[Token]) -> bool
     true
 }
 
-/// The operand that is left, where it is the only one.
+/// Returns the operand that is left, if it is the only one.
 pub fn last<'t, 'a>(mut operands: Operands<'t, 'a>) -> Option<&'t [Token<'a>]>
     ensures { Picks (λ ts. ts.now) (λ ts. length ts.now ≤ 1024) result (only operands.entry) }
 {
@@ -250,7 +250,7 @@ pub fn last<'t, 'a>(mut operands: Operands<'t, 'a>) -> Option<&'t [Token<'a>]>
     }
 }
 
-/// The only operand.
+/// Returns the only operand.
 pub fn only<'t, 'a>(tokens: &'t [Token<'a>]) -> Option<&'t [Token<'a>]>
     requires { length tokens.now ≤ 1024 }
     ensures { Picks (λ ts. ts.now) (λ ts. length ts.now ≤ 1024) result (only (operands_of tokens.now)) }
@@ -258,7 +258,7 @@ pub fn only<'t, 'a>(tokens: &'t [Token<'a>]) -> Option<&'t [Token<'a>]>
     last(Operands::of(tokens))
 }
 
-/// Both of two operands.
+/// Returns the operands if there are two.
 pub fn pair<'t, 'a>(tokens: &'t [Token<'a>]) -> Option<(&'t [Token<'a>], &'t [Token<'a>])>
     requires { length tokens.now ≤ 1024 }
     ensures { Picks (λ p. (p.0.now, p.1.now)) (λ p. (length p.0.now ≤ 1024) × (length p.1.now ≤ 1024)) result (pair (operands_of tokens.now)) }
@@ -273,7 +273,7 @@ pub fn pair<'t, 'a>(tokens: &'t [Token<'a>]) -> Option<(&'t [Token<'a>], &'t [To
     }
 }
 
-/// All of three operands.
+/// Returns the operands if there are three.
 pub fn triple<'t, 'a>(
     tokens: &'t [Token<'a>],
 ) -> Option<(&'t [Token<'a>], &'t [Token<'a>], &'t [Token<'a>])>

@@ -1,4 +1,4 @@
-//! What a place of a statement takes.
+//! The kinds of operands, and statements made of one, two or three.
 ghost use Rattle.std.specs.Prelude.{◌≡◌, ◌<◌, ◌≤◌, length};
 ghost use Rattle.rv_source.specs.Partial.{Finds, front_of, offset_of, with_base};
 ghost use Rattle.rv_source.specs.Operands.{operands_of};
@@ -13,13 +13,13 @@ use rv_isa::{Reg, csr_named, reg_named};
 use rv_tokens::{Name, Token};
 use std::alloc::Global;
 
-/// What a place of a statement takes: what one operand is read as.
+/// A kind of operand: a type that the tokens of an operand are read as.
 pub trait Place<'a>: Drop {
     ghost use Rattle.std.specs.Prelude.{List, Option, ◌≤◌, length};
     ghost use Rattle.rv_tokens.specs.declared.token.Token.{Token};
     ghost use Rattle.rv_source.specs.Partial.{Finds};
 
-    /// What tokens mean there.
+    /// The meaning of tokens as an operand of this kind.
     ghost meant: { List Token → Option Self };
 
     /// Reads the tokens of an operand.
@@ -28,12 +28,12 @@ pub trait Place<'a>: Drop {
         ensures { Finds (λ x. x) result (meant tokens.now) };
 }
 
-/// What makes a statement of one operand.
+/// A form that makes a statement of one operand.
 pub trait OfOne<'a, A>: Copy {
     ghost use Rattle.std.specs.Prelude.{◌≡◌};
     ghost use Rattle.rv_source.specs.declared.statement.Statement.{Statement};
 
-    /// The statement that an operand stands for.
+    /// The statement made of an operand.
     ghost makes: { Self → A → Statement };
 
     /// Makes the statement.
@@ -41,12 +41,12 @@ pub trait OfOne<'a, A>: Copy {
         ensures { result ≡ makes self operand };
 }
 
-/// What makes a statement of two operands.
+/// A form that makes a statement of two operands.
 pub trait OfTwo<'a, A, B>: Copy {
     ghost use Rattle.std.specs.Prelude.{◌≡◌};
     ghost use Rattle.rv_source.specs.declared.statement.Statement.{Statement};
 
-    /// The statement that two operands stand for.
+    /// The statement made of two operands.
     ghost makes: { Self → A → B → Statement };
 
     /// Makes the statement.
@@ -54,12 +54,12 @@ pub trait OfTwo<'a, A, B>: Copy {
         ensures { result ≡ makes self first second };
 }
 
-/// What makes a statement of a register and two operands behind it.
+/// A form that makes a statement of a register and two operands following it.
 pub trait OfThree<'a, A, B>: Copy {
     ghost use Rattle.std.specs.Prelude.{◌≡◌, ℕ};
     ghost use Rattle.rv_source.specs.declared.statement.Statement.{Statement};
 
-    /// The statement that a register and two operands stand for.
+    /// The statement made of a register and two operands.
     ghost makes: { Self → ℕ → A → B → Statement };
 
     /// Makes the statement.
@@ -67,7 +67,7 @@ pub trait OfThree<'a, A, B>: Copy {
         ensures { result ≡ makes self reg second third };
 }
 
-/// The statement of one operand.
+/// Reads the statement of one operand.
 pub fn one<'a, A: Place<'a>, F: OfOne<'a, A>>(
     alloc: Global,
     form: F,
@@ -85,7 +85,7 @@ pub fn one<'a, A: Place<'a>, F: OfOne<'a, A>>(
     }
 }
 
-/// The statement of two operands.
+/// Reads the statement of two operands.
 pub fn two<'a, A: Place<'a>, B: Place<'a>, F: OfTwo<'a, A, B>>(
     alloc: Global,
     form: F,
@@ -104,7 +104,7 @@ pub fn two<'a, A: Place<'a>, B: Place<'a>, F: OfTwo<'a, A, B>>(
     }
 }
 
-/// The statement of a register and two operands behind it.
+/// Reads the statement of a register and two operands following it.
 pub fn three<'a, A: Place<'a>, B: Place<'a>, F: OfThree<'a, A, B>>(
     alloc: Global,
     form: F,
@@ -126,7 +126,7 @@ pub fn three<'a, A: Place<'a>, B: Place<'a>, F: OfThree<'a, A, B>>(
     }
 }
 
-/// The register that the tokens name.
+/// Reads the tokens as a register.
 #[tactic(auto, unfolding(crate::specs::Statements::register))]
 pub fn register_in(tokens: &[Token]) -> Option<Reg>
     ensures { result ≡ register tokens.now }
@@ -137,7 +137,7 @@ pub fn register_in(tokens: &[Token]) -> Option<Reg>
     }
 }
 
-/// The control register with a number.
+/// Returns the control register with a number, if it has twelve bits.
 fn numbered(number: u32) -> Option<Csr>
     ensures { result ≡ csr_number number }
 {
@@ -182,7 +182,7 @@ impl<'a> Place<'a> for Csr {
     }
 }
 
-/// A value.
+/// An expression.
 impl<'a> Place<'a> for Expression<'a> {
     ghost use Rattle.rv_source.specs.Expressions.{value};
 
@@ -193,7 +193,7 @@ impl<'a> Place<'a> for Expression<'a> {
     }
 }
 
-/// A value or the low part of one.
+/// An expression, or `%lo` of one.
 impl<'a> Place<'a> for Immediate<'a> {
     ghost use Rattle.rv_source.specs.Statements.{immediate};
 
@@ -217,7 +217,7 @@ impl<'a> Place<'a> for Immediate<'a> {
     }
 }
 
-/// A value or the high part of one.
+/// An expression, or `%hi` of one.
 impl<'a> Place<'a> for Upper<'a> {
     ghost use Rattle.rv_source.specs.Statements.{upper};
 
@@ -256,7 +256,7 @@ impl<'a> Place<'a> for Name<'a> {
     }
 }
 
-/// An offset and a base.
+/// Reads an offset and a base.
 fn based<'a>(
     alloc: Global,
     is_low: bool,
@@ -284,7 +284,7 @@ fn based<'a>(
     }
 }
 
-/// A register in brackets, with what stands before them: the offset and the base.
+/// An offset and a base: `E(register)`, `(register)` or `%lo(E)(register)`.
 impl<'a> Place<'a> for (Immediate<'a>, Reg) {
     ghost use Rattle.rv_source.specs.Statements.{memory};
 

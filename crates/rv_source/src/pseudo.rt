@@ -1,4 +1,4 @@
-//! Words that stand for other instructions.
+//! Reads the operands of pseudo-instructions.
 ghost use Rattle.std.specs.Prelude.{◌≡◌, ◌≤◌, length};
 ghost use Rattle.rv_source.specs.Operands.{operands_of};
 ghost use Rattle.rv_source.specs.Partial.{Finds};
@@ -14,7 +14,7 @@ use rv_isa::{AluOp, CsrOp, ImmOp, Kind, Reg};
 use rv_tokens::Token;
 use std::alloc::Global;
 
-/// What a word that stands for other instructions and its operands stand for.
+/// Reads the statement of a pseudo-instruction with these operands.
 #[tactic(auto, unfolding(crate::specs::Statements::pseudo))]
 pub fn read_pseudo<'a>(
     alloc: Global,

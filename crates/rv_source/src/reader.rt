@@ -1,4 +1,4 @@
-//! Reads a line.
+//! Reads lines.
 ghost use Rattle.std.specs.Prelude.{◌≡◌, ◌<◌, ◌≤◌, length, IfSome};
 ghost use Rattle.std.specs.Option.{option_map};
 ghost use Rattle.rv_tokens.specs.Faults.{Gives};
@@ -21,7 +21,7 @@ use crate::{Label, Line, LineFault, Statement};
 use rv_tokens::{Token, cut_line};
 use std::alloc::Global;
 
-/// What a form and its operands stand for.
+/// Reads the statement of a form with these operands.
 fn read_form<'a>(alloc: Global, form: Form, tokens: &[Token<'a>]) -> Result<Statement<'a>, Refusal>
     requires { length tokens.now ≤ 1024 }
     ensures { Finds (λ s. s) result (meaning form (operands_of tokens.now)) }
@@ -33,7 +33,7 @@ fn read_form<'a>(alloc: Global, form: Form, tokens: &[Token<'a>]) -> Result<Stat
     }
 }
 
-/// What a token stands for before a colon.
+/// Reads a token before a colon as a label.
 fn label<'a>(token: &Token<'a>) -> Option<Label<'a>>
     ensures { result ≡ label_of token.now }
 {
@@ -50,7 +50,7 @@ fn label<'a>(token: &Token<'a>) -> Option<Label<'a>>
     }
 }
 
-/// The first token, where a colon stands behind it.
+/// Returns the first token, if a colon follows it.
 fn before_colon<'t, 'a>(tokens: &'t [Token<'a>]) -> Option<&'t Token<'a>>
     ensures value { option_map (λ t. t.now) result ≡ before_colon tokens.now }
     ensures within { IfSome result (λ _. 1 < length tokens.now) }
@@ -64,7 +64,7 @@ fn before_colon<'t, 'a>(tokens: &'t [Token<'a>]) -> Option<&'t Token<'a>>
     }
 }
 
-/// The statement that tokens spell, or none where there are no tokens.
+/// Reads a statement, or nothing if there are no tokens.
 #[tactic(auto, unfolding(crate::specs::Reading::statement_of))]
 fn read_rest<'a>(alloc: Global, tokens: &[Token<'a>]) -> Result<Option<Statement<'a>>, LineFault>
     requires { length tokens.now ≤ 1024 }
@@ -93,7 +93,7 @@ fn read_rest<'a>(alloc: Global, tokens: &[Token<'a>]) -> Result<Option<Statement
     }
 }
 
-/// What the tokens of a line say.
+/// Reads the tokens of a line.
 fn read_tokens<'a>(alloc: Global, tokens: &[Token<'a>]) -> Result<Line<'a>, LineFault>
     requires { length tokens.now ≤ 1024 }
     ensures { Gives (λ l. l) result (line_of tokens.now) }
@@ -113,12 +113,13 @@ fn read_tokens<'a>(alloc: Global, tokens: &[Token<'a>]) -> Result<Line<'a>, Line
     }
 }
 
-/// What a line says, or what is wrong with it. It has no LF, nor the CR before one.
+/// Reads a line, without its line end.
 ///
 /// # Errors
 ///
-/// `LineTooLong`, `BadByte` and `Syntax` of its tokens come first, then `Syntax`, `UnknownWord` and `BadOperands` in
-/// this order; `OutOfMemory` may come in place of any answer.
+/// `LineTooLong`, `BadByte` or `Syntax` if the line can't be cut into tokens; else the first of `Syntax`,
+/// `UnknownWord` and
+/// `BadOperands` that applies. `OutOfMemory` may come in place of any result.
 #[tactic(auto, unfolding(crate::specs::Reading::said))]
 pub fn read_line<'a>(alloc: Global, text: &'a [u8]) -> Result<Line<'a>, LineFault>
     ensures cut { IsCutInto text.now (tokens text.now) }

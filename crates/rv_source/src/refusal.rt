@@ -1,12 +1,12 @@
-//! Why operands aren't taken.
+//! The refusal of operands.
 use std::alloc::{AllocError, AllocFailed};
 
-/// Why operands aren't taken.
+/// The reason why operands are refused.
 #[derive(Clone, Copy)]
 pub enum Refusal {
-    /// The word doesn't take them.
+    /// The mnemonic or directive doesn't take them.
     BadOperands,
-    /// The allocator refused a growth.
+    /// Out of memory.
     OutOfMemory,
 }
 

@@ -1,4 +1,4 @@
-//! Statements: what a mnemonic or a directive and its operands stand for, with expressions not yet evaluated.
+//! Statements: mnemonics and directives with their operands, before expressions are evaluated.
 use crate::Expression;
 use rv_isa::{Cond, CsrOp, ImmOp, Instr, LoadOp, Reg, ShiftOp, Width};
 use rv_tokens::Name;
@@ -25,7 +25,7 @@ impl Model for Csr {
 impl Csr {
     ghost use Rattle.std.specs.Prelude.{◌≡◌, ◌<◌};
 
-    /// The control register with a number.
+    /// Makes the control register with a number.
     pub(crate) fn new(number: u16) -> Csr
         requires { number < 4096 }
         ensures { result ≡ number }
@@ -33,7 +33,7 @@ impl Csr {
         Csr(number)
     }
 
-    /// The number: 0 to 4095.
+    /// Returns the number: 0 to 4095.
     pub fn number(self) -> u16
         ensures value { result ≡ self }
         ensures below { result < 4096 }
@@ -42,27 +42,27 @@ impl Csr {
     }
 }
 
-/// What is written for an immediate of twelve bits.
+/// The source of a 12-bit immediate.
 #[derive(Drop)]
 pub enum Immediate<'a> {
     /// Nothing, as in `lw a0,(a1)`: 0.
     Zero,
-    /// A value.
+    /// An expression.
     Sum(Expression<'a>),
-    /// `%lo`: the low part of a value.
+    /// `%lo`: the low part of an expression.
     Low(Expression<'a>),
 }
 
-/// What is written for an immediate of twenty bits.
+/// The source of a 20-bit immediate.
 #[derive(Drop)]
 pub enum Upper<'a> {
-    /// A value.
+    /// An expression.
     Sum(Expression<'a>),
-    /// `%hi`: the high part of a value.
+    /// `%hi`: the high part of an expression.
     High(Expression<'a>),
 }
 
-/// Values, one after the other; seen as the list of them.
+/// The values of a data directive. The view is the list of them.
 #[derive(Drop)]
 pub struct Values<'a>(Vec<Expression<'a>>);
 
@@ -78,14 +78,14 @@ impl<'a> Model for Values<'a> {
 impl<'a> Values<'a> {
     ghost use Rattle.std.specs.Prelude.{◌≡◌};
 
-    /// These values.
+    /// Makes the list of these values.
     pub(crate) fn new(values: Vec<Expression<'a>>) -> Self
         ensures { result ≡ values.entry.items }
     {
         Values(values)
     }
 
-    /// The values, in the order in which they are written.
+    /// Returns the values, from left to right.
     pub fn as_slice(&self) -> &[Expression<'a>]
         ensures { result.now ≡ self.now }
     {
@@ -93,7 +93,7 @@ impl<'a> Values<'a> {
     }
 }
 
-/// Bytes, as strings spell them; seen as the list of them.
+/// The bytes of strings. The view is the list of them.
 #[derive(Drop)]
 pub struct Bytes(Vec<u8>);
 
@@ -108,14 +108,14 @@ impl Model for Bytes {
 impl Bytes {
     ghost use Rattle.std.specs.Prelude.{◌≡◌};
 
-    /// These bytes.
+    /// Makes the list of these bytes.
     pub(crate) fn new(bytes: Vec<u8>) -> Self
         ensures { result ≡ bytes.items }
     {
         Bytes(bytes)
     }
 
-    /// The bytes, from the first to the last.
+    /// Returns the bytes, from left to right.
     pub fn as_slice(&self) -> &[u8]
         ensures { result.now ≡ self.now }
     {
@@ -123,7 +123,7 @@ impl Bytes {
     }
 }
 
-/// What takes an immediate of twelve bits, with all else that it says.
+/// An instruction without its 12-bit immediate.
 #[derive(Clone, Copy)]
 pub enum ImmediateTaker {
     Jalr {
@@ -147,7 +147,7 @@ pub enum ImmediateTaker {
     },
 }
 
-/// What takes one value, with all else that it says.
+/// A statement without its one value.
 #[derive(Clone, Copy)]
 pub enum ValueTaker {
     Auipc {
@@ -173,72 +173,73 @@ pub enum ValueTaker {
         rd: Reg,
         csr: Csr,
     },
-    /// Loads the value: one or two instructions, by the value.
+    /// Loads the value, by one or two instructions.
     Li {
         rd: Reg,
     },
-    /// AUIPC and ADDI: `rd` becomes the value, an address.
+    /// AUIPC and ADDI: loads the value, an address, into `rd`.
     La {
         rd: Reg,
     },
-    /// AUIPC into `scratch` and JALR: a jump to the value, however far; `link` gets the address of what follows.
+    /// AUIPC into `scratch` and JALR: a jump to the value, however far. `link` gets the address following the
+    /// two.
     Call {
         link: Reg,
         scratch: Reg,
     },
-    /// AUIPC into `rd` and a load of what stands at the value.
+    /// AUIPC into `rd` and a load from the value, an address.
     LoadFrom {
         op: LoadOp,
         rd: Reg,
     },
-    /// AUIPC into `scratch` and a store to the value.
+    /// AUIPC into `scratch` and a store to the value, an address.
     StoreTo {
         width: Width,
         source: Reg,
         scratch: Reg,
     },
-    /// Padding to a multiple of 2 to the power of the value.
+    /// Padding to a multiple of 2 to the value.
     Align,
     /// Padding to a multiple of the value.
     Balign,
 }
 
-/// What a line tells the assembler to place or to define.
+/// A statement of a line.
 #[derive(Drop)]
 pub enum Statement<'a> {
-    /// An instruction with nothing left to evaluate.
+    /// An instruction without an expression.
     Instruction(Instr),
     Lui {
         rd: Reg,
         imm: Upper<'a>,
     },
-    /// What takes an immediate of twelve bits, and what is written for it.
+    /// An instruction with a 12-bit immediate.
     WithImmediate {
         taker: ImmediateTaker,
         imm: Immediate<'a>,
     },
-    /// What takes one value, and the value.
+    /// A statement with one value.
     WithValue {
         taker: ValueTaker,
         value: Expression<'a>,
     },
-    /// Values, each in as many bytes as the width has.
+    /// Values of a width.
     Data {
         width: Width,
         values: Values<'a>,
     },
-    /// Bytes, as strings spell them.
+    /// The bytes of strings.
     Bytes(Bytes),
-    /// As many bytes as the size says, each of them the fill or 0.
+    /// As many bytes as `size` says, each of them `fill`, or 0 if it is None.
     Space {
         size: Expression<'a>,
         fill: Option<Expression<'a>>,
     },
-    /// A name for a value.
+    /// `.equ`: a name and its value.
     Constant {
         name: Name<'a>,
         value: Expression<'a>,
     },
-    /// A directive that says nothing here, as `.text`.
+    /// A directive without effect, as `.text`.
     Marker,
 }

@@ -1,12 +1,13 @@
-//! The words of statements, and the form of each; in the order of docs/ASSEMBLER.md.
+//! The tables of mnemonics and directives with their forms, in the order of docs/ASSEMBLER.md.
 ghost use Rattle.std.specs.Prelude.{◌≡◌};
-ghost use Rattle.rv_source.specs.Rows.{rows};
-ghost use Rattle.rv_source.specs.Words.{row_of, form_of, instruction_words, pseudo_words, directive_words};
+ghost use Rattle.rv_base.specs.Tables.{lookup};
+ghost use Rattle.rv_source.specs.Words.{form_of, instruction_words, pseudo_words, directive_words};
 
 use crate::form::{Directive, Form, Instruction, Pseudo};
+use rv_base::look_up;
 use rv_isa::{AluOp, Cond, CsrOp, ImmOp, LoadOp, ShiftOp, Width};
 
-/// Instructions.
+/// The mnemonics of instructions.
 static INSTRUCTIONS: [(&str, Instruction); 57] = [
     ("lui", Instruction::Lui),
     ("auipc", Instruction::Auipc),
@@ -67,7 +68,7 @@ static INSTRUCTIONS: [(&str, Instruction); 57] = [
     ("wfi", Instruction::Wfi),
 ];
 
-/// Words that stand for other instructions.
+/// The mnemonics of pseudo-instructions.
 static PSEUDOS: [(&str, Pseudo); 33] = [
     ("nop", Pseudo::Nop),
     ("mv", Pseudo::Mv),
@@ -104,7 +105,7 @@ static PSEUDOS: [(&str, Pseudo); 33] = [
     ("tail", Pseudo::Tail),
 ];
 
-/// Directives.
+/// The directives.
 static DIRECTIVES: [(&str, Directive); 32] = [
     (".word", Directive::Data(Width::Four)),
     (".long", Directive::Data(Width::Four)),
@@ -140,40 +141,31 @@ static DIRECTIVES: [(&str, Directive); 32] = [
     (".attribute", Directive::Marker),
 ];
 
-/// What stands in the row of a word. No word stands twice.
-fn row_of<F: Copy>(table: &[(&str, F)], word: &[u8]) -> Option<F>
-    ensures { result ≡ row_of word.now (rows table.now) }
-{
-    for row in table {
-        if row.0.as_bytes() == word {
-            return Some(row.1);
-        }
-    }
-    None
-}
-
+/// Returns the form of an instruction's mnemonic.
 #[tactic(auto, unfolding(crate::specs::Words::instruction_words))]
 fn instruction_of(word: &[u8]) -> Option<Instruction>
-    ensures { result ≡ row_of word.now instruction_words }
+    ensures { result ≡ lookup word.now instruction_words }
 {
-    row_of(&INSTRUCTIONS, word)
+    look_up(&INSTRUCTIONS, word)
 }
 
+/// Returns the form of a pseudo-instruction's mnemonic.
 #[tactic(auto, unfolding(crate::specs::Words::pseudo_words))]
 fn pseudo_of(word: &[u8]) -> Option<Pseudo>
-    ensures { result ≡ row_of word.now pseudo_words }
+    ensures { result ≡ lookup word.now pseudo_words }
 {
-    row_of(&PSEUDOS, word)
+    look_up(&PSEUDOS, word)
 }
 
+/// Returns the form of a directive.
 #[tactic(auto, unfolding(crate::specs::Words::directive_words))]
 fn directive_of(word: &[u8]) -> Option<Directive>
-    ensures { result ≡ row_of word.now directive_words }
+    ensures { result ≡ lookup word.now directive_words }
 {
-    row_of(&DIRECTIVES, word)
+    look_up(&DIRECTIVES, word)
 }
 
-/// The form of a word, or `None` where no statement begins with it.
+/// Returns the form of a word, or None if it is neither a mnemonic nor a directive.
 #[tactic(auto, unfolding(crate::specs::Words::form_of))]
 pub fn form_of(word: &[u8]) -> Option<Form>
     ensures { result ≡ form_of word.now }

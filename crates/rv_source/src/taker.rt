@@ -1,4 +1,4 @@
-//! What makes a statement of the operands of a word, with a value or an immediate among them.
+//! Forms that make statements with a value or an immediate among their operands.
 ghost use Rattle.std.specs.Prelude.{◌≡◌};
 ghost use Rattle.rv_source.specs.Takers.{after_one, after_two, with_base};
 
@@ -8,7 +8,7 @@ use crate::{Csr, Expression, Immediate, ImmediateTaker, Statement, Upper, ValueT
 use rv_isa::{Cond, CsrOp, ImmOp, LoadOp, Reg, ShiftOp, Width};
 use rv_tokens::Name;
 
-/// What takes a value behind a register.
+/// A form with a value following a register.
 #[derive(Clone, Copy)]
 pub enum AfterOne {
     Auipc,
@@ -22,7 +22,7 @@ pub enum AfterOne {
     La,
 }
 
-/// What takes a value behind two registers.
+/// A form with a value following two registers.
 #[derive(Clone, Copy)]
 pub enum AfterTwo {
     Branch(Cond),
@@ -31,7 +31,7 @@ pub enum AfterTwo {
     Shift(ShiftOp),
 }
 
-/// What takes an immediate of twelve bits, a register and a base.
+/// A form with a 12-bit immediate, a register and a base.
 #[derive(Clone, Copy)]
 pub enum Based {
     Jalr,
@@ -160,7 +160,7 @@ impl<'a> OfTwo<'a, Reg, (Immediate<'a>, Reg)> for Based {
     }
 }
 
-/// A store to a value: `register,E,scratch`
+/// A store to an address: `register,E,scratch`
 #[derive(Clone, Copy)]
 pub struct StoreTo(pub Width);
 
@@ -182,7 +182,7 @@ impl<'a> OfThree<'a, Expression<'a>, Reg> for StoreTo {
     }
 }
 
-/// A change of a control register by a value.
+/// A change of a control register by an immediate.
 #[derive(Clone, Copy)]
 pub struct CsrByValue(pub CsrOp);
 

@@ -9,14 +9,14 @@ use crate::{Atom, Expression, Term, Wanted};
 use rv_tokens::{Name, Token};
 use std::alloc::Global;
 
-/// Whether a name is one other than `.`.
+/// Returns whether a name is a symbol: one other than `.`.
 pub fn is_symbol(name: &Name) -> bool
     ensures { result ≡ is_symbol name.now }
 {
     name.bytes() != b".".as_slice()
 }
 
-/// What a token stands for where a value is wanted.
+/// Reads a token as an atom.
 fn atom<'a>(token: &Token<'a>) -> Option<Atom<'a>>
     ensures { result ≡ atom_of token.now }
 {
@@ -39,7 +39,7 @@ fn atom<'a>(token: &Token<'a>) -> Option<Atom<'a>>
     }
 }
 
-/// Whether a sign is a minus, where the token is a sign.
+/// Reads a token as a sign: whether it is a minus.
 fn sign(token: &Token) -> Option<bool>
     ensures { result ≡ sign_of token.now }
 {
@@ -50,14 +50,14 @@ fn sign(token: &Token) -> Option<bool>
     }
 }
 
-/// What may stand at the front of an expression: at most one sign, and a value.
+/// The tokens that may begin an expression: a value, possibly with one sign before it.
 const START: Wanted = Wanted::Value {
     negative: false,
     more: true,
 };
 
-/// Reads one token more: the term that it completes, if it completes one, and what may stand behind it. None where the
-/// token may not stand here.
+/// Reads one more token: returns the term that it completes, if any, and the tokens that may come next. None
+/// if the token may not come here.
 #[tactic(auto, unfolding(crate::specs::Expressions::terms))]
 fn read_token<'a>(wanted: Wanted, token: &Token<'a>) -> Option<(Option<Term<'a>>, Wanted)>
     ensures { (ts : List Token) → terms wanted (token.now ∷ ts) ≡ terms_behind result ts }
@@ -78,7 +78,7 @@ fn read_token<'a>(wanted: Wanted, token: &Token<'a>) -> Option<(Option<Term<'a>>
         if !more {
             return None;
         }
-        // Two signs multiply.
+        // Two minus signs cancel.
         let negative = negative != sign;
         return Some((
             None,
@@ -94,7 +94,7 @@ fn read_token<'a>(wanted: Wanted, token: &Token<'a>) -> Option<(Option<Term<'a>>
     }
 }
 
-/// Whether all of the tokens are an expression.
+/// Returns whether the tokens as a whole are an expression.
 #[tactic(auto, using(crate::proofs::Sums::terms_end), unfolding(crate::specs::Expressions::value))]
 pub fn is_value(tokens: &[Token]) -> bool
     ensures { result ≡ is_some (value tokens.now) }
@@ -109,7 +109,8 @@ pub fn is_value(tokens: &[Token]) -> bool
     matches!(wanted, Wanted::Sign)
 }
 
-/// Reads one token more, and appends the term that it completes: what may stand behind it.
+/// Reads one more token, appends the term that it completes, if any, and returns the tokens that may come
+/// next.
 #[tactic(auto, using(crate::proofs::Sums::with_terms_append))]
 fn take_token<'a>(
     out: &mut Vec<Term<'a>>,
@@ -128,7 +129,7 @@ fn take_token<'a>(
     Ok(next)
 }
 
-/// The expression that all of the tokens spell.
+/// Reads the tokens as a whole as an expression.
 #[tactic(auto, using(crate::proofs::Sums::terms_end, crate::proofs::Sums::with_terms_nothing), unfolding(crate::specs::Expressions::value))]
 pub fn read_value<'a>(alloc: Global, tokens: &[Token<'a>]) -> Result<Expression<'a>, Refusal>
     requires { length tokens.now ≤ 1024 }
