@@ -1,4 +1,4 @@
--- Looking names up in a list of definitions.
+-- Looking a name up among the names of a source.
 use Rattle.std.proofs.Common.{◌≡◌, ℕ, List, [], ◌∷◌, ◌++◌, ℤ, Bool, true, false, cond, ap, refl, Vec}
 use Rattle.std.specs.Prelude.{Option, Some, IfSome, nat_eq}
 use Rattle.std.specs.Str.{bytes_eq}
@@ -8,22 +8,29 @@ use Rattle.rv_program.specs.Program.{is_word}
 use Rattle.rv_program.specs.Program.{value_of, definitions_of}
 use Rattle.rv_program.specs.Kept.{AreWords}
 
-pub lookup_value : {A : Type 0} (es : List (Vec ℕ A × ℤ)) (name : List ℕ) → lookup (λ k. pointwise nat_eq name k.items) es ≡ value_of (definitions_of es) name
+pub lookup_value : {A : Type 0} (es : List (Vec ℕ A × ℤ)) (name : List ℕ)
+    → lookup (λ k. pointwise nat_eq name k.items) es ≡ value_of (definitions_of es) name
 lookup_value [] name = refl
 lookup_value (e ∷ es) name = ap (cond (bytes_eq name e.0.items) (Some e.1)) (lookup_value es name)
 
-pub definitions_of-push : {A : Type 0} (es : List (Vec ℕ A × ℤ)) (k : Vec ℕ A) (v : ℤ) → definitions_of (es ++ (k, v) ∷ []) ≡ definitions_of es ++ (k.items, v) ∷ []
+pub definitions_of-push : {A : Type 0} (es : List (Vec ℕ A × ℤ)) (k : Vec ℕ A) (v : ℤ)
+    → definitions_of (es ++ (k, v) ∷ []) ≡ definitions_of es ++ (k.items, v) ∷ []
 definitions_of-push [] k v = refl
 definitions_of-push (e ∷ es) k v = ap (λ ds. (e.0.items, e.1) ∷ ds) (definitions_of-push es k v)
 
-IfSome-cond : {A : Type 0} (P : A → Type 0) (b : Bool) (x : A) (o : Option A) → P x → IfSome o P → IfSome (cond b (Some x) o) P
+IfSome-cond : {A : Type 0} (P : A → Type 0) (b : Bool) (x : A) (o : Option A) → P x → IfSome o P
+    → IfSome (cond b (Some x) o) P
 IfSome-cond P true x o p q = p
 IfSome-cond P false x o p q = q
 
-pub word_of_name : (ds : List (List ℕ × ℤ)) (name : List ℕ) → AreWords ds → IfSome (value_of ds name) (λ v. is_word v ≡ true)
+pub word_of_name : (ds : List (List ℕ × ℤ)) (name : List ℕ) → AreWords ds
+    → IfSome (value_of ds name) (λ v. is_word v ≡ true)
 word_of_name [] name h = tt
-word_of_name (d ∷ ds) name h = IfSome-cond (λ v. is_word v ≡ true) (bytes_eq name d.0) d.1 (value_of ds name) h.0 (word_of_name ds name h.1)
+word_of_name (d ∷ ds) name h =
+    IfSome-cond (λ v. is_word v ≡ true) (bytes_eq name d.0) d.1 (value_of ds name) h.0
+    (word_of_name ds name h.1)
 
-pub AreWords-push : (ds : List (List ℕ × ℤ)) (name : List ℕ) (v : ℤ) → AreWords ds → is_word v ≡ true → AreWords (ds ++ (name, v) ∷ [])
+pub AreWords-push : (ds : List (List ℕ × ℤ)) (name : List ℕ) (v : ℤ) → AreWords ds → is_word v ≡ true
+    → AreWords (ds ++ (name, v) ∷ [])
 AreWords-push [] name v h w = (w, tt)
 AreWords-push (d ∷ ds) name v h w = (h.0, AreWords-push ds name v h.1 w)

@@ -1,6 +1,6 @@
--- Faults, and answers that may fail.
+-- Faults of a source, and results that may be a fault.
 -- To audit: public contracts cite this.
--- Own language; see docs/ASSEMBLER.md.
+-- The language is this project's own: docs/ASSEMBLER.md.
 use Rattle.std.specs.Prelude.{◌≡◌, ℕ, List, Result, Ok, Err, codes}
 use Rattle.rv_tokens.specs.declared.fault.LineFault.{LineFault}
 use Rattle.rv_tokens.specs.declared.fault.LineFault.TheVariants as line
@@ -8,6 +8,7 @@ use Rattle.rv_program.specs.declared.fault.FaultKind.{FaultKind}
 use Rattle.rv_program.specs.declared.fault.FaultKind.TheVariants.{BadByte, LineTooLong, Syntax, UnknownWord, BadOperands, DuplicateSymbol, NotConstant, Misplaced, TooLarge, Undefined, OutOfRange, OutOfMemory}
 use Rattle.rv_program.specs.declared.fault.AsmFault.{AsmFault}
 
+-- the number of each kind of fault
 abbrev pub number_of : FaultKind → ℕ
 number_of BadByte = 1
 number_of LineTooLong = 2
@@ -22,6 +23,7 @@ number_of Undefined = 10
 number_of OutOfRange = 11
 number_of OutOfMemory = 12
 
+-- the name of each kind of fault
 abbrev pub name_of : FaultKind → List ℕ
 name_of BadByte = codes "BadByte"
 name_of LineTooLong = codes "LineTooLong"
@@ -36,7 +38,7 @@ name_of Undefined = codes "Undefined"
 name_of OutOfRange = codes "OutOfRange"
 name_of OutOfMemory = codes "OutOfMemory"
 
--- a fault of this kind is want of memory, which is at line 0, or else the fault that is meant
+-- a fault of this kind is out of memory, at line 0, or the fault that is meant
 abbrev pub FailsBy : {B : Type 0} → FaultKind → AsmFault → Result B AsmFault → Type 0
 FailsBy OutOfMemory fault meaning = fault.line ≡ 0
 FailsBy kind fault meaning = meaning ≡ Err fault
@@ -44,12 +46,12 @@ FailsBy kind fault meaning = meaning ≡ Err fault
 abbrev pub Fails : {B : Type 0} → AsmFault → Result B AsmFault → Type 0
 Fails fault meaning = FailsBy fault.kind fault meaning
 
--- an answer, seen by view, is what is meant, unless memory ran out
+-- a result, seen through a view, is the one meant, unless memory ran out
 abbrev pub Gives : {A B : Type 0} → (A → B) → Result A AsmFault → Result B AsmFault → Type 0
 Gives view (Ok x) meaning = meaning ≡ Ok (view x)
 Gives view (Err fault) meaning = Fails fault meaning
 
--- what is wrong with a line that can't be read
+-- the kind of a fault of a line that can't be read
 abbrev pub kind_of : LineFault → FaultKind
 kind_of line.BadByte = BadByte
 kind_of line.LineTooLong = LineTooLong
@@ -58,7 +60,7 @@ kind_of line.UnknownWord = UnknownWord
 kind_of line.BadOperands = BadOperands
 kind_of line.OutOfMemory = OutOfMemory
 
--- the fault of a kind at a line; want of memory is at line 0
+-- the fault of a kind at a line; out of memory is at line 0
 abbrev pub IsFaultAt : ℕ → FaultKind → AsmFault → Type 0
 IsFaultAt line OutOfMemory fault = fault ≡ record { line = 0; kind = OutOfMemory }
 IsFaultAt line kind fault = fault ≡ record { line = line; kind = kind }

@@ -1,6 +1,6 @@
--- What a source is assembled to.
+-- The image and the names that a source is assembled to.
 -- To audit: public contracts cite this.
--- Own language; see docs/ASSEMBLER.md.
+-- The language is this project's own: docs/ASSEMBLER.md.
 use Rattle.std.specs.Prelude.{ℕ, map, Vec, ◌&&◌, List, [], ◌∷◌, ℤ, pos, negsuc, int_le, Bool, Option, Some, None, if◌then◌else◌}
 use Rattle.std.specs.Str.{bytes_eq}
 
@@ -14,10 +14,10 @@ abbrev pub value_of : List (List ℕ × ℤ) → List ℕ → Option ℤ
 value_of [] name = None
 value_of (d ∷ ds) name = if bytes_eq name d.0 then Some d.1 else value_of ds name
 
--- a map's entries as definitions
+-- the entries of a map, as names with their values
 abbrev pub definitions_of : {A : Type 0} → List (Vec ℕ A × ℤ) → List (List ℕ × ℤ)
 definitions_of = map (λ e. (e.0.items, e.1))
 
--- from -2 ^ 31 to 2 ^ 32 - 1
+-- whether a value fits into 32 bits, signed or unsigned: from -2 ^ 31 to 2 ^ 32 - 1
 abbrev pub is_word : ℤ → Bool
 is_word v = int_le (negsuc 0x7fffffff) v && int_le v (pos 0xffffffff)

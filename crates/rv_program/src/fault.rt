@@ -1,41 +1,41 @@
-//! Why a source can't be assembled.
+//! The faults of a source.
 ghost use Rattle.std.specs.Prelude.{◌≡◌};
 ghost use Rattle.rv_program.specs.Faults.{number_of, name_of};
 
 use rv_tokens::LineFault;
 use std::alloc::{AllocError, AllocFailed};
 
-/// What is wrong with a line.
+/// The kind of a fault: E1 to E12.
 #[derive(Clone, Copy, PartialEq, Eq, Debug)]
 pub enum FaultKind {
-    /// A byte that no token has stands outside of strings, characters and comments.
+    /// A byte that no token has, outside of strings, characters and comments.
     BadByte,
     /// The line has more than 1,024 bytes.
     LineTooLong,
-    /// The line isn't labels and at most one statement.
+    /// The line isn't a sequence of labels and at most one statement.
     Syntax,
     /// The statement's word is neither a mnemonic nor a directive.
     UnknownWord,
-    /// The word doesn't take these operands.
+    /// The mnemonic or directive doesn't take these operands.
     BadOperands,
-    /// The name was defined before.
+    /// The name is already defined.
     DuplicateSymbol,
-    /// The value isn't known where it stands, or isn't one that the statement takes.
+    /// The value isn't known on the line of the statement, or is out of its range there.
     NotConstant,
     /// The instruction's address isn't a multiple of 4.
     Misplaced,
-    /// The image passes 16,777,216 bytes.
+    /// The image has more than 16,777,216 bytes.
     TooLarge,
     /// No line defines the name or the local label.
     Undefined,
-    /// The value doesn't fit the place where it stands.
+    /// The value doesn't fit into its field.
     OutOfRange,
-    /// The allocator refused a growth; this is no fault of the source.
+    /// Out of memory: not a fault of the source.
     OutOfMemory,
 }
 
 impl FaultKind {
-    /// The number of the fault, as in `E3`.
+    /// Returns the number of the kind, as 3 of `E3`.
     pub fn number(self) -> u8
         ensures { result ≡ number_of self }
     {
@@ -55,7 +55,7 @@ impl FaultKind {
         }
     }
 
-    /// The name of the fault, as `Syntax`.
+    /// Returns the name of the kind, as `Syntax`.
     pub fn name(self) -> &'static str
         ensures { result.now ≡ name_of self }
     {
@@ -116,26 +116,26 @@ impl<T: Drop> From<AllocFailed<T>> for FaultKind {
     }
 }
 
-/// A fault and the number of its line, from 1. Want of memory is of no line: its number is 0.
+/// A fault of a source: why it can't be assembled.
 #[derive(Clone, Copy, PartialEq, Eq, Debug)]
 pub struct AsmFault {
+    /// The number of the line, counted from 1, or 0 for out of memory.
     pub line: usize,
+    /// The kind of the fault.
     pub kind: FaultKind,
 }
 
 impl AsmFault {
     ghost use Rattle.rv_program.specs.Faults.{IsFaultAt};
 
-    /// A fault of this line, or want of memory, which is of none.
+    /// Makes a fault at a line, or at line 0 if it is out of memory.
     pub fn at(line: usize, kind: FaultKind) -> Self
         ensures { IsFaultAt line kind result }
     {
-        let line = if kind == FaultKind::OutOfMemory {
-            0
-        } else {
-            line
-        };
-        AsmFault { line, kind }
+        match kind {
+            FaultKind::OutOfMemory => AsmFault { line: 0, kind },
+            _ => AsmFault { line, kind },
+        }
     }
 }
 

@@ -1,4 +1,5 @@
-//! What a source is assembled to and a board boots: an image, with the names that the source defines. Or why it can't be assembled.
+//! Programs: the image that a source is assembled to and a board boots, with the names that the source
+//! defines; and the faults of sources that can't be assembled.
 #![tactic(auto)]
 
 mod fault;

@@ -1,4 +1,4 @@
-//! The names that a source defines.
+//! The names of a source.
 ghost use Rattle.std.specs.Prelude.{◌≡◌, true, List, [], ◌∷◌, ◌++◌, None, IfSome, OnOk, OnErr};
 ghost use Rattle.rv_program.specs.Program.{value_of, definitions_of};
 ghost use Rattle.rv_program.specs.Program.{is_word};
@@ -7,12 +7,13 @@ use indexmap::IndexMap;
 use std::alloc::{AllocError, Global};
 use std::marker::Model;
 
-/// Names and their values, in order of definition.
+/// The names of a source with their values, in order of definition. Each value fits into 32 bits, signed or
+/// unsigned. The view is the list of them.
 pub struct Names {
     map: IndexMap<Vec<u8>, i64>,
 }
 
-// Written out, so that to let it go is one call where it is owned, and not one for each of its parts.
+// Hand-written: a derived `Drop` would be proved anew at each exit (docs/PROVING.md).
 impl Drop for Names {
     fn drop(self) {
         let Names { map: _ } = self;
@@ -32,7 +33,7 @@ impl Model for Names {
 }
 
 impl Names {
-    /// No name, which takes no memory.
+    /// Makes an empty map, without allocating.
     pub fn new(alloc: Global) -> Self
         ensures { result ≡ [] }
     {
@@ -41,7 +42,7 @@ impl Names {
         }
     }
 
-    /// The value of a name.
+    /// Returns the value of a name, if it is defined.
     pub fn value(&self, name: &[u8]) -> Option<i64>
         ensures value { result ≡ value_of self.now name.now }
         ensures word { IfSome result (λ v. is_word v ≡ true) }
@@ -49,14 +50,18 @@ impl Names {
         self.map.get(name).copied()
     }
 
-    /// The names and their values, as a map.
+    /// Returns the names with their values as a map.
     pub fn map(&self) -> &IndexMap<Vec<u8>, i64>
         ensures { definitions_of result.now.entries ≡ self.now }
     {
         &self.map
     }
 
-    /// Defines a name, whose value is one of 32 bits, with or without a sign.
+    /// Defines a new name. Its value fits into 32 bits, signed or unsigned.
+    ///
+    /// # Errors
+    ///
+    /// `AllocError` if the allocator refuses; nothing changes then.
     pub fn define(&mut self, alloc: Global, name: &[u8], value: i64) -> Result<(), AllocError>
         requires absent { value_of self.old name.now ≡ None }
         requires word { is_word value ≡ true }

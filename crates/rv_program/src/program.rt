@@ -1,4 +1,4 @@
-//! What a source was assembled to.
+//! Programs.
 ghost use Rattle.std.specs.Prelude.{◌≡◌};
 
 use crate::names::Names;
@@ -6,13 +6,13 @@ use indexmap::IndexMap;
 use std::convert::AsSlice;
 use std::marker::Model;
 
-/// An image and the names that its source defined.
+/// A program: an image of at most 16,777,216 bytes, with the names of its source. Its view is the `Assembly`.
 pub struct Program {
     bytes: Vec<u8>,
     names: Names,
 }
 
-// Written out, so that to let it go is one call where it is owned, and not one for each of its parts.
+// Hand-written: a derived `Drop` would be proved anew at each exit (docs/PROVING.md).
 impl Drop for Program {
     fn drop(self) {
         let Program { bytes: _, names: _ } = self;
@@ -21,43 +21,46 @@ impl Drop for Program {
 
 impl Model for Program {
     ghost use Rattle.std.specs.Prelude.{◌≤◌, length};
+    ghost use Rattle.rv_base.specs.Limits.{image_limit};
     ghost use Rattle.rv_program.specs.Program.{Assembly};
 
     ghost Value = { Assembly };
 
     ghost view = { λ p. record { bytes = p.bytes.items; symbols = p.names } };
 
-    ghost invariant = { λ p. length p.bytes.items ≤ 16777216 };
+    ghost invariant = { λ p. length p.bytes.items ≤ image_limit };
 }
 
 impl Program {
     ghost use Rattle.std.specs.Prelude.{◌≡◌, ◌≤◌, length};
+    ghost use Rattle.rv_base.specs.Limits.{image_limit};
     ghost use Rattle.rv_program.specs.Program.{value_of, definitions_of};
 
-    /// An image of at most 16,777,216 bytes, with these names.
+    /// Makes a program of an image and names.
     pub fn new(bytes: Vec<u8>, names: Names) -> Self
-        requires { length bytes.items ≤ 16777216 }
+        requires { length bytes.items ≤ image_limit }
         ensures { result ≡ record { bytes = bytes.items; symbols = names } }
     {
         Program { bytes, names }
     }
 
-    /// The image, which lies from 0x80000000 on.
+    /// Returns the image, whose first byte has the address 0x80000000.
     pub fn bytes(&self) -> &[u8]
         ensures value { result.now ≡ self.now.bytes }
-        ensures size { length result.now ≤ 16777216 }
+        ensures size { length result.now ≤ image_limit }
     {
         self.bytes.as_slice()
     }
 
-    /// The names that the source defines, labels and constants, with their values, in order of definition.
+    /// Returns the names that the source defines, labels and constants, with their values, in order of
+    /// definition.
     pub fn symbols(&self) -> &IndexMap<Vec<u8>, i64>
         ensures { definitions_of result.now.entries ≡ self.now.symbols }
     {
         self.names.map()
     }
 
-    /// The value of a name, if the source defines it.
+    /// Returns the value of a name, if the source defines it.
     pub fn symbol(&self, name: &[u8]) -> Option<i64>
         ensures { result ≡ value_of self.now.symbols name.now }
     {
@@ -65,7 +68,7 @@ impl Program {
     }
 }
 
-/// A program lends its image, so that a board boots it.
+/// Lends the image, so that a board can boot it.
 impl AsSlice<u8> for Program {
     ghost items = { λ p. p.bytes };
 
