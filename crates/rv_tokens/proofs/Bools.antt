@@ -13,7 +13,8 @@ pub and_right : (a b : Bool) → (a && b) ≡ true → b ≡ true
 and_right true b h = h
 and_right false b h = absurd (false≢true h)
 
-pub list_all_split : (p : ℕ → Bool) (x : ℕ) (xs : List ℕ) → list_all p (x ∷ xs) ≡ true → (p x ≡ true) × (list_all p xs ≡ true)
+pub list_all_split : (p : ℕ → Bool) (x : ℕ) (xs : List ℕ) → list_all p (x ∷ xs) ≡ true
+    → (p x ≡ true) × (list_all p xs ≡ true)
 list_all_split p x xs h = (and_left (p x) (list_all p xs) h, and_right (p x) (list_all p xs) h)
 
 pub below_of : (m n : ℕ) → nat_lt m n ≡ true → m < n

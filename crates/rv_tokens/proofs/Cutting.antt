@@ -15,28 +15,34 @@ cut_drop [] (suc n) = refl
 cut_drop (b ∷ bs) zero = refl
 cut_drop (b ∷ bs) (suc n) = cut_drop bs n
 
-pub cut_blank : (line : List ℕ) → 0 < length line → is_blank (get_or line 0 0) ≡ true → cut line 0 ≡ cut (drop 1 line) 0
+pub cut_blank : (line : List ℕ) → 0 < length line → is_blank (get_or line 0 0) ≡ true
+    → cut line 0 ≡ cut (drop 1 line) 0
 unfolding cut
 cut_blank [] h e = absurd (omega arith)
 cut_blank (b ∷ bs) h e = rw e refl
 
-pub cut_comment : (line : List ℕ) → 0 < length line → is_blank (get_or line 0 0) ≡ false → begins_comment line ≡ true → cut line 0 ≡ Ok []
+pub cut_comment : (line : List ℕ) → 0 < length line → is_blank (get_or line 0 0) ≡ false
+    → begins_comment line ≡ true → cut line 0 ≡ Ok []
 unfolding cut
 cut_comment [] h e f = absurd (omega arith)
 cut_comment (b ∷ bs) h e f = rw (e, f) refl
 
-pub cut_token : (line : List ℕ) (t : Token) (n : ℕ) → 0 < length line → is_blank (get_or line 0 0) ≡ false → begins_comment line ≡ false → front line ≡ Some (t, n) → 0 < n → cut line 0 ≡ with_tokens (t ∷ []) (cut (drop n line) 0)
+pub cut_token : (line : List ℕ) (t : Token) (n : ℕ) → 0 < length line → is_blank (get_or line 0 0) ≡ false
+    → begins_comment line ≡ false → front line ≡ Some (t, n) → 0 < n
+    → cut line 0 ≡ with_tokens (t ∷ []) (cut (drop n line) 0)
 unfolding cut
 cut_token [] t n h e f g i = absurd (omega arith)
 cut_token (b ∷ bs) t zero h e f g i = absurd (omega arith)
 cut_token (b ∷ bs) t (suc n) h e f g i = rw (e, f, g) (ap (with_tokens (t ∷ [])) (cut_drop bs n))
 
-pub cut_none : (line : List ℕ) → 0 < length line → is_blank (get_or line 0 0) ≡ false → begins_comment line ≡ false → front line ≡ None → cut line 0 ≡ Err (fault_at (get_or line 0 0))
+pub cut_none : (line : List ℕ) → 0 < length line → is_blank (get_or line 0 0) ≡ false
+    → begins_comment line ≡ false → front line ≡ None → cut line 0 ≡ Err (fault_at (get_or line 0 0))
 unfolding cut
 cut_none [] h e f g = absurd (omega arith)
 cut_none (b ∷ bs) h e f g = rw (e, f, g) refl
 
-pub with_tokens-append : (ts us : List Token) (r : Result (List Token) LineFault) → with_tokens ts (with_tokens us r) ≡ with_tokens (ts ++ us) r
+pub with_tokens-append : (ts us : List Token) (r : Result (List Token) LineFault)
+    → with_tokens ts (with_tokens us r) ≡ with_tokens (ts ++ us) r
 with_tokens-append ts us (Ok vs) = ap (λ x. Ok x) (sym (append_assoc ts us vs))
 with_tokens-append ts us (Err fault) = refl
 
@@ -45,7 +51,8 @@ unfolding cut
 cut_end [] h = refl
 cut_end (b ∷ bs) h = absurd (omega arith)
 
-pub fails : (fault : LineFault) (meaning : Result (List Token) LineFault) → meaning ≡ Err fault → Fails fault meaning
+pub fails : (fault : LineFault) (meaning : Result (List Token) LineFault) → meaning ≡ Err fault
+    → Fails fault meaning
 fails BadByte meaning h = h
 fails LineTooLong meaning h = h
 fails Syntax meaning h = h

@@ -24,7 +24,8 @@ spelled_long plain (a ∷ b ∷ c ∷ d ∷ e ∷ bs) h = cond_none (a == 92)
 abbrev pub string_byte_in : List ℕ → ℕ → Option ℕ
 string_byte_in text n = spelled is_plain_in_string (take n text)
 
-pub first_byte_within : (text : List ℕ) (n : ℕ) → n ≤ length text → ((m : ℕ) → n < m → m ≤ length text → 4 < m) → longest (string_byte_in text) n ≡ first_byte text
+pub first_byte_within : (text : List ℕ) (n : ℕ) → n ≤ length text
+    → ((m : ℕ) → n < m → m ≤ length text → 4 < m) → longest (string_byte_in text) n ≡ first_byte text
 first_byte_within text n le long =
     sym (longest_above (string_byte_in text) n (length text) le (λ m p q.
     let l : length (take m text) ≡ m = omega (arith, length-take m text) in
@@ -49,26 +50,36 @@ unfolding bytes_after
 bytes_of_none [] some e = absurd (omega arith)
 bytes_of_none (b ∷ bs) some e = rw e refl
 
-pub bytes_of_some : (text : List ℕ) (x n : ℕ) → first_byte text ≡ Some (x, n) → bytes_of text ≡ option_map (λ cs. x ∷ cs) (bytes_of (drop n text))
+pub bytes_of_some : (text : List ℕ) (x n : ℕ) → first_byte text ≡ Some (x, n)
+    → bytes_of text ≡ option_map (λ cs. x ∷ cs) (bytes_of (drop n text))
 unfolding bytes_after
-bytes_of_some [] x n e = let l = longest_found (string_byte_in []) 0 n x e in absurd (omega (arith, l.some, l.within))
-bytes_of_some (b ∷ bs) x zero e = let l = longest_found (string_byte_in (b ∷ bs)) (length (b ∷ bs)) 0 x e in absurd (omega (arith, l.some))
+bytes_of_some [] x n e =
+    let l = longest_found (string_byte_in []) 0 n x e in absurd (omega (arith, l.some, l.within))
+bytes_of_some (b ∷ bs) x zero e =
+    let l = longest_found (string_byte_in (b ∷ bs)) (length (b ∷ bs)) 0 x e in absurd (omega (arith, l.some))
 bytes_of_some (b ∷ bs) x (suc n) e = rw e (ap (option_map (λ cs. x ∷ cs)) (bytes_after_drop bs n))
 
-behind_one : (done : List ℕ) (x : ℕ) (o : Option (List ℕ)) → option_map (λ cs. done ++ cs) (option_map (λ cs. x ∷ cs) o) ≡ option_map (λ cs. (done ++ x ∷ []) ++ cs) o
+behind_one : (done : List ℕ) (x : ℕ) (o : Option (List ℕ))
+    → option_map (λ cs. done ++ cs) (option_map (λ cs. x ∷ cs) o)
+    ≡ option_map (λ cs. (done ++ x ∷ []) ++ cs) o
 behind_one done x None = refl
 behind_one done x (Some cs) = ap (λ ys. Some ys) (sym (append_assoc done (x ∷ []) cs))
 
 -- one more byte of a string
-pub append_more : (done all text : List ℕ) (x n : ℕ) → first_byte text ≡ Some (x, n) → option_map (λ cs. done ++ cs) (bytes_of text) ≡ Some all
+pub append_more : (done all text : List ℕ) (x n : ℕ) → first_byte text ≡ Some (x, n)
+    → option_map (λ cs. done ++ cs) (bytes_of text) ≡ Some all
     → option_map (λ cs. (done ++ x ∷ []) ++ cs) (bytes_of (drop n text)) ≡ Some all
 append_more done all text x n e h =
-    sym (behind_one done x (bytes_of (drop n text))) ∙ (ap (option_map (λ cs. done ++ cs)) (sym (bytes_of_some text x n e)) ∙ h)
+    sym (behind_one done x (bytes_of (drop n text)))
+    ∙ (ap (option_map (λ cs. done ++ cs)) (sym (bytes_of_some text x n e)) ∙ h)
 
 some_same : (xs ys : List ℕ) → Some xs ≡ Some ys → xs ≡ ys
 some_same xs ys h = cc
 
 -- the end of a string
-pub append_end : (done all text : List ℕ) → first_byte text ≡ None → option_map (λ cs. done ++ cs) (bytes_of text) ≡ Some all → done ≡ all
-append_end done all [] e h = sym (append-nil done) ∙ some_same (done ++ []) all (ap (option_map (λ cs. done ++ cs)) (sym (bytes_of_end [] refl)) ∙ h)
+pub append_end : (done all text : List ℕ) → first_byte text ≡ None
+    → option_map (λ cs. done ++ cs) (bytes_of text) ≡ Some all → done ≡ all
+append_end done all [] e h =
+    sym (append-nil done)
+    ∙ some_same (done ++ []) all (ap (option_map (λ cs. done ++ cs)) (sym (bytes_of_end [] refl)) ∙ h)
 append_end done all (b ∷ bs) e h = let f = rw (bytes_of_none (b ∷ bs) (omega arith) e) at h in absurd cc

@@ -22,22 +22,28 @@ use Rattle.rv_tokens.proofs.Spellings.{string_byte_in, bytes_of_none, bytes_of_s
 
 -- ---- no quote stands in an escape, except right after the `\`
 
-byte_digits : (base : ℕ) (ds : List ℕ) (o : Option ℕ) (b : ℕ) → number_in base ds ≡ o → option_and_then (λ n. cond (nat_lt n 256) (Some n) None) o ≡ Some b → list_all (is_digit base) ds ≡ true
+byte_digits : (base : ℕ) (ds : List ℕ) (o : Option ℕ) (b : ℕ) → number_in base ds ≡ o
+    → option_and_then (λ n. cond (nat_lt n 256) (Some n) None) o ≡ Some b → list_all (is_digit base) ds ≡ true
 byte_digits base ds None b e h = absurd cc
 byte_digits base ds (Some n) b e h = let p = number_in_is base ds n e in p.0
 
-no_quote : (base : ℕ) (ds : List ℕ) (b i : ℕ) → byte_in base ds ≡ Some b → i < length ds → get_or ds i 0 ≡ 34 → ⊥
+no_quote : (base : ℕ) (ds : List ℕ) (b i : ℕ) → byte_in base ds ≡ Some b → i < length ds → get_or ds i 0 ≡ 34
+    → ⊥
 unfolding hex_digit
 no_quote base ds b i h lt q =
     let digit : is_digit base (get_or ds i 0) ≡ false = rw q refl in
-    false≢true (sym (list_all_at (is_digit base) ds i 0 lt digit) ∙ byte_digits base ds (number_in base ds) b refl h)
+    false≢true
+    (sym (list_all_at (is_digit base) ds i 0 lt digit) ∙ byte_digits base ds (number_in base ds) b refl h)
 
-hex_quote : (c d e b i : ℕ) (t : Bool) → (c == 120) ≡ t → cond t (byte_in 16 (d ∷ e ∷ [])) (byte_in 8 (c ∷ d ∷ e ∷ [])) ≡ Some b → i < 3 → get_or (c ∷ d ∷ e ∷ []) i 0 ≡ 34 → ⊥
+hex_quote : (c d e b i : ℕ) (t : Bool) → (c == 120) ≡ t
+    → cond t (byte_in 16 (d ∷ e ∷ [])) (byte_in 8 (c ∷ d ∷ e ∷ [])) ≡ Some b → i < 3
+    → get_or (c ∷ d ∷ e ∷ []) i 0 ≡ 34 → ⊥
 hex_quote c d e b zero true x h lt q = let f : c ≡ 120 = grind (arith, nat_tests) in omega (arith, f, q)
 hex_quote c d e b (suc i) true x h lt q = no_quote 16 (d ∷ e ∷ []) b i h (omega arith) q
 hex_quote c d e b i false x h lt q = no_quote 8 (c ∷ d ∷ e ∷ []) b i h (omega arith) q
 
-escape_quote : (cs : List ℕ) (b i : ℕ) → 1 < length cs → escape cs ≡ Some b → i < length cs → get_or cs i 0 ≡ 34 → ⊥
+escape_quote : (cs : List ℕ) (b i : ℕ) → 1 < length cs → escape cs ≡ Some b → i < length cs
+    → get_or cs i 0 ≡ 34 → ⊥
 unfolding escape
 escape_quote [] b i long h lt q = omega arith
 escape_quote (c ∷ []) b i long h lt q = omega arith
@@ -50,7 +56,8 @@ cond_some true o b h = (refl, h)
 cond_some false o b h = absurd cc
 
 -- before a quote within the spelling of a byte there is only a `\`
-before_quote : (plain : ℕ → Bool) (s : List ℕ) (b j : ℕ) → spelled plain s ≡ Some b → 0 < j → j < length s → get_or s j 0 ≡ 34 → take j s ≡ 92 ∷ []
+before_quote : (plain : ℕ → Bool) (s : List ℕ) (b j : ℕ) → spelled plain s ≡ Some b → 0 < j → j < length s
+    → get_or s j 0 ≡ 34 → take j s ≡ 92 ∷ []
 unfolding spelled
 before_quote plain [] b j h some lt q = absurd (omega arith)
 before_quote plain (a ∷ []) b j h some lt q = absurd (omega arith)
@@ -69,18 +76,21 @@ unfolding bytes_after longest spelled
 lone_backslash = refl
 
 -- the text of a byte that is cut off before a quote isn't the text of any bytes
-cut_quote : (t : List ℕ) (b k j : ℕ) → first_byte t ≡ Some (b, k) → 0 < j → j < k → get_or t j 0 ≡ 34 → bytes_of (take j t) ≡ None
+cut_quote : (t : List ℕ) (b k j : ℕ) → first_byte t ≡ Some (b, k) → 0 < j → j < k → get_or t j 0 ≡ 34
+    → bytes_of (take j t) ≡ None
 cut_quote t b k j e some lt q =
     let l = longest_found (string_byte_in t) (length t) k b e in
     let len : length (take k t) ≡ k = omega (arith, length-take k t, l.within) in
     let at : get_or (take k t) j 0 ≡ 34 = get_or-take k t j 0 lt ∙ q in
-    let front : take j (take k t) ≡ 92 ∷ [] = before_quote is_plain_in_string (take k t) b j l.is some (omega (arith, len)) at in
+    let front : take j (take k t) ≡ 92 ∷ [] =
+    before_quote is_plain_in_string (take k t) b j l.is some (omega (arith, len)) at in
     let same : take j t ≡ 92 ∷ [] = sym (take-take j k t (omega arith)) ∙ front in
     rw same lone_backslash
 
 -- ---- the first byte of a text and of its prefix
 
-first_byte_take : (t : List ℕ) (b k j : ℕ) → first_byte t ≡ Some (b, k) → k ≤ j → j ≤ length t → first_byte (take j t) ≡ Some (b, k)
+first_byte_take : (t : List ℕ) (b k j : ℕ) → first_byte t ≡ Some (b, k) → k ≤ j → j ≤ length t
+    → first_byte (take j t) ≡ Some (b, k)
 first_byte_take t b k j e le within =
     let l = longest_found (string_byte_in t) (length t) k b e in
     let len : length (take j t) ≡ j = omega (arith, length-take j t) in
@@ -88,14 +98,17 @@ first_byte_take t b k j e le within =
       some = l.some;
       within = omega (arith, len);
       is = rw (take-take k j t le) l.is;
-      above = λ m p q. let f = take-take m j t (omega (arith, len)) in rw f (l.above m p (omega (arith, len)));
+      above =
+          λ m p q. let f = take-take m j t (omega (arith, len)) in rw f (l.above m p (omega (arith, len)));
     })
 
-first_byte_take_none : (t : List ℕ) (j : ℕ) → first_byte t ≡ None → j ≤ length t → first_byte (take j t) ≡ None
+first_byte_take_none : (t : List ℕ) (j : ℕ) → first_byte t ≡ None → j ≤ length t
+    → first_byte (take j t) ≡ None
 first_byte_take_none t j e within =
     let len : length (take j t) ≡ j = omega (arith, length-take j t) in
     longest_none (string_byte_in (take j t)) (length (take j t)) (λ m p q.
-    let f = take-take m j t (omega (arith, len)) in rw f (longest_missing (string_byte_in t) (length t) e m p (omega (arith, len))))
+    let f = take-take m j t (omega (arith, len)) in rw f
+    (longest_missing (string_byte_in t) (length t) e m p (omega (arith, len))))
 
 is_some_map : (f : List ℕ → List ℕ) (o : Option (List ℕ)) → is_some (option_map f o) ≡ is_some o
 is_some_map f None = refl
@@ -106,19 +119,23 @@ none_of None h = refl
 none_of (Some x) h = absurd cc
 
 drop_of_take : (k j : ℕ) (t : List ℕ) → k ≤ j → drop k (take j t) ≡ take (j - k) (drop k t)
-drop_of_take k j t le = let e : k + (j - k) ≡ j = omega arith in ap (λ n. drop k (take n t)) (sym e) ∙ drop-take k (j - k) t
+drop_of_take k j t le =
+    let e : k + (j - k) ≡ j = omega arith in ap (λ n. drop k (take n t)) (sym e) ∙ drop-take k (j - k) t
 
-goes_step : (t : List ℕ) (b k j : ℕ) → first_byte t ≡ Some (b, k) → k ≤ j → j ≤ length t → is_some (bytes_of (take j t)) ≡ is_some (bytes_of (take (j - k) (drop k t)))
+goes_step : (t : List ℕ) (b k j : ℕ) → first_byte t ≡ Some (b, k) → k ≤ j → j ≤ length t
+    → is_some (bytes_of (take j t)) ≡ is_some (bytes_of (take (j - k) (drop k t)))
 goes_step t b k j e le within =
     ap is_some (bytes_of_some (take j t) b k (first_byte_take t b k j e le within))
-    ∙ (is_some_map (λ cs. b ∷ cs) (bytes_of (drop k (take j t))) ∙ ap (λ s. is_some (bytes_of s)) (drop_of_take k j t le))
+    ∙ (is_some_map (λ cs. b ∷ cs) (bytes_of (drop k (take j t)))
+    ∙ ap (λ s. is_some (bytes_of s)) (drop_of_take k j t le))
 
 -- ---- the search for the end
 
 pub record IsScanned (text : List ℕ) (i : ℕ) : Type 0 where
   pub within : i ≤ length text
   pub none_before : (m : ℕ) → m < i → get_or text m 0 ≡ 34 → bytes_of (take m text) ≡ None
-  pub goes_on : (m : ℕ) → i ≤ m → m ≤ length text → is_some (bytes_of (take m text)) ≡ is_some (bytes_of (take (m - i) (drop i text)))
+  pub goes_on : (m : ℕ) → i ≤ m → m ≤ length text
+      → is_some (bytes_of (take m text)) ≡ is_some (bytes_of (take (m - i) (drop i text)))
 
 pub scanned_none : (text : List ℕ) → IsScanned text 0
 scanned_none text = record {
@@ -132,10 +149,13 @@ module _ (text : List ℕ) (i : ℕ) (so : IsScanned text i) where
   drop_length = length-drop i text
 
   -- a prefix that ends within the next byte
-  before_next : (b k m : ℕ) → (get_or text i 0 ≡ 34 → ⊥) → first_byte (drop i text) ≡ Some (b, k) → i ≤ m → m < i + k → m < length text → get_or text m 0 ≡ 34 → bytes_of (take m text) ≡ None
+  before_next : (b k m : ℕ) → (get_or text i 0 ≡ 34 → ⊥) → first_byte (drop i text) ≡ Some (b, k) → i ≤ m
+      → m < i + k → m < length text → get_or text m 0 ≡ 34 → bytes_of (take m text) ≡ None
   before_next b k m test e le lt within q = elim (dec_lt i m) [
     | yes more ↦
-        (let at : get_or (drop i text) (m - i) 0 ≡ 34 = (let f : i + (m - i) ≡ m = omega arith in get_or-drop i text (m - i) 0 ∙ (ap (λ n. get_or text n 0) f ∙ q)) in
+        (let at : get_or (drop i text) (m - i) 0
+        ≡ 34 = (let f : i + (m - i) ≡ m = omega arith in get_or-drop i text (m - i) 0
+        ∙ (ap (λ n. get_or text n 0) f ∙ q)) in
         let none = cut_quote (drop i text) b k (m - i) e (omega arith) (omega arith) at in
         none_of (bytes_of (take m text)) (so.goes_on m le (omega arith) ∙ ap is_some none))
     | no less ↦
@@ -144,18 +164,25 @@ module _ (text : List ℕ) (i : ℕ) (so : IsScanned text i) where
         absurd (test f))
   ]
 
-  pub scanned_more : (b k : ℕ) → (get_or text i 0 ≡ 34 → ⊥) → first_byte (drop i text) ≡ Some (b, k) → IsScanned text (i + k)
+  pub scanned_more : (b k : ℕ) → (get_or text i 0 ≡ 34 → ⊥) → first_byte (drop i text) ≡ Some (b, k)
+      → IsScanned text (i + k)
   scanned_more b k test e =
       let l = longest_found (string_byte_in (drop i text)) (length (drop i text)) k b e in
       let reach : i + k ≤ length text = omega (arith, drop_length, l.within, so.within, l.some) in
       record {
         within = reach;
-        none_before = λ m p q. elim (dec_lt m i) [ yes lt ↦ so.none_before m lt q | no ge ↦ before_next b k m test e (omega arith) p (omega (arith, reach)) q ];
+        none_before =
+            λ m p q. elim (dec_lt m i) [
+              | yes lt ↦ so.none_before m lt q
+              | no ge ↦ before_next b k m test e (omega arith) p
+                  (omega (arith, reach)) q
+            ];
         goes_on = λ m p q.
             (let f : (m - i) - k ≡ m - (i + k) = omega arith in
             so.goes_on m (omega arith) q
             ∙ (goes_step (drop i text) b k (m - i) e (omega arith) (omega (arith, drop_length))
-            ∙ (ap (λ n. is_some (bytes_of (take n (drop k (drop i text))))) f ∙ ap (λ s. is_some (bytes_of (take (m - (i + k)) s))) (drop-drop k i text))));
+            ∙ (ap (λ n. is_some (bytes_of (take n (drop k (drop i text))))) f
+            ∙ ap (λ s. is_some (bytes_of (take (m - (i + k)) s))) (drop-drop k i text))));
       }
 
 -- ---- the string at the front of a line
@@ -172,66 +199,88 @@ quote_front zs (suc m) some = quote_spells (take m zs)
 first_byte_quote : (zs : List ℕ) → first_byte (34 ∷ zs) ≡ None
 first_byte_quote zs = longest_none (string_byte_in (34 ∷ zs)) (length (34 ∷ zs)) (λ m p q. quote_front zs m p)
 
-quoted_between : (ys : List ℕ) (n : ℕ) → length ys ≡ suc n → between 34 (34 ∷ ys) ≡ cond (get_or ys n 0 == 34) (Some (take n ys)) None
+quoted_between : (ys : List ℕ) (n : ℕ) → length ys ≡ suc n
+    → between 34 (34 ∷ ys) ≡ cond (get_or ys n 0 == 34) (Some (take n ys)) None
 quoted_between ys n len =
     let e : length (34 ∷ ys) ≡ suc (suc n) = omega (arith, len) in
     let f : nat_lt 1 (suc (suc n)) ≡ true = grind (arith, nat_tests) in
     let g : suc (suc n) - 1 ≡ suc n = omega arith in
     rw (e, f, g) refl
 
-quoted_cond : (t : Bool) (ys : List ℕ) → ◌≡◌ {A = Option Token} (option_map (λ s. Text s) (option_and_then bytes_of (cond t (Some ys) None))) (cond t (option_map (λ s. Text s) (bytes_of ys)) None)
+quoted_cond : (t : Bool) (ys : List ℕ)
+    → ◌≡◌ {A = Option Token} (option_map (λ s. Text s) (option_and_then bytes_of (cond t (Some ys) None)))
+    (cond t (option_map (λ s. Text s) (bytes_of ys)) None)
 quoted_cond true ys = refl
 quoted_cond false ys = refl
 
-token_of_string : (ys : List ℕ) (n : ℕ) → length ys ≡ suc n → token_of (34 ∷ ys) ≡ cond (get_or ys n 0 == 34) (option_map (λ s. Text s) (bytes_of (take n ys))) None
+token_of_string : (ys : List ℕ) (n : ℕ) → length ys ≡ suc n
+    → token_of (34 ∷ ys) ≡ cond (get_or ys n 0 == 34) (option_map (λ s. Text s) (bytes_of (take n ys))) None
 unfolding token_of string
 token_of_string [] n len = absurd (omega arith)
-token_of_string (c ∷ cs) n len = ap (λ o. option_map (λ s. Text s) (option_and_then bytes_of o)) (quoted_between (c ∷ cs) n len) ∙ quoted_cond (get_or (c ∷ cs) n 0 == 34) (take n (c ∷ cs))
+token_of_string (c ∷ cs) n len =
+    ap (λ o. option_map (λ s. Text s) (option_and_then bytes_of o)) (quoted_between (c ∷ cs) n len)
+    ∙ quoted_cond (get_or (c ∷ cs) n 0 == 34) (take n (c ∷ cs))
 
 text_kept : (t : Bool) (o : Option (List ℕ)) (rest : List ℕ) →
-    ◌≡◌ {A = Option Token} (option_and_then (λ u. cond (may_precede u rest) (Some u) None) (cond t (option_map (λ s. Text s) o) None)) (cond t (option_map (λ s. Text s) o) None)
+    ◌≡◌ {A = Option Token}
+    (option_and_then (λ u. cond (may_precede u rest) (Some u) None)
+    (cond t (option_map (λ s. Text s) o) None)) (cond t (option_map (λ s. Text s) o) None)
 text_kept true None rest = refl
 text_kept true (Some s) rest = refl
 text_kept false o rest = refl
 
-string_in : (text : List ℕ) (m : ℕ) → m < length text → token_in (34 ∷ text) (suc (suc m)) ≡ cond (get_or text m 0 == 34) (option_map (λ s. Text s) (bytes_of (take m text))) None
+string_in : (text : List ℕ) (m : ℕ) → m < length text
+    → token_in (34 ∷ text) (suc (suc m))
+    ≡ cond (get_or text m 0 == 34) (option_map (λ s. Text s) (bytes_of (take m text))) None
 unfolding token_in
 string_in text m lt =
     let len : length (take (suc m) text) ≡ suc m = omega (arith, length-take (suc m) text) in
-    let last : get_or (take (suc m) text) m 0 ≡ get_or text m 0 = get_or-take (suc m) text m 0 (omega arith) in
+    let last : get_or (take (suc m) text) m 0 ≡ get_or text m 0 =
+    get_or-take (suc m) text m 0 (omega arith) in
     let front : take m (take (suc m) text) ≡ take m text = take-take m (suc m) text (omega arith) in
-    rw (token_of_string (take (suc m) text) m len, last, front) (text_kept (get_or text m 0 == 34) (bytes_of (take m text)) (drop (suc m) text))
+    rw (token_of_string (take (suc m) text) m len, last, front)
+    (text_kept (get_or text m 0 == 34) (bytes_of (take m text)) (drop (suc m) text))
 
 lone_quote : (text : List ℕ) → token_in (34 ∷ text) 1 ≡ None
 unfolding token_in token_of
 lone_quote text = refl
 
-cond_none : (t : Bool) (o : Option (List ℕ)) → (t ≡ true → o ≡ None) → ◌≡◌ {A = Option Token} (cond t (option_map (λ s. Text s) o) None) None
+cond_none : (t : Bool) (o : Option (List ℕ)) → (t ≡ true → o ≡ None)
+    → ◌≡◌ {A = Option Token} (cond t (option_map (λ s. Text s) o) None) None
 cond_none true o h = rw (h refl) refl
 cond_none false o h = refl
 
 -- if no quote at m ends the string, the line doesn't begin with a string of m + 2 bytes
-not_here : (text : List ℕ) (m : ℕ) → m < length text → (get_or text m 0 ≡ 34 → bytes_of (take m text) ≡ None) → token_in (34 ∷ text) (suc (suc m)) ≡ None
+not_here : (text : List ℕ) (m : ℕ) → m < length text → (get_or text m 0 ≡ 34 → bytes_of (take m text) ≡ None)
+    → token_in (34 ∷ text) (suc (suc m)) ≡ None
 not_here text m lt h =
-    string_in text m lt ∙ cond_none (get_or text m 0 == 34) (bytes_of (take m text)) (λ t. h (grind (arith, nat_tests, t)))
+    string_in text m lt
+    ∙ cond_none (get_or text m 0 == 34) (bytes_of (take m text)) (λ t. h (grind (arith, nat_tests, t)))
 
 -- no string goes on past the quote at n
-past_quote : (text : List ℕ) (n m : ℕ) → IsScanned text n → n < length text → get_or text n 0 ≡ 34 → n < m → m < length text → bytes_of (take m text) ≡ None
+past_quote : (text : List ℕ) (n m : ℕ) → IsScanned text n → n < length text → get_or text n 0 ≡ 34 → n < m
+    → m < length text → bytes_of (take m text) ≡ None
 past_quote text n m so lt q more within =
     let e : drop n text ≡ get_or text n 0 ∷ drop (suc n) text = drop-cons text n 0 lt in
     let f : drop n text ≡ 34 ∷ drop (suc n) text = rw q at e in
-    let len : length (take (m - n) (drop n text)) ≡ m - n = omega (arith, length-take (m - n) (drop n text), length-drop n text) in
+    let len : length (take (m - n) (drop n text)) ≡ m - n =
+    omega (arith, length-take (m - n) (drop n text), length-drop n text) in
     let none : bytes_of (take (m - n) (drop n text)) ≡ None =
-    bytes_of_none (take (m - n) (drop n text)) (omega (arith, len)) (first_byte_take_none (drop n text) (m - n) (rw f (first_byte_quote (drop (suc n) text))) (omega (arith, length-drop n text))) in
+    bytes_of_none (take (m - n) (drop n text)) (omega (arith, len))
+    (first_byte_take_none (drop n text) (m - n) (rw f (first_byte_quote (drop (suc n) text)))
+    (omega (arith, length-drop n text))) in
     none_of (bytes_of (take m text)) (so.goes_on m (omega arith) (omega arith) ∙ ap is_some none)
 
-above_string : (text : List ℕ) (n m : ℕ) → IsScanned text n → n < length text → get_or text n 0 ≡ 34 → suc (suc n) < m → m ≤ length (34 ∷ text) → token_in (34 ∷ text) m ≡ None
+above_string : (text : List ℕ) (n m : ℕ) → IsScanned text n → n < length text → get_or text n 0 ≡ 34
+    → suc (suc n) < m → m ≤ length (34 ∷ text) → token_in (34 ∷ text) m ≡ None
 above_string text n zero so lt q more within = absurd (omega arith)
 above_string text n (suc zero) so lt q more within = absurd (omega arith)
-above_string text n (suc (suc m)) so lt q more within = not_here text m (omega arith) (λ r. past_quote text n m so lt q (omega arith) (omega arith))
+above_string text n (suc (suc m)) so lt q more within =
+    not_here text m (omega arith) (λ r. past_quote text n m so lt q (omega arith) (omega arith))
 
 -- the string that ends with the quote at n
-pub front_string : (text s : List ℕ) (n : ℕ) → IsScanned text n → n < length text → get_or text n 0 ≡ 34 → bytes_of (take n text) ≡ Some s → front (34 ∷ text) ≡ Some (Text s, suc (suc n))
+pub front_string : (text s : List ℕ) (n : ℕ) → IsScanned text n → n < length text → get_or text n 0 ≡ 34
+    → bytes_of (take n text) ≡ Some s → front (34 ∷ text) ≡ Some (Text s, suc (suc n))
 front_string text s n so lt q e =
     longest_is (token_in (34 ∷ text)) (length (34 ∷ text)) (suc (suc n)) (Text s) (record {
       some = omega arith;
@@ -245,30 +294,44 @@ pub scanned_some : (text : List ℕ) (n : ℕ) → IsScanned text n → is_some 
 unfolding bytes_after
 scanned_some text n so = so.goes_on n (omega arith) so.within ∙ (let e : n - n ≡ 0 = omega arith in rw e refl)
 
-nowhere : (text : List ℕ) (m : ℕ) → ((k : ℕ) → k < length text → get_or text k 0 ≡ 34 → bytes_of (take k text) ≡ None) → 0 < m → m ≤ length (34 ∷ text) → token_in (34 ∷ text) m ≡ None
+nowhere : (text : List ℕ) (m : ℕ)
+    → ((k : ℕ) → k < length text → get_or text k 0 ≡ 34 → bytes_of (take k text) ≡ None) → 0 < m
+    → m ≤ length (34 ∷ text) → token_in (34 ∷ text) m ≡ None
 nowhere text zero h some le = absurd (omega arith)
 nowhere text (suc zero) h some le = lone_quote text
 nowhere text (suc (suc m)) h some le = not_here text m (omega arith) (h m (omega arith))
 
-front_open : (text : List ℕ) → ((k : ℕ) → k < length text → get_or text k 0 ≡ 34 → bytes_of (take k text) ≡ None) → front (34 ∷ text) ≡ None
+front_open : (text : List ℕ)
+    → ((k : ℕ) → k < length text → get_or text k 0 ≡ 34 → bytes_of (take k text) ≡ None)
+    → front (34 ∷ text) ≡ None
 front_open text h = longest_none (token_in (34 ∷ text)) (length (34 ∷ text)) (λ m p q. nowhere text m h p q)
 
 -- no quote ends the string
 pub front_unended : (text : List ℕ) (n : ℕ) → IsScanned text n → length text ≤ n → front (34 ∷ text) ≡ None
 front_unended text n so end = front_open text (λ k p q. so.none_before k (omega arith) q)
 
-past_bad : (text : List ℕ) (n k : ℕ) → IsScanned text n → (get_or text n 0 ≡ 34 → ⊥) → first_byte (drop n text) ≡ None → n ≤ k → k < length text → get_or text k 0 ≡ 34 → bytes_of (take k text) ≡ None
+past_bad : (text : List ℕ) (n k : ℕ) → IsScanned text n → (get_or text n 0 ≡ 34 → ⊥)
+    → first_byte (drop n text) ≡ None → n ≤ k → k < length text → get_or text k 0 ≡ 34
+    → bytes_of (take k text) ≡ None
 past_bad text n k so test e le lt q = elim (dec_lt n k) [
   | yes more ↦
-      (let len : length (take (k - n) (drop n text)) ≡ k - n = omega (arith, length-take (k - n) (drop n text), length-drop n text) in
-      let none = bytes_of_none (take (k - n) (drop n text)) (omega (arith, len)) (first_byte_take_none (drop n text) (k - n) e (omega (arith, length-drop n text))) in
+      (let len : length (take (k - n) (drop n text))
+      ≡ k - n = omega (arith, length-take (k - n) (drop n text), length-drop n text) in
+      let none =
+      bytes_of_none (take (k - n) (drop n text)) (omega (arith, len))
+      (first_byte_take_none (drop n text) (k - n) e (omega (arith, length-drop n text))) in
       none_of (bytes_of (take k text)) (so.goes_on k le (omega arith) ∙ ap is_some none))
-  | no less ↦ (let same : k ≡ n = omega arith in let f : get_or text n 0 ≡ 34 = rw same at q in absurd (test f))
+  | no less ↦
+      (let same : k ≡ n = omega arith in let f : get_or text n 0 ≡ 34 = rw same at q in absurd (test f))
 ]
 
 -- no byte is spelled at n
-pub front_bad : (text : List ℕ) (n : ℕ) → IsScanned text n → (get_or text n 0 ≡ 34 → ⊥) → first_byte (drop n text) ≡ None → front (34 ∷ text) ≡ None
-front_bad text n so test e = front_open text (λ k p q. elim (dec_lt k n) [ yes lt ↦ so.none_before k lt q | no ge ↦ past_bad text n k so test e (omega arith) p q ])
+pub front_bad : (text : List ℕ) (n : ℕ) → IsScanned text n → (get_or text n 0 ≡ 34 → ⊥)
+    → first_byte (drop n text) ≡ None → front (34 ∷ text) ≡ None
+front_bad text n so test e =
+    front_open text
+    (λ k p q. elim (dec_lt k n)
+    [ yes lt ↦ so.none_before k lt q | no ge ↦ past_bad text n k so test e (omega arith) p q ])
 
 -- a line that begins with a quote
 pub begins_quoted : (line : List ℕ) → 0 < length line → get_or line 0 0 ≡ 34 → line ≡ 34 ∷ drop 1 line

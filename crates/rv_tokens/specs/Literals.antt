@@ -96,12 +96,14 @@ is_plain_in_character b = (nat_le 32 b && nat_le b 126) && (not (b == 39) && not
 
 -- a tab, 0x20 to 0x7E or 0x80 to 0xFF, except `"` and `\`
 abbrev pub is_plain_in_string : ℕ → Bool
-is_plain_in_string b = ((b == 9) || ((nat_le 32 b && nat_le b 126) || nat_le 128 b)) && (not (b == 34) && not (b == 92))
+is_plain_in_string b =
+    ((b == 9) || ((nat_le 32 b && nat_le b 126) || nat_le 128 b)) && (not (b == 34) && not (b == 92))
 
 -- the text between two quotes
 abbrev pub between : ℕ → List ℕ → Option (List ℕ)
 between quote text =
-    if nat_lt 1 (length text) && ((slice_index text 0 == quote) && (slice_index text (length text - 1) == quote))
+    if nat_lt 1 (length text)
+    && ((slice_index text 0 == quote) && (slice_index text (length text - 1) == quote))
     then Some (drop 1 (take (length text - 1) text))
     else None
 

@@ -1,4 +1,5 @@
--- The parts of a line: its tokens, each the longest at its place, with blanks between them and at most one comment.
+-- The parts of a line: its tokens, each the longest at its place, with blanks between them and at most one
+-- comment.
 --
 -- To audit: public contracts cite this.
 -- The language is this project's own: docs/ASSEMBLER.md.
@@ -18,7 +19,8 @@ Spells text rest t = (token_of text ≡ Some t) × (may_precede t rest ≡ true)
 -- no longer text, which goes on into the rest of the line, spells a token
 abbrev pub IsLongest : List ℕ → List ℕ → Type 0
 IsLongest text rest =
-    (more others : List ℕ) (t : Token) → rest ≡ more ++ others → 0 < length more → Spells (text ++ more) others t → ⊥
+    (more others : List ℕ) (t : Token) → rest ≡ more ++ others → 0 < length more
+    → Spells (text ++ more) others t → ⊥
 
 -- a line is blanks, the text of a token, and the rest
 pub record BeginsWith (line : List ℕ) (t : Token) (rest : List ℕ) : Type 0 where
@@ -54,11 +56,13 @@ abbrev pub IsTokensThen : (List ℕ → Type 0) → List Token → List ℕ → 
 IsTokensThen End [] line = End line
 IsTokensThen End (t ∷ ts) line = (rest : List ℕ) × BeginsWith line t rest × IsTokensThen End ts rest
 
--- a line is these tokens and no more, or has this fault after some tokens; a line that is too long has no tokens
+-- a line is these tokens and no more, or has this fault after some tokens; a line that is too long has no
+-- tokens
 abbrev pub IsCutInto : List ℕ → Result (List Token) LineFault → Type 0
 IsCutInto line (Ok ts) = (length line ≤ line_limit) × IsTokensThen IsOver ts line
 IsCutInto line (Err LineTooLong) = line_limit < length line
-IsCutInto line (Err fault) = (length line ≤ line_limit) × ((ts : List Token) × IsTokensThen (IsStuck fault) ts line)
+IsCutInto line (Err fault) =
+    (length line ≤ line_limit) × ((ts : List Token) × IsTokensThen (IsStuck fault) ts line)
 
 -- a line is cut into exactly what `tokens` says
 abbrev pub OneCut : Type 0

@@ -55,7 +55,9 @@ sign b =
 
 -- one of the halves of a value
 abbrev pub half : List ℕ → Option Token
-half text = if bytes_eq text (codes "%hi") then Some High else (if bytes_eq text (codes "%lo") then Some Low else None)
+half text =
+    if bytes_eq text (codes "%hi") then Some High
+    else (if bytes_eq text (codes "%lo") then Some Low else None)
 
 -- the token that a text as a whole spells
 unfoldable pub token_of : List ℕ → Option Token
@@ -84,7 +86,8 @@ may_precede _ rest = true
 
 -- the token that the first n bytes of a line spell, if it may precede the others
 unfoldable pub token_in : List ℕ → ℕ → Option Token
-token_in line n = option_and_then (λ t. if may_precede t (drop n line) then Some t else None) (token_of (take n line))
+token_in line n =
+    option_and_then (λ t. if may_precede t (drop n line) then Some t else None) (token_of (take n line))
 
 -- the longest token at the front of a line, and its length
 abbrev pub front : List ℕ → Option (Token × ℕ)

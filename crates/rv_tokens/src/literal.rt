@@ -181,7 +181,8 @@ pub fn character(text: &[u8]) -> Option<u8>
     }
 }
 
-/// Returns the first byte of a string, given the text from there to its closing quote, and the length of the byte's text.
+/// Returns the first byte of a string, given the text from there to its closing quote, and the length of the
+/// byte's text.
 pub fn first_byte(text: &[u8]) -> Option<(u8, usize)>
     ensures longest { result ≡ first_byte text.now }
     ensures moves { IfSome result (λ found. 0 < found.1) }

@@ -267,8 +267,8 @@ pub fn cut_line<'a>(alloc: Global, line: &'a [u8]) -> Result<Vec<Token<'a>>, Lin
     cut(alloc, line)
 }
 
-/// A law: a line is cut in exactly one way into tokens, each the longest at its place, or has exactly one fault. That is
-/// the result of `cut_line`.
+/// A law: a line is cut in exactly one way into tokens, each the longest at its place, or has exactly one
+/// fault. That is the result of `cut_line`.
 pub fn one_cut()
     ensures { OneCut }
 {}

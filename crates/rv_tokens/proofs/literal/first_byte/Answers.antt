@@ -10,11 +10,15 @@ loop-n-init c =
 
 pub returns-in-Some-clause-longest : goal.returns-in-Some-clause-longest
 returns-in-Some-clause-longest c =
-    sym (longest_at (string_byte_in c.args.text.now) c.loop-n.n c.in-Some.b c.loop-n-test.true (sym c.in-Some.ensures)) ∙ c.loop-n.invariant.1
+    sym (longest_at (string_byte_in c.args.text.now) c.loop-n.n c.in-Some.b c.loop-n-test.true
+    (sym c.in-Some.ensures)) ∙ c.loop-n.invariant.1
 
 pub loop-n-preserved : goal.loop-n-preserved
-loop-n-preserved c =
-    (omega arith, sym (longest_less (string_byte_in c.args.text.now) c.loop-n.n c.loop-n-test.true (sym c.byte_in_string.ensures ∙ c.in_default.is)) ∙ c.loop-n.invariant.1)
+loop-n-preserved c = (
+  omega arith,
+  sym (longest_less (string_byte_in c.args.text.now) c.loop-n.n c.loop-n-test.true
+      (sym c.byte_in_string.ensures ∙ c.in_default.is)) ∙ c.loop-n.invariant.1,
+)
 
 pub returns-clause-longest : goal.returns-clause-longest
 returns-clause-longest c =

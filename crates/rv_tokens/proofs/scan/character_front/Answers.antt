@@ -13,15 +13,21 @@ loop-n-init c =
 
 pub returns-in-Some : goal.returns-in-Some
 returns-in-Some c =
-    let e = character_in c.args.line.now c.loop-n.n c.loop-n-test.true c.loop-n.invariant.0 c.requires.first in
+    let e = character_in c.args.line.now c.loop-n.n c.loop-n-test.true c.loop-n.invariant.0
+    c.requires.first in
     let f = e ∙ ap (option_map (λ n. Character n)) (sym c.character.ensures ∙ c.in-Some.is) in
-    sym (longest_at (token_in c.args.line.now) c.loop-n.n (Character c.in-Some.b) c.loop-n-test.true f) ∙ c.loop-n.invariant.1
+    sym (longest_at (token_in c.args.line.now) c.loop-n.n (Character c.in-Some.b) c.loop-n-test.true f)
+    ∙ c.loop-n.invariant.1
 
 pub loop-n-preserved : goal.loop-n-preserved
 loop-n-preserved c =
-    let e = character_in c.args.line.now c.loop-n.n c.loop-n-test.true c.loop-n.invariant.0 c.requires.first in
-    let f = e ∙ ap (option_map (λ n. Character n)) (sym c.character.ensures ∙ c.in_default.is) in
-    (omega arith, sym (longest_less (token_in c.args.line.now) c.loop-n.n c.loop-n-test.true f) ∙ c.loop-n.invariant.1)
+    let e = character_in c.args.line.now c.loop-n.n c.loop-n-test.true c.loop-n.invariant.0
+    c.requires.first in
+    let f = e ∙ ap (option_map (λ n. Character n)) (sym c.character.ensures ∙ c.in_default.is) in (
+      omega arith,
+      sym (longest_less (token_in c.args.line.now) c.loop-n.n c.loop-n-test.true f)
+          ∙ c.loop-n.invariant.1,
+    )
 
 pub returns : goal.returns
 returns c =

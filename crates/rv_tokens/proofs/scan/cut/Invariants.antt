@@ -4,7 +4,8 @@ use Rattle.rv_tokens.proofs.scan.cut.Given as goal
 
 abbrev pub invariant-loop-rest : goal.invariant-loop-rest
 invariant-loop-rest l =
-    (with_tokens l.out.items (cut l.rest 0) ≡ cut l.line 0) × (length l.out.items + length l.rest ≤ length l.line)
+    (with_tokens l.out.items (cut l.rest 0) ≡ cut l.line 0)
+    × (length l.out.items + length l.rest ≤ length l.line)
 
 abbrev pub decreases-loop-rest : goal.decreases-loop-rest
 decreases-loop-rest l = length l.rest

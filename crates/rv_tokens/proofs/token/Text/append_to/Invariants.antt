@@ -4,7 +4,8 @@ use Rattle.rv_tokens.specs.Literals.{bytes_of}
 use Rattle.rv_tokens.proofs.token.Text.append_to.Given as goal
 
 abbrev pub invariant-loop-b : goal.invariant-loop-b
-invariant-loop-b l = option_map (λ cs. l.out.items ++ cs) (bytes_of l.rest) ≡ Some (l.initial.out.items ++ l.self)
+invariant-loop-b l =
+    option_map (λ cs. l.out.items ++ cs) (bytes_of l.rest) ≡ Some (l.initial.out.items ++ l.self)
 
 abbrev pub decreases-loop-b : goal.decreases-loop-b
 decreases-loop-b l = length l.rest
