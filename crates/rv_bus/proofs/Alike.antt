@@ -1,11 +1,12 @@
--- What loads, stores and fetches read and write of the memory: their own bytes alone. Each law compares a bus with the same
--- bus over another memory of the same size.
+-- Loads, stores and fetches read and write only their own bytes of the memory. Each law compares a bus with
+-- the same bus over another memory of the same size.
 use Rattle.std.proofs.Common.{◌≡◌, ◌≢◌, ℕ, ◌+◌, ◌-◌, ◌/◌, ◌%◌, ◌≤◌, ◌<◌, List, slice_index, slice_set, length, Option, Some, None, Bool, true, false, nat_le, nat_lt, ◌&&◌, ◌==◌, if◌then◌else◌, arith, inl, inr, add-zero, refl, sym, ap, subst, ◌∙◌}
 use Rattle.std.specs.Option.{option_map}
 use Rattle.std.proofs.lemmas.Bool.{leb-true, ltb-false, cases_eq, cases_lt}
 use Rattle.std.proofs.lemmas.Bool.Decides.{nat_tests}
 use Rattle.std.proofs.lemmas.Grind.{common_steps, get_or-set_at}
 use Rattle.std.proofs.lemmas.List.{set_past, get_or_past, get_or-set_other}
+use Rattle.rv_base.specs.Limits.{ram_base}
 use Rattle.rv_isa.specs.declared.op.Width.{Width}
 use Rattle.rv_isa.specs.declared.op.Width.TheVariants.{One, Two, Four}
 use Rattle.rv_isa.specs.Width.{bytes_of}
@@ -25,7 +26,7 @@ use Rattle.rv_bus.proofs.Others.{byte-put, length-put}
 abbrev pub with_ram : BusState → List ℕ → BusState
 with_ram b ram = record b { ram = ram }
 
--- ---- what holds of each location holds of the location of an address
+-- ---- a property of each location is one of the location at an address
 
 word_devices : (P : Location → Type 0) (a : ℕ) (x y z : Bool) → P Halt → P (Timer (a - 0x02000000)) → P (Plic (a - 0x0c000000)) → P Nowhere
     → P (if x then Halt else (if y then Timer (a - 0x02000000) else (if z then Plic (a - 0x0c000000) else Nowhere)))
@@ -47,11 +48,11 @@ memory_or P true true off rest ram nowhere other = ram refl
 memory_or P true false off rest ram nowhere other = nowhere
 memory_or P false y off rest ram nowhere other = other
 
-pub each_location : (P : Location → Type 0) (size a : ℕ) (w : Width) → (0x80000000 ≤ a → P (Ram (a - 0x80000000))) → P Halt → ((off : ℕ) → P (Timer off)) → ((off : ℕ) → P (Plic off)) → ((reg : SerialReg) → P (Serial reg)) → P Nowhere
+pub each_location : (P : Location → Type 0) (size a : ℕ) (w : Width) → (ram_base ≤ a → P (Ram (a - ram_base))) → P Halt → ((off : ℕ) → P (Timer off)) → ((off : ℕ) → P (Plic off)) → ((reg : SerialReg) → P (Serial reg)) → P Nowhere
     → P (location_of size a w)
 unfolding location_of
 each_location P size a w ram halt timer plic serial nowhere =
-    memory_or P (nat_le 0x80000000 a) (nat_lt (a - 0x80000000) size) (a - 0x80000000) (device_of a w) (λ t. ram (leb-true 0x80000000 a t)) nowhere
+    memory_or P (nat_le ram_base a) (nat_lt (a - ram_base) size) (a - ram_base) (device_of a w) (λ t. ram (leb-true ram_base a t)) nowhere
     (serial_or P (a == 0x10000000) (a == 0x10000004) (a == 0x10000008) (of_width a w) serial (by_width w))
   where
     by_width : (v : Width) → P (of_width a v)
@@ -61,7 +62,7 @@ each_location P size a w ram halt timer plic serial nowhere =
 
 -- ---- the bytes of an access
 
--- they are the same in both memories
+-- whether `count` bytes from an offset on are the same in both memories
 abbrev pub SameBytes : List ℕ → List ℕ → ℕ → ℕ → Type 0
 SameBytes one other off count = (i : ℕ) → i < count → slice_index other (off + i) ≡ slice_index one (off + i)
 
@@ -83,15 +84,15 @@ same_value one other off Four same =
 
 -- ---- loads and fetches
 
--- a load of the same bytes gives the same
-pub same_load : (b : BusState) (ram : List ℕ) (a : ℕ) (w : Width) → length ram ≡ length b.ram → (0x80000000 ≤ a → SameBytes b.ram ram (a - 0x80000000) (bytes_of w)) → load (with_ram b ram) a w ≡ load b a w
+-- a load of the same bytes returns the same value
+pub same_load : (b : BusState) (ram : List ℕ) (a : ℕ) (w : Width) → length ram ≡ length b.ram → (ram_base ≤ a → SameBytes b.ram ram (a - ram_base) (bytes_of w)) → load (with_ram b ram) a w ≡ load b a w
 unfolding load
 same_load b ram a w size same =
     ap (λ n. load_at (with_ram b ram) (location_of n a w) w) size
     ∙ each_location (λ p. load_at (with_ram b ram) p w ≡ load_at b p w) (length b.ram) a w
-    (λ above. ap Some (same_value b.ram ram (a - 0x80000000) w (same above))) refl (λ off. refl) (λ off. refl) (λ reg. refl) refl
+    (λ above. ap Some (same_value b.ram ram (a - ram_base) w (same above))) refl (λ off. refl) (λ off. refl) (λ reg. refl) refl
 
--- what it leaves has nothing to do with the memory
+-- the devices after a load don't depend on the memory
 pub same_after_load : (b : BusState) (ram : List ℕ) (a : ℕ) (w : Width) → length ram ≡ length b.ram → after_load (with_ram b ram) a w ≡ with_ram (after_load b a w) ram
 unfolding after_load
 same_after_load b ram a w size =
@@ -104,12 +105,12 @@ unfolding after_load
 memory_after_load b a w =
     each_location (λ p. (after_load_at b p).ram ≡ b.ram) (length b.ram) a w (λ above. refl) refl (λ off. refl) (λ off. refl) (λ reg. refl) refl
 
-pub same_fetch : (one other : List ℕ) (a : ℕ) → length other ≡ length one → (0x80000000 ≤ a → SameBytes one other (a - 0x80000000) 4) → fetch other a ≡ fetch one a
+pub same_fetch : (one other : List ℕ) (a : ℕ) → length other ≡ length one → (ram_base ≤ a → SameBytes one other (a - ram_base) 4) → fetch other a ≡ fetch one a
 unfolding fetch
 same_fetch one other a size same =
     ap (λ n. word_of other (location_of n a Four)) size
     ∙ each_location (λ p. word_of other p ≡ word_of one p) (length one) a Four
-    (λ above. ap Some (same_value one other (a - 0x80000000) Four (same above))) refl (λ off. refl) (λ off. refl) (λ reg. refl) refl
+    (λ above. ap Some (same_value one other (a - ram_base) Four (same above))) refl (λ off. refl) (λ off. refl) (λ reg. refl) refl
 
 -- ---- stores
 
@@ -126,7 +127,7 @@ same_set one other i v k size same =
 length_set : (bs : List ℕ) (i v : ℕ) → length (slice_set bs i v) ≡ length bs
 length_set bs i v = grind (arith, common_steps)
 
--- a byte that is the same in both memories is so after the same store
+-- a byte that is the same in both memories is the same after the same store
 same_put : (one other : List ℕ) (off v k : ℕ) (w : Width) → length other ≡ length one → slice_index other k ≡ slice_index one k → slice_index (put other off w v) k ≡ slice_index (put one off w v) k
 same_put one other off v k One size same = same_set one other off (v % 256) k size same
 same_put one other off v k Two size same =
@@ -140,13 +141,13 @@ same_put one other off v k Four size same =
     (same_set _ _ (off + 2) (v / 65536 % 256) k size2
     (same_set _ _ (off + 1) (v / 256 % 256) k size1 (same_set one other off (v % 256) k size same)))
 
--- what a store at an address leaves of a bus b, and of the same bus over another memory: only the memories differ, only the
--- store's own bytes are written, and what was the same stays so
+-- the bus b after a store, `one`, and the same bus over another memory after it, `other`: only the memories
+-- differ, only the store's own bytes are written, and bytes that were the same stay the same
 pub record StoresAlike (b : BusState) (ram : List ℕ) (a : ℕ) (w : Width) (one other : BusState) : Type 0 where
   pub rest : other ≡ with_ram one other.ram
   pub size : length one.ram ≡ length b.ram
   pub other_size : length other.ram ≡ length one.ram
-  pub kept : (k : ℕ) → ((i : ℕ) → i < bytes_of w → a + i ≢ 0x80000000 + k) → slice_index one.ram k ≡ slice_index b.ram k
+  pub kept : (k : ℕ) → ((i : ℕ) → i < bytes_of w → a + i ≢ ram_base + k) → slice_index one.ram k ≡ slice_index b.ram k
   pub same : (k : ℕ) → slice_index ram k ≡ slice_index b.ram k → slice_index other.ram k ≡ slice_index one.ram k
 
 abbrev pub BothStore : BusState → List ℕ → ℕ → Width → Option BusState → Option BusState → Type 0
@@ -155,7 +156,7 @@ BothStore b ram a w None (Some other) = ⊥
 BothStore b ram a w (Some one) None = ⊥
 BothStore b ram a w (Some one) (Some other) = StoresAlike b ram a w one other
 
--- a store to a device
+-- stores to a device, to the memory, and to the timer
 device_store : (b : BusState) (ram : List ℕ) (a : ℕ) (w : Width) (one : BusState) → length ram ≡ length b.ram → one.ram ≡ b.ram → StoresAlike b ram a w one (with_ram one ram)
 device_store b ram a w one size still = record {
   rest = refl;
@@ -165,14 +166,14 @@ device_store b ram a w one size still = record {
   same = λ k e. e ∙ sym (ap (λ (bs : List ℕ). slice_index bs k) still);
 }
 
-memory_store : (b : BusState) (ram : List ℕ) (a v : ℕ) (w : Width) → length ram ≡ length b.ram → 0x80000000 ≤ a
-    → StoresAlike b ram a w (record b { ram = put b.ram (a - 0x80000000) w v }) (record b { ram = put ram (a - 0x80000000) w v })
+memory_store : (b : BusState) (ram : List ℕ) (a v : ℕ) (w : Width) → length ram ≡ length b.ram → ram_base ≤ a
+    → StoresAlike b ram a w (record b { ram = put b.ram (a - ram_base) w v }) (record b { ram = put ram (a - ram_base) w v })
 memory_store b ram a v w size above = record {
   rest = refl;
-  size = length-put b.ram (a - 0x80000000) v w;
-  other_size = length-put ram (a - 0x80000000) v w ∙ (size ∙ sym (length-put b.ram (a - 0x80000000) v w));
-  kept = λ k others. byte-put b.ram (a - 0x80000000) v k w (λ i less e. others i less (omega arith));
-  same = λ k e. same_put b.ram ram (a - 0x80000000) v k w size e;
+  size = length-put b.ram (a - ram_base) v w;
+  other_size = length-put ram (a - ram_base) v w ∙ (size ∙ sym (length-put b.ram (a - ram_base) v w));
+  kept = λ k others. byte-put b.ram (a - ram_base) v k w (λ i less e. others i less (omega arith));
+  same = λ k e. same_put b.ram ram (a - ram_base) v k w size e;
 }
 
 timer_store : (b : BusState) (ram : List ℕ) (a : ℕ) (w : Width) (t : Option TimerState) → length ram ≡ length b.ram
@@ -194,24 +195,24 @@ same_store b ram a v w size =
 
 -- ---- a byte at an address
 
-pub same_byte : (one other : List ℕ) (a : ℕ) → length other ≡ length one → (0x80000000 ≤ a → slice_index other (a - 0x80000000) ≡ slice_index one (a - 0x80000000)) → ram_byte other a ≡ ram_byte one a
+pub same_byte : (one other : List ℕ) (a : ℕ) → length other ≡ length one → (ram_base ≤ a → slice_index other (a - ram_base) ≡ slice_index one (a - ram_base)) → ram_byte other a ≡ ram_byte one a
 same_byte one other a size same =
-    ap (λ n. if nat_le 0x80000000 a && nat_lt (a - 0x80000000) n then Some (slice_index other (a - 0x80000000)) else None) size
-    ∙ by_tests (nat_le 0x80000000 a) (nat_lt (a - 0x80000000) (length one)) (λ t. same (leb-true 0x80000000 a t))
+    ap (λ n. if nat_le ram_base a && nat_lt (a - ram_base) n then Some (slice_index other (a - ram_base)) else None) size
+    ∙ by_tests (nat_le ram_base a) (nat_lt (a - ram_base) (length one)) (λ t. same (leb-true ram_base a t))
   where
-    by_tests : (x y : Bool) → (x ≡ true → slice_index other (a - 0x80000000) ≡ slice_index one (a - 0x80000000))
-        → (if x && y then Some (slice_index other (a - 0x80000000)) else None) ≡ (if x && y then Some (slice_index one (a - 0x80000000)) else None)
+    by_tests : (x y : Bool) → (x ≡ true → slice_index other (a - ram_base) ≡ slice_index one (a - ram_base))
+        → (if x && y then Some (slice_index other (a - ram_base)) else None) ≡ (if x && y then Some (slice_index one (a - ram_base)) else None)
     by_tests true true e = ap Some (e refl)
     by_tests true false e = refl
     by_tests false y e = refl
 
-pub byte_same : (one other : List ℕ) (k : ℕ) → length other ≡ length one → ram_byte other (0x80000000 + k) ≡ ram_byte one (0x80000000 + k) → slice_index other k ≡ slice_index one k
+pub byte_same : (one other : List ℕ) (k : ℕ) → length other ≡ length one → ram_byte other (ram_base + k) ≡ ram_byte one (ram_base + k) → slice_index other k ≡ slice_index one k
 byte_same one other k size same = by_tests (nat_lt k (length one)) refl
   where
-    at_byte : (bs : List ℕ) → nat_lt k (length bs) ≡ true → ram_byte bs (0x80000000 + k) ≡ Some (slice_index bs k)
+    at_byte : (bs : List ℕ) → nat_lt k (length bs) ≡ true → ram_byte bs (ram_base + k) ≡ Some (slice_index bs k)
     at_byte bs t =
-        let le : nat_le 0x80000000 (0x80000000 + k) ≡ true = grind (arith, nat_tests) in
-        let off : 0x80000000 + k - 0x80000000 ≡ k = omega arith in
+        let le : nat_le ram_base (ram_base + k) ≡ true = grind (arith, nat_tests) in
+        let off : ram_base + k - ram_base ≡ k = omega arith in
         rw (le, off, t) refl
 
     by_tests : (x : Bool) → nat_lt k (length one) ≡ x → slice_index other k ≡ slice_index one k

@@ -1,6 +1,7 @@
 use Rattle.std.proofs.Common.{◌≡◌, ◌≢◌, ℕ, ◌+◌, ◌-◌, ◌*◌, ◌/◌, ◌%◌, ◌≤◌, ◌<◌, List, slice_index, slice_set, length, Some, None, Bool, true, false, nat_le, nat_lt, ◌&&◌, ◌==◌, if◌then◌else◌, arith, refl, sym, ap, ◌∙◌}
 use Rattle.std.proofs.lemmas.Bool.{leb-true}
 use Rattle.std.proofs.lemmas.Grind.{common_steps, elements}
+use Rattle.rv_base.specs.Limits.{ram_base}
 use Rattle.rv_isa.specs.declared.op.Width.{Width}
 use Rattle.rv_isa.specs.declared.op.Width.TheVariants.{One, Two, Four}
 use Rattle.rv_isa.specs.Width.{bytes_of}
@@ -11,11 +12,11 @@ use Rattle.rv_bus.specs.declared.locations.Location.{Location}
 use Rattle.rv_bus.specs.declared.locations.Location.TheVariants.{Ram, Halt, Timer, Plic, Serial, Nowhere}
 use Rattle.rv_bus.specs.Access.{word_of, fetch}
 
--- a write to one place leaves another
+-- a write of one byte leaves another as it was
 other : (bs : List ℕ) (i x j : ℕ) → j ≢ i → slice_index (slice_set bs i x) j ≡ slice_index bs j
 other bs i x j n = grind (arith, elements)
 
--- a store leaves the bytes that it does not write
+-- a store leaves the bytes that it does not write as they were
 pub byte-put : (bs : List ℕ) (off v j : ℕ) (w : Width) → ((i : ℕ) → i < bytes_of w → j ≢ off + i) → slice_index (put bs off w v) j ≡ slice_index bs j
 byte-put bs off v j One n = other bs off _ j (λ e. n 0 (omega arith) (omega arith))
 byte-put bs off v j Two n = other _ (off + 1) _ j (n 1 (omega arith)) ∙ other bs off _ j (λ e. n 0 (omega arith) (omega arith))
@@ -30,7 +31,7 @@ word-put bs off v k w n =
     let e3 = byte-put bs off v (k + 3) w (n 3 (omega arith)) in
     cc
 
--- it leaves the words that it does not write to
+-- a store leaves the words that it does not write to as they were
 pub word_at-put : (bs : List ℕ) (off v k : ℕ) (w : Width) → off % bytes_of w ≡ 0 → k % 4 ≡ 0 → k ≢ off / 4 * 4 → word_at (put bs off w v) k ≡ word_at bs k
 word_at-put bs off v k One a s n = word-put bs off v k One (λ j l i m e. omega arith)
 word_at-put bs off v k Two a s n = word-put bs off v k Two (λ j l i m e. omega arith)
@@ -45,7 +46,7 @@ none_if : (xs : List ℕ) (b : Bool) (p q : Location) → word_of xs p ≡ None 
 none_if xs true p q h k = h
 none_if xs false p q h k = k
 
--- no device has a word to fetch
+-- no word can be fetched from a device
 none_word_device : (xs : List ℕ) (a : ℕ) → word_of xs (word_device a) ≡ None
 none_word_device xs a =
     let plic_or_nowhere : Location = if nat_le 0x0c000000 a && nat_lt a 0x10000000 then Plic (a - 0x0c000000) else Nowhere in
@@ -64,11 +65,11 @@ same_place xs ys true true k a h = ap Some (h refl)
 same_place xs ys true false k a h = refl
 same_place xs ys false c k a h = none_device xs a ∙ sym (none_device ys a)
 
--- a store leaves what is fetched from another word
-pub fetch_put : (ram : List ℕ) (off addr a v : ℕ) (w : Width) → off % bytes_of w ≡ 0 → addr ≡ 0x80000000 + off → a % 4 ≡ 0 → a ≢ addr / 4 * 4 → fetch (put ram off w v) a ≡ fetch ram a
+-- a store leaves the word that is fetched from another address as it was
+pub fetch_put : (ram : List ℕ) (off addr a v : ℕ) (w : Width) → off % bytes_of w ≡ 0 → addr ≡ ram_base + off → a % 4 ≡ 0 → a ≢ addr / 4 * 4 → fetch (put ram off w v) a ≡ fetch ram a
 unfolding fetch location_of
 fetch_put ram off addr a v w al e s n =
     ap (λ len. word_of (put ram off w v) (location_of len a Four)) (length-put ram off v w)
-    ∙ same_place (put ram off w v) ram (nat_le 0x80000000 a) (nat_lt (a - 0x80000000) (length ram)) (a - 0x80000000) a
-    (λ t. let above : 0x80000000 ≤ a = leb-true 0x80000000 a t in
-    word_at-put ram off v (a - 0x80000000) w al (omega arith) (λ q. n (omega arith)))
+    ∙ same_place (put ram off w v) ram (nat_le ram_base a) (nat_lt (a - ram_base) (length ram)) (a - ram_base) a
+    (λ t. let above : ram_base ≤ a = leb-true ram_base a t in
+    word_at-put ram off v (a - ram_base) w al (omega arith) (λ q. n (omega arith)))

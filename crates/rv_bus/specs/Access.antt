@@ -1,7 +1,8 @@
 -- To audit: public contracts cite this.
--- What a load, a store, a fetch and the passing of time do on the bus.
+-- Loads, stores, fetches and the passing of time on the bus.
 use Rattle.std.specs.Prelude.{ℕ, Bool, true, false, ◌-◌, ◌%◌, nat_lt, nat_le, ◌&&◌, if◌then◌else◌, List, length, slice_index, Option, Some, None}
 use Rattle.std.specs.Option.{option_map}
+use Rattle.rv_base.specs.Limits.{ram_base}
 use Rattle.rv_isa.specs.declared.op.Width.{Width}
 use Rattle.rv_isa.specs.declared.op.Width.TheVariants.{One, Two, Four}
 use Rattle.rv_isa.specs.declared.InterruptLines.{InterruptLines}
@@ -18,13 +19,13 @@ use Rattle.rv_bus.specs.Locations.{location_of}
 use Rattle.rv_bus.specs.declared.locations.Location.{Location}
 use Rattle.rv_bus.specs.declared.locations.Location.TheVariants.{Ram, Halt, Timer, Plic, Serial, Nowhere}
 
--- a narrow access of a register has its low bits
+-- the low bits of a register, by the width of an access
 abbrev pub low_bits : ℕ → Width → ℕ
 low_bits v One = v % 256
 low_bits v Two = v % 65536
 low_bits v Four = v
 
--- what a load at a location gives: the value of the bytes, or the register
+-- the value that a load at a location returns: that of the bytes, or of the register
 abbrev pub load_at : BusState → Location → Width → Option ℕ
 load_at b (Ram off) w = Some (value_at b.ram off w)
 load_at b Halt w = Some 0
@@ -33,7 +34,7 @@ load_at b (Plic off) w = Some (plic.load_value b.plic off)
 load_at b (Serial reg) w = Some (low_bits (serial.load_value b.serial reg) w)
 load_at b Nowhere w = None
 
--- what it leaves: only loads of the interrupt controller and the serial port have an effect
+-- the bus after a load at a location: only loads of the interrupt controller and the serial port change it
 abbrev pub after_load_at : BusState → Location → BusState
 after_load_at b (Ram off) = b
 after_load_at b Halt = b
@@ -42,7 +43,7 @@ after_load_at b (Plic off) = record b { plic = plic.after_load b.plic off }
 after_load_at b (Serial reg) = record b { serial = serial.after_load b.serial reg }
 after_load_at b Nowhere = b
 
--- what a store at a location leaves, if something stands there
+-- the bus after a store at a location, or none for a fault
 abbrev pub store_at : BusState → Location → Width → ℕ → Option BusState
 store_at b (Ram off) w v = Some (record b { ram = put b.ram off w v })
 store_at b Halt w v = Some (record b { halt = halted_by b.halt v })
@@ -51,7 +52,7 @@ store_at b (Plic off) w v = Some (record b { plic = plic.stored b.plic off v })
 store_at b (Serial reg) w v = Some (record b { serial = serial.stored b.serial reg v })
 store_at b Nowhere w v = None
 
--- a store there may have to make room: for a page of the memory, or in the console
+-- whether a store at a location may have to make room: for a page of the memory, or in the console
 abbrev pub grows_at : BusState → Location → Width → ℕ → Bool
 grows_at b (Ram off) w v = wants_page b.ram off w v
 grows_at b Halt w v = false
@@ -60,54 +61,61 @@ grows_at b (Plic off) w v = false
 grows_at b (Serial reg) w v = serial.wants_room b.serial reg
 grows_at b Nowhere w v = false
 
+-- the location at an address
 abbrev pub location : BusState → ℕ → Width → Location
 location b a w = location_of (length b.ram) a w
 
+-- the value that a load returns, or none for a fault
 unfoldable pub load : BusState → ℕ → Width → Option ℕ
 load b a w = load_at b (location b a w) w
 
+-- the bus after a load
 unfoldable pub after_load : BusState → ℕ → Width → BusState
 after_load b a w = after_load_at b (location b a w)
 
+-- the bus after a store, or none for a fault
 unfoldable pub store : BusState → ℕ → Width → ℕ → Option BusState
 store b a w v = store_at b (location b a w) w v
 
+-- whether a store may have to make room
 unfoldable pub grows : BusState → ℕ → Width → ℕ → Bool
 grows b a w v = grows_at b (location b a w) w v
 
+-- the word at a location: only the memory can be fetched from
 abbrev pub word_of : List ℕ → Location → Option ℕ
 word_of ram (Ram off) = Some (word_at ram off)
 word_of ram p = None
 
--- the word that a fetch at an address gives: that of the memory, or none
+-- the word that a fetch at an address returns, or none for a fault
 unfoldable pub fetch : List ℕ → ℕ → Option ℕ
 fetch ram a = word_of ram (location_of (length ram) a Four)
 
--- the byte of the memory at an address, if it is one
+-- the byte of the memory at an address, if there is one
 abbrev pub ram_byte : List ℕ → ℕ → Option ℕ
 ram_byte ram a =
-    if nat_le 0x80000000 a && nat_lt (a - 0x80000000) (length ram) then Some (slice_index ram (a - 0x80000000)) else None
+    if nat_le ram_base a && nat_lt (a - ram_base) (length ram) then Some (slice_index ram (a - ram_base)) else None
 
--- time passes, and the gateways forward their requests
+-- the bus after a tick: time passes, and the gateways forward their requests
 abbrev pub ticked : BusState → BusState
 ticked b = record b { timer = timer.ticked b.timer; plic = plic.forwarded b.plic }
 
--- what the next tick changes, and timer and interrupt controller before a tick that changed this
+-- the part of the bus that the next tick changes
 abbrev pub next_tick : BusState → TickState
 next_tick b = record { time = b.timer.time; requests = plic.ready b.plic }
 
+-- the timer and the interrupt controller before a tick, by the part of the bus that it changed
 abbrev pub snapshot_before : BusState → TickState → SnapshotState
 snapshot_before b tick =
     record { timer = record b.timer { time = tick.time }; plic = plic.withdrawn b.plic tick.requests }
 
--- the levels of the interrupt lines
+-- the levels of the interrupt lines into the hart
 abbrev pub lines_of : BusState → InterruptLines
 lines_of b = record { software = b.timer.software; timer = timer.is_due b.timer; external = plic.is_notified b.plic }
 
--- the line of an interrupt source rises or falls
+-- the bus after the line of an interrupt source is set to a level
 abbrev pub with_line : BusState → ℕ → Bool → BusState
 with_line b source level = record b { plic = plic.with_line b.plic source level }
 
--- a byte comes in
+-- the bus after a byte is received
 abbrev pub received : BusState → ℕ → BusState
 received b byte = record b { serial = serial.received b.serial byte }

@@ -1,5 +1,5 @@
 -- To audit: public contracts cite this.
--- What stands on the bus: the memory as its bytes, and a record for each device.
+-- The state of the bus: the memory as its bytes, and a record for each device.
 use Rattle.std.specs.Prelude.{ℕ, List, Option, None}
 use Rattle.rv_plic.specs.Sources.{Sources}
 use Rattle.rv_plic.specs.Plic.{PlicState}
@@ -9,6 +9,7 @@ use Rattle.rv_mmio.specs.Timer as timer
 use Rattle.rv_mmio.specs.Serial.{SerialState}
 use Rattle.rv_mmio.specs.Serial as serial
 
+-- the memory and the devices
 pub record BusState : Type 0 where
   pub ram : List ℕ
   pub timer : TimerState
@@ -16,16 +17,16 @@ pub record BusState : Type 0 where
   pub serial : SerialState
   pub halt : Option ℕ
 
--- what a tick changes
+-- the timer and the interrupt controller, which a tick changes
 pub record SnapshotState : Type 0 where
   pub timer : TimerState
   pub plic : PlicState
 
--- what a tick changes, by the least that tells it: the time, and the sources whose requests it forwards
+-- the part of the bus that a tick changes: the time, and the sources whose requests it forwards
 pub record TickState : Type 0 where
   pub time : ℕ
   pub requests : Sources
 
--- the bus at reset, over these bytes
+-- the bus at reset, over a memory of these bytes
 abbrev pub reset : List ℕ → BusState
 reset ram = record { ram = ram; timer = timer.reset; plic = plic.reset; serial = serial.reset; halt = None }

@@ -9,27 +9,38 @@ ghost use Rattle.rv_bus.specs.Within.{IsWithin};
 ghost use Rattle.rv_bus.specs.Stores.{Stores, Answers};
 
 use crate::locations::{Location, find_location};
-use rv_base::NoMemory;
+use rv_base::{NoMemory, RAM_BASE};
 use rv_isa::{InterruptLines, Width};
 use rv_mmio::{Halt, Serial, SerialReg, Timer};
 use rv_plic::{Plic, Source, SourceSet};
 use rv_ram::ByteMemory;
 use std::marker::Model;
 
-/// An access that the address table does not have.
+/// The error of an access for which the address table has no location.
 #[derive(Clone, Copy, Debug, PartialEq, Eq)]
 pub struct BusFault;
 
-/// Why a store was not done.
+/// The error of a store.
 #[derive(Clone, Copy, Debug, PartialEq, Eq)]
 pub enum StoreRefusal {
-    /// The address table has no such access.
+    /// The address table has no location for the access.
     Fault,
-    /// The memory or the console could not grow.
+    /// Out of memory: the memory or the console could not grow.
     NoMemory,
 }
 
-/// What the passing of time changes, as it was.
+impl From<NoMemory> for StoreRefusal {
+    ghost use Rattle.std.specs.Prelude.{◌≡◌};
+    ghost use Rattle.rv_bus.specs.declared.bus.StoreRefusal.TheVariants as refusal;
+
+    ghost from_gives = { λ _ e. e ≡ refusal.NoMemory };
+
+    fn from(_: NoMemory) -> Self {
+        StoreRefusal::NoMemory
+    }
+}
+
+/// The timer and the interrupt controller as they were, which is what undoes a tick.
 #[derive(Clone, Copy)]
 pub struct Snapshot {
     timer: Timer,
@@ -50,7 +61,7 @@ impl Model for Snapshot {
     ghost inverse = { λ m. record { timer = m.timer; plic = m.plic } };
 }
 
-/// What a tick changes, as it is before it: the time, and the sources whose requests it forwards.
+/// The part of the bus that the next tick changes: the time, and the sources whose requests it forwards.
 #[derive(Clone, Copy)]
 pub struct Tick {
     time: u64,
@@ -73,7 +84,7 @@ impl Model for Tick {
 
 /// The memory and the devices, each at its addresses.
 ///
-/// | Address | What stands there | Widths |
+/// | Address | Location | Widths |
 /// |---|---|---|
 /// | 0x00100000 | halt register | 4 |
 /// | 0x02000000, +0x4000, +0x4004, +0xBFF8, +0xBFFC | timer: msip, mtimecmp low and high, mtime low and high | 4 |
@@ -81,7 +92,8 @@ impl Model for Tick {
 /// | 0x10000000, +4, +8 | serial port: transmit, receive, status | 1, 2, 4 |
 /// | 0x80000000 and on | memory | 1, 2, 4, fetch |
 ///
-/// Every other address, width or fetch is a fault. A narrow access of a register has its low bits.
+/// An access at any other address, of another width, or any other fetch is a fault. A narrow access of a
+/// register has its low bits.
 #[derive(Drop)]
 pub struct Bus<M: ByteMemory> {
     ram: M,
@@ -100,11 +112,17 @@ impl<M: ByteMemory> Model for Bus<M> {
 
     ghost coded = { Prim.hlevel (codes, plic_code) };
 
-    ghost view = { λ b. record { ram = M.bytes b.ram; timer = b.timer; plic = b.plic; serial = b.serial; halt = b.halt } };
+    ghost view = { λ b. record {
+      ram = M.bytes b.ram;
+      timer = b.timer;
+      plic = b.plic;
+      serial = b.serial;
+      halt = b.halt;
+    } };
 }
 
 impl<M: ByteMemory> Bus<M> {
-    /// A bus with this memory and serial port, a timer at time 0, and a halt register that was not written.
+    /// Returns a bus over a memory and a serial port, with all other devices at reset.
     pub fn new(ram: M, serial: Serial) -> Bus<M>
         ensures { result ≡ record (reset (M.bytes ram)) { serial = serial } }
     {
@@ -117,6 +135,7 @@ impl<M: ByteMemory> Bus<M> {
         }
     }
 
+    /// Returns the location at an address, for an access of this width.
     fn location(&self, addr: u32, width: Width) -> Location
         requires { addr % bytes_of width ≡ 0 }
         ensures location { result ≡ location self.now addr width }
@@ -125,7 +144,7 @@ impl<M: ByteMemory> Bus<M> {
         find_location(self.ram.size(), addr, width)
     }
 
-    /// The word of the memory at an address that is a multiple of 4. Only the memory can be fetched from.
+    /// Fetches the word at an address that is a multiple of 4. Only the memory can be fetched from.
     #[tactic(auto, unfolding(crate::specs::Access::fetch))]
     pub fn fetch(&self, addr: u32) -> Result<u32, BusFault>
         requires { addr % 4 ≡ 0 }
@@ -137,8 +156,9 @@ impl<M: ByteMemory> Bus<M> {
         }
     }
 
-    /// What a load at an address that is a multiple of its width gives, extended with zeros. One of the receive
-    /// register takes the byte, one of the status clears the overrun; a refused one changes nothing.
+    /// Loads a value, extended with zeros, from an address that is a multiple of its width. A load of the
+    /// receive register takes the byte, one of the status register clears the overrun, and one of the claim
+    /// register claims; a faulting load changes nothing.
     #[tactic(auto, unfolding(crate::specs::Access::load, crate::specs::Access::after_load))]
     pub fn load(&mut self, addr: u32, width: Width) -> Result<u32, BusFault>
         requires { addr % bytes_of width ≡ 0 }
@@ -150,16 +170,14 @@ impl<M: ByteMemory> Bus<M> {
         match self.location(addr, width) {
             Location::Ram(off) => Ok(self.load_ram(off, width)),
             Location::Halt => Ok(0),
-            Location::Timer(off) => match self.timer.load(off) {
-                Some(word) => Ok(word),
-                None => Err(BusFault),
-            },
+            Location::Timer(off) => self.timer.load(off).ok_or(BusFault),
             Location::Plic(off) => Ok(self.plic.load(off)),
             Location::Serial(register) => Ok(self.load_serial(register, width)),
             Location::Nowhere => Err(BusFault),
         }
     }
 
+    /// Returns the value at an offset of the memory.
     fn load_ram(&self, off: u32, width: Width) -> u32
         requires within { off + bytes_of width ≤ length self.now.ram }
         requires aligned { off % bytes_of width ≡ 0 }
@@ -172,6 +190,7 @@ impl<M: ByteMemory> Bus<M> {
         }
     }
 
+    /// Loads a register of the serial port: the low bytes of its word.
     fn load_serial(&mut self, register: SerialReg, width: Width) -> u32
         ensures value { result ≡ low_bits (serial.load_value self.old.serial register) width }
         ensures after { self.new ≡ record self.old { serial = serial.after_load self.old.serial register } }
@@ -184,9 +203,10 @@ impl<M: ByteMemory> Bus<M> {
         }
     }
 
-    /// Stores the low bytes of a value at an address that is a multiple of their number. A refused store changes
-    /// nothing. Memory is wanted only where room has to be made: for a page of the memory that has only zeros, where
-    /// something else is stored, or in the console where it has none, which is at most once in 4096 bytes.
+    /// Stores the low bytes of a value at an address that is a multiple of their number. A refused store
+    /// changes nothing. It may be out of memory only where room has to be made: for a page of the memory that
+    /// has only zeros, where something else is stored, or in the console where it has none, which is at most
+    /// once in 4096 bytes.
     #[tactic(auto, using(crate::proofs::Others::fetch_put), unfolding(crate::specs::Access::store, crate::specs::Access::grows))]
     pub fn store(&mut self, addr: u32, width: Width, value: u32) -> Result<(), StoreRefusal>
         requires { addr % bytes_of width ≡ 0 }
@@ -194,42 +214,28 @@ impl<M: ByteMemory> Bus<M> {
         ensures others { (a : ℕ) → a % 4 ≡ 0 → a ≢ addr / 4 * 4 → fetch self.new.ram a ≡ fetch self.old.ram a }
     {
         match self.location(addr, width) {
-            Location::Ram(off) => match self.ram.write(off, width, value) {
-                Ok(()) => return Ok(()),
-                Err(NoMemory) => return Err(StoreRefusal::NoMemory),
-            },
-            Location::Halt => {
-                self.halt.store(value);
-                return Ok(());
-            }
-            Location::Timer(off) => match self.timer.store(off, value) {
-                Some(()) => return Ok(()),
-                None => return Err(StoreRefusal::Fault),
-            },
-            Location::Plic(off) => {
-                self.plic.store(off, value);
-                return Ok(());
-            }
-            Location::Serial(register) => match self.serial.store(register, value) {
-                Ok(()) => return Ok(()),
-                Err(NoMemory) => return Err(StoreRefusal::NoMemory),
-            },
+            Location::Ram(off) => self.ram.write(off, width, value)?,
+            Location::Halt => self.halt.store(value),
+            Location::Timer(off) => self.timer.store(off, value).ok_or(StoreRefusal::Fault)?,
+            Location::Plic(off) => self.plic.store(off, value),
+            Location::Serial(register) => self.serial.store(register, value)?,
             Location::Nowhere => return Err(StoreRefusal::Fault),
         }
+        Ok(())
     }
 
-    /// The byte of the memory at an address, if one is there. Nothing changes.
+    /// Returns the byte of the memory at an address, if there is one. Nothing changes.
     pub fn peek(&self, addr: u32) -> Option<u8>
         ensures { result ≡ ram_byte self.now.ram addr }
     {
-        if addr >= 0x8000_0000 && addr - 0x8000_0000 < self.ram.size() {
-            Some(self.ram.read(addr - 0x8000_0000))
+        if addr >= RAM_BASE && addr - RAM_BASE < self.ram.size() {
+            Some(self.ram.read(addr - RAM_BASE))
         } else {
             None
         }
     }
 
-    /// Time passes by one tick, and the gateways of the interrupt controller forward their requests.
+    /// Advances the time by one tick, and forwards the requests of the interrupt controller's gateways.
     pub fn tick(&mut self)
         ensures { self.new ≡ ticked self.old }
     {
@@ -237,7 +243,7 @@ impl<M: ByteMemory> Bus<M> {
         self.plic.forward();
     }
 
-    /// The levels of the interrupt lines.
+    /// Returns the levels of the interrupt lines into the hart.
     pub fn lines(&self) -> InterruptLines
         ensures { result ≡ lines_of self.now }
     {
@@ -248,21 +254,21 @@ impl<M: ByteMemory> Bus<M> {
         }
     }
 
-    /// The line of an interrupt source rises or falls.
+    /// Sets the level of an interrupt source's line.
     pub fn set_line(&mut self, source: Source, high: bool)
         ensures { self.new ≡ with_line self.old source high }
     {
         self.plic.set_line(source, high);
     }
 
-    /// A byte comes in at the serial port.
+    /// Receives a byte at the serial port.
     pub fn receive(&mut self, byte: u8)
         ensures { self.new ≡ received self.old byte }
     {
         self.serial.receive(byte);
     }
 
-    /// What a tick changes, to be put back.
+    /// Returns a snapshot, by which ticks can be undone.
     pub fn snapshot(&self) -> Snapshot
         ensures { result ≡ record { timer = self.now.timer; plic = self.now.plic } }
     {
@@ -272,7 +278,8 @@ impl<M: ByteMemory> Bus<M> {
         }
     }
 
-    /// Makes what a tick changes what it was, and touches nothing else.
+    /// Undoes the ticks since a snapshot: sets the timer and the interrupt controller back to it, and nothing
+    /// else.
     pub fn undo_tick(&mut self, snapshot: Snapshot)
         ensures { self.new ≡ record self.old { timer = snapshot.timer; plic = snapshot.plic } }
     {
@@ -280,7 +287,8 @@ impl<M: ByteMemory> Bus<M> {
         self.plic = snapshot.plic;
     }
 
-    /// What the next tick changes, as it is now. It is less than a snapshot, and as good as one.
+    /// Returns the part that the next tick changes. It is smaller than a snapshot, and one can be made of it
+    /// afterwards.
     pub fn next_tick(&self) -> Tick
         ensures { result ≡ next_tick self.now }
     {
@@ -290,10 +298,11 @@ impl<M: ByteMemory> Bus<M> {
         }
     }
 
-    /// The snapshot before a tick, which changed this.
+    /// Returns the snapshot before the last tick, where `tick` was `next_tick` before it.
     pub fn snapshot_before(&self, tick: Tick) -> Snapshot
         ensures value { result ≡ snapshot_before self.now tick }
-        ensures before { (old : BusState) → self.now ≡ ticked old → tick ≡ next_tick old → result ≡ record { timer = old.timer; plic = old.plic } }
+        ensures before { (old : BusState) → self.now ≡ ticked old → tick ≡ next_tick old
+            → result ≡ record { timer = old.timer; plic = old.plic } }
     {
         let mut plic = self.plic;
         plic.withdraw(tick.requests);
@@ -303,28 +312,28 @@ impl<M: ByteMemory> Bus<M> {
         }
     }
 
-    /// The code with which the board was halted, if it was.
+    /// Returns the code that the board was halted with, if it was halted.
     pub fn halted(&self) -> Option<u16>
         ensures { result ≡ self.now.halt }
     {
         self.halt.code()
     }
 
-    /// The timer.
+    /// Returns the timer.
     pub fn timer(&self) -> &Timer
         ensures { result.now ≡ self.now.timer }
     {
         &self.timer
     }
 
-    /// The interrupt controller.
+    /// Returns the interrupt controller.
     pub fn plic(&self) -> &Plic
         ensures { result.now ≡ self.now.plic }
     {
         &self.plic
     }
 
-    /// The serial port.
+    /// Returns the serial port.
     pub fn serial(&self) -> &Serial
         ensures { result.now ≡ self.now.serial }
     {

@@ -1,4 +1,4 @@
-//! The bus: memory, timer, interrupt controller, serial port and halt register in one space of addresses.
+//! The bus: memory, timer, interrupt controller, serial port and halt register in one address space.
 #![tactic(auto)]
 
 mod bus;

@@ -1,46 +1,47 @@
-//! The address table.
+//! The address table: what stands at each address.
 ghost use Rattle.std.specs.Prelude.{◌≡◌, ◌%◌, ◌≤◌, ◌^◌, ℕ};
 ghost use Rattle.rv_isa.specs.Width.{bytes_of};
 ghost use Rattle.rv_bus.specs.Locations.{location_of, device_of, word_device};
 ghost use Rattle.rv_bus.specs.Within.{IsWithin};
 
+use rv_base::RAM_BASE;
 use rv_isa::Width;
 use rv_mmio::SerialReg;
 
-/// The first address of the memory.
-const RAM: u32 = 0x8000_0000;
-
-/// The halt register.
+/// The address of the halt register.
 const HALT: u32 = 0x0010_0000;
 
-/// The first address of the timer's window, and the first one after it.
+/// The first address of the timer's window.
 const TIMER: u32 = 0x0200_0000;
 
+/// The first address after the timer's window.
 const TIMER_END: u32 = 0x0200_c000;
 
-/// The first address of the interrupt controller's window, and the first one after it.
+/// The first address of the interrupt controller's window.
 const PLIC: u32 = 0x0c00_0000;
 
+/// The first address after the interrupt controller's window.
 const PLIC_END: u32 = 0x1000_0000;
 
-/// What the address table has at an address, for an access of some width.
+/// The location that the address table has at an address, for an access of some width.
 #[derive(Clone, Copy)]
 pub enum Location {
-    /// The memory, at this offset in bytes: accesses of every width, and fetches.
+    /// The memory, at this offset in bytes. It takes accesses of every width, and fetches.
     Ram(u32),
-    /// The halt register: words.
+    /// The halt register. It takes words.
     Halt,
-    /// This offset in bytes in the timer's window: words. There may be no register, and an access is then a fault.
+    /// This offset in bytes in the timer's window. It takes words; where the timer has no register, an access
+    /// is a fault.
     Timer(u32),
-    /// This offset in bytes in the interrupt controller's window: words.
+    /// This offset in bytes in the interrupt controller's window. It takes words.
     Plic(u32),
-    /// A register of the serial port: accesses of every width.
+    /// A register of the serial port. It takes accesses of every width.
     Serial(SerialReg),
-    /// Nothing: an access is a fault.
+    /// Nowhere: an access is a fault.
     Nowhere,
 }
 
-/// What stands at an address, for an access of this width.
+/// Returns the location at an address, for an access of this width to a memory of `size` bytes.
 #[tactic(auto, using(crate::proofs::Fit::memory_within), unfolding(crate::specs::Locations::location_of))]
 pub(crate) fn find_location(size: u32, addr: u32, width: Width) -> Location
     requires words { size % 4096 ≡ 0 }
@@ -48,17 +49,18 @@ pub(crate) fn find_location(size: u32, addr: u32, width: Width) -> Location
     ensures location { result ≡ location_of size addr width }
     ensures within { IsWithin size addr width result }
 {
-    if addr >= RAM {
-        let off = addr - RAM;
-        return if off < size {
-            Location::Ram(off)
-        } else {
-            Location::Nowhere
-        };
+    if addr < RAM_BASE {
+        return device(addr, width);
     }
-    device(addr, width)
+    let off = addr - RAM_BASE;
+    if off < size {
+        Location::Ram(off)
+    } else {
+        Location::Nowhere
+    }
 }
 
+/// Returns the location of a device at an address below the memory.
 fn device(addr: u32, width: Width) -> Location
     requires { addr % bytes_of width ≡ 0 }
     ensures location { result ≡ device_of addr width }
@@ -75,7 +77,7 @@ fn device(addr: u32, width: Width) -> Location
     }
 }
 
-/// A device that only words reach.
+/// Returns the location of a device that takes only words.
 fn word_device(addr: u32) -> Location
     requires { addr % 4 ≡ 0 }
     ensures location { result ≡ word_device addr }
