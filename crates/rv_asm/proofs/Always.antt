@@ -1,4 +1,4 @@
--- What a statement is without any name it is with all of them.
+-- A statement whose instructions are known without any symbol has the same with all symbols.
 use Rattle.std.proofs.Common.{◌≡◌, ℕ, List, [], ◌∷◌, ℤ, Bool, ap, refl}
 use Rattle.std.specs.Prelude.{Option, Some, None, IfSome, Result, Ok, Err, option_and_then}
 use Rattle.std.specs.Option.{option_map}
@@ -45,7 +45,7 @@ module _ (ds : Definitions) (line here : ℕ) where
       added_kept t.negative (atom_value unnamed line here t.atom) (atom_value ds line here t.atom) (sum_value unnamed line here ts) (sum_value ds line here ts) w
       (atom_kept t.atom) (sum_kept ts) h
 
--- ---- places
+-- ---- fields
 
 module _ (less more : Valuation) (kept : (e : List Term) (v : ℤ) → less e ≡ Some v → more e ≡ Some v) where
   wanted_by : {A : Type 0} (place : ℤ → Option A) (e : List Term) (o : Option ℤ) (x : A) → less e ≡ o → wanted place o ≡ Ok x → wanted place (more e) ≡ Ok x
@@ -69,7 +69,7 @@ module _ (less more : Valuation) (kept : (e : List Term) (v : ℤ) → less e �
   then_kept kinds (Ok x) n ks f h = rw (f x refl) h
   then_kept kinds (Err fault) n ks f h = absurd cc
 
-  -- the bytes of instructions that are found again
+  -- the bytes of instructions, once they are found again
   found : (m n : Result (List Kind) FaultKind) (ks : List Kind) → n ≡ Ok ks → (n >>= λ kinds. Ok (bytes kinds)) ≡ Ok (bytes ks)
   found m n ks h = rw h refl
 

@@ -1,4 +1,4 @@
--- Distances of jumps and branches, which are even.
+-- Distances of jumps and branches are even and within their bounds.
 use Rattle.std.proofs.Common.{◌≡◌, ℕ, ◌^◌, ◌==◌, ◌&&◌, Bool, true, false, ℤ, pos, negsuc, refl, arith}
 use Rattle.std.specs.Prelude.{Option, Some, None, IfSome, if◌then◌else◌}
 use Rattle.std.proofs.lemmas.Bool.Decides.{nat_tests}

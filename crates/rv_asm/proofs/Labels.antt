@@ -11,7 +11,7 @@ use Rattle.rv_asm.specs.Symbols.{value_of}
 use Rattle.rv_asm.specs.Layout.{Known, labelled}
 use Rattle.rv_asm.specs.Steps.{newly_labelled}
 
--- no local label is behind line k
+-- no local label is on a line after line k
 abbrev pub IsUpTo : ℕ → Known → Type 0
 IsUpTo k known = All (λ d. d.line ≤ k) known.definitions.locals
 

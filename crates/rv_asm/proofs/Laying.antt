@@ -1,4 +1,4 @@
--- The lines that have been laid out, one by one.
+-- Laying out the lines, one by one.
 use Rattle.std.proofs.Common.{◌≡◌, ℕ, zero, suc, ◌+◌, ◌≤◌, Bool, true, false, cond, List, [], ◌∷◌, ◌++◌, ℤ, pos, refl, arith, append-nil}
 use Rattle.std.specs.Prelude.{Option, None, Some, is_some, Result, Ok, Err, option_and_then}
 use Rattle.std.specs.Option.{option_map, option_or, unwrap_or}
@@ -26,7 +26,7 @@ value_of-append : (xs ys : List (List ℕ × ℤ)) (name : List ℕ) → value_o
 value_of-append [] ys name = refl
 value_of-append (d ∷ ds) ys name = grind (arith, value_of-append ds ys name)
 
--- the same names are defined
+-- the two lists define the same names
 abbrev DefinesSame : List (List ℕ × ℤ) → List (List ℕ × ℤ) → Type 0
 DefinesSame xs ys = (name : List ℕ) → is_some (value_of xs name) ≡ is_some (value_of ys name)
 
@@ -65,7 +65,7 @@ labels_are k known ls = labels_by k known known.definitions.names ls (λ name. r
 
 -- ---- one more line
 
--- what is meant by a line: its fault, or what is known behind it
+-- the result of a line: its fault, or the state after it
 abbrev meant : ℕ → Option FaultKind → State → Result State AsmFault
 meant k fault s = unless (option_map (λ kind. record { line = suc k; kind = kind }) fault) (Ok s)
 

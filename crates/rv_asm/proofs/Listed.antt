@@ -1,4 +1,4 @@
--- The bytes of the statements, one by one, and how many they are.
+-- The bytes of the statements, one by one, and their number.
 use Rattle.std.proofs.Common.{◌≡◌, ℕ, zero, suc, ◌+◌, ◌≤◌, ◌<◌, Bool, true, false, cond, List, [], ◌∷◌, ◌++◌, length, ℤ, pos, refl, sym, ap, arith, append-nil, length-append}
 use Rattle.std.specs.Prelude.{Option, None, Some, Result, Ok, Err, option_and_then}
 use Rattle.std.specs.Option.{option_map, option_or}
@@ -13,7 +13,8 @@ use Rattle.rv_program.specs.declared.fault.FaultKind.{FaultKind}
 use Rattle.rv_program.specs.declared.fault.FaultKind.TheVariants.{DuplicateSymbol}
 use Rattle.rv_program.specs.declared.fault.AsmFault.{AsmFault}
 use Rattle.rv_asm.specs.Symbols.{Definitions, sum_value}
-use Rattle.rv_asm.specs.Layout.{Known, first, joined, line_at, base, limit, asked, taken, size_of, labelled, with_labels, with_statement, known_before, known_at, definitions, relabels, statement_fault, phase_two_fault}
+use Rattle.rv_base.specs.Limits.{ram_base, image_limit}
+use Rattle.rv_asm.specs.Layout.{Known, first, joined, line_at, asked, taken, size_of, labelled, with_labels, with_statement, known_before, known_at, definitions, relabels, statement_fault, phase_two_fault}
 use Rattle.rv_asm.specs.Listing.{◌>>=◌}
 use Rattle.rv_asm.specs.Assembly.{first_fault, line_bytes, phase_three_fault}
 use Rattle.rv_asm.specs.Steps.{size_in, Item, IsTaken, item_bytes, appended, at_line, run, item_step, item_at, unless}
@@ -35,7 +36,7 @@ unmapped : {A B : Type 0} (f : A → B) (o : Option A) → option_map f o ≡ No
 unmapped f None h = refl
 unmapped f (Some x) h = cc
 
--- the last of n + 1 lines has no fault, nor have those before it
+-- if n + 1 lines have no fault, neither has the last of them, nor have those before it
 none_last : (fault : ℕ → Option FaultKind) (n : ℕ) → first_fault fault (suc n) ≡ None → fault n ≡ None
 unfolding first
 none_last fault n h = unmapped _ (fault n) (right_none (first_fault fault n) _ h)
@@ -46,14 +47,14 @@ none_before fault n h = left_none (first_fault fault n) _ h
 
 -- ---- one more line
 
--- the fault of an answer, and what it lists
+-- the fault of a result, and its list
 abbrev fault_in : Result (List ℕ) FaultKind → Option FaultKind
 fault_in r = elim r as (λ _. Option FaultKind) [ Ok bs ↦ None | Err kind ↦ Some kind ]
 
 abbrev pub listed : Result (List ℕ) FaultKind → List ℕ
 listed r = elim r as (λ _. List ℕ) [ Ok bs ↦ bs | Err kind ↦ [] ]
 
--- what line k lists
+-- the list of line k
 abbrev pub listed_at : List Said → ℕ → List ℕ
 listed_at lines k = listed (line_bytes lines k)
 
@@ -106,14 +107,14 @@ items_below lines (suc n) =
     All-append (λ (i : Item). i.line < suc n) (joined (item_at lines) n) (item_at lines n)
     (below_suc n (joined (item_at lines) n) (items_below lines n)) (below_line n (known_at lines n) (line_at lines n).statement)
 
--- ---- how long the image is
+-- ---- the size of the image
 
 address_labels : (k : ℕ) (known : Known) (ls : List Label) → (with_labels k known ls).address ≡ known.address
 address_labels k known [] = refl
 address_labels k known (label.Name name ∷ ls) = address_labels k (labelled k known (label.Name name)) ls
 address_labels k known (label.Local number ∷ ls) = address_labels k (labelled k known (label.Local number)) ls
 
--- the value that was asked for is one that is taken
+-- a constant that is known passes its test
 taken_by : (takes : ℤ → Bool) (v c : ℤ) (b : Bool) → takes v ≡ b → cond b (Some v) None ≡ Some c → takes c ≡ true
 taken_by takes v c true e h = let same : v ≡ c = cc in rw (← same) e
 taken_by takes v c false e h = absurd cc
@@ -143,8 +144,8 @@ size_line ds k known (Some s) free e =
     let item = item_of k known s in
     ap (λ n. known.address + n) (sized_answer (item_bytes ds item) (size_of known.address item.constant s) (λ bs is. item_size (sum_value ds k known.address) item bs (is_taken k known s free) is) e)
 
-within_line : (k : ℕ) (known : Known) (statement : Option Statement) → option_and_then (statement_fault k known) statement ≡ None → known.address ≤ base + limit
-    → (with_statement k known statement).address ≤ base + limit
+within_line : (k : ℕ) (known : Known) (statement : Option Statement) → option_and_then (statement_fault k known) statement ≡ None → known.address ≤ ram_base + image_limit
+    → (with_statement k known statement).address ≤ ram_base + image_limit
 unfolding size_in
 within_line k known None free h = h
 within_line k known (Some s) free h = (free_placed k known s free).within
@@ -157,7 +158,7 @@ statement_free : (lines : List Said) (n : ℕ) → phase_two_fault lines n ≡ N
 unfolding phase_two_fault
 statement_free lines n h = unlabelled (relabels (known_before lines n).definitions.names (line_at lines n).labels) _ h
 
-pub within_limit : (lines : List Said) (n : ℕ) → first_fault (phase_two_fault lines) n ≡ None → (known_before lines n).address ≤ base + limit
+pub within_limit : (lines : List Said) (n : ℕ) → first_fault (phase_two_fault lines) n ≡ None → (known_before lines n).address ≤ ram_base + image_limit
 unfolding known_before
 within_limit lines zero h = omega arith
 within_limit lines (suc n) h =
@@ -166,9 +167,9 @@ within_limit lines (suc n) h =
     let same = address_labels n (known_before lines n) line.labels in
     within_line n (known_at lines n) line.statement (statement_free lines n (none_last (phase_two_fault lines) n h)) (rw same before)
 
--- the bytes of n lines without a fault end where these lines end
+-- the bytes of n lines without a fault reach from the base to the address following these lines
 pub size_listed : (lines : List Said) (n : ℕ) → first_fault (phase_two_fault lines) n ≡ None → first_fault (phase_three_fault lines) n ≡ None
-    → base + length (joined (listed_at lines) n) ≡ (known_before lines n).address
+    → ram_base + length (joined (listed_at lines) n) ≡ (known_before lines n).address
 unfolding joined known_before
 size_listed lines zero h e = refl
 size_listed lines (suc n) h e =

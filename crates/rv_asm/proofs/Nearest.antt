@@ -1,4 +1,4 @@
--- Local labels, looked up among those of their number.
+-- The nearest local label, looked up among those of its number.
 use Rattle.std.proofs.Common.{◌≡◌, ◌∙◌, ℕ, zero, suc, ◌<◌, ◌≤◌, Bool, true, false, ◌==◌, List, [], ◌∷◌, ◌++◌, length, get_or, ap, sym, refl, cond, arith}
 use Rattle.std.specs.Prelude.{Option, Some, None, ◌&&◌, nat_lt, nat_le}
 use Rattle.std.specs.Option.{option_or}
@@ -10,7 +10,7 @@ use Rattle.rv_asm.specs.declared.locals.LocalLabel.{LocalLabel}
 use Rattle.rv_asm.specs.Symbols.{nearest_before, nearest_after, nearest}
 use Rattle.rv_asm.specs.Kept.{of_number, AreOf, Rises, IsCut, AreListed}
 
--- ---- the definitions of another number do not count
+-- ---- definitions of other numbers don't matter
 
 or_none : (o : Option ℕ) → option_or o None ≡ o
 or_none None = refl
@@ -54,7 +54,7 @@ pub rises_of : (ds : List LocalLabel) (n : ℕ) → Rises ds → Rises (of_numbe
 rises_of [] n r = r
 rises_of (d ∷ ds) n r = rises_if d (of_number n ds) (d.number == n) (all_of (λ e. d.line ≤ e.line) ds n r.0) (rises_of ds n r.1)
 
--- ---- where the lines pass the one that is looked for
+-- ---- the definition at which the lines pass the one of the reference
 
 all_at : (P : LocalLabel → Type 0) (ds : List LocalLabel) (k : ℕ) (z : LocalLabel) → AllByRecursion P ds → k < length ds → P (get_or ds k z)
 all_at P [] k z h p = absurd (omega arith)
@@ -79,7 +79,7 @@ cut_rest d ds line i c =
 cut_none : (d : LocalLabel) (ds : List LocalLabel) (line : ℕ) → IsCut (d ∷ ds) line zero → IsCut ds line zero
 cut_none d ds line c = record { within = omega arith; before = λ k z p. absurd (omega arith); after = λ k z p q. c.after (suc k) z (omega arith) (omega arith) }
 
--- the last of the first i
+-- the last of the first i definitions
 abbrev pub last_of : List LocalLabel → ℕ → LocalLabel → Option ℕ
 last_of ds zero z = None
 last_of ds (suc k) z = Some (get_or ds k z).address

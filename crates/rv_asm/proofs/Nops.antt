@@ -1,4 +1,4 @@
--- Words of `nop`, one more at the end.
+-- The words of `nop` instructions, with one more at the end.
 use Rattle.std.proofs.Common.{◌≡◌, ◌∙◌, refl, ℕ, zero, suc, ◌+◌, ◌++◌, ap, sym, append-nil, append_assoc, add-one}
 use Rattle.std.specs.Prelude.{pos, List, [], ◌∷◌, Result, Ok, Err}
 use Rattle.std.specs.Int.{to_le_bytes, w32}
@@ -22,7 +22,7 @@ abbrev written : Result (List ℕ) FaultKind → List ℕ
 written (Ok bs) = bs
 written (Err kind) = []
 
--- one more behind the first n
+-- one more after the first n
 pub nops_behind : (out before new : List ℕ) (n : ℕ) (kind : Kind) → before ≡ out ++ bytes (nops n) → kind ≡ OpImm Addi 0 0 (pos 0)
     → Path (Result (List ℕ) FaultKind) (Ok (before ++ bytes (kind ∷ []))) (Ok new) → new ≡ out ++ bytes (nops (n + 1))
 nops_behind out before new n kind b k h =

@@ -1,4 +1,4 @@
--- Padding is as long as it is to be: up to a multiple of 4 there are zeros, and from there on whole words.
+-- Padding has the right length: zeros up to a multiple of 4, and whole words from there on.
 use Rattle.std.proofs.Common.{◌≡◌, ◌∙◌, ℕ, zero, suc, ◌+◌, ◌-◌, ◌*◌, ◌/◌, ◌%◌, ◌^◌, ◌<◌, Bool, true, false, ◌==◌, List, [], ◌∷◌, length, replicate, ℤ, pos, negsuc, ap, sym, refl, arith, length-append}
 use Rattle.std.specs.Prelude.{◌&&◌, ◌||◌, min, nat_lt}
 use Rattle.std.proofs.lemmas.Int.{ints}
@@ -27,7 +27,7 @@ length_padding here n =
     length-append (replicate zeros 0) (bytes (nops ((n - zeros) / 4)))
     ∙ (rw (length-replicate, length_bytes, length_nops) refl)
 
--- the distance to a multiple: none, or what is left to it
+-- the distance to the next multiple: 0 at a multiple, and else the rest
 gap_none : (here m : ℕ) → here % m ≡ 0 → gap here m ≡ 0
 gap_none here m e = let whole : m - here % m ≡ m = omega (arith, e) in rw whole (mod_self m)
 
@@ -36,7 +36,7 @@ gap_some here m h p =
     let below : here % m < m = mod_below here m h in
     let g : (m - here % m) % m ≡ m - here % m = mod-eq_of_lt (omega arith) in omega (arith, g)
 
--- the same, at a multiple of 4
+-- the same for an address that is a multiple of 4
 whole_words : (g here k q r : ℕ) → q * 4 + r ≡ here → (r ≡ 0 → g ≡ 0) → (0 < r → g + r ≡ k * 4)
     → min g ((4 - here % 4) % 4) + 4 * ((g - min g ((4 - here % 4) % 4)) / 4) ≡ g
 whole_words g here k q zero e none some = let z : g ≡ 0 = none refl in rw z (omega arith)
@@ -75,7 +75,7 @@ padded_by here m false a b c e f g h t = cc
 pub padded : (here m : ℕ) → is_regular m ≡ true → length (padding here (gap here m)) ≡ gap here m
 padded here m h = padded_by here m (nat_lt 0 m) (m == 1) (m == 2) (m % 4 == 0) refl refl refl refl h
 
--- ---- what alignments take is regular
+-- ---- alignments are 1, 2 or a multiple of 4
 
 pub power_is_regular : (c : ℤ) → is_between (pos 0) (pos 12) c ≡ true → is_regular (2 ^ modulo c 32) ≡ true
 power_is_regular (pos n) h =
@@ -86,7 +86,7 @@ power_is_regular (negsuc n) h = cc
 abbrev divides : ℕ → Bool
 divides m = 4096 % m == 0
 
--- by trying each
+-- by trying each value
 divisor_is_regular : (m : ℕ) → m < 4097 → divides m ≡ true → is_regular m ≡ true
 divisor_is_regular m below h =
     let each : divides m ≡ (divides m && is_regular m) = agree_below_at divides (λ n. divides n && is_regular n) 4097 m refl below in

@@ -1,4 +1,4 @@
--- A statement that was placed.
+-- Placing a statement.
 use Rattle.std.proofs.Common.{◌≡◌, ℕ, ◌+◌, ◌≤◌, Bool, true, false, cond, List, [], ◌∷◌, ◌++◌, ℤ, pos, refl, ◌∙◌, arith}
 use Rattle.std.specs.Prelude.{Option, None, Some, is_some, Result, Ok, Err, nat_lt}
 use Rattle.std.specs.Option.{option_map, unwrap_or}
@@ -7,10 +7,11 @@ use Rattle.rv_source.specs.declared.statement.Statement.{Statement}
 use Rattle.rv_program.specs.declared.fault.FaultKind.{FaultKind}
 use Rattle.rv_program.specs.declared.fault.FaultKind.TheVariants.{DuplicateSymbol, NotConstant, Misplaced, TooLarge}
 use Rattle.rv_asm.specs.Symbols.{value_of}
-use Rattle.rv_asm.specs.Layout.{Known, base, limit, constant_of, size_of, name_in, renames, stated, statement_fault}
+use Rattle.rv_base.specs.Limits.{ram_base, image_limit}
+use Rattle.rv_asm.specs.Layout.{Known, constant_of, size_of, name_in, renames, stated, statement_fault}
 use Rattle.rv_asm.specs.Steps.{Item, size_in, placed, end_of, definition_in, newly_stated}
 
--- the item of a statement on line k behind its labels
+-- the item of a statement on line k, once the labels of the line are defined
 abbrev pub item_of : ℕ → Known → Statement → Item
 item_of k known statement = record { line = k; address = known.address; constant = unwrap_or (constant_of k known statement) (pos 0); statement = statement }
 
@@ -39,7 +40,7 @@ pub record IsPlaced (k : ℕ) (known : Known) (statement : Statement) (item : It
   pub here : item.address ≡ known.address
   pub new : renames known.definitions.names statement ≡ false
   pub known_value : constant_of k known statement ≡ Some item.constant
-  pub within : end_of item ≤ base + limit
+  pub within : end_of item ≤ ram_base + image_limit
 
 below : (m n : ℕ) → nat_lt m n ≡ false → n ≤ m
 below m n h = grind (arith, nat_tests)
@@ -50,18 +51,18 @@ unfolding statement_fault size_in
 placed_by k known statement item (Some kind) e h = absurd cc
 placed_by k known statement item None e h =
     let is : item_of k known statement ≡ item = cc in
-    let f = free (renames known.definitions.names statement) (constant_of k known statement) _ (λ c. nat_lt (base + limit) (known.address + size_of known.address c statement)) e in
+    let f = free (renames known.definitions.names statement) (constant_of k known statement) _ (λ c. nat_lt (ram_base + image_limit) (known.address + size_of known.address c statement)) e in
     rw (← is) (record { is = refl; said = refl; here = refl; new = f.new; known_value = f.known; within = below _ _ f.within })
 
 pub placed_is : (k : ℕ) (known : Known) (statement : Statement) (item : Item) → placed k known statement ≡ Ok item → IsPlaced k known statement item
 unfolding placed
 placed_is k known statement item h = placed_by k known statement item (statement_fault k known statement) refl h
 
--- a statement without a fault
+-- a statement without a fault is placed
 pub free_placed : (k : ℕ) (known : Known) (statement : Statement) → statement_fault k known statement ≡ None → IsPlaced k known statement (item_of k known statement)
 free_placed k known statement h = placed_by k known statement (item_of k known statement) None h refl
 
--- ---- a name is new
+-- ---- a name that `.equ` defines is new
 
 not_some : {A : Type 0} (o : Option A) → is_some o ≡ false → o ≡ None
 not_some None h = refl
@@ -81,7 +82,7 @@ definition_new k known statement item d h e =
     let p = placed_is k known statement item h in
     new_by known.definitions.names (name_in statement) item.constant d (rw p.said at e) p.new
 
--- ---- what is known behind it
+-- ---- the state after a statement
 
 stated_by : (known : Known) (end : ℕ) (c : ℤ) (o : Option (List ℕ)) (d : List ℕ × ℤ) → option_map (with_value c) o ≡ Some d
     → (let after : Known = elim o as (λ _. Known) [ None ↦ known | Some name ↦ record known { definitions = record known.definitions { names = known.definitions.names ++ (name, c) ∷ [] } } ] in record after { address = end })
@@ -100,7 +101,7 @@ module _ (k : ℕ) (known : Known) (statement : Statement) (item : Item) (h : pl
   unfolding newly_stated
   newly = rw h refl
 
-  -- with a name
+  -- of a statement that defines a name
   pub newly_defined : (d : List ℕ × ℤ) → definition_in item ≡ Some d
       → newly_stated k known statement ≡ Ok (record { address = end_of item; definitions = record { names = known.definitions.names ++ d ∷ []; locals = known.definitions.locals } }, item)
   unfolding size_in definition_in
@@ -109,7 +110,7 @@ module _ (k : ℕ) (known : Known) (statement : Statement) (item : Item) (h : pl
       let same = stated_by known (known.address + size_of known.address item.constant statement) item.constant (name_in statement) d (rw p.said at e) in
       newly ∙ rw same (rw (p.here, p.said) refl)
 
-  -- and without
+  -- of a statement that defines none
   pub newly_passed : definition_in item ≡ None → newly_stated k known statement ≡ Ok (record { address = end_of item; definitions = known.definitions }, item)
   unfolding size_in definition_in
   newly_passed e =

@@ -1,4 +1,4 @@
--- How far the lines of a source have been read.
+-- Reading the lines of a source, one by one.
 use Rattle.std.proofs.Common.{◌≡◌, ℕ, zero, suc, ◌+◌, ◌-◌, ◌<◌, ◌≤◌, List, [], ◌∷◌, length, drop, get_or, refl, sym, ap, ◌∙◌, arith, add-one, add-zero, add-suc, inl, inr, length-drop}
 use Rattle.std.specs.Prelude.{Option, None, Some, Result, Ok, Err, IfOk, ◌⊎◌}
 use Rattle.std.specs.List.{All}
@@ -20,7 +20,7 @@ use Rattle.rv_asm.proofs.Laying.{extended_line, up_to_before}
 use Rattle.rv_asm.proofs.Listed.{items_below}
 use Rattle.rv_asm.proofs.Runs.{fails_at}
 
--- the first n texts are lines, and the others are left
+-- the first n lines are read, and the others are left
 pub record SoFar (texts rest : List (List ℕ)) (n : ℕ) : Type 0 where
   pub left : rest ≡ drop n texts
   pub none : first_fault (phase_one_fault texts) n ≡ None
@@ -34,7 +34,7 @@ pub laid_out-zero : (ls : List Said) → laid_out ls 0 ≡ Ok (laid start [])
 unfolding laid_out first joined known_before
 laid_out-zero ls = refl
 
--- ---- what was laid out knows no local label of a later line
+-- ---- no local label that is laid out is on a later line
 
 up_to_by : (ls : List Said) (n : ℕ) (fault : Option AsmFault) (s : State) → unless fault (Ok (state_at ls n)) ≡ Ok s → IsUpTo n s.known
 up_to_by ls n (Some fault) s e = absurd cc
@@ -45,7 +45,7 @@ unfolding laid_out
 up_to_laid_out ls n (Err fault) h = tt
 up_to_laid_out ls n (Ok s) h = up_to_by ls n (first_fault _ n) s h
 
--- ---- nor an item of one
+-- ---- nor is an item
 
 below_by : (ls : List Said) (n m : ℕ) (fault : Option AsmFault) (s : State) → n ≤ m → unless fault (Ok (state_at ls n)) ≡ Ok s → All (λ i. i.line < m) s.items
 below_by ls n m (Some fault) s le e = absurd cc
@@ -58,7 +58,7 @@ unfolding laid_out
 below_laid_out ls n m (Err fault) le h = tt
 below_laid_out ls n m (Ok s) le h = below_by ls n m (first_fault _ n) s le h
 
--- ---- the first fault of some lines is that of more lines
+-- ---- the first fault of some lines is also the first of more lines
 
 kept : (fault : ℕ → Option FaultKind) (n d : ℕ) (f : AsmFault) → first_fault fault n ≡ Some f → first_fault fault (n + d) ≡ Some f
 unfolding first
@@ -81,7 +81,7 @@ dropped [] (suc n) x ys d e = absurd cc
 dropped (y ∷ xs) zero x ys d e = record { below = omega arith; item = cc; after = cc }
 dropped (y ∷ xs) (suc n) x ys d e = let r = dropped xs n x ys d e in record { below = omega (arith, r.below); item = r.item; after = r.after }
 
--- want of memory, or the fault of the line
+-- out of memory, or the fault of the line
 unread_kind : (fault : LineFault) (r : Result Said LineFault) → LineFails fault r → (kind_of fault ≡ OutOfMemory) ⊎ (r ≡ Err fault)
 unread_kind line.OutOfMemory r h = inl refl
 unread_kind line.BadByte r h = inr h
@@ -98,7 +98,7 @@ module _ (texts rest : List (List ℕ)) (n : ℕ) (so : SoFar texts rest n) wher
     pub is_before : n < length texts
     is_before = next.below
 
-    -- a line that is read
+    -- a line that can be read
     module _ (line : Said) (is : said text ≡ Ok line) where
       here : said (get_or texts n []) ≡ Ok line
       here = ap said next.item ∙ is
@@ -118,7 +118,7 @@ module _ (texts rest : List (List ℕ)) (n : ℕ) (so : SoFar texts rest n) wher
       pub laid_out_more : extended n line (laid_out (all_said texts) n) ≡ laid_out (all_said texts) (n + 1)
       laid_out_more = rw (add-one, ← read_line_at) (extended_line (all_said texts) n)
 
-    -- a line that can't be
+    -- a line that can't be read
     module _ (fault : LineFault) where
       unread_fault : said text ≡ Err fault → first_fault (phase_one_fault texts) (suc n) ≡ Some (record { line = suc n; kind = kind_of fault })
       unfolding first

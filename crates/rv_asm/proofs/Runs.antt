@@ -1,4 +1,4 @@
--- Faults that go through, and a run item by item.
+-- Faults that are passed on, and runs element by element.
 use Rattle.std.proofs.Common.{◌≡◌, ℕ, suc, ◌+◌, ◌<◌, ◌≤◌, List, [], ◌∷◌, ◌++◌, drop, get_or, length, ap, sym, ◌∙◌, refl, add-one}
 use Rattle.std.specs.Prelude.{Result, Ok, Err}
 use Rattle.std.proofs.Math.Seq.{drop-cons}
@@ -19,7 +19,7 @@ bind_same : {A B E : Type 0} (r : Result A E) (f g : A → Result B E) → ((x :
 bind_same (Ok x) f g h = h x
 bind_same (Err e) f g h = refl
 
--- ---- a fault stays one
+-- ---- a fault is passed on
 
 pub kind_fails_bind : {A B : Type 0} (kind : FaultKind) (r : Result A FaultKind) (f : A → Result B FaultKind) → KindFails kind r → KindFails kind (r >>= f)
 kind_fails_bind BadByte r f h = rw h refl
@@ -103,7 +103,7 @@ module _ {S X E : Type 0} (step : S → X → Result S E) (s : S) (xs : List X) 
   run_more t e = run_item ∙ ap (λ r. r >>= λ u. run step u (drop (i + 1) xs)) e
 
 module _ {S X : Type 0} (step : S → X → Result S FaultKind) (s : S) (xs : List X) (i : ℕ) (x : X) (item : x ≡ get_or xs i x) (within : i < length xs) where
-  -- the run fails where its step does
+  -- a run fails if one of its steps does
   pub run_fails : (kind : FaultKind) → KindFails kind (step s x) → KindFails kind (run step s (drop i xs))
   run_fails kind h = rw (run_item step s xs i x item within) (kind_fails_bind kind (step s x) (λ u. run step u (drop (i + 1) xs)) h)
 

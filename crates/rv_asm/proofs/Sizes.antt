@@ -1,4 +1,4 @@
--- A statement has as many bytes as it was placed for.
+-- The bytes of a statement are as many as its size says.
 use Rattle.std.proofs.Common.{◌≡◌, ◌∙◌, ℕ, suc, ◌*◌, ◌^◌, Bool, true, false, List, [], ◌∷◌, ◌++◌, length, replicate, ℤ, ap, sym, refl, cond, arith, length-append}
 use Rattle.std.specs.Prelude.{Option, Some, None, Result, Ok, Err}
 use Rattle.std.proofs.lemmas.List.{length-replicate}
@@ -18,7 +18,7 @@ use Rattle.rv_asm.specs.Layout.{size_of}
 use Rattle.rv_asm.specs.Steps.{Item, IsTaken}
 use Rattle.rv_asm.proofs.Padded.{length_bytes, padded, power_is_regular, multiple_is_regular}
 
--- how many there are, or n where there is a fault
+-- the length of a result, or n if it is a fault
 abbrev pub count_or : {A : Type 0} → ℕ → Result (List A) FaultKind → ℕ
 count_or n (Ok xs) = length xs
 count_or n (Err kind) = n
@@ -93,7 +93,7 @@ sized value here c (s.Space size fill) t = filled (modulo c (2 ^ 32)) (fill_of v
 sized value here c (s.Constant name v) t = refl
 sized value here c s.Marker t = refl
 
--- the bytes of an item fill it
+-- the bytes of an item fill its place
 pub item_size : (value : Valuation) (item : Item) (bs : List ℕ) → IsTaken item.constant item.statement
     → statement_bytes value item.address item.constant item.statement ≡ Ok bs
     → length bs ≡ size_of item.address item.constant item.statement

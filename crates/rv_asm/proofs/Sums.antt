@@ -1,4 +1,4 @@
--- How far an expression has been summed.
+-- Summing the terms of an expression, one by one.
 use Rattle.std.proofs.Common.{◌≡◌, ℕ, suc, ◌+◌, ◌*◌, ◌<◌, ◌≤◌, List, [], ◌∷◌, ℤ, pos, ◌+ℤ◌, ◌-ℤ◌, drop, get_or, length, Bool, true, false, ap, sym, ◌∙◌, refl, arith, add-one}
 use Rattle.std.specs.Prelude.{Option, Some, None, option_and_then}
 use Rattle.std.specs.Option.{option_map}
@@ -23,7 +23,7 @@ near_added : (n : ℕ) (sum v : ℤ) (negative : Bool) → IsNear n sum → IsNe
 near_added n sum v true h k = near_less n sum v h k
 near_added n sum v false h k = near_more n sum v h k
 
--- the sum of the first i terms, which is no farther from 0 than they can bring it
+-- sum is that of the first i terms, and at most i times 2 ^ 32 away from 0
 pub record SumSoFar (ds : Definitions) (line here : ℕ) (terms : List Term) (i : ℕ) (sum : ℤ) : Type 0 where
   pub value : option_map (λ w. w +ℤ sum) (sum_value ds line here (drop i terms)) ≡ sum_value ds line here terms
   pub near : IsNear (4294967296 * i) sum
@@ -31,7 +31,7 @@ pub record SumSoFar (ds : Definitions) (line here : ℕ) (terms : List Term) (i 
 plus_zero : (w : ℤ) → w +ℤ pos 0 ≡ w
 plus_zero w = omega (arith, ints)
 
--- a term may be added to the sum of those before it
+-- a term may be added to either part of a sum
 added_before : (w sum v : ℤ) (negative : Bool) → added w negative v +ℤ sum ≡ w +ℤ added sum negative v
 added_before w sum v true = omega (arith, ints)
 added_before w sum v false = omega (arith, ints)

@@ -1,4 +1,4 @@
--- What the phases make together is what is meant.
+-- The three phases together give the definition's result.
 use Rattle.std.proofs.Common.{◌≡◌, ℕ, ◌≤◌, List, length, refl, sym, ap, ◌∙◌, arith}
 use Rattle.std.specs.Prelude.{Option, None, Some, Result, Ok, Err}
 use Rattle.std.specs.Option.{option_or}
@@ -6,6 +6,7 @@ use Rattle.std.proofs.lemmas.List.{length-map}
 use Rattle.rv_source.specs.Said.{Said}
 use Rattle.rv_base.specs.Lines.{lines}
 use Rattle.rv_program.specs.declared.fault.AsmFault.{AsmFault}
+use Rattle.rv_base.specs.Limits.{image_limit}
 use Rattle.rv_asm.specs.Symbols.{Definitions}
 use Rattle.rv_asm.specs.Layout.{joined, definitions, known_before, phase_two_fault}
 use Rattle.rv_asm.specs.Listing.{◌>>=◌}
@@ -16,14 +17,14 @@ use Rattle.rv_asm.proofs.Listed.{emission, listed_at, size_listed, within_limit}
 abbrev pub program_of : Definitions → List ℕ → Result Assembly AsmFault
 program_of ds image = Ok (record { bytes = image; symbols = ds.names })
 
--- the program of what was laid out
+-- the result of phase three on a state
 abbrev pub finished : State → Result Assembly AsmFault
 finished s = image_of s.known.definitions s.items >>= program_of s.known.definitions
 
 abbrev answer : Option AsmFault → Assembly → Result Assembly AsmFault
 answer fault program = elim fault as (λ _. Result Assembly AsmFault) [ Some fault ↦ Err fault | None ↦ Ok program ]
 
--- what the first n lines list
+-- the bytes of the first n lines
 abbrev image : List Said → ℕ → List ℕ
 image ls n = joined (listed_at ls) n
 
@@ -34,7 +35,7 @@ answered : (fault : Option AsmFault) (ds : Definitions) (out : List ℕ) → ans
 answered (Some fault) ds out = refl
 answered None ds out = refl
 
--- over n lines, which are all
+-- over all n lines
 module _ (ls : List Said) (n : ℕ) (all : length ls ≡ n) where
   emitted : image_of (known_before ls n).definitions (joined (item_at ls) n) ≡ unless (first_fault (phase_three_fault ls) n) (Ok (image ls n))
   emitted = rw (← all) (emission ls (length ls))
@@ -54,14 +55,14 @@ module _ (ls : List Said) (n : ℕ) (all : length ls ≡ n) where
 
   -- ---- the size of the image
 
-  size_by : (three : Option AsmFault) (out : List ℕ) → first_fault (phase_two_fault ls) n ≡ None → first_fault (phase_three_fault ls) n ≡ three → unless three (Ok (image ls n)) ≡ Ok out → length out ≤ 16777216
+  size_by : (three : Option AsmFault) (out : List ℕ) → first_fault (phase_two_fault ls) n ≡ None → first_fault (phase_three_fault ls) n ≡ three → unless three (Ok (image ls n)) ≡ Ok out → length out ≤ image_limit
   size_by (Some fault) out e f h = absurd cc
   size_by None out e f h =
       let same : image ls n ≡ out = cc in
       rw (← same) (omega (arith, size_listed ls n e f, within_limit ls n e))
 
   laid_out_size : (one two : Option AsmFault) (s : State) (out : List ℕ) → first_fault (phase_two_fault ls) n ≡ two
-      → unless one (unless two (Ok (state_at ls n))) ≡ Ok s → image_of s.known.definitions s.items ≡ Ok out → length out ≤ 16777216
+      → unless one (unless two (Ok (state_at ls n))) ≡ Ok s → image_of s.known.definitions s.items ≡ Ok out → length out ≤ image_limit
   laid_out_size (Some one) two s out e h g = absurd cc
   laid_out_size None (Some two) s out e h g = absurd cc
   laid_out_size None None s out e h g =
@@ -73,6 +74,6 @@ pub whole : (source : List ℕ) → assembled source ≡ (lines_laid_out (lines 
 unfolding assembled lines_laid_out laid_out
 whole source = whole_by (all_said (lines source)) (length (lines source)) (length-said (lines source)) (first_fault (phase_one_fault (lines source)) (length (lines source))) _ refl
 
-pub image_fits : (source : List ℕ) (s : State) (out : List ℕ) → lines_laid_out (lines source) ≡ Ok s → image_of s.known.definitions s.items ≡ Ok out → length out ≤ 16777216
+pub image_fits : (source : List ℕ) (s : State) (out : List ℕ) → lines_laid_out (lines source) ≡ Ok s → image_of s.known.definitions s.items ≡ Ok out → length out ≤ image_limit
 unfolding lines_laid_out laid_out
 image_fits source s out h g = laid_out_size (all_said (lines source)) (length (lines source)) (length-said (lines source)) (first_fault (phase_one_fault (lines source)) (length (lines source))) _ s out refl h g

@@ -1,4 +1,4 @@
--- How far data has been written.
+-- Writing data, value by value.
 use Rattle.std.proofs.Common.{◌≡◌, ℕ, suc, ◌+◌, ◌<◌, ◌≤◌, List, [], ◌∷◌, ◌++◌, ℤ, drop, get_or, length, Bool, true, false, ap, sym, ◌∙◌, refl, append-nil, append_assoc, add-one}
 use Rattle.std.specs.Prelude.{Some, None, Result, Ok, Err}
 use Rattle.std.proofs.Math.Seq.{drop-cons}
@@ -16,21 +16,21 @@ use Rattle.rv_asm.specs.Listing.{Valuation, ◌>>=◌, instructions, statement_b
 use Rattle.rv_asm.specs.Steps.{Item, appended, item_bytes}
 use Rattle.rv_asm.specs.Symbols.{Definitions, sum_value}
 
--- one of the values was out of range
+-- one of the values so far was out of range
 abbrev pub out_of_range : Result (List ℤ) FaultKind → Result (List ℕ) FaultKind
 out_of_range values = values >>= λ vs. Err OutOfRange
 
--- what comes of sums that are left, where those before them were all in range, or not
+-- the result of the expressions that are left, depending on whether all values before them were in range
 abbrev pub rest_bytes : Valuation → Width → Bool → List ℕ → List (List Term) → Result (List ℕ) FaultKind
 rest_bytes value width true out es = appended out (sums_bytes value width es)
 rest_bytes value width false out es = out_of_range (values_of value es)
 
--- a marker's item has no bytes
+-- the item of a marker has no bytes
 pub nothing_written : (ds : Definitions) (item : Item) (out : List ℕ) → s.Marker ≡ item.statement → appended out (item_bytes ds item) ≡ Ok out
 unfolding statement_bytes instructions
 nothing_written ds item out h = rw (sym h) (ap (λ x. Ok x) (append-nil out))
 
--- ---- a statement that is placed as instructions, or has no bytes
+-- ---- statements that are assembled to instructions, or have no bytes
 
 abbrev pub are_words : Statement → Bool
 are_words (s.Data width values) = false
@@ -67,7 +67,7 @@ pub words_written : {A : Type 0} (new out : List ℕ) (result : Result A FaultKi
     → KindBecomes new result (appended out (words_of (instructions value here c statement))) → KindBecomes new result (appended out (statement_bytes value here c statement))
 words_written new out result value here c statement words h = rw (as_words value here c statement words) h
 
--- ---- a statement that pads
+-- ---- alignments
 
 abbrev pub pads : Statement → Bool
 pads (s.WithValue takes.Align power) = true
@@ -101,7 +101,7 @@ pub padding_written : {A : Type 0} (new out : List ℕ) (result : Result A Fault
     → KindBecomes new result (Ok (out ++ padding here (gap here multiple))) → KindBecomes new result (appended out (statement_bytes value here c statement))
 padding_written new out result value here c statement multiple padded is h = rw (as_padding value here c statement padded) (rw is at h)
 
--- what is written of a statement is what is written of its item
+-- the bytes written for a statement are those of its item
 pub written : {A : Type 0} (new out : List ℕ) (result : Result A FaultKind) (ds : Definitions) (item seen : Item) (statement : Statement) → seen ≡ item → statement ≡ item.statement
     → KindBecomes new result (appended out (statement_bytes (sum_value ds seen.line seen.address) seen.address seen.constant statement)) → KindBecomes new result (appended out (item_bytes ds item))
 written new out result ds item seen statement same said h = rw (same, said) at h

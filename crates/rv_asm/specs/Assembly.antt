@@ -1,6 +1,6 @@
--- What a source is assembled to.
+-- The image and the names of a source, or its fault.
 -- To audit: public contracts cite this.
--- Own language; see docs/ASSEMBLER.md.
+-- The language is this project's own: docs/ASSEMBLER.md.
 use Rattle.std.specs.Prelude.{ℕ, suc, List, [], map, length, get_or, pos, Option, Some, None, Result, Ok, Err}
 use Rattle.std.specs.Option.{option_map, option_or, unwrap_or}
 pub use Rattle.rv_program.specs.Program.{Assembly}
@@ -14,16 +14,16 @@ use Rattle.rv_asm.specs.Symbols.{sum_value}
 use Rattle.rv_asm.specs.Layout.{first, joined, blank, line_at, known_at, constant_of, definitions, phase_two_fault}
 use Rattle.rv_asm.specs.Listing.{statement_bytes}
 
--- the fault of line k in phase one
+-- the fault of line k in phase one, if it has one
 abbrev pub phase_one_fault : List (List ℕ) → ℕ → Option FaultKind
 phase_one_fault texts k =
     elim (said (get_or texts k [])) as (λ _. Option FaultKind) [ Ok line ↦ None | Err fault ↦ Some (kind_of fault) ]
 
--- what the lines say, where each can be read
+-- the lines as read, if each can be read
 abbrev pub all_said : List (List ℕ) → List Said
 all_said texts = map (λ text. elim (said text) as (λ _. Said) [ Ok line ↦ line | Err fault ↦ blank ]) texts
 
--- the bytes of line k, with every name known
+-- the bytes of line k, once all names are known, or its fault in phase three
 abbrev pub line_bytes : List Said → ℕ → Result (List ℕ) FaultKind
 line_bytes lines k =
     let known = known_at lines k in
@@ -32,19 +32,19 @@ line_bytes lines k =
       | Some statement ↦ statement_bytes (sum_value (definitions lines) k known.address) known.address (unwrap_or (constant_of k known statement) (pos 0)) statement
     ]
 
--- the fault of line k in phase three
+-- the fault of line k in phase three, if it has one
 abbrev pub phase_three_fault : List Said → ℕ → Option FaultKind
 phase_three_fault lines k = elim (line_bytes lines k) as (λ _. Option FaultKind) [ Ok bs ↦ None | Err kind ↦ Some kind ]
 
--- the bytes of all lines, where no line has a fault
+-- the bytes of all lines, if no line has a fault
 abbrev pub bytes : List Said → List ℕ
 bytes lines = joined (λ k. elim (line_bytes lines k) as (λ _. List ℕ) [ Ok bs ↦ bs | Err kind ↦ [] ]) (length lines)
 
--- the first of n lines that has a fault; its number counts from 1
+-- the fault of the first faulty line among n lines; line numbers count from 1
 abbrev pub first_fault : (ℕ → Option FaultKind) → ℕ → Option AsmFault
 first_fault fault n = first (λ k. option_map (λ kind. record { line = suc k; kind = kind }) (fault k)) n
 
--- the first faulty line of the first phase that has one
+-- the fault of the first faulty line in the first phase that has one
 abbrev pub fault_of : List (List ℕ) → Option AsmFault
 fault_of texts =
     let n = length texts in

@@ -1,5 +1,5 @@
--- Answers that don't know their line, and what is kept of local labels.
--- Own language; see docs/ASSEMBLER.md.
+-- Results whose faults have no line yet, and the lists of local labels.
+-- The language is this project's own: docs/ASSEMBLER.md.
 -- Not to audit: private contracts alone cite this.
 use Rattle.std.specs.Prelude.{◌≡◌, ℕ, List, [], ◌∷◌, ◌++◌, ℤ, pos, ◌+ℤ◌, ◌≤ℤ◌, ◌==◌, if◌then◌else◌, ◌≤◌, ◌<◌, get_or, length, replicate, Option, Result, Ok, Err}
 use Rattle.std.specs.List.{AllByRecursion}
@@ -10,7 +10,7 @@ use Rattle.rv_isa.specs.declared.kind.Kind.{Kind}
 use Rattle.rv_source.specs.declared.statement.ValueTaker.{ValueTaker}
 use Rattle.rv_asm.specs.Listing.{◌>>=◌, bytes, with_value}
 
--- ---- an answer that may fail, and doesn't know its line
+-- ---- results whose fault has no line yet
 
 abbrev pub KindFails : {B : Type 0} → FaultKind → Result B FaultKind → Type 0
 KindFails OutOfMemory meaning = Unit {0}
@@ -20,58 +20,58 @@ abbrev pub KindGives : {A B : Type 0} → (A → B) → Result A FaultKind → R
 KindGives view (Ok x) meaning = meaning ≡ Ok (view x)
 KindGives view (Err kind) meaning = KindFails kind meaning
 
--- what a call left behind it is what is meant, unless memory ran out
+-- the value that a call leaves is the one meant, unless memory ran out
 abbrev pub KindBecomes : {A B : Type 0} → B → Result A FaultKind → Result B FaultKind → Type 0
 KindBecomes new (Ok x) meaning = meaning ≡ Ok new
 KindBecomes new (Err kind) meaning = KindFails kind meaning
 
 -- ---- the bytes of a statement
 
--- the instructions of what takes a value, as one word: its cases are dear where they aren't asked
+-- with_value, as one word: its cases would make the proofs that don't need them expensive
 unfoldable pub valued : ℕ → ℤ → ValueTaker → Option ℤ → Result (List Kind) FaultKind
 valued here c taker v = with_value here c taker v
 
--- the words of instructions, where there are any
+-- the bytes of instructions, unless there is a fault
 abbrev pub words_of : Result (List Kind) FaultKind → Result (List ℕ) FaultKind
 words_of m = m >>= λ kinds. Ok (bytes kinds)
 
--- as many bytes, each of them the same
+-- size copies of a byte, unless there is a fault
 abbrev pub filled : ℕ → Result ℕ FaultKind → Result (List ℕ) FaultKind
 filled size m = m >>= λ b. Ok (replicate size b)
 
--- ---- what is kept of local labels
+-- ---- lists of local labels
 
 -- from -n to n
 pub record IsNear (n : ℕ) (v : ℤ) : Type 0 where
   pub low : pos 0 ≤ℤ (v +ℤ pos n)
   pub high : v ≤ℤ pos n
 
--- the definitions of one number
+-- the definitions of number n
 abbrev pub of_number : ℕ → List LocalLabel → List LocalLabel
 of_number n [] = []
 of_number n (d ∷ ds) = if d.number == n then d ∷ of_number n ds else of_number n ds
 
--- all are of one number
+-- all definitions are of number n
 abbrev pub AreOf : ℕ → List LocalLabel → Type 0
 AreOf n ds = AllByRecursion (λ d. d.number ≡ n) ds
 
--- one more definition at the place of its number, or none where memory ran out
+-- one more definition in the list of its number, or no change if memory ran out
 abbrev pub Files : {A E : Type 0} → List (List LocalLabel) → List (List LocalLabel) → LocalLabel → Result A E → Type 0
 Files old new d (Ok x) = (n : ℕ) → get_or new n [] ≡ (if d.number == n then get_or old n [] ++ d ∷ [] else get_or old n [])
 Files old new d (Err e) = (n : ℕ) → get_or new n [] ≡ get_or old n []
 
--- no line is before that of an earlier definition
+-- the lines of the definitions never fall
 abbrev pub Rises : List LocalLabel → Type 0
 Rises [] = Unit {0}
 Rises (d ∷ ds) = AllByRecursion (λ e. d.line ≤ e.line) ds × Rises ds
 
--- the first n definitions stand on this line or before it, and the others after it
+-- the first n definitions are on this line or before it, and the others after it
 pub record IsCut (ds : List LocalLabel) (line n : ℕ) : Type 0 where
   pub within : n ≤ length ds
   pub before : (k : ℕ) (d : LocalLabel) → k < n → (get_or ds k d).line ≤ line
   pub after : (k : ℕ) (d : LocalLabel) → n ≤ k → k < length ds → line < (get_or ds k d).line
 
--- the definitions of each number, at its place
+-- list n has the definitions of number n, and the lines never fall
 pub record AreListed (lists : List (List LocalLabel)) (ds : List LocalLabel) : Type 0 where
   pub each : (n : ℕ) → get_or lists n [] ≡ of_number n ds
   pub rises : Rises ds

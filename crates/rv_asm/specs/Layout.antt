@@ -1,9 +1,10 @@
--- Where the lines of a source lie, what they define, and what is wrong with a line so far.
+-- The addresses of the lines of a source, the symbols that they define, and the faults of phase two.
 -- To audit: public contracts cite this.
 -- Lines are counted from 0.
--- Own language; see docs/ASSEMBLER.md.
+-- The language is this project's own: docs/ASSEMBLER.md.
 use Rattle.std.specs.Prelude.{ℕ, zero, suc, ◌+◌, ◌*◌, ◌^◌, ◌%◌, Bool, true, false, not, ◌||◌, ◌&&◌, List, [], ◌∷◌, ◌++◌, length, get_or, ℤ, pos, nat_lt, ◌==◌, Option, Some, None, option_and_then, is_some, if◌then◌else◌}
 use Rattle.std.specs.Option.{option_or, unwrap_or}
+use Rattle.rv_base.specs.Limits.{ram_base, image_limit}
 use Rattle.rv_isa.specs.Number.{modulo}
 use Rattle.rv_isa.specs.Width.{bytes_of}
 use Rattle.rv_source.specs.Said.{Said}
@@ -21,7 +22,7 @@ use Rattle.rv_asm.specs.Listing.{multiple_of}
 
 -- ---- over the numbers below n, in their order
 
--- the first of f 0, f 1, .. that is something
+-- the first of f 0, f 1, .. that is Some
 unfoldable pub first : {A : Type 0} → (ℕ → Option A) → ℕ → Option A
 first f zero = None
 first f (suc n) = option_or (first f n) (f n)
@@ -31,25 +32,18 @@ unfoldable pub joined : {A : Type 0} → (ℕ → List A) → ℕ → List A
 joined f zero = []
 joined f (suc n) = joined f n ++ f n
 
--- ---- what a statement asks for when it is placed
-
--- where the image lies
-abbrev pub base : ℕ
-base = 0x80000000
-
--- how many bytes an image has at most
-abbrev pub limit : ℕ
-limit = 16777216
+-- ---- the constant and the size of a statement
 
 -- a power of two from 1 to 4096
 abbrev pub is_multiple : ℤ → Bool
 is_multiple v = is_between (pos 1) (pos 4096) v && (4096 % modulo v (2 ^ 32) == 0)
 
--- the expression whose value has to be known where the statement stands, and the values that it takes
+-- the expression whose value must be known on the line of the statement, and the test that the value has to
+-- pass
 abbrev pub asked : Statement → Option (List Term × (ℤ → Bool))
 asked (s.WithValue (takes.Li rd) value) = Some (value, is_word)
 asked (s.Constant name value) = Some (value, is_word)
-asked (s.Space size fill) = Some (size, is_between (pos 0) (pos limit))
+asked (s.Space size fill) = Some (size, is_between (pos 0) (pos image_limit))
 asked (s.WithValue takes.Align power) = Some (power, is_between (pos 0) (pos 12))
 asked (s.WithValue takes.Balign multiple) = Some (multiple, is_multiple)
 asked statement = None
@@ -57,14 +51,15 @@ asked statement = None
 abbrev pub taken : (ℤ → Bool) → ℤ → Option ℤ
 taken takes v = if takes v then Some v else None
 
--- that value, or 0 where none is asked for; None where it isn't known or isn't taken
+-- the constant of a statement: that value, or 0 if there is no such expression; None if it isn't known or
+-- fails the test
 abbrev pub constant : Definitions → ℕ → ℕ → Statement → Option ℤ
 constant ds line here statement = elim (asked statement) as (λ _. Option ℤ) [
   | None ↦ Some (pos 0)
   | Some a ↦ option_and_then (taken a.1) (sum_value ds line here a.0)
 ]
 
--- how many bytes a statement at an address has; c is the value that was asked for
+-- the size in bytes of a statement at an address, with the constant c
 abbrev pub size_of : ℕ → ℤ → Statement → ℕ
 size_of here c (s.WithValue (takes.Li rd) value) = 4 * length (loading rd (modulo c (2 ^ 32)))
 size_of here c (s.WithValue (takes.La rd) target) = 8
@@ -80,7 +75,7 @@ size_of here c (s.Constant name value) = 0
 size_of here c s.Marker = 0
 size_of here c statement = 4
 
--- whether a statement is placed as instructions
+-- whether a statement is assembled to instructions
 abbrev pub is_instruction : Statement → Bool
 is_instruction (s.Data width values) = false
 is_instruction (s.Bytes bytes) = false
@@ -91,26 +86,26 @@ is_instruction (s.Constant name value) = false
 is_instruction s.Marker = false
 is_instruction statement = true
 
--- the name that `.equ` gives to its value
+-- the name that `.equ` defines
 abbrev pub name_in : Statement → Option (List ℕ)
 name_in (s.Constant name value) = Some name
 name_in statement = None
 
--- ---- what is known before a line
+-- ---- the state before a line
 
--- a line that says nothing, as every one past the end
+-- a line with no label and no statement, as every line past the end
 abbrev pub blank : Said
 blank = record { labels = []; statement = None }
 
 abbrev pub line_at : List Said → ℕ → Said
 line_at lines k = get_or lines k blank
 
--- the address of what follows, and what was defined so far
+-- the address of the next statement, and the symbols defined so far
 pub record Known : Type 0 where
   pub address : ℕ
   pub definitions : Definitions
 
--- a label stands for the address of what follows
+-- with a label on line k, which stands for the address of the next statement
 abbrev pub labelled : ℕ → Known → Label → Known
 labelled k known (label.Name name) =
     record known { definitions = record known.definitions { names = known.definitions.names ++ (name, pos known.address) ∷ [] } }
@@ -121,65 +116,65 @@ abbrev pub with_labels : ℕ → Known → List Label → Known
 with_labels k known [] = known
 with_labels k known (l ∷ ls) = with_labels k (labelled k known l) ls
 
--- a name stands for the value that was asked for
+-- with the name of `.equ`, which stands for the constant c
 abbrev pub named : Known → ℤ → Statement → Known
 named known c statement = elim (name_in statement) as (λ _. Known) [
   | None ↦ known
   | Some name ↦ record known { definitions = record known.definitions { names = known.definitions.names ++ (name, c) ∷ [] } }
 ]
 
--- a statement lies where it stands, and what follows lies behind it
+-- after a statement: its name is defined, and the address is past it
 abbrev pub stated : Known → ℤ → Statement → Known
 stated known c statement =
     let after = named known c statement in record after { address = known.address + size_of known.address c statement }
 
--- the value that line k asks for, once its labels are defined
+-- the constant of a statement on line k, once the labels of the line are defined
 abbrev pub constant_of : ℕ → Known → Statement → Option ℤ
 constant_of k known statement = constant known.definitions k known.address statement
 
--- after a statement, which is on line k behind its labels
+-- after the statement of line k, if it has one, once the labels of the line are defined
 abbrev pub with_statement : ℕ → Known → Option Statement → Known
 with_statement k known None = known
 with_statement k known (Some statement) = stated known (unwrap_or (constant_of k known statement) (pos 0)) statement
 
--- before any line
+-- before the first line
 abbrev pub start : Known
-start = record { address = base; definitions = record { names = []; locals = [] } }
+start = record { address = ram_base; definitions = record { names = []; locals = [] } }
 
--- before line k: what the lines before it define, and the address behind all of them
+-- before line k: the symbols that the lines before it define, and the address following them
 unfoldable pub known_before : List Said → ℕ → Known
 known_before lines zero = start
 known_before lines (suc k) =
     let line = line_at lines k in with_statement k (with_labels k (known_before lines k) line.labels) line.statement
 
--- behind the labels of line k
+-- after the labels of line k, before its statement
 abbrev pub known_at : List Said → ℕ → Known
 known_at lines k = with_labels k (known_before lines k) (line_at lines k).labels
 
--- what all lines define
+-- the symbols that all lines define
 abbrev pub definitions : List Said → Definitions
 definitions lines = (known_before lines (length lines)).definitions
 
 -- ---- phase two
 
--- the labels of a line define a name that was defined before
+-- whether the labels of a line define a name that is already defined
 abbrev pub relabels : List (List ℕ × ℤ) → List Label → Bool
 relabels names [] = false
 relabels names (label.Name name ∷ ls) = is_some (value_of names name) || relabels ((name, pos 0) ∷ names) ls
 relabels names (label.Local number ∷ ls) = relabels names ls
 
--- so does `.equ`
+-- whether `.equ` defines a name that is already defined
 abbrev pub renames : List (List ℕ × ℤ) → Statement → Bool
 renames names statement = elim (name_in statement) as (λ _. Bool) [ None ↦ false | Some name ↦ is_some (value_of names name) ]
 
--- what is wrong with a statement on line k behind its labels
+-- the fault in phase two of a statement on line k, once the labels of the line are defined
 unfoldable pub statement_fault : ℕ → Known → Statement → Option FaultKind
 statement_fault k known statement =
     if renames known.definitions.names statement then Some DuplicateSymbol
     else (elim (constant_of k known statement) as (λ _. Option FaultKind) [
       | None ↦ Some NotConstant
       | Some c ↦ if is_instruction statement && not (known.address % 4 == 0) then Some Misplaced
-          else (if nat_lt (base + limit) (known.address + size_of known.address c statement) then Some TooLarge
+          else (if nat_lt (ram_base + image_limit) (known.address + size_of known.address c statement) then Some TooLarge
           else None)
     ])
 

@@ -1,6 +1,6 @@
 -- The bytes of a statement, once the values of its expressions are known.
 -- To audit: public contracts cite this.
--- Own language; see docs/ASSEMBLER.md.
+-- The language is this project's own: docs/ASSEMBLER.md.
 use Rattle.std.specs.Prelude.{ℕ, zero, suc, ◌-◌, ◌/◌, ◌^◌, List, [], ◌∷◌, ◌++◌, replicate, min, ℤ, pos, Option, Some, None, Result, Ok, Err, if◌then◌else◌}
 use Rattle.std.specs.Int.{to_le_bytes, w8, w16, w32}
 use Rattle.rv_isa.specs.Number.{modulo}
@@ -30,16 +30,16 @@ abbrev pub ◌>>=◌ : {A B E : Type 0} → Result A E → (A → Result B E) �
 (Ok x) >>= f = f x
 (Err e) >>= f = Err e
 
--- what an expression stands for
+-- the value of each expression that has one
 abbrev pub Valuation : Type 0
 Valuation = List Term → Option ℤ
 
--- a value that is defined, in the range of its place
+-- a value converted to the field that it fills; Undefined if there is none, OutOfRange if it doesn't fit
 abbrev pub wanted : {A : Type 0} → (ℤ → Option A) → Option ℤ → Result A FaultKind
 wanted {A = A} place None = Err Undefined
 wanted {A = A} place (Some v) = elim (place v) as (λ _. Result A FaultKind) [ None ↦ Err OutOfRange | Some x ↦ Ok x ]
 
--- the part of a word that a place takes
+-- a part of a value that fits into 32 bits
 abbrev pub part_of : {A : Type 0} → (ℕ → A) → ℤ → Option A
 part_of {A = A} part v = elim (as_word v) as (λ _. Option A) [ None ↦ None | Some w ↦ Some (part w) ]
 
@@ -55,20 +55,20 @@ upper_of value (u.High e) = wanted (part_of hi) (value e)
 abbrev pub one : {A : Type 0} → (A → Kind) → Result A FaultKind → Result (List Kind) FaultKind
 one kind m = m >>= λ x. Ok (kind x ∷ [])
 
--- the instruction of what takes an immediate of twelve bits
+-- an instruction with its 12-bit immediate put in
 abbrev pub with_immediate : ImmediateTaker → ℤ → Kind
 with_immediate (takes_imm.Jalr rd base) x = kind.Jalr rd base x
 with_immediate (takes_imm.Load op rd base) x = kind.Load op rd base x
 with_immediate (takes_imm.Store width source base) x = kind.Store width source base x
 with_immediate (takes_imm.OpImm op rd rs1) x = kind.OpImm op rd rs1 x
 
--- an instruction that adds the high part of a distance to its own address, and one that takes the low part
+-- AUIPC, which adds the high part of a distance to its own address, and the instruction that takes the low
+-- part
 abbrev pub pair : ℕ → ℕ → ImmediateTaker → Option ℤ → Result (List Kind) FaultKind
 pair here scratch second target =
     wanted (far here) target >>= λ d. Ok (kind.Auipc scratch (hi d) ∷ with_immediate second (lo d) ∷ [])
 
--- the instructions at an address of what takes a value;
--- c is the value that was asked for when it was placed
+-- the instructions of a statement at an address with one value v, which may not be known; c is its constant
 abbrev pub with_value : ℕ → ℤ → ValueTaker → Option ℤ → Result (List Kind) FaultKind
 with_value here c (takes.Auipc rd) v = one (λ x. kind.Auipc rd x) (wanted upper_immediate v)
 with_value here c (takes.Jal rd) v = one (λ x. kind.Jal rd x) (wanted (distance (2 ^ 20) here) v)
@@ -82,7 +82,7 @@ with_value here c (takes.LoadFrom op rd) v = pair here rd (takes_imm.Load op rd 
 with_value here c (takes.StoreTo width source scratch) v = pair here scratch (takes_imm.Store width source scratch) v
 with_value here c taker v = Ok []
 
--- the instructions of a statement at an address, with its values put in
+-- the instructions of a statement at an address; none if it isn't assembled to instructions
 unfoldable pub instructions : Valuation → ℕ → ℤ → Statement → Result (List Kind) FaultKind
 instructions value here c (s.Instruction k) = Ok (k ∷ [])
 instructions value here c (s.Lui rd imm) = one (λ x. kind.Lui rd x) (upper_of value imm)
@@ -90,19 +90,19 @@ instructions value here c (s.WithImmediate taker imm) = one (with_immediate take
 instructions value here c (s.WithValue taker e) = with_value here c taker (value e)
 instructions value here c statement = Ok []
 
--- the word of each instruction in four bytes, the low one first
+-- the word of each instruction in four bytes, lowest first
 -- RISC-V Unprivileged ISA 20191213, sections 1.5 and 2.2
 abbrev pub bytes : List Kind → List ℕ
 bytes [] = []
 bytes (k ∷ ks) = to_le_bytes w32 (word k) ++ bytes ks
 
--- a value in as many bytes as the width has, the low one first
+-- the low bytes of a value, as many as the width has, lowest first
 abbrev pub value_bytes : Width → ℤ → List ℕ
 value_bytes One v = to_le_bytes w8 (modulo v (2 ^ 8))
 value_bytes Two v = to_le_bytes w16 (modulo v (2 ^ 16))
 value_bytes Four v = to_le_bytes w32 (modulo v (2 ^ 32))
 
--- values one after the other; one that isn't defined comes before one that is out of range
+-- the values of expressions; an undefined one is reported before one that is out of range
 abbrev pub values_of : Valuation → List (List Term) → Result (List ℤ) FaultKind
 values_of value [] = Ok []
 values_of value (e ∷ es) = elim (value e) as (λ _. Result (List ℤ) FaultKind) [
@@ -114,31 +114,31 @@ abbrev pub data_bytes : Width → List ℤ → Result (List ℕ) FaultKind
 data_bytes width [] = Ok []
 data_bytes width (v ∷ vs) = if fits width v then (data_bytes width vs >>= λ bs. Ok (value_bytes width v ++ bs)) else Err OutOfRange
 
--- the bytes of sums, each in the same width
+-- the bytes of expressions, each in the same width
 abbrev pub sums_bytes : Valuation → Width → List (List Term) → Result (List ℕ) FaultKind
 sums_bytes value width es = values_of value es >>= λ vs. data_bytes width vs
 
--- the byte that fills a space: 0 where none is written
+-- the byte that fills a space: 0 if none is given
 abbrev pub fill_of : Valuation → Option (List Term) → Result ℕ FaultKind
 fill_of value None = Ok 0
 fill_of value (Some e) = wanted (λ v. if fits One v then Some (modulo v (2 ^ 8)) else None) (value e)
 
--- `nop`, n times
+-- n instructions `nop`
 abbrev pub nops : ℕ → List Kind
 nops zero = []
 nops (suc n) = kind.OpImm Addi 0 0 (pos 0) ∷ nops n
 
--- n bytes of padding: 0 up to a multiple of 4 or the end of the padding, and then words of `nop`
+-- n bytes of padding: zeros up to a multiple of 4 or the end of the padding, then `nop` instructions
 abbrev pub padding : ℕ → ℕ → List ℕ
 padding here n = let zeros = min n (gap here 4) in replicate zeros 0 ++ bytes (nops ((n - zeros) / 4))
 
--- what an alignment aligns to
+-- the number of bytes that an alignment directive aligns to; 1 for any other statement
 abbrev pub multiple_of : Statement → ℤ → ℕ
 multiple_of (s.WithValue takes.Align power) c = 2 ^ modulo c 32
 multiple_of (s.WithValue takes.Balign multiple) c = modulo c (2 ^ 32)
 multiple_of statement c = 1
 
--- the bytes of a statement at an address, with its values put in
+-- the bytes of a statement at an address, or its fault in phase three
 unfoldable pub statement_bytes : Valuation → ℕ → ℤ → Statement → Result (List ℕ) FaultKind
 statement_bytes value here c (s.Data width es) = sums_bytes value width es
 statement_bytes value here c (s.Bytes bs) = Ok bs

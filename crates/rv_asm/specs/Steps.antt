@@ -1,8 +1,8 @@
--- What the program keeps from line to line, and how it goes on. That the whole is what
--- Assembly.antt says is proved in proofs/.
+-- The states of the assembler from line to line. proofs/ proves that they add up to Assembly.antt.
 -- Not to audit: private contracts alone cite this.
 use Rattle.std.specs.Prelude.{◌≡◌, ◌<◌, ◌≤◌, ℕ, suc, ◌+◌, List, [], ◌∷◌, ◌++◌, length, ℤ, pos, true, Option, Some, None, is_some, if◌then◌else◌, Result, Ok, Err}
 use Rattle.std.specs.Option.{option_map, unwrap_or}
+use Rattle.rv_base.specs.Limits.{ram_base, image_limit}
 use Rattle.rv_isa.specs.declared.kind.Kind.{Kind}
 use Rattle.rv_source.specs.Said.{Said}
 use Rattle.rv_source.specs.Reading.{said}
@@ -20,73 +20,78 @@ use Rattle.rv_asm.specs.Assembly.{first_fault, phase_one_fault, all_said}
 
 -- ---- statements
 
--- a statement that was placed: its line, counted from 0, its address and the value that it asked for
+-- a statement with its place: its line, counted from 0, its address and its constant
 pub record Item : Type 0 where
   pub line : ℕ
   pub address : ℕ
   pub constant : ℤ
   pub statement : Statement
 
--- the statement of a line with this text, if it has one
+-- the statement of a line with this text, if it can be read and has one
 abbrev pub statement_in : List ℕ → Option Statement
 statement_in text = elim (said text) as (λ _. Option Statement) [ Ok line ↦ line.statement | Err fault ↦ None ]
 
--- a line without a statement places what a marker does: nothing
+-- the same, with a marker, which has no bytes, for a line without a statement
 abbrev pub stated_in : List ℕ → Statement
 stated_in text = unwrap_or (statement_in text) Marker
 
--- the value is one that the statement takes
+-- the constant passes the test of its statement
 unfoldable pub IsTaken : ℤ → Statement → Type 0
 IsTaken c statement = elim (asked statement) as (λ _. Type 0) [ None ↦ c ≡ pos 0 | Some a ↦ a.1 c ≡ true ]
 
--- the value that is asked for, and the size, as words of their own: their cases are dear where they aren't asked
+-- constant and size_of, as words of their own: their cases would make the proofs that don't need them
+-- expensive
 unfoldable pub constant_in : Definitions → ℕ → ℕ → Statement → Option ℤ
 constant_in ds line here statement = constant ds line here statement
 
 unfoldable pub size_in : ℕ → ℤ → Statement → ℕ
 size_in here c statement = size_of here c statement
 
--- the item of a statement on line k behind its labels, or its fault in phase two
+-- the item of a statement on line k, once the labels of the line are defined, or its fault in phase two
 unfoldable pub placed : ℕ → Known → Statement → Result Item FaultKind
 placed k known statement = elim (statement_fault k known statement) as (λ _. Result Item FaultKind) [
   | Some kind ↦ Err kind
   | None ↦ Ok (record { line = k; address = known.address; constant = unwrap_or (constant_of k known statement) (pos 0); statement = statement })
 ]
 
--- the address of what follows, or None where it is past the last byte that an image may have
-abbrev pub Ends : Option ℕ → ℕ → Type 0
-Ends None end = 0x81000000 < end
-Ends (Some e) end = (e ≡ end) × (e ≤ 0x81000000)
+-- the address following the largest image
+abbrev pub image_end : ℕ
+image_end = ram_base + image_limit
 
--- the address of what follows an item
+-- an end is given if it is no farther than the largest image reaches
+abbrev pub Ends : Option ℕ → ℕ → Type 0
+Ends None end = image_end < end
+Ends (Some e) end = (e ≡ end) × (e ≤ image_end)
+
+-- the address following an item
 abbrev pub end_of : Item → ℕ
 end_of item = item.address + size_in item.address item.constant item.statement
 
--- the name that `.equ` defines, and its value
+-- the name that `.equ` defines, with its value
 unfoldable pub definition_in : Item → Option (List ℕ × ℤ)
 definition_in item = option_map (λ name. (name, item.constant)) (name_in item.statement)
 
--- the bytes of an item, with every name known
+-- the bytes of an item, once all symbols are known
 abbrev pub item_bytes : Definitions → Item → Result (List ℕ) FaultKind
 item_bytes ds item = statement_bytes (sum_value ds item.line item.address) item.address item.constant item.statement
 
--- the item is this instruction, whatever names are defined
+-- the item is this instruction, whatever symbols are defined
 abbrev pub IsAlways : Item → Kind → Type 0
 IsAlways item kind = (ds : Definitions) → item_bytes ds item ≡ Ok (bytes (kind ∷ []))
 
--- appended to those before
+-- bytes appended to others, unless there is a fault
 abbrev pub appended : List ℕ → Result (List ℕ) FaultKind → Result (List ℕ) FaultKind
 appended out (Ok bs) = Ok (out ++ bs)
 appended out (Err kind) = Err kind
 
 -- ---- one line
 
--- the state after a step for each item, up to the first that fails
+-- the state after a step for each element, up to the first that fails
 unfoldable pub run : {S X E : Type 0} → (S → X → Result S E) → S → List X → Result S E
 run step s [] = Ok s
 run step s (x ∷ xs) = step s x >>= λ t. run step t xs
 
--- a label of line k, whose name is new
+-- with a label of line k; DuplicateSymbol if its name is already defined
 unfoldable pub newly_labelled : ℕ → Known → Label → Result Known FaultKind
 newly_labelled k known (label.Name name) =
     if is_some (value_of known.definitions.names name) then Err DuplicateSymbol else Ok (labelled k known (label.Name name))
@@ -95,11 +100,11 @@ newly_labelled k known (label.Local number) = Ok (labelled k known (label.Local 
 abbrev pub all_labelled : ℕ → Known → List Label → Result Known FaultKind
 all_labelled k known labels = run (newly_labelled k) known labels
 
--- a statement of line k behind its labels: what is known behind it, and its item
+-- the state after a statement of line k, and its item, or its fault in phase two
 unfoldable pub newly_stated : ℕ → Known → Statement → Result (Known × Item) FaultKind
 newly_stated k known statement = placed k known statement >>= λ item. Ok (stated known item.constant statement, item)
 
--- what is known after some lines, and their items
+-- the state after some lines, and their items
 pub record State : Type 0 where
   pub known : Known
   pub items : List Item
@@ -111,13 +116,13 @@ abbrev pub after_statement : ℕ → Known → List Item → Option Statement �
 after_statement k known items None = Ok (laid known items)
 after_statement k known items (Some statement) = newly_stated k known statement >>= λ p. Ok (laid p.0 (items ++ p.1 ∷ []))
 
--- one more line, which is line k
+-- with one more line, which is line k
 unfoldable pub after_line : ℕ → State → Said → Result State FaultKind
 after_line k s line = all_labelled k s.known line.labels >>= λ known. after_statement k known s.items line.statement
 
 -- ---- the first two phases
 
--- a fault with the number of its line, which counts from 1
+-- the fault with the number of its line, which counts from 1
 abbrev pub at_line : {A : Type 0} → ℕ → Result A FaultKind → Result A AsmFault
 at_line k (Ok x) = Ok x
 at_line k (Err kind) = Err (record { line = suc k; kind = kind })
@@ -126,7 +131,7 @@ abbrev pub unless : {A : Type 0} → Option AsmFault → Result A AsmFault → R
 unless (Some fault) m = Err fault
 unless None m = m
 
--- the item of line k, where it has a statement
+-- the item of line k, if it has a statement
 abbrev pub item_at : List Said → ℕ → List Item
 item_at lines k =
     let known = known_at lines k in
@@ -139,21 +144,21 @@ item_at lines k =
 abbrev pub state_at : List Said → ℕ → State
 state_at lines n = record { known = known_before lines n; items = joined (item_at lines) n }
 
--- the same, where no such line has a fault in phase two
+-- the same, or the first fault of these lines in phase two
 unfoldable pub laid_out : List Said → ℕ → Result State AsmFault
 laid_out lines n = unless (first_fault (phase_two_fault lines) n) (Ok (state_at lines n))
 
--- one more line, which is line k
+-- with one more line, which is line k
 abbrev pub extended : ℕ → Said → Result State AsmFault → Result State AsmFault
 extended k line m = m >>= λ s. at_line k (after_line k s line)
 
--- after all lines of a source, where no line has a fault in the first two phases
+-- the state after all lines of a source, or its first fault in the first two phases
 unfoldable pub lines_laid_out : List (List ℕ) → Result State AsmFault
 lines_laid_out texts = unless (first_fault (phase_one_fault texts) (length texts)) (laid_out (all_said texts) (length texts))
 
 -- ---- the third phase
 
--- the bytes of one more item
+-- with the bytes of one more item
 unfoldable pub item_step : Definitions → List ℕ → Item → Result (List ℕ) AsmFault
 item_step ds out item = at_line item.line (appended out (item_bytes ds item))
 

@@ -1,6 +1,6 @@
--- What is defined in a source, and what an expression stands for.
+-- The symbols of a source, and the values of expressions.
 -- To audit: public contracts cite this.
--- Own language; see docs/ASSEMBLER.md.
+-- The language is this project's own: docs/ASSEMBLER.md.
 use Rattle.std.specs.Prelude.{ℕ, ◌&&◌, List, [], ◌∷◌, ℤ, pos, ◌+ℤ◌, ◌-ℤ◌, Bool, Option, Some, None, option_and_then, ◌==◌, nat_le, nat_lt, if◌then◌else◌}
 use Rattle.std.specs.Option.{option_map, option_or}
 pub use Rattle.rv_program.specs.Program.{value_of}
@@ -11,7 +11,7 @@ use Rattle.rv_tokens.specs.declared.token.Direction.{Direction}
 use Rattle.rv_tokens.specs.declared.token.Direction.TheVariants.{Backward, Forward}
 use Rattle.rv_asm.specs.declared.locals.LocalLabel.{LocalLabel}
 
--- names and local labels with their values, in order of definition
+-- the names and local labels of a source with their values, in order of definition
 pub record Definitions : Type 0 where
   pub names : List (List ℕ × ℤ)
   pub locals : List LocalLabel
@@ -22,7 +22,7 @@ nearest_after [] number line = None
 nearest_after (d ∷ ds) number line =
     if (d.number == number) && nat_lt line d.line then Some d.address else nearest_after ds number line
 
--- `nb`: the nearest definition of n on a line before this one, or on the same
+-- `nb`: the nearest definition of n on this line or a line before it
 abbrev pub nearest_before : List LocalLabel → ℕ → ℕ → Option ℕ
 nearest_before [] number line = None
 nearest_before (d ∷ ds) number line =
@@ -32,18 +32,18 @@ abbrev pub nearest : List LocalLabel → ℕ → ℕ → Direction → Option �
 nearest labels number line Backward = nearest_before labels number line
 nearest labels number line Forward = nearest_after labels number line
 
--- what an atom stands for, on a line and in a statement at this address
+-- the value of an atom on a line, in a statement at the address `here`
 abbrev pub atom_value : Definitions → ℕ → ℕ → Atom → Option ℤ
 atom_value ds line here (Number n) = Some (pos n)
 atom_value ds line here (Symbol name) = value_of ds.names name
 atom_value ds line here (Local number direction) = option_map (λ a. pos a) (nearest ds.locals number line direction)
 atom_value ds line here Here = Some (pos here)
 
--- a value added to a sum, or taken from it
+-- a value added to a sum, or subtracted from it
 abbrev pub added : ℤ → Bool → ℤ → ℤ
 added sum negative v = if negative then sum -ℤ v else sum +ℤ v
 
--- a sum of whole numbers, where each of its atoms has a value
+-- the value of an expression: the sum of its terms as whole numbers, if each atom has a value
 unfoldable pub sum_value : Definitions → ℕ → ℕ → List Term → Option ℤ
 sum_value ds line here [] = Some (pos 0)
 sum_value ds line here (t ∷ ts) =

@@ -1,4 +1,4 @@
-//! From source to image.
+//! The phases of assembly, from a source to its image.
 ghost use Rattle.std.specs.Prelude.{◌≡◌, ◌≤◌, ◌<◌, [], Result, Ok, IfOk, IfErr, OnOk, length};
 ghost use Rattle.std.specs.List.{All};
 ghost use Rattle.rv_base.specs.Lines.{lines};
@@ -11,14 +11,14 @@ ghost use Rattle.rv_asm.specs.Steps.{State, laid, extended, lines_laid_out, imag
 ghost use Rattle.rv_asm.specs.Taken.{so_far, IsUnread};
 
 use crate::layout::Known;
-use crate::placed::Placed;
+use crate::placement::PlacedStatement;
 use crate::symbols::Symbols;
 use crate::{AsmFault, FaultKind, Program};
 use rv_base::cut_lines;
 use rv_source::{Line, read_line};
 use std::alloc::Global;
 
-/// What a line says, or its fault in phase one.
+/// Reads a line in phase one.
 fn read<'a>(alloc: Global, number: usize, text: &'a [u8]) -> Result<Line<'a>, AsmFault>
     requires { number < 0xffffffffffffffff }
     ensures ok { IfOk result (λ line. said text.now ≡ Ok line) }
@@ -30,14 +30,14 @@ fn read<'a>(alloc: Global, number: usize, text: &'a [u8]) -> Result<Line<'a>, As
     }
 }
 
-/// Lays out one more line, where no line before it had a fault in phase two.
+/// Lays out one more line in phase two, unless a line before it had a fault there.
 fn add<'a>(
     alloc: Global,
     number: usize,
     text: &'a [u8],
     line: &Line,
     known: &mut Known,
-    items: &mut Vec<Placed<'a>>,
+    items: &mut Vec<PlacedStatement<'a>>,
     fault: &mut Option<AsmFault>,
 )
     requires up_to { IfOk (so_far fault.old (laid known.old items.old.items)) (λ l. All (λ d. d.line ≤ number) l.known.definitions.locals) }
@@ -53,13 +53,13 @@ fn add<'a>(
     }
 }
 
-/// Reads the lines, and lays them out up to the first that has a fault in phase two: a later line that can't be read
-/// comes before that fault.
+/// Performs phases one and two line by line. A fault of phase two is kept until all lines are read, since a
+/// fault of phase one on a later line takes precedence.
 fn lay_out<'a>(
     alloc: Global,
     source: &'a [u8],
     known: &mut Known,
-    items: &mut Vec<Placed<'a>>,
+    items: &mut Vec<PlacedStatement<'a>>,
 ) -> Result<(), AsmFault>
     requires { laid known.old items.old.items ≡ laid start [] }
     ensures layout { Gives (λ _. laid known.new items.new.items) result (lines_laid_out (lines source.now)) }
@@ -80,8 +80,8 @@ fn lay_out<'a>(
     }
 }
 
-/// The bytes of the statements.
-fn image(alloc: Global, items: &[Placed], symbols: &Symbols) -> Result<Vec<u8>, AsmFault>
+/// Returns the bytes of all statements: phase three.
+fn image(alloc: Global, items: &[PlacedStatement], symbols: &Symbols) -> Result<Vec<u8>, AsmFault>
     requires { All (λ i. i.line < 0xffffffffffffffff) items.now }
     ensures { Gives (λ v. v.items) result (image_of symbols.now items.now) }
 {
@@ -94,8 +94,12 @@ fn image(alloc: Global, items: &[Placed], symbols: &Symbols) -> Result<Vec<u8>, 
     Ok(out)
 }
 
-/// Assembles a source. A fault is that of the first faulty line of the first phase that has one; want of memory may
-/// come in place of any answer.
+/// Assembles a source into its image and its names.
+///
+/// # Errors
+///
+/// The fault of the first faulty line in the first phase that has one. `OutOfMemory`, at line 0, may come in
+/// place of any result.
 pub fn assemble(alloc: Global, source: &[u8]) -> Result<Program, AsmFault>
     ensures { Gives (λ p. p) result (assembled source.now) }
 {

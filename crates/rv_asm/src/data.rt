@@ -1,4 +1,4 @@
-//! The bytes of statements that aren't instructions.
+//! The bytes of data, spaces and alignments.
 ghost use Rattle.std.specs.Prelude.{◌≡◌, ◌++◌, ◌<◌, ◌^◌, replicate, pos, Ok, OnOk, IfOk};
 ghost use Rattle.rv_isa.specs.declared.kind.Kind.TheVariants.{OpImm};
 ghost use Rattle.rv_isa.specs.declared.op.ImmOp.TheVariants.{Addi};
@@ -12,7 +12,7 @@ use crate::values::{bits, gap};
 use rv_isa::{ImmOp, Width};
 use std::alloc::AllocError;
 
-/// Appends a value in as many bytes as the width has, the low one first.
+/// Appends the low bytes of a value, as many as the width has, lowest first.
 pub fn write_value(width: Width, value: i64, out: &mut Vec<u8>) -> Result<(), AllocError>
     ensures { OnOk result (out.new.items ≡ out.old.items ++ value_bytes width value) }
 {
@@ -23,7 +23,7 @@ pub fn write_value(width: Width, value: i64, out: &mut Vec<u8>) -> Result<(), Al
     }
 }
 
-/// Appends the same byte again and again.
+/// Appends `count` copies of a byte.
 pub fn fill(count: u32, byte: u8, out: &mut Vec<u8>) -> Result<(), FaultKind>
     ensures { KindBecomes out.new.items result (Ok (out.old.items ++ replicate count byte)) }
 {
@@ -32,7 +32,7 @@ pub fn fill(count: u32, byte: u8, out: &mut Vec<u8>) -> Result<(), FaultKind>
     Ok(())
 }
 
-/// Appends words of `nop`.
+/// Appends the words of `count` instructions `nop`.
 fn write_nops(count: u32, out: &mut Vec<u8>) -> Result<(), FaultKind>
     ensures { KindBecomes out.new.items result (Ok (out.old.items ++ bytes (nops count))) }
 {
@@ -43,7 +43,8 @@ fn write_nops(count: u32, out: &mut Vec<u8>) -> Result<(), FaultKind>
     Ok(())
 }
 
-/// Appends padding up to the next multiple: zeros up to a multiple of 4 or the end of the padding, and then words of `nop`.
+/// Appends padding from the address `here` to the next multiple: zeros up to a multiple of 4 or the end of
+/// the padding, then `nop` instructions.
 pub fn pad(here: u32, multiple: u32, out: &mut Vec<u8>) -> Result<(), FaultKind>
     requires { 0 < multiple }
     ensures { KindBecomes out.new.items result (Ok (out.old.items ++ padding here (gap here multiple))) }

@@ -1,4 +1,4 @@
-//! The bytes of statements, with their values put in.
+//! Phase three: evaluates the expressions of a statement and writes its bytes.
 ghost use Rattle.std.specs.Prelude.{◌≡◌, ◌<◌, ◌^◌, None, Some, IfOk};
 ghost use Rattle.std.specs.Option.{ok_or};
 ghost use Rattle.rv_isa.specs.Number.{IsWithin};
@@ -9,8 +9,8 @@ ghost use Rattle.rv_asm.specs.Symbols.{sum_value};
 ghost use Rattle.rv_asm.specs.Values.{immediate, upper_immediate, five_bits, distance, hi, lo, far};
 ghost use Rattle.rv_asm.specs.Listing.{wanted, part_of, immediate_of, upper_of, pair, fill_of, sums_bytes, instructions, statement_bytes};
 
-use crate::asked::multiple_of;
 use crate::data::{self, pad, write_value};
+use crate::extent::multiple_of;
 use crate::instructions::{Instructions, auipc, branch, csr_imm, jal, lui, shift, with_immediate};
 use crate::symbols::Symbols;
 use crate::values::{
@@ -21,7 +21,8 @@ use crate::{FaultKind, values};
 use rv_isa::{ImmOp, Reg, Width};
 use rv_source::{Expression, Immediate, ImmediateTaker, Statement, Upper, ValueTaker};
 
-/// Where expressions are evaluated: what is defined, and the line, counted from 0, and the address of the statement.
+/// The scope in which the expressions of a statement are evaluated: the symbols, the line, counted from 0,
+/// and the address of the statement.
 #[derive(Clone, Copy)]
 pub struct Scope<'a> {
     pub symbols: &'a Symbols,
@@ -29,8 +30,8 @@ pub struct Scope<'a> {
     pub here: u32,
 }
 
-/// AUIPC into `scratch` with the high part of how far a target is from here, and what takes the low part; None where
-/// the target is no word.
+/// Returns AUIPC into `scratch` with the high part of the distance to a target, followed by the instruction
+/// that takes the low part. None if the target isn't a 32-bit value.
 fn pair(here: u32, scratch: Reg, second: ImmediateTaker, target: i64) -> Option<Instructions>
     ensures { ok_or result OutOfRange ≡ pair here scratch second (Some target) }
 {
@@ -43,7 +44,8 @@ fn pair(here: u32, scratch: Reg, second: ImmediateTaker, target: i64) -> Option<
     }
 }
 
-/// The instructions of what takes a value that is defined; None where it is out of range.
+/// Returns the instructions of a statement with one value, once the value is known. None if the value is out
+/// of range.
 #[tactic(auto, unfolding(crate::specs::Kept::valued))]
 fn with_known(here: u32, constant: i64, taker: ValueTaker, value: i64) -> Option<Instructions>
     ensures { ok_or result OutOfRange ≡ valued here constant taker (Some value) }
@@ -99,14 +101,14 @@ fn with_known(here: u32, constant: i64, taker: ValueTaker, value: i64) -> Option
 }
 
 impl<'a> Scope<'a> {
-    /// What an expression stands for.
+    /// Returns the value of an expression, or None if one of its symbols isn't defined.
     fn value(&self, expression: &Expression) -> Option<i64>
         ensures { result ≡ sum_value self.now.symbols.now self.now.line self.now.here expression.now }
     {
         self.symbols.sum(expression, self.line, self.here)
     }
 
-    /// An immediate of twelve bits.
+    /// Evaluates a 12-bit immediate.
     fn immediate(&self, immediate: &Immediate) -> Result<i32, FaultKind>
         ensures value { result ≡ immediate_of (sum_value self.now.symbols.now self.now.line self.now.here) immediate.now }
         ensures within { IfOk result (IsWithin (2 ^ 11)) }
@@ -124,7 +126,7 @@ impl<'a> Scope<'a> {
         }
     }
 
-    /// An immediate of twenty bits.
+    /// Evaluates a 20-bit immediate.
     fn upper(&self, upper: &Upper) -> Result<u32, FaultKind>
         ensures value { result ≡ upper_of (sum_value self.now.symbols.now self.now.line self.now.here) upper.now }
         ensures within { IfOk result (λ imm. imm < 2 ^ 20) }
@@ -141,7 +143,7 @@ impl<'a> Scope<'a> {
         }
     }
 
-    /// The instructions of what takes a value: none where it isn't placed as instructions.
+    /// Returns the instructions of a statement with one value; none for an alignment.
     #[tactic(auto, unfolding(crate::specs::Kept::valued))]
     fn with_value(
         &self,
@@ -163,7 +165,7 @@ impl<'a> Scope<'a> {
         }
     }
 
-    /// The instructions of a statement, with its values put in: none where it isn't placed as instructions.
+    /// Returns the instructions of a statement; none if it isn't assembled to instructions.
     #[tactic(auto, unfolding(crate::specs::Listing::instructions, crate::specs::Kept::valued))]
     pub fn instructions(
         &self,
@@ -187,7 +189,7 @@ impl<'a> Scope<'a> {
         }
     }
 
-    /// Appends the words of a statement that is placed as instructions.
+    /// Appends the words of the instructions of a statement.
     fn write_instructions(
         &self,
         constant: i64,
@@ -202,7 +204,7 @@ impl<'a> Scope<'a> {
         }
     }
 
-    /// Appends values, each in as many bytes as the width has. One that isn't defined comes before one out of range.
+    /// Appends values of a width. An undefined value is reported before one that is out of range.
     fn write_values(
         &self,
         width: Width,
@@ -229,7 +231,7 @@ impl<'a> Scope<'a> {
         }
     }
 
-    /// Appends a space: the byte that fills it again and again, which is 0 where none is written.
+    /// Appends `size` copies of the fill byte, which is 0 if none is given.
     fn write_space(
         &self,
         size: u32,
@@ -250,7 +252,7 @@ impl<'a> Scope<'a> {
         }
     }
 
-    /// Appends the bytes of a statement, with its values put in.
+    /// Appends the bytes of a statement.
     #[tactic(auto, unfolding(crate::specs::Listing::statement_bytes))]
     pub fn write(
         &self,

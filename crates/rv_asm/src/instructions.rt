@@ -1,4 +1,4 @@
-//! The instructions of a statement.
+//! The instructions that a statement is assembled to.
 ghost use Rattle.std.specs.Prelude.{◌≡◌, ◌<◌, ◌^◌, ◌++◌, [], ◌∷◌, Ok};
 ghost use Rattle.rv_isa.specs.Number.{IsWithin, IsDistance};
 ghost use Rattle.rv_isa.specs.Word.{IsInRange};
@@ -12,13 +12,13 @@ use rv_isa::{Cond, CsrOp, ImmOp, Instr, Kind, Reg, ShiftOp, encode};
 use rv_source::{Csr, ImmediateTaker};
 use std::marker::Model;
 
-/// At most two instructions.
+/// The instructions of a statement: at most two.
 pub struct Instructions {
     first: Option<Instr>,
     second: Option<Instr>,
 }
 
-// Written out, so that to let it go is one call where it is owned, and not one for each of its parts.
+// Hand-written: a derived `Drop` would be proved anew at each exit (docs/PROVING.md).
 impl Drop for Instructions {
     fn drop(self) {
         let Instructions {
@@ -70,7 +70,7 @@ impl Instructions {
         }
     }
 
-    /// The instruction, where there is only one.
+    /// Returns the instruction, if there is exactly one.
     pub fn only(&self) -> Option<Instr>
         ensures { IfSome result (λ kind. self.now ≡ kind ∷ []) }
     {
@@ -80,14 +80,14 @@ impl Instructions {
         }
     }
 
-    /// How many bytes the instructions have.
+    /// Returns the size of the instructions in bytes.
     pub fn size(&self) -> u32
         ensures { result ≡ 4 * length self.now }
     {
         4 * (u32::from(self.first.is_some()) + u32::from(self.second.is_some()))
     }
 
-    /// Appends the words of the instructions, each with its low byte first.
+    /// Appends the words of the instructions, each with its lowest byte first.
     pub fn write(&self, out: &mut Vec<u8>) -> Result<(), FaultKind>
         ensures { KindBecomes out.new.items result (Ok (out.old.items ++ bytes self.now)) }
     {
@@ -101,14 +101,14 @@ impl Instructions {
     }
 }
 
-/// Appends the word of an instruction, its low byte first.
+/// Appends the word of an instruction, its lowest byte first.
 pub fn write_instr(instr: Instr, out: &mut Vec<u8>) -> Result<(), FaultKind>
     ensures { KindBecomes out.new.items result (Ok (out.old.items ++ bytes (instr ∷ []))) }
 {
     append(&encode(instr).to_le_bytes(), out)
 }
 
-/// The register x0.
+/// Returns the register x0.
 pub fn zero() -> Reg
     ensures { result ≡ 0 }
 {
@@ -118,7 +118,7 @@ pub fn zero() -> Reg
     zero
 }
 
-/// The instruction of a kind whose fields are in range.
+/// Returns the instruction of a kind whose fields are in range.
 fn instr(kind: Kind) -> Instr
     requires { IsInRange kind }
     ensures { result ≡ kind }
@@ -129,7 +129,7 @@ fn instr(kind: Kind) -> Instr
     instr
 }
 
-// That a register's number is below 32 is known once it is asked.
+// `number()` is called for its postcondition, `< 32`.
 
 pub fn lui(rd: Reg, imm: u32) -> Instr
     requires { imm < 2 ^ 20 }
@@ -199,7 +199,7 @@ pub fn csr_imm(op: CsrOp, rd: Reg, imm: u8, csr: Csr) -> Instr
     instr(Kind::CsrImm { op, rd, imm, csr })
 }
 
-/// The instruction of what takes an immediate of twelve bits.
+/// Returns an instruction with its 12-bit immediate put in.
 pub fn with_immediate(taker: ImmediateTaker, imm: i32) -> Instr
     requires { IsWithin (2 ^ 11) imm }
     ensures { result ≡ with_immediate taker imm }

@@ -1,19 +1,19 @@
-//! Where the statements lie, and what is defined.
+//! Phase two: the addresses of statements, and the symbols that lines define.
 ghost use Rattle.std.specs.Prelude.{◌≡◌, ◌≤◌};
 ghost use Rattle.std.specs.List.{All};
 
 use crate::FaultKind;
-use crate::asked::BASE;
 use crate::emission::Scope;
 use crate::locals::LocalLabel;
-use crate::placed::Placed;
+use crate::placement::PlacedStatement;
 use crate::symbols::Symbols;
+use rv_base::RAM_BASE;
 use rv_program::Names;
 use rv_source::{Label, Line, Statement};
 use std::alloc::Global;
 use std::marker::Model;
 
-/// What is known in front of a statement: its address, and what was defined so far.
+/// The state between two statements: the address of the next one, and the symbols defined so far.
 #[derive(Drop)]
 pub struct Known {
     address: u32,
@@ -40,12 +40,12 @@ impl Known {
         ensures { result ≡ start }
     {
         Known {
-            address: BASE,
+            address: RAM_BASE,
             symbols: Symbols::new(alloc),
         }
     }
 
-    /// Defines a label as the address of what follows.
+    /// Defines a label as the current address.
     #[tactic(auto, unfolding(crate::specs::Steps::newly_labelled))]
     fn label(&mut self, alloc: Global, line: usize, label: &Label) -> Result<(), FaultKind>
         requires { All (λ d. d.line ≤ line) self.old.definitions.locals }
@@ -84,14 +84,15 @@ impl Known {
         Ok(())
     }
 
-    /// What was defined.
+    /// Returns the symbols defined so far.
     pub fn symbols(&self) -> &Symbols
         ensures { result.now ≡ self.now.definitions }
     {
         &self.symbols
     }
 
-    /// Places the statement of a line, and goes on behind it.
+    /// Gives the statement of a line its place, defines its name if it is `.equ`, and moves the address past
+    /// it.
     #[tactic(auto, using(crate::proofs::Placing::definition_new, crate::proofs::Placing::newly_defined, crate::proofs::Placing::newly_passed), unfolding(crate::specs::Steps::newly_stated))]
     fn place<'a>(
         &mut self,
@@ -99,7 +100,7 @@ impl Known {
         line: usize,
         text: &'a [u8],
         statement: &Statement,
-        items: &mut Vec<Placed<'a>>,
+        items: &mut Vec<PlacedStatement<'a>>,
     ) -> Result<(), FaultKind>
         requires { statement_in text.now ≡ Some statement.now }
         ensures { KindBecomes (laid self.new items.new.items) result (after_statement line self.old items.old.items (Some statement.now)) }
@@ -109,7 +110,7 @@ impl Known {
             line,
             here: self.address,
         };
-        let item = Placed::new(alloc, scope, text, statement)?;
+        let item = PlacedStatement::new(alloc, scope, text, statement)?;
         if let Some((name, value)) = item.definition(statement) {
             self.symbols.names.define(alloc, name, value)?;
         }
@@ -120,7 +121,8 @@ impl Known {
         Ok(())
     }
 
-    /// Takes one more line, as it is written and as it was read, and places its statement. Its number counts from 0.
+    /// Lays out one more line: defines its labels and places its statement. `text` is the line as written,
+    /// `line` as read, and `number` counts from 0.
     #[tactic(auto, unfolding(crate::specs::Steps::after_line))]
     pub fn add<'a>(
         &mut self,
@@ -128,7 +130,7 @@ impl Known {
         number: usize,
         text: &'a [u8],
         line: &Line,
-        items: &mut Vec<Placed<'a>>,
+        items: &mut Vec<PlacedStatement<'a>>,
     ) -> Result<(), FaultKind>
         requires up_to { All (λ d. d.line ≤ number) self.old.definitions.locals }
         requires read { said text.now ≡ Ok line.now }
@@ -141,7 +143,7 @@ impl Known {
         }
     }
 
-    /// The names alone.
+    /// Returns the names, without the local labels.
     pub fn into_names(self) -> Names
         ensures { result ≡ self.definitions.names }
     {

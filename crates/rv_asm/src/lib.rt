@@ -1,16 +1,21 @@
 //! Assembles a source text into the image that a board boots.
 //!
+//! Assembly has three phases. Phase one reads each line into its labels and its statement. Phase two gives
+//! each statement its address and its size, and each name its value. Phase three evaluates the expressions
+//! and writes the bytes. The first phase with a faulty line ends the assembly with the fault of its first
+//! faulty line.
+//!
 //! The language is this project's own: see docs/ASSEMBLER.md.
 #![tactic(auto)]
 
-mod asked;
 mod assembler;
 mod data;
 mod emission;
+mod extent;
 mod instructions;
 mod layout;
 mod locals;
-mod placed;
+mod placement;
 mod symbols;
 mod values;
 

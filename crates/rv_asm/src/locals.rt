@@ -1,4 +1,4 @@
-//! Local labels, which may be defined again and again.
+//! Local labels, which may be defined any number of times.
 ghost use Rattle.std.specs.Prelude.{◌≡◌, ◌<◌, ℕ, [], get_or, length, OnOk};
 ghost use Rattle.rv_asm.specs.Kept.{Rises, IsCut, Files};
 
@@ -7,18 +7,18 @@ use rv_tokens::Direction;
 use std::alloc::{AllocError, Global};
 use std::marker::Model;
 
-/// A definition of a local label, as the definitions speak of it; the program answers none.
+/// A definition of a local label. Public because definitions name it; no call returns one.
 #[derive(Clone, Copy)]
 pub struct LocalLabel {
-    /// The line on which it stands, counted from 0.
+    /// Its line, counted from 0.
     pub line: usize,
-    /// The address of what follows it.
+    /// The address that it stands for.
     pub address: u32,
     /// Its number: 0 to 9999.
     pub number: u16,
 }
 
-/// How many definitions stand on this line or before it.
+/// Returns the number of definitions on this line or before it.
 fn count_up_to(labels: &[LocalLabel], line: usize) -> usize
     requires { Rises labels.now }
     ensures { IsCut labels.now line result }
@@ -36,7 +36,7 @@ fn count_up_to(labels: &[LocalLabel], line: usize) -> usize
     low
 }
 
-/// The definitions of one number, in order.
+/// The definitions of one number, in order of lines.
 #[derive(Drop)]
 struct Repeated {
     labels: Vec<LocalLabel>,
@@ -74,7 +74,7 @@ impl Repeated {
         Ok(())
     }
 
-    /// The address that a reference on a line stands for.
+    /// Returns the address that a reference on a line stands for, or None if there is no such definition.
     fn nearest(&self, number: u16, direction: Direction, line: usize) -> Option<u32>
         requires rises { Rises self.now }
         requires one { AreOf number self.now }
@@ -98,7 +98,7 @@ impl Repeated {
     }
 }
 
-/// Makes a place for the definitions of a number, where there is none.
+/// Appends empty lists until there is one for `number`.
 fn make_room(alloc: Global, lists: &mut Vec<Repeated>, number: usize) -> Result<(), AllocError>
     ensures same { (n : ℕ) → get_or lists.new.items n [] ≡ get_or lists.old.items n [] }
     ensures room { OnOk result (number < length lists.new.items) }
@@ -111,7 +111,7 @@ fn make_room(alloc: Global, lists: &mut Vec<Repeated>, number: usize) -> Result<
     Ok(())
 }
 
-/// Adds a definition to those of its number.
+/// Appends a definition to the list of its number.
 fn file(alloc: Global, lists: &mut Vec<Repeated>, label: LocalLabel) -> Result<(), AllocError>
     ensures { Files lists.old.items lists.new.items label result }
 {
@@ -120,14 +120,14 @@ fn file(alloc: Global, lists: &mut Vec<Repeated>, label: LocalLabel) -> Result<(
     lists[number].push(label)
 }
 
-/// The definitions of local labels, in order.
+/// The definitions of local labels, in order of lines.
 pub struct Locals {
     labels: Vec<LocalLabel>,
-    /// At each number its own definitions.
+    /// The definitions of each number, at the index of the number.
     by_number: Vec<Repeated>,
 }
 
-// Written out, so that to let it go is one call where it is owned, and not one for each of its parts.
+// Hand-written: a derived `Drop` would be proved anew at each exit (docs/PROVING.md).
 impl Drop for Locals {
     fn drop(self) {
         let Locals {
@@ -164,7 +164,7 @@ impl Locals {
         }
     }
 
-    /// Defines a label, on a line that isn't before those of the others.
+    /// Defines a label. Its line is no earlier than those of the definitions before it.
     pub fn define(&mut self, alloc: Global, label: LocalLabel) -> Result<(), FaultKind>
         requires { All (λ d. d.line ≤ label.line) self.old }
         ensures { KindBecomes self.new result (Ok (self.old ++ label ∷ [])) }
@@ -181,7 +181,7 @@ impl Locals {
         }
     }
 
-    /// The address that a reference on a line stands for.
+    /// Returns the address that a reference on a line stands for, or None if there is no such definition.
     pub fn nearest(&self, number: u16, direction: Direction, line: usize) -> Option<u32>
         ensures { result ≡ nearest self.now number line direction }
     {

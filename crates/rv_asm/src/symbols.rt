@@ -1,4 +1,4 @@
-//! What a source defines, and what an expression stands for.
+//! The symbols of a source, and the values of expressions.
 ghost use Rattle.std.specs.Prelude.{◌≡◌, ◌^◌, true, [], IfSome};
 ghost use Rattle.rv_asm.specs.Symbols.{atom_value, sum_value, added};
 ghost use Rattle.rv_asm.specs.Kept.{IsNear};
@@ -10,7 +10,7 @@ use rv_source::{Atom, Expression};
 use std::alloc::Global;
 use std::marker::Model;
 
-/// Names and local labels with their values, in order of definition.
+/// The names and local labels of a source with their values, in order of definition.
 #[derive(Drop)]
 pub struct Symbols {
     pub names: Names,
@@ -35,7 +35,7 @@ impl Symbols {
         }
     }
 
-    /// What an atom stands for.
+    /// Returns the value of an atom, or None if its symbol isn't defined.
     fn atom(&self, atom: &Atom, line: usize, here: u32) -> Option<i64>
         ensures value { result ≡ atom_value self.now line here atom.now }
         ensures word { IfSome result (λ v. is_word v ≡ true) }
@@ -53,8 +53,8 @@ impl Symbols {
         }
     }
 
-    /// What an expression stands for on a line, counted from 0, in a statement at an address; None where one of its
-    /// symbols isn't defined.
+    /// Returns the value of an expression on a line, counted from 0, in a statement at the address `here`.
+    /// None if one of its symbols isn't defined.
     pub fn sum(&self, expression: &Expression, line: usize, here: u32) -> Option<i64>
         ensures { result ≡ sum_value self.now line here expression.now }
     {
@@ -67,7 +67,7 @@ impl Symbols {
     }
 }
 
-/// A sum and one more value, which is subtracted where it is negative.
+/// Adds a value to a sum, or subtracts it if it has a minus sign.
 fn added(sum: i64, negative: bool, value: i64) -> i64
     requires sum { IsNear (2 ^ 62) sum }
     requires value { is_word value ≡ true }

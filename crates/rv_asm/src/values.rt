@@ -1,4 +1,4 @@
-//! Values in the places of a statement.
+//! Conversions of the value of an expression to the field that it fills.
 ghost use Rattle.std.specs.Prelude.{◌≡◌, ◌==◌, ◌&&◌, ◌<◌, ◌≤◌, ◌^◌, Some, None, IfSome, if◌then◌else◌};
 ghost use Rattle.rv_isa.specs.declared.op.Width.TheVariants.{One};
 ghost use Rattle.rv_isa.specs.Number.{IsWithin, IsDistance, modulo};
@@ -14,14 +14,14 @@ pub fn is_between(low: i64, high: i64, value: i64) -> bool
     low <= value && value <= high
 }
 
-/// Whether a value is one of 32 bits, with or without a sign.
+/// Returns whether a value fits into 32 bits, signed or unsigned.
 pub fn is_word(value: i64) -> bool
     ensures { result ≡ is_word value }
 {
     is_between(-0x8000_0000, 0xffff_ffff, value)
 }
 
-/// Whether a value is one of as many bytes, with or without a sign.
+/// Returns whether a value fits into a width, signed or unsigned.
 pub fn fits(width: Width, value: i64) -> bool
     ensures { result ≡ fits width value }
 {
@@ -32,14 +32,14 @@ pub fn fits(width: Width, value: i64) -> bool
     }
 }
 
-/// The low 32 bits of a value.
+/// Returns the low 32 bits of a value.
 pub fn bits(value: i64) -> u32
     ensures { result ≡ modulo value (2 ^ 32) }
 {
     value.rem_euclid(0x1_0000_0000) as u32
 }
 
-/// The byte that a value stands for.
+/// Converts a value to a byte, if it fits.
 pub fn byte(value: i64) -> Option<u8>
     ensures { result ≡ (if fits One value then Some (modulo value (2 ^ 8)) else None) }
 {
@@ -50,7 +50,7 @@ pub fn byte(value: i64) -> Option<u8>
     }
 }
 
-/// The immediate of an I-type or S-type instruction that a value stands for.
+/// Converts a value to the immediate of an I-type or S-type instruction, if it fits.
 pub fn immediate(value: i64) -> Option<i32>
     ensures value { result ≡ immediate value }
     ensures within { IfSome result (IsWithin (2 ^ 11)) }
@@ -64,7 +64,7 @@ pub fn immediate(value: i64) -> Option<i32>
     }
 }
 
-/// The immediate of a U-type instruction that a value stands for.
+/// Converts a value to the immediate of a U-type instruction, if it fits.
 pub fn upper_immediate(value: i64) -> Option<u32>
     ensures value { result ≡ upper_immediate value }
     ensures within { IfSome result (λ imm. imm < 2 ^ 20) }
@@ -76,7 +76,7 @@ pub fn upper_immediate(value: i64) -> Option<u32>
     }
 }
 
-/// The amount of a shift, or the immediate of a control register instruction, that a value stands for.
+/// Converts a value to a shift amount, or to the immediate of a control register instruction, if it fits.
 pub fn five_bits(value: i64) -> Option<u8>
     ensures value { result ≡ five_bits value }
     ensures within { IfSome result (λ n. n < 32) }
@@ -88,8 +88,8 @@ pub fn five_bits(value: i64) -> Option<u8>
     }
 }
 
-/// A distance that is even and lies between two bounds. A function of its own, since a remainder and a cast make a dear goal
-/// of each distance.
+/// Returns a distance if it is even and lies between two bounds.
+// Out of line: a remainder and a cast would make the proof of each kind of distance expensive.
 fn even_between(low: i64, high: i64, offset: i64) -> Option<i32>
     requires low { IsWithin (2 ^ 20) low }
     requires high { IsWithin (2 ^ 20) high }
@@ -102,7 +102,7 @@ fn even_between(low: i64, high: i64, offset: i64) -> Option<i32>
     }
 }
 
-/// How far the target of `jal` is from it.
+/// Returns the distance from `jal` to its target, if it is even and in range.
 #[tactic(auto, using(crate::proofs::Distances::jump_within))]
 pub fn jump_distance(here: u32, target: i64) -> Option<i32>
     ensures value { result ≡ distance (2 ^ 20) here target }
@@ -112,7 +112,7 @@ pub fn jump_distance(here: u32, target: i64) -> Option<i32>
     even_between(-1_048_576, 1_048_574, offset)
 }
 
-/// How far the target of a branch is from it.
+/// Returns the distance from a branch to its target, if it is even and in range.
 #[tactic(auto, using(crate::proofs::Distances::branch_within))]
 pub fn branch_distance(here: u32, target: i64) -> Option<i32>
     ensures value { result ≡ distance (2 ^ 12) here target }
@@ -122,7 +122,7 @@ pub fn branch_distance(here: u32, target: i64) -> Option<i32>
     even_between(-4096, 4094, offset)
 }
 
-/// The upper immediate that leaves the rest of a word to the low part.
+/// Returns the high part of a word: the upper immediate to which the low part is added.
 pub fn hi(word: u32) -> u32
     ensures value { result ≡ hi word }
     ensures below { result < 2 ^ 20 }
@@ -130,7 +130,7 @@ pub fn hi(word: u32) -> u32
     ((u64::from(word) + 2048) / 4096 % 0x10_0000) as u32
 }
 
-/// The low part of a word, which is added to the upper part.
+/// Returns the low part of a word, which is added to the high part.
 pub fn lo(word: u32) -> i32
     ensures value { result ≡ lo word }
     ensures within { IsWithin (2 ^ 11) result }
@@ -139,7 +139,7 @@ pub fn lo(word: u32) -> i32
     if low < 2048 { low } else { low - 4096 }
 }
 
-/// The low part of the word that a value stands for.
+/// Returns the low part of a value that fits into 32 bits.
 pub fn low(value: i64) -> Option<i32>
     ensures value { result ≡ part_of lo value }
     ensures within { IfSome result (IsWithin (2 ^ 11)) }
@@ -151,7 +151,7 @@ pub fn low(value: i64) -> Option<i32>
     }
 }
 
-/// The upper part of the word that a value stands for.
+/// Returns the high part of a value that fits into 32 bits.
 pub fn high(value: i64) -> Option<u32>
     ensures value { result ≡ part_of hi value }
     ensures below { IfSome result (λ imm. imm < 2 ^ 20) }
@@ -163,7 +163,7 @@ pub fn high(value: i64) -> Option<u32>
     }
 }
 
-/// How far a target is from here, as a word.
+/// Returns the distance from `here` to a target that fits into 32 bits, modulo 2^32.
 pub fn far(here: u32, target: i64) -> Option<u32>
     ensures { result ≡ far here target }
 {
@@ -174,7 +174,7 @@ pub fn far(here: u32, target: i64) -> Option<u32>
     }
 }
 
-/// The one or two instructions that load a word.
+/// Returns the one or two instructions that load a word into a register.
 #[tactic(auto, unfolding(crate::specs::Values::loading))]
 pub fn loading(rd: Reg, word: u32) -> Instructions
     ensures { result ≡ loading rd word }
@@ -191,7 +191,7 @@ pub fn loading(rd: Reg, word: u32) -> Instructions
     }
 }
 
-/// How many bytes there are from an address to the next multiple.
+/// Returns the number of bytes from an address to the next multiple.
 pub fn gap(here: u32, multiple: u32) -> u32
     requires { 0 < multiple }
     ensures { result ≡ gap here multiple }

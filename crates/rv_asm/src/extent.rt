@@ -1,4 +1,4 @@
-//! What a statement asks for when it is placed, and how many bytes it has.
+//! The size of a statement, and the value that has to be known before it has one.
 ghost use Rattle.std.specs.Prelude.{◌≡◌, ◌≤◌, ◌<◌, ◌+◌, ◌^◌, true, None, IfSome};
 ghost use Rattle.std.specs.Prelude.{◌*◌, min, option_and_then};
 ghost use Rattle.rv_asm.specs.Values.{is_between};
@@ -9,16 +9,11 @@ ghost use Rattle.rv_asm.specs.Steps.{IsTaken, Ends, constant_in, size_in};
 
 use crate::symbols::Symbols;
 use crate::values::{bits, gap, is_between, loading};
+use rv_base::{IMAGE_LIMIT, RAM_BASE};
 use rv_isa::Width;
 use rv_source::{Statement, ValueTaker};
 
-/// Where the image lies.
-pub const BASE: u32 = 0x8000_0000;
-
-/// How many bytes an image has at most.
-const LIMIT: u32 = 16_777_216;
-
-/// A value that is known and lies between two bounds.
+/// Returns the value if it is known and lies between two bounds, both included.
 fn between(low: i64, high: i64, value: Option<i64>) -> Option<i64>
     ensures value { result ≡ option_and_then (taken (is_between low high)) value }
     ensures taken { IfSome result (λ v. is_between low high v ≡ true) }
@@ -29,7 +24,7 @@ fn between(low: i64, high: i64, value: Option<i64>) -> Option<i64>
     }
 }
 
-/// A value that is known and a power of two, from 1 to 4096.
+/// Returns the value if it is known and a power of two from 1 to 4096.
 fn multiple(value: Option<i64>) -> Option<i64>
     ensures value { result ≡ option_and_then (taken is_multiple) value }
     ensures taken { IfSome result (λ v. is_multiple v ≡ true) }
@@ -40,8 +35,10 @@ fn multiple(value: Option<i64>) -> Option<i64>
     }
 }
 
-/// The value that has to be known where the statement stands, or 0 where it asks for none; None where the value isn't
-/// known or isn't one that the statement takes.
+/// Returns the constant of a statement: the value that must be known on its line, because its size or a name
+/// depends on it (the value of `li` and `.equ`, the size of `.space`, the alignment of `.align` and
+/// `.balign`). Other statements have the constant 0. None if the value isn't known there, or isn't in the
+/// range of the statement.
 #[tactic(auto, unfolding(crate::specs::Steps::constant_in, crate::specs::Steps::IsTaken))]
 pub fn constant(symbols: &Symbols, line: usize, here: u32, statement: &Statement) -> Option<i64>
     ensures value { result ≡ constant_in symbols.now line here statement.now }
@@ -55,7 +52,11 @@ pub fn constant(symbols: &Symbols, line: usize, here: u32, statement: &Statement
         Statement::Constant { value, .. } => {
             between(-0x8000_0000, 0xffff_ffff, symbols.sum(value, line, here))
         }
-        Statement::Space { size, .. } => between(0, LIMIT as i64, symbols.sum(size, line, here)),
+        Statement::Space { size, .. } => between(
+            0,
+            IMAGE_LIMIT as i64,
+            symbols.sum(size, line, here),
+        ),
         Statement::WithValue {
             taker: ValueTaker::Align,
             value: power,
@@ -68,7 +69,7 @@ pub fn constant(symbols: &Symbols, line: usize, here: u32, statement: &Statement
     }
 }
 
-/// What an alignment aligns to, with the value that it asked for.
+/// Returns the number of bytes that an alignment directive aligns to; 1 for any other statement.
 #[tactic(auto, unfolding(crate::specs::Steps::IsTaken))]
 pub fn multiple_of(constant: i64, statement: &Statement) -> u32
     requires { IsTaken constant statement.now }
@@ -88,7 +89,7 @@ pub fn multiple_of(constant: i64, statement: &Statement) -> u32
     }
 }
 
-/// How many bytes values of a width have, or the largest number of 32 bits where they are more.
+/// Returns the size in bytes of `count` values of a width, saturated at 2^32 - 1.
 fn data_size(width: Width, count: usize) -> u32
     ensures { result ≡ min (bytes_of width * count) 0xffffffff }
 {
@@ -100,8 +101,7 @@ fn data_size(width: Width, count: usize) -> u32
     }
 }
 
-/// How many bytes a statement has at an address, with the value that it asked for, or the largest number of 32 bits
-/// where they are more.
+/// Returns the size in bytes of a statement at the address `here`, saturated at 2^32 - 1.
 #[tactic(auto, unfolding(crate::specs::Values::loading, crate::specs::Steps::size_in))]
 pub fn size_of(here: u32, constant: i64, statement: &Statement) -> u32
     requires { IsTaken constant statement.now }
@@ -131,16 +131,16 @@ pub fn size_of(here: u32, constant: i64, statement: &Statement) -> u32
     }
 }
 
-/// The address of what follows a statement; None where it is past the last byte that an image may have.
+/// Returns the address following a statement, or None if the statement ends past the largest image.
 pub fn end_of(here: u32, constant: i64, statement: &Statement) -> Option<u32>
     requires { IsTaken constant statement.now }
     ensures { Ends result (here + size_in here constant statement.now) }
 {
     let end = here.saturating_add(size_of(here, constant, statement));
-    (end <= BASE + LIMIT).then_some(end)
+    (end <= RAM_BASE + IMAGE_LIMIT).then_some(end)
 }
 
-/// Whether a statement is placed as instructions.
+/// Returns whether a statement is assembled to instructions. Their address has to be a multiple of 4.
 pub fn is_instruction(statement: &Statement) -> bool
     ensures { result ≡ is_instruction statement.now }
 {

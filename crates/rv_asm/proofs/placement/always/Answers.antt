@@ -6,7 +6,7 @@ use mir.Val.{SFits}
 use Rattle.rv_asm.specs.Listing.{instructions}
 use Rattle.rv_asm.specs.Symbols.{sum_value}
 use Rattle.rv_asm.proofs.Always.{always}
-use Rattle.rv_asm.proofs.placed.always.Goals as goal
+use Rattle.rv_asm.proofs.placement.always.Goals as goal
 
 pub returns-in-Ok : goal.returns-in-Ok
 returns-in-Ok c =

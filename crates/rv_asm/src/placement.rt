@@ -1,11 +1,11 @@
-//! Statements that have their place.
+//! Statements with their places in the image.
 ghost use Rattle.std.specs.Prelude.{◌≡◌, IfSome};
 ghost use Rattle.rv_asm.specs.Layout.{renames};
 ghost use Rattle.rv_asm.specs.Steps.{IsAlways};
 
 use crate::FaultKind;
-use crate::asked::{constant, end_of, is_instruction};
 use crate::emission::Scope;
+use crate::extent::{constant, end_of, is_instruction};
 use crate::instructions::write_instr;
 use crate::symbols::Symbols;
 use rv_isa::Instr;
@@ -13,26 +13,27 @@ use rv_source::{Statement, read_line};
 use std::alloc::Global;
 use std::marker::Model;
 
-/// A statement, its line, its address and the value that it asked for. The statement itself isn't kept, for its lists
-/// would take many times the room of its text: where its bytes are written the line is read again.
+/// A statement with its place: its line, its address and its constant. The statement itself isn't kept, since
+/// its lists would take many times the memory of its text: phase three reads the line again.
 #[derive(Drop)]
-pub struct Placed<'a> {
-    /// Counted from 0.
+pub struct PlacedStatement<'a> {
+    /// The number of the line, counted from 0.
     line: usize,
     address: u32,
-    /// The address of what follows.
+    /// The address following the statement.
     end: u32,
-    /// 0 where none is asked for.
+    /// The value that had to be known in phase two, or 0 if there is none.
     constant: i64,
-    /// The line as it is written.
+    /// The line as written.
     text: &'a [u8],
-    /// What is placed, where that is one instruction and no name has a part in it: then the line isn't read again.
+    /// The instruction, if the statement is a single one that depends on no symbol. The line isn't read again
+    /// then.
     instr: Option<Instr>,
 }
 
-impl<'a> Model for Placed<'a> {
+impl<'a> Model for PlacedStatement<'a> {
     ghost use Rattle.std.specs.Prelude.{◌≡◌, ◌≤◌, IfSome};
-    ghost use Rattle.rv_asm.specs.Steps.{Item, IsTaken, IsAlways, stated_in, end_of};
+    ghost use Rattle.rv_asm.specs.Steps.{Item, IsTaken, IsAlways, stated_in, end_of, image_end};
 
     ghost Value = { Item };
 
@@ -40,10 +41,10 @@ impl<'a> Model for Placed<'a> {
 
     ghost invariant = { λ p.
         let item : Item = record { line = p.line; address = p.address; constant = p.constant; statement = stated_in p.text.now } in
-        IsTaken item.constant item.statement × (p.end ≡ end_of item) × (p.end ≤ 0x81000000) × IfSome p.instr (IsAlways item) };
+        IsTaken item.constant item.statement × (p.end ≡ end_of item) × (p.end ≤ image_end) × IfSome p.instr (IsAlways item) };
 }
 
-/// Whether `.equ` defines a name that was defined before.
+/// Returns whether a statement is `.equ` of a name that is already defined.
 fn renames(symbols: &Symbols, statement: &Statement) -> bool
     ensures { result ≡ renames symbols.now.names statement.now }
 {
@@ -53,7 +54,7 @@ fn renames(symbols: &Symbols, statement: &Statement) -> bool
     }
 }
 
-/// The one instruction that a statement is, whatever names are defined.
+/// Returns the instruction of a statement, if it is a single one that depends on no symbol.
 fn always(
     alloc: Global,
     line: usize,
@@ -75,21 +76,21 @@ fn always(
     }
 }
 
-impl<'a> Placed<'a> {
+impl<'a> PlacedStatement<'a> {
     ghost use Rattle.std.specs.Prelude.{◌≡◌, ◌≤◌, true, Some, IfSome, IfOk};
     ghost use Rattle.std.specs.Option.{option_map};
     ghost use Rattle.rv_asm.specs.Values.{is_word};
     ghost use Rattle.rv_asm.specs.Kept.{KindGives, KindBecomes};
-    ghost use Rattle.rv_asm.specs.Steps.{placed, statement_in, end_of, definition_in, item_bytes, appended};
+    ghost use Rattle.rv_asm.specs.Steps.{placed, statement_in, end_of, definition_in, item_bytes, appended, image_end};
 
-    /// The place of the statement of a line, where its fault in phase two is none.
+    /// Places the statement of a line, or returns its fault in phase two.
     #[tactic(auto, unfolding(crate::specs::Steps::placed, crate::specs::Layout::statement_fault, crate::specs::Steps::constant_in, crate::specs::Steps::size_in))]
     pub fn new(
         alloc: Global,
         scope: Scope,
         text: &'a [u8],
         statement: &Statement,
-    ) -> Result<Placed<'a>, FaultKind>
+    ) -> Result<PlacedStatement<'a>, FaultKind>
         requires { statement_in text.now ≡ Some statement.now }
         ensures gives { KindGives (λ p. p) result (placed scope.entry.line (record { address = scope.entry.here; definitions = scope.entry.symbols.now }) statement.now) }
         ensures same { IfOk result (λ p. p.statement ≡ statement.now) }
@@ -112,7 +113,7 @@ impl<'a> Placed<'a> {
             return Err(FaultKind::TooLarge);
         };
         let instr = always(alloc, line, address, constant, statement);
-        Ok(Placed {
+        Ok(PlacedStatement {
             line,
             address,
             end,
@@ -122,22 +123,22 @@ impl<'a> Placed<'a> {
         })
     }
 
-    /// The number of the line, counted from 0.
+    /// Returns the number of the line, counted from 0.
     pub fn line(&self) -> usize
         ensures { result ≡ self.now.line }
     {
         self.line
     }
 
-    /// The address of what follows the statement.
+    /// Returns the address following the statement.
     pub fn end(&self) -> u32
         ensures value { result ≡ end_of self.now }
-        ensures within { result ≤ 0x81000000 }
+        ensures within { result ≤ image_end }
     {
         self.end
     }
 
-    /// The name that `.equ` defines, and its value.
+    /// Returns the name that `.equ` defines, with its value; None for any other statement.
     #[tactic(auto, unfolding(crate::specs::Steps::definition_in, crate::specs::Steps::IsTaken))]
     pub fn definition<'s>(&self, statement: &Statement<'s>) -> Option<(&'s [u8], i64)>
         requires { statement.now ≡ self.now.statement }
@@ -150,7 +151,7 @@ impl<'a> Placed<'a> {
         }
     }
 
-    /// Appends the bytes of the statement, with every name known.
+    /// Appends the bytes of the statement, once all symbols are known.
     #[tactic(auto, using(crate::proofs::Writing::nothing_written, crate::proofs::Writing::written))]
     pub fn write(
         &self,
@@ -163,7 +164,7 @@ impl<'a> Placed<'a> {
         if let Some(instr) = self.instr {
             return write_instr(instr, out);
         }
-        // The line was read before, so that only memory can be missing.
+        // The line was read in phase one, so reading it again can only run out of memory.
         let Ok(line) = read_line(alloc, self.text) else {
             return Err(FaultKind::OutOfMemory);
         };
