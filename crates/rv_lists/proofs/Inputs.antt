@@ -11,7 +11,8 @@ use Rattle.rv_base.specs.Numbers.{byte_of}
 use Rattle.rv_lists.specs.Timed.{joined, all_of, byte_input, received, driven, inputs_of, at, never_falls}
 use Rattle.rv_lists.specs.Reading.{latest_step, with_inputs, with_line}
 
-pub latest_is : (xs : List TimedInput) (d : TimedInput) → 0 < length xs → (get_or xs (length xs - 1) d).step ≡ latest_step xs
+pub latest_is : (xs : List TimedInput) (d : TimedInput) → 0 < length xs
+    → (get_or xs (length xs - 1) d).step ≡ latest_step xs
 latest_is [] d h = absurd (omega arith)
 latest_is (x ∷ []) d h = refl
 latest_is (x ∷ y ∷ more) d h =
@@ -28,20 +29,27 @@ pub received_none : (ws : List (List ℕ)) → nat_lt 0 (length ws) ≡ false �
 received_none [] h = refl
 received_none (w ∷ ws) h = absurd (grind (arith, nat_tests))
 
-with_pushed : (before : List TimedInput) (step b : ℕ) (r : Option (List Input)) → with_inputs (before ++ record { step = step; input = Rx b } ∷ []) step r ≡ with_inputs before step (option_map (λ zs. Rx b ∷ zs) r)
-with_pushed before step b (Some is) = ap (λ x. Some x) (append_assoc before (record { step = step; input = Rx b } ∷ []) (at step is))
+with_pushed : (before : List TimedInput) (step b : ℕ) (r : Option (List Input))
+    → with_inputs (before ++ record { step = step; input = Rx b } ∷ []) step r
+    ≡ with_inputs before step (option_map (λ zs. Rx b ∷ zs) r)
+with_pushed before step b (Some is) =
+    ap (λ x. Some x) (append_assoc before (record { step = step; input = Rx b } ∷ []) (at step is))
 with_pushed before step b None = refl
 
-pub received_more : (before : List TimedInput) (step b : ℕ) (w : List ℕ) (ws words : List (List ℕ)) → words ≡ w ∷ ws → byte_of w ≡ Some b
-    → with_inputs (before ++ record { step = step; input = Rx b } ∷ []) step (all_of byte_input ws) ≡ with_inputs before step (all_of byte_input words)
+pub received_more : (before : List TimedInput) (step b : ℕ) (w : List ℕ) (ws words : List (List ℕ))
+    → words ≡ w ∷ ws → byte_of w ≡ Some b
+    → with_inputs (before ++ record { step = step; input = Rx b } ∷ []) step (all_of byte_input ws)
+    ≡ with_inputs before step (all_of byte_input words)
 unfolding all_of
 received_more before step b w ws words e is = rw (e, is) (with_pushed before step b (all_of byte_input ws))
 
-pub received_bad : (before : List TimedInput) (step : ℕ) (w : List ℕ) (ws words : List (List ℕ)) → words ≡ w ∷ ws → byte_of w ≡ None → with_inputs before step (all_of byte_input words) ≡ None
+pub received_bad : (before : List TimedInput) (step : ℕ) (w : List ℕ) (ws words : List (List ℕ))
+    → words ≡ w ∷ ws → byte_of w ≡ None → with_inputs before step (all_of byte_input words) ≡ None
 unfolding all_of
 received_bad before step w ws words e is = rw (e, is) refl
 
-pub received_end : (before : List TimedInput) (step : ℕ) (words : List (List ℕ)) → words ≡ [] → with_inputs before step (all_of byte_input words) ≡ Some before
+pub received_end : (before : List TimedInput) (step : ℕ) (words : List (List ℕ)) → words ≡ []
+    → with_inputs before step (all_of byte_input words) ≡ Some before
 unfolding all_of
 received_end before step words e = rw e (ap (λ x. Some x) (append-nil before))
 
@@ -78,34 +86,52 @@ at_once step (i ∷ []) = refl
 at_once step (i ∷ j ∷ is) = rw (level step step (omega arith)) (at_once step (j ∷ is))
 
 -- whether the steps fall depends only on the last input before and the first input after
-falls_between : (before : List TimedInput) (step : ℕ) (i : Input) (is : List Input) → never_falls before ≡ true → never_falls (before ++ at step (i ∷ is)) ≡ nat_le (latest_step before) step
+falls_between : (before : List TimedInput) (step : ℕ) (i : Input) (is : List Input)
+    → never_falls before ≡ true → never_falls (before ++ at step (i ∷ is)) ≡ nat_le (latest_step before) step
 unfolding never_falls
 falls_between [] step i is h = at_once step (i ∷ is) ∙ sym (level 0 step (omega arith))
-falls_between (x ∷ []) step i is h = ap (λ b. nat_le x.step step && b) (at_once step (i ∷ is)) ∙ and_true (nat_le x.step step)
+falls_between (x ∷ []) step i is h =
+    ap (λ b. nat_le x.step step && b) (at_once step (i ∷ is)) ∙ and_true (nat_le x.step step)
 falls_between (x ∷ y ∷ more) step i is h =
     rw (and_left (nat_le x.step y.step) (never_falls (y ∷ more)) h)
     (falls_between (y ∷ more) step i is (and_right (nat_le x.step y.step) (never_falls (y ∷ more)) h))
 
-pub with_line-none : (before : List TimedInput) (r : Option (List TimedInput)) → r ≡ None → with_line before r ≡ None
+pub with_line-none : (before : List TimedInput) (r : Option (List TimedInput)) → r ≡ None
+    → with_line before r ≡ None
 with_line-none before r e = rw e refl
 
-pub with_line-nothing : (before : List TimedInput) (r : Option (List TimedInput)) → never_falls before ≡ true → r ≡ Some [] → with_line before r ≡ Some before
+pub with_line-nothing : (before : List TimedInput) (r : Option (List TimedInput)) → never_falls before ≡ true
+    → r ≡ Some [] → with_line before r ≡ Some before
 with_line-nothing before r h e = rw (e, append-nil, h) refl
 
 module _ (before : List TimedInput) (rising : never_falls before ≡ true) (step : ℕ) where
-  pub with_line-step : nat_lt step (latest_step before) ≡ false → (r : Option (List Input)) → ((is : List Input) → r ≡ Some is → 0 < length is) → with_line before (option_map (at step) r) ≡ with_inputs before step r
+  pub with_line-step : nat_lt step (latest_step before) ≡ false → (r : Option (List Input))
+      → ((is : List Input) → r ≡ Some is → 0 < length is)
+      → with_line before (option_map (at step) r) ≡ with_inputs before step r
   with_line-step le None some = refl
   with_line-step le (Some []) some = absurd (omega (arith, some [] refl))
-  with_line-step le (Some (i ∷ is)) some = rw (falls_between before step i is rising, level (latest_step before) step (not_below step (latest_step before) le)) refl
+  with_line-step le (Some (i ∷ is)) some =
+      rw (
+        falls_between before step i is rising,
+        level (latest_step before) step
+            (not_below step (latest_step before) le),
+      ) refl
 
-  pub with_line-fallen : nat_lt step (latest_step before) ≡ true → (r : Option (List Input)) → ((is : List Input) → r ≡ Some is → 0 < length is) → with_line before (option_map (at step) r) ≡ None
+  pub with_line-fallen : nat_lt step (latest_step before) ≡ true → (r : Option (List Input))
+      → ((is : List Input) → r ≡ Some is → 0 < length is) → with_line before (option_map (at step) r) ≡ None
   with_line-fallen lt None some = refl
   with_line-fallen lt (Some []) some = absurd (omega (arith, some [] refl))
-  with_line-fallen lt (Some (i ∷ is)) some = rw (falls_between before step i is rising, above (latest_step before) step (below step (latest_step before) lt)) refl
+  with_line-fallen lt (Some (i ∷ is)) some =
+      rw (
+        falls_between before step i is rising,
+        above (latest_step before) step
+            (below step (latest_step before) lt),
+      ) refl
 
 -- ---- a timed line has an input
 
-received_by : (a : Option ℕ) (r : Option (List Input)) (is : List Input) → joined (option_map (λ b. Rx b ∷ []) a) r ≡ Some is → 0 < length is
+received_by : (a : Option ℕ) (r : Option (List Input)) (is : List Input)
+    → joined (option_map (λ b. Rx b ∷ []) a) r ≡ Some is → 0 < length is
 received_by None r is e = absurd cc
 received_by (Some b) None is e = absurd cc
 received_by (Some b) (Some js) is e = let same : Rx b ∷ js ≡ is = cc in rw (← same) (omega arith)
@@ -115,7 +141,9 @@ unfolding all_of
 received_some [] is e = absurd cc
 received_some (w ∷ ws) is e = received_by (byte_of w) (all_of byte_input ws) is e
 
-some_by : (a b : Bool) (r : Option (List Input)) (d : Option Input) → ((is : List Input) → r ≡ Some is → 0 < length is) → (is : List Input) → cond a r (cond b (option_map (λ i. i ∷ []) d) None) ≡ Some is → 0 < length is
+some_by : (a b : Bool) (r : Option (List Input)) (d : Option Input)
+    → ((is : List Input) → r ≡ Some is → 0 < length is) → (is : List Input)
+    → cond a r (cond b (option_map (λ i. i ∷ []) d) None) ≡ Some is → 0 < length is
 some_by true b r d some is e = some is e
 some_by false true r None some is e = absurd cc
 some_by false true r (Some i) some is e = let same : i ∷ [] ≡ is = cc in rw (← same) (omega arith)
@@ -124,4 +152,6 @@ some_by false false r d some is e = absurd cc
 pub inputs_some : (ws : List (List ℕ)) (is : List Input) → inputs_of ws ≡ Some is → 0 < length is
 unfolding inputs_of
 inputs_some [] is e = absurd cc
-inputs_some (kind ∷ ws) is e = some_by (bytes_eq kind (codes "rx")) (bytes_eq kind (codes "line")) (received ws) (driven ws) (received_some ws) is e
+inputs_some (kind ∷ ws) is e =
+    some_by (bytes_eq kind (codes "rx")) (bytes_eq kind (codes "line")) (received ws) (driven ws)
+    (received_some ws) is e

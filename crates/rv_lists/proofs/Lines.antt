@@ -30,6 +30,7 @@ module _ (line : List ℕ) (h : length line ≤ 1024) where
     unfolding said
     said_bad_step b s = rw (short (length line) h, e, b, s) refl
 
-    pub said_step : begins_comment w ≡ false → (step : ℕ) → step_of w ≡ Some step → said line ≡ option_map (at step) (inputs_of ws)
+    pub said_step : begins_comment w ≡ false → (step : ℕ) → step_of w ≡ Some step
+        → said line ≡ option_map (at step) (inputs_of ws)
     unfolding said
     said_step b step s = rw (short (length line) h, e, b, s) refl

@@ -17,36 +17,47 @@ joined_nothing None = refl
 joined_nothing (Some xs) = ap (λ x. Some x) (append-nil xs)
 
 -- one more part
-all_of_more : {A B : Type 0} (meaning : A → Option (List B)) (xs : List A) (x : A) → all_of meaning (xs ++ x ∷ []) ≡ joined (all_of meaning xs) (meaning x)
+all_of_more : {A B : Type 0} (meaning : A → Option (List B)) (xs : List A) (x : A)
+    → all_of meaning (xs ++ x ∷ []) ≡ joined (all_of meaning xs) (meaning x)
 unfolding all_of
 all_of_more meaning [] x = joined_nothing (meaning x)
-all_of_more meaning (y ∷ ys) x = ap (joined (meaning y)) (all_of_more meaning ys x) ∙ joined_assoc (meaning y) (all_of meaning ys) (meaning x)
+all_of_more meaning (y ∷ ys) x =
+    ap (joined (meaning y)) (all_of_more meaning ys x)
+    ∙ joined_assoc (meaning y) (all_of meaning ys) (meaning x)
 
 -- ---- lines that have a list
 
-rising_by : (xs before : List TimedInput) (b : Bool) → never_falls xs ≡ b → cond b (Some xs) None ≡ Some before → (xs ≡ before) × (never_falls xs ≡ true)
+rising_by : (xs before : List TimedInput) (b : Bool) → never_falls xs ≡ b
+    → cond b (Some xs) None ≡ Some before → (xs ≡ before) × (never_falls xs ≡ true)
 rising_by xs before true e h = (cc, e)
 rising_by xs before false e h = absurd cc
 
-listed_by : (r : Option (List TimedInput)) (before : List TimedInput) → option_and_then unless_falling r ≡ Some before → (r ≡ Some before) × (never_falls before ≡ true)
+listed_by : (r : Option (List TimedInput)) (before : List TimedInput)
+    → option_and_then unless_falling r ≡ Some before → (r ≡ Some before) × (never_falls before ≡ true)
 listed_by None before h = absurd cc
-listed_by (Some xs) before h = let p = rising_by xs before (never_falls xs) refl h in (ap (λ x. Some x) p.0, rw p.0 at p.1)
+listed_by (Some xs) before h =
+    let p = rising_by xs before (never_falls xs) refl h in (ap (λ x. Some x) p.0, rw p.0 at p.1)
 
-listed : (texts : List (List ℕ)) (before : List TimedInput) → timed texts ≡ Some before → (all_of said texts ≡ Some before) × (never_falls before ≡ true)
+listed : (texts : List (List ℕ)) (before : List TimedInput) → timed texts ≡ Some before
+    → (all_of said texts ≡ Some before) × (never_falls before ≡ true)
 unfolding timed
 listed texts before h = listed_by (all_of said texts) before h
 
-pub rising : (texts : List (List ℕ)) (before : List TimedInput) → timed texts ≡ Some before → never_falls before ≡ true
+pub rising : (texts : List (List ℕ)) (before : List TimedInput) → timed texts ≡ Some before
+    → never_falls before ≡ true
 rising texts before h = (listed texts before h).1
 
-with_line_by : (before : List TimedInput) (s : Option (List TimedInput)) → option_and_then unless_falling (joined (Some before) s) ≡ with_line before s
+with_line_by : (before : List TimedInput) (s : Option (List TimedInput))
+    → option_and_then unless_falling (joined (Some before) s) ≡ with_line before s
 with_line_by before None = refl
 with_line_by before (Some xs) = refl
 
 -- one more line
-timed_more : (texts : List (List ℕ)) (text : List ℕ) (before : List TimedInput) → timed texts ≡ Some before → timed (texts ++ text ∷ []) ≡ with_line before (said text)
+timed_more : (texts : List (List ℕ)) (text : List ℕ) (before : List TimedInput) → timed texts ≡ Some before
+    → timed (texts ++ text ∷ []) ≡ with_line before (said text)
 unfolding timed
-timed_more texts text before h = rw (all_of_more said texts text, (listed texts before h).0) (with_line_by before (said text))
+timed_more texts text before h =
+    rw (all_of_more said texts text, (listed texts before h).0) (with_line_by before (said text))
 
 -- ---- the first n lines have these inputs, and the others are left
 
@@ -69,13 +80,17 @@ record IsAt (texts : List (List ℕ)) (n : ℕ) (text : List ℕ) (after : List 
   front : take (suc n) texts ≡ take n texts ++ text ∷ []
   back : drop (suc n) texts ≡ after
 
-dropped : (texts : List (List ℕ)) (n : ℕ) (text : List ℕ) (after : List (List ℕ)) → drop n texts ≡ text ∷ after → IsAt texts n text after
+dropped : (texts : List (List ℕ)) (n : ℕ) (text : List ℕ) (after : List (List ℕ))
+    → drop n texts ≡ text ∷ after → IsAt texts n text after
 dropped [] zero text after e = absurd cc
 dropped [] (suc n) text after e = absurd cc
 dropped (t ∷ ts) zero text after e = record { below = omega arith; front = ap (λ x. x ∷ []) cc; back = cc }
-dropped (t ∷ ts) (suc n) text after e = let r = dropped ts n text after e in record { below = omega (arith, r.below); front = ap (λ xs. t ∷ xs) r.front; back = r.back }
+dropped (t ∷ ts) (suc n) text after e =
+    let r = dropped ts n text after e in record
+    { below = omega (arith, r.below); front = ap (λ xs. t ∷ xs) r.front; back = r.back }
 
-module _ (texts rest : List (List ℕ)) (n : ℕ) (inputs : List TimedInput) (so : SoFar texts rest n inputs) where
+module _ (texts rest : List (List ℕ)) (n : ℕ) (inputs : List TimedInput)
+    (so : SoFar texts rest n inputs) where
   module _ (text : List ℕ) (after : List (List ℕ)) (cut : rest ≡ text ∷ after) where
     next : IsAt texts n text after
     next = dropped texts n text after (sym so.left ∙ cut)
@@ -83,14 +98,25 @@ module _ (texts rest : List (List ℕ)) (n : ℕ) (inputs : List TimedInput) (so
     next_is : timed (take (n + 1) texts) ≡ with_line inputs (said text)
     next_is = rw (add-one, next.front) (timed_more (take n texts) text inputs so.inputs_are)
 
-    more_taken : (new : List TimedInput) → with_line inputs (said text) ≡ Some new → (k : ℕ) → k < n + 1 + 1 → is_some (timed (take k texts)) ≡ true
-    more_taken new e = below_more (λ k. is_some (timed (take k texts)) ≡ true) (n + 1) so.taken (rw (next_is, e) refl)
+    more_taken : (new : List TimedInput) → with_line inputs (said text) ≡ Some new → (k : ℕ) → k < n + 1 + 1
+        → is_some (timed (take k texts)) ≡ true
+    more_taken new e =
+        below_more (λ k. is_some (timed (take k texts)) ≡ true) (n + 1) so.taken (rw (next_is, e) refl)
 
-    pub read_more : (new : List TimedInput) → with_line inputs (said text) ≡ Some new → SoFar texts after (n + 1) new
-    read_more new e = record { left = rw add-one (sym next.back); inputs_are = next_is ∙ e; taken = more_taken new e }
+    pub read_more : (new : List TimedInput) → with_line inputs (said text) ≡ Some new
+        → SoFar texts after (n + 1) new
+    read_more new e =
+        record { left = rw add-one (sym next.back); inputs_are = next_is ∙ e; taken = more_taken new e }
 
     first_refused : with_line inputs (said text) ≡ None → IsFirstRefused texts (n + 1)
-    first_refused e = record { counted = omega arith; within = omega (arith, next.below); refused = next_is ∙ e; taken = so.taken }
+    first_refused e =
+        record {
+          counted = omega arith;
+          within = omega (arith, next.below);
+          refused = next_is
+              ∙ e;
+          taken = so.taken;
+        }
 
     pub refused : with_line inputs (said text) ≡ None → (k : ℕ) → k ≡ n + 1 → IsFirstRefused texts k
     refused e k is = rw is (first_refused e)
@@ -98,5 +124,6 @@ module _ (texts rest : List (List ℕ)) (n : ℕ) (inputs : List TimedInput) (so
   pub read_all : rest ≡ [] → timed texts ≡ Some inputs
   read_all h =
       let none : length rest ≡ 0 = rw h refl in
-      let all : take n texts ≡ texts = take_all n texts (omega (arith, length-drop n texts, ap length so.left, none)) in
+      let all : take n texts ≡ texts =
+      take_all n texts (omega (arith, length-drop n texts, ap length so.left, none)) in
       sym (ap timed all) ∙ so.inputs_are

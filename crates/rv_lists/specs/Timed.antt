@@ -35,7 +35,8 @@ source_of word = option_and_then (λ n. if nat_le 1 n then Some n else None) (de
 
 -- V of `line`: 0 for low, 1 for high
 abbrev pub level_of : List ℕ → Option Bool
-level_of word = if bytes_eq word (codes "0") then Some false else (if bytes_eq word (codes "1") then Some true else None)
+level_of word =
+    if bytes_eq word (codes "0") then Some false else (if bytes_eq word (codes "1") then Some true else None)
 
 -- HH: a byte that the serial port receives
 abbrev pub byte_input : List ℕ → Option (List Input)
@@ -48,7 +49,8 @@ received (word ∷ more) = all_of byte_input (word ∷ more)
 
 -- the words following `line`: a source and a level
 abbrev pub driven : List (List ℕ) → Option Input
-driven (n ∷ v ∷ []) = option_and_then (λ source. option_map (λ high. Line source high) (level_of v)) (source_of n)
+driven (n ∷ v ∷ []) =
+    option_and_then (λ source. option_map (λ high. Line source high) (level_of v)) (source_of n)
 driven _ = None
 
 -- the inputs of the words following STEP
@@ -89,7 +91,8 @@ unless_falling inputs = if never_falls inputs then Some inputs else None
 unfoldable pub timed : List (List ℕ) → Option (List TimedInput)
 timed texts = option_and_then unless_falling (all_of said texts)
 
--- line n, counted from 1, is the first refused: the first n lines have no list, and any fewer of them have one
+-- line n, counted from 1, is the first refused: the first n lines have no list, and any fewer of them have
+-- one
 pub record IsFirstRefused (texts : List (List ℕ)) (n : ℕ) : Type 0 where
   pub counted : 0 < n
   pub within : n ≤ length texts

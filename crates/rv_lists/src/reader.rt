@@ -52,7 +52,8 @@ fn line_input(text: &[u8]) -> Option<Input>
 
 /// Reads the words following `line`, and appends their input.
 fn read_level(step: u64, text: &[u8], out: &mut Vec<TimedInput>) -> Result<(), LineRefusal>
-    ensures { Becomes out.new.items result (with_inputs out.old.items step (option_map (λ input. input ∷ []) (driven (words text.now)))) }
+    ensures { Becomes out.new.items result
+        (with_inputs out.old.items step (option_map (λ input. input ∷ []) (driven (words text.now)))) }
 {
     let Some(input) = line_input(text) else {
         return Err(LineRefusal::BadLine);

@@ -6,17 +6,25 @@ use Rattle.rv_lists.proofs.timeline.Timeline.read.Goals as goal
 
 pub loop-line-init : goal.loop-line-init
 loop-line-init c =
-    let all : c.into_iter-line-iterator.result ≡ lines c.args.text.now = c.into_iter-line-iterator.ensures.into_iter_gives ∙ c.cut_lines-line-items.ensures.cut in
+    let all : c.into_iter-line-iterator.result ≡ lines c.args.text.now =
+    c.into_iter-line-iterator.ensures.into_iter_gives ∙ c.cut_lines-line-items.ensures.cut in
     record {
       can_next = tt;
       is_finite = tt;
       so_far = rw (all, c.new-inputs.ensures.items) (begun (lines c.args.text.now));
-      counted = omega (arith, ap length c.into_iter-line-iterator.ensures.into_iter_gives, c.cut_lines-line-items.ensures.within);
+      counted =
+          omega (
+            arith,
+            ap length c.into_iter-line-iterator.ensures.into_iter_gives,
+            c.cut_lines-line-items.ensures.within,
+          );
     }
 
 pub read_line-requires : goal.read_line-requires
 read_line-requires c =
-    rising (take c.loop-line.number (lines c.args.text.now)) c.loop-line.inputs.items c.loop-line.invariant.so_far.inputs_are
+    rising
+    (take c.loop-line.number
+    (lines c.args.text.now)) c.loop-line.inputs.items c.loop-line.invariant.so_far.inputs_are
 
 pub loop-line-preserved : goal.loop-line-preserved
 loop-line-preserved c =
@@ -25,20 +33,28 @@ loop-line-preserved c =
       can_next = tt;
       is_finite = tt;
       so_far =
-          read_more (lines c.args.text.now) c.loop-line.line-iterator c.loop-line.number c.loop-line.inputs.items c.loop-line.invariant.so_far c.in-Some.line.now c.next.new.self cut
+          read_more
+          (lines c.args.text.now) c.loop-line.line-iterator c.loop-line.number c.loop-line.inputs.items
+          c.loop-line.invariant.so_far c.in-Some.line.now c.next.new.self cut
           c.read_line.new.out.items c.in-Ok.ensures;
       counted = omega (arith, c.loop-line.invariant.counted, ap length cut);
     }
 
 pub returns-in-Err-BadLine : goal.returns-in-Err-BadLine
 returns-in-Err-BadLine c =
-    refused (lines c.args.text.now) c.loop-line.line-iterator c.loop-line.number c.loop-line.inputs.items c.loop-line.invariant.so_far c.in-Some.line.now c.next.new.self c.in-Some.ensures.steps
+    refused
+    (lines c.args.text.now) c.loop-line.line-iterator c.loop-line.number c.loop-line.inputs.items
+    c.loop-line.invariant.so_far c.in-Some.line.now c.next.new.self c.in-Some.ensures.steps
     (rw c.in-Err-BadLine.field-0-is at c.in-Err-BadLine.ensures) _ (omega arith)
 
 pub invariant_of-result : goal.invariant_of-result
 invariant_of-result c =
-    rising (take c.loop-line.number (lines c.args.text.now)) c.loop-line.inputs.items c.loop-line.invariant.so_far.inputs_are
+    rising
+    (take c.loop-line.number
+    (lines c.args.text.now)) c.loop-line.inputs.items c.loop-line.invariant.so_far.inputs_are
 
 pub returns : goal.returns
 returns c =
-    read_all (lines c.args.text.now) c.loop-line.line-iterator c.loop-line.number c.loop-line.inputs.items c.loop-line.invariant.so_far c.in-None.ensures.steps.0
+    read_all
+    (lines c.args.text.now) c.loop-line.line-iterator c.loop-line.number c.loop-line.inputs.items
+    c.loop-line.invariant.so_far c.in-None.ensures.steps.0
