@@ -18,11 +18,13 @@ either true x y h k = h
 either false x y h k = k
 
 -- a command with one operand
-with_one : (command : ℕ → Command) (o : Option ℕ) → ((n : ℕ) → IsNamed (command n)) → IfSome (option_map command o) IsNamed
+with_one : (command : ℕ → Command) (o : Option ℕ) → ((n : ℕ) → IsNamed (command n))
+    → IfSome (option_map command o) IsNamed
 with_one command None h = tt
 with_one command (Some n) h = h n
 
-with_two : (command : ℕ → ℕ → Command) (o p : Option ℕ) → ((m n : ℕ) → IsNamed (command m n)) → IfSome (option_and_then (λ m. option_map (command m) p) o) IsNamed
+with_two : (command : ℕ → ℕ → Command) (o p : Option ℕ) → ((m n : ℕ) → IsNamed (command m n))
+    → IfSome (option_and_then (λ m. option_map (command m) p) o) IsNamed
 with_two command None p h = tt
 with_two command (Some m) p h = with_one (command m) p (h m)
 
@@ -44,14 +46,19 @@ memory_by : (symbols : List ℕ → Option ℤ) (ws : List (List ℕ)) → IfSom
 unfolding memory
 memory_by symbols [] = tt
 memory_by symbols (a ∷ []) = tt
-memory_by symbols (a ∷ n ∷ []) = with_two (λ addr count. Memory addr count) (address_of symbols a) (byte_count n) (λ m n. tt)
+memory_by symbols (a ∷ n ∷ []) =
+    with_two (λ addr count. Memory addr count) (address_of symbols a) (byte_count n) (λ m n. tt)
 memory_by symbols (a ∷ n ∷ w ∷ ws) = tt
 
-register_found : (name : List ℕ) (o : Option ℕ) → lookup name csr_names ≡ o → IfSome (option_map (λ csr. ControlRegister name csr) o) IsNamed
+register_found : (name : List ℕ) (o : Option ℕ) → lookup name csr_names ≡ o
+    → IfSome (option_map (λ csr. ControlRegister name csr) o) IsNamed
 register_found name None e = tt
 register_found name (Some csr) e = e
 
-register_named : (o : Option (List ℕ)) → IfSome (option_and_then (λ name. option_map (λ csr. ControlRegister name csr) (lookup name csr_names)) o) IsNamed
+register_named : (o : Option (List ℕ))
+    → IfSome
+    (option_and_then
+    (λ name. option_map (λ csr. ControlRegister name csr) (lookup name csr_names)) o) IsNamed
 register_named None = tt
 register_named (Some name) = register_found name (lookup name csr_names) refl
 
@@ -63,28 +70,37 @@ edges_named : (ws : List (List ℕ)) → IfSome (edges ws) IsNamed
 unfolding edges
 edges_named ws = with_one (λ source. Edges source) (option_and_then edge_source (only ws)) (λ n. tt)
 
-row_named : (symbols : List ℕ → Option ℤ) (w : List ℕ) (ws : List (List ℕ)) → IfSome (row symbols w ws) IsNamed
+row_named : (symbols : List ℕ → Option ℤ) (w : List ℕ) (ws : List (List ℕ))
+    → IfSome (row symbols w ws) IsNamed
 unfolding row
 row_named symbols w ws =
     either (bytes_eq w (codes "s")) _ _ (steps_named ws)
     (either (bytes_eq w (codes "c")) _ _ (going_named ws)
-    (either (bytes_eq w (codes "b")) _ _ (with_one (λ addr. SetBreak addr) (address_alone symbols ws) (λ n. tt))
-    (either (bytes_eq w (codes "d")) _ _ (with_one (λ addr. ClearBreak addr) (address_alone symbols ws) (λ n. tt))
+    (either (bytes_eq w (codes "b")) _ _
+    (with_one (λ addr. SetBreak addr) (address_alone symbols ws) (λ n. tt))
+    (either (bytes_eq w (codes "d")) _ _
+    (with_one (λ addr. ClearBreak addr) (address_alone symbols ws) (λ n. tt))
     (either (bytes_eq w (codes "r")) _ _ (alone_named Registers ws tt)
     (either (bytes_eq w (codes "p")) _ _ (control_register_named ws)
     (either (bytes_eq w (codes "m")) _ _ (memory_by symbols ws)
-    (either (bytes_eq w (codes "i")) _ _ (with_one (λ addr. Instruction addr) (address_alone symbols ws) (λ n. tt))
+    (either (bytes_eq w (codes "i")) _ _
+    (with_one (λ addr. Instruction addr) (address_alone symbols ws) (λ n. tt))
     (either (bytes_eq w (codes "t")) _ _ (alone_named Traps ws tt)
     (either (bytes_eq w (codes "e")) _ _ (edges_named ws)
     (either (bytes_eq w (codes "q")) _ _ (alone_named Quit ws tt) tt))))))))))
 
 said_named : (symbols : List ℕ → Option ℤ) (ws : List (List ℕ)) → IfSome (said_by symbols ws) IsNamed
 said_named symbols [] = tt
-said_named symbols (w ∷ ws) = either (begins_comment w) (Some Nothing) (row symbols w ws) tt (row_named symbols w ws)
+said_named symbols (w ∷ ws) =
+    either (begins_comment w) (Some Nothing) (row symbols w ws) tt (row_named symbols w ws)
 
 line_named : (line : List ℕ) (symbols : List ℕ → Option ℤ) → IfSome (command_of line symbols) IsNamed
 unfolding command_of
-line_named line symbols = either (nat_lt line_limit (length line)) None (said_by symbols (words line)) tt (said_named symbols (words line))
+line_named line symbols =
+    either (nat_lt line_limit (length line)) None (said_by symbols (words line)) tt
+    (said_named symbols (words line))
 
-pub is_named : (command : Option Command) (line : List ℕ) (symbols : List ℕ → Option ℤ) → command ≡ command_of line symbols → IfSome command IsNamed
-is_named command line symbols e = let P : Option Command → Type 0 = λ o. IfSome o IsNamed in subst P (sym e) (line_named line symbols)
+pub is_named : (command : Option Command) (line : List ℕ) (symbols : List ℕ → Option ℤ)
+    → command ≡ command_of line symbols → IfSome command IsNamed
+is_named command line symbols e =
+    let P : Option Command → Type 0 = λ o. IfSome o IsNamed in subst P (sym e) (line_named line symbols)

@@ -49,34 +49,46 @@ unfolding hexadecimal
 hexadecimal-bad ds h = none_at (is_count (length ds)) (list_all is_digit ds) (hex_value ds) h
 
 -- a byte isn't a digit
-pub not_a_digit : (ds : List ℕ) (i : ℕ) → i < length ds → hex_digit (get_or ds i 0) ≡ None → None ≡ hexadecimal ds
+pub not_a_digit : (ds : List ℕ) (i : ℕ) → i < length ds → hex_digit (get_or ds i 0) ≡ None
+    → None ≡ hexadecimal ds
 not_a_digit ds i h e = hexadecimal-bad ds (list_all_at is_digit ds i 0 h (rw e refl))
 
 -- the value with one more digit fits into 32 bits
-pub fits : (ds : List ℕ) (i sum d : ℕ) → is_count (length ds) ≡ true → i < length ds → SoFar ds i sum → d < 16 → 16 * sum + d < 2 ^ 32
+pub fits : (ds : List ℕ) (i sum d : ℕ) → is_count (length ds) ≡ true → i < length ds → SoFar ds i sum → d < 16
+    → 16 * sum + d < 2 ^ 32
 fits ds i sum d count h so small =
     let most = (few (length ds) count).1 in
-    omega (arith, so.below, most, pow-le-pow_right {n = 16} (omega arith) {i = i} {j = 7} (omega (arith, most)))
+    omega
+    (arith, so.below, most, pow-le-pow_right {n = 16} (omega arith) {i = i} {j = 7} (omega (arith, most)))
 
 -- with one more digit
-sum_next : (sum x d : ℕ) (xs : List ℕ) → hex_digit x ≡ Some d → fold step sum (x ∷ xs) ≡ fold step (16 * sum + d) xs
+sum_next : (sum x d : ℕ) (xs : List ℕ) → hex_digit x ≡ Some d
+    → fold step sum (x ∷ xs) ≡ fold step (16 * sum + d) xs
 sum_next sum x d xs e = ap (λ o. fold step (16 * sum + unwrap_or o 0) xs) e
 
 all_next : (x d : ℕ) (xs : List ℕ) → hex_digit x ≡ Some d → list_all is_digit (x ∷ xs) ≡ list_all is_digit xs
 all_next x d xs e = ap (λ o. is_some o && list_all is_digit xs) e
 
-pub next_so_far : (ds : List ℕ) (i sum d : ℕ) → i < length ds → SoFar ds i sum → hex_digit (get_or ds i 0) ≡ Some d → d < 16 → SoFar ds (i + 1) (16 * sum + d)
+pub next_so_far : (ds : List ℕ) (i sum d : ℕ) → i < length ds → SoFar ds i sum
+    → hex_digit (get_or ds i 0) ≡ Some d → d < 16 → SoFar ds (i + 1) (16 * sum + d)
 next_so_far ds i sum d h so digit small =
     let e : drop i ds ≡ get_or ds i 0 ∷ drop (suc i) ds = drop-cons ds i 0 h in
     let rest : drop (i + 1) ds ≡ drop (suc i) ds = ap (λ n. drop n ds) (add-one i) in
     record {
       below = omega (arith, so.below, pow_more 16 i);
-      sum_is = ap (fold step (16 * sum + d)) rest ∙ (sym (sum_next sum (get_or ds i 0) d (drop (suc i) ds) digit) ∙ (ap (fold step sum) (sym e) ∙ so.sum_is));
-      all_are = ap (list_all is_digit) rest ∙ (sym (all_next (get_or ds i 0) d (drop (suc i) ds) digit) ∙ (ap (list_all is_digit) (sym e) ∙ so.all_are));
+      sum_is =
+          ap (fold step (16 * sum + d)) rest
+          ∙ (sym (sum_next sum (get_or ds i 0) d (drop (suc i) ds) digit)
+          ∙ (ap (fold step sum) (sym e) ∙ so.sum_is));
+      all_are =
+          ap (list_all is_digit) rest
+          ∙ (sym (all_next (get_or ds i 0) d (drop (suc i) ds) digit)
+          ∙ (ap (list_all is_digit) (sym e) ∙ so.all_are));
     }
 
 -- all bytes are digits
-pub whole : (ds : List ℕ) (i sum : ℕ) → is_count (length ds) ≡ true → length ds ≤ i → SoFar ds i sum → Some sum ≡ hexadecimal ds
+pub whole : (ds : List ℕ) (i sum : ℕ) → is_count (length ds) ≡ true → length ds ≤ i → SoFar ds i sum
+    → Some sum ≡ hexadecimal ds
 unfolding hexadecimal
 whole ds i sum count end so =
     let e : drop i ds ≡ [] = drop_all i ds end in

@@ -18,8 +18,8 @@ hexadecimal digits =
     then Some (hex_value digits)
     else None
 
--- ADDR: `0x` and one to eight hexadecimal digits, or a symbol, modulo 2 ^ 32; symbols gives the value of each name that
--- has one
+-- ADDR: `0x` and one to eight hexadecimal digits, or a symbol, modulo 2 ^ 32; symbols gives the value of each
+-- name that has one
 unfoldable pub address_of : (List ℕ → Option ℤ) → List ℕ → Option ℕ
 address_of symbols word =
     if starts_with nat_eq word (codes "0x") then hexadecimal (drop 2 word)

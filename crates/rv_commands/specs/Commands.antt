@@ -62,7 +62,8 @@ control_register more =
 -- `m ADDR N`
 unfoldable pub memory : (List ℕ → Option ℤ) → List (List ℕ) → Option Command
 memory symbols (address ∷ n ∷ []) =
-    option_and_then (λ addr. option_map (λ count. Memory addr count) (byte_count n)) (address_of symbols address)
+    option_and_then (λ addr. option_map (λ count. Memory addr count) (byte_count n))
+    (address_of symbols address)
 memory symbols _ = None
 
 -- `e N`

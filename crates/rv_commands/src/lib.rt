@@ -1,7 +1,7 @@
 //! Command lines of the monitor.
 //!
-//! A line is cut into words at spaces and tabs. A line of more than 1,024 bytes is refused whatever it says. A line without
-//! a word, or whose first word begins with `#`, does nothing. Any other line is one of these:
+//! A line is cut into words at spaces and tabs. A line of more than 1,024 bytes is refused whatever it says.
+//! A line without a word, or whose first word begins with `#`, does nothing. Any other line is one of these:
 //!
 //! - `s [N]`: takes N steps, or one;
 //! - `c [N]`: takes up to N steps, or all that are left, up to a breakpoint;
@@ -14,8 +14,8 @@
 //! - `e N`: shows the pending edges of source N, from 24 to 31;
 //! - `q`: ends the commands.
 //!
-//! ADDR is `0x` with one to eight hexadecimal digits of either case, or a symbol, whose value is taken modulo 2^32. N is
-//! a decimal number of at most 1,000,000,000, with any number of leading zeros.
+//! ADDR is `0x` with one to eight hexadecimal digits of either case, or a symbol, whose value is taken modulo
+//! 2^32. N is a decimal number of at most 1,000,000,000, with any number of leading zeros.
 #![tactic(auto)]
 
 mod address;
