@@ -1,4 +1,4 @@
--- How many digits a number has.
+-- The number of digits of a decimal number.
 use Rattle.std.proofs.Common.{ℕ, ◌<◌, ◌≤◌, length, arith}
 use Rattle.std.proofs.lemmas.Fmt.{length-decimal-le}
 use Rattle.std.specs.Fmt.{decimal}

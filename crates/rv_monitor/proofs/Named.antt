@@ -1,4 +1,4 @@
--- Every control register with a name can be read.
+-- Each control register that has a name can be read.
 use Rattle.std.proofs.Common.{◌≡◌, ℕ, Bool, true, false, cond, List, [], ◌∷◌, refl, rules}
 use Rattle.std.specs.Fmt.{digits}
 use Rattle.std.specs.List.{list_all}

@@ -1,4 +1,4 @@
--- Steps with their inputs.
+-- Steps with the inputs of their times.
 use Rattle.std.proofs.Common.{◌≡◌, ◌∙◌, ℕ, zero, suc, ◌+◌, ◌<◌, ◌≤◌, true, false, List, [], ◌∷◌, ◌++◌, length, get_or, take, drop, refl, sym, ap, arith, append-nil, append_assoc, add_assoc}
 use Rattle.std.specs.Prelude.{nat_eq, nat_lt, map, Option, Some, None}
 use Rattle.std.proofs.lemmas.List.{map-append, length-drop, drop-drop}
@@ -15,11 +15,11 @@ use Rattle.rv_lists.specs.declared.input.TimedInput.{TimedInput}
 use Rattle.rv_lists.specs.Timed.{never_falls}
 use Rattle.rv_monitor.specs.Events.{event_of, inputs_at, events_of}
 use Rattle.rv_monitor.specs.State.{TimedState, IsInTime, rest, count_before, after, with_due}
-use Rattle.rv_monitor.specs.Bare.{bare}
+use Rattle.rv_monitor.specs.WithoutInputs.{without_inputs}
 use Rattle.rv_monitor.specs.Laws.{RunsJoin, CallsJoin}
 use Rattle.rv_monitor.proofs.Times.{from, of, from_earlier, late_from, late_of, late_count, drop_rises, drop_from, none_before, due_step, later_of, later_count, none_of, count_most}
 
--- ---- no input is refused
+-- ---- no input runs out of memory
 
 no_write : (h : Option ℕ) (b : BoardState) (i : Input) → writes_by h b (event_of i) ≡ false
 no_write None b (Rx byte) = refl
@@ -33,7 +33,7 @@ input_writes_not b i = no_write b.machine.bus.halt b i
 
 -- ---- events of more steps
 
--- the inputs that are due, of those behind what was given before
+-- the inputs of a later time are among those that are left
 pub inputs_late : (xs : List TimedInput) (t u : ℕ) → t ≤ u → never_falls xs ≡ true → inputs_at (drop (count_before t xs) xs) u ≡ inputs_at xs u
 unfolding inputs_at
 inputs_late xs t u k h = ap (map (λ x. event_of x.input)) (late_of t u k xs h)
@@ -55,26 +55,26 @@ events_join xs t k (suc j) =
     let f : t + (k + j) ≡ (t + k) + j = omega arith in
     ap (events_of xs t) e ∙ rw (events_join xs t k j, f) (append_assoc (events_of xs t k) (events_of xs (t + k) j) (inputs_at xs ((t + k) + j) ++ Step ∷ []))
 
--- the events of a first step
+-- the run of a first step's events
 pub run_step : (b : BoardState) (xs : List TimedInput) (t : ℕ) → run b (events_of xs t 1) ≡ moved (run b (inputs_at xs t)) Step
 unfolding events_of
 run_step b xs t =
     let e : t + 0 ≡ t = omega arith in
     rw e (run_more b (inputs_at xs t) Step)
 
--- steps and then more, with the inputs that weren't given
+-- steps and then more steps, with the inputs that are left
 pub run_join : (b : BoardState) (xs : List TimedInput) (t k j : ℕ) → never_falls xs ≡ true
     → run (run b (events_of xs t k)) (events_of (drop (count_before (t + k) xs) xs) (t + k) j) ≡ run b (events_of xs t (k + j))
 run_join b xs t k j h =
     ap (run (run b (events_of xs t k))) (events_late xs (t + k) (t + k) j (omega arith) h)
     ∙ (sym (run_append b (events_of xs t k) (events_of xs (t + k) j)) ∙ ap (run b) (sym (events_join xs t k j)))
 
--- steps after inputs that were given before them
+-- steps after inputs that were given ahead of them
 none_due : (xs : List TimedInput) (t : ℕ) → never_falls xs ≡ true → inputs_at (drop (count_before (t + 1) xs) xs) t ≡ []
 unfolding inputs_at
 none_due xs t h = ap (map (λ x. event_of x.input)) (none_of t (drop (count_before (t + 1) xs) xs) (late_from (t + 1) xs h))
 
--- a first step and more
+-- a first step and more steps
 run_first : (b : BoardState) (xs : List TimedInput) (t j : ℕ) → run b (events_of xs t (1 + j)) ≡ run (moved (run b (inputs_at xs t)) Step) (events_of xs (t + 1) j)
 run_first b xs t j =
     ap (run b) (events_join xs t 1 j)
@@ -95,7 +95,7 @@ same : (b c : BoardState) (xs : List TimedInput) (p q t u : ℕ) → b ≡ c →
     → ◌≡◌ {A = TimedState} (record { board = b; inputs = xs; place = p; taken = t }) (record { board = c; inputs = xs; place = q; taken = u })
 same b c xs p q t u e f g = cc
 
--- what wasn't given of a list, and then what wasn't given of that
+-- the inputs that are left of those that were left
 rest_late : (s : TimedState) (t : ℕ) → drop (s.place + count_before t (rest s)) s.inputs ≡ drop (count_before t (rest s)) (rest s)
 rest_late s t = sym (drop-drop (count_before t (rest s)) s.place s.inputs)
 
@@ -136,25 +136,25 @@ after_rises : (s : TimedState) (k : ℕ) → never_falls s.inputs ≡ true → n
 unfolding after
 after_rises s k h = h
 
--- the next step, with its inputs given
+-- the next step is its inputs and then the step
 pub after_step : (s : TimedState) → after s 1 ≡ record (with_due s) { board = moved (with_due s).board Step; taken = s.taken + 1 }
 unfolding after with_due
 after_step s = same _ _ s.inputs _ _ _ _ (run_step s.board (rest s) s.taken) refl refl
 
--- a step of a board that no input comes to
-pub bare_in_time : (b : BoardState) → IsInTime (bare b 0)
+-- ---- a board without inputs
+pub no_input_in_time : (b : BoardState) → IsInTime (without_inputs b 0)
 unfolding never_falls
-bare_in_time b = record { within = omega arith; rising = refl; ahead = refl }
+no_input_in_time b = record { within = omega arith; rising = refl; ahead = refl }
 
-pub due_of_bare : (b : BoardState) (t : ℕ) → bare b t ≡ with_due (bare b t)
+pub no_input_due : (b : BoardState) (t : ℕ) → without_inputs b t ≡ with_due (without_inputs b t)
 unfolding with_due inputs_at
-due_of_bare b t = refl
+no_input_due b t = refl
 
-pub step_bare : (b new : BoardState) (t : ℕ) → new ≡ moved b Step → bare new (t + 1) ≡ after (bare b t) 1
+pub step_without_inputs : (b new : BoardState) (t : ℕ) → new ≡ moved b Step → without_inputs new (t + 1) ≡ after (without_inputs b t) 1
 unfolding with_due inputs_at
-step_bare b new t h = ap (λ c. bare c (t + 1)) h ∙ sym (after_step (bare b t))
+step_without_inputs b new t h = ap (λ c. without_inputs c (t + 1)) h ∙ sym (after_step (without_inputs b t))
 
--- ---- steps that no input comes before
+-- ---- steps before which no input comes
 
 events_quiet : (xs : List TimedInput) (t n : ℕ) → from (t + n) xs ≡ true → events_of xs t n ≡ events_of [] 0 n
 unfolding events_of inputs_at
@@ -165,14 +165,14 @@ events_quiet xs t (suc n) h =
     let before : from (t + n) xs ≡ true = from_earlier (t + n) (t + suc n) xs h (omega arith) in
     rw (none, events_quiet xs t n before) refl
 
--- what steps make of a board and its inputs, by what they make of the board alone
-pub after_quiet : (s : TimedState) (n : ℕ) → from (s.taken + n) (rest s) ≡ true → after s n ≡ record s { board = (after (bare s.board 0) n).board; taken = s.taken + n }
+-- such steps with a timed list, by the same steps without one
+pub after_quiet : (s : TimedState) (n : ℕ) → from (s.taken + n) (rest s) ≡ true → after s n ≡ record s { board = (after (without_inputs s.board 0) n).board; taken = s.taken + n }
 unfolding after
 after_quiet s n h =
     let none : count_before (s.taken + n) (rest s) ≡ 0 = none_before (s.taken + n) (rest s) h in
     same _ _ s.inputs _ _ _ _ (ap (run s.board) (events_quiet (rest s) s.taken n h)) (omega (arith, none)) refl
 
--- ---- inputs halt no board
+-- ---- no input halts a board
 
 halted_input : (h : Option ℕ) (b : BoardState) (i : Input) → halted_of b ≡ h → halted_of (happens h b (event_of i)) ≡ h
 halted_input None b (Rx byte) e = e
@@ -191,7 +191,7 @@ pub halted_due : (s : TimedState) → halted_of (with_due s).board ≡ halted_of
 unfolding with_due inputs_at
 halted_due s = halted_run s.board (of s.taken (rest s))
 
--- ---- what is in time stays so
+-- ---- a state that is in time stays so
 
 place_within : (s : TimedState) (t : ℕ) → IsInTime s → s.place + count_before t (rest s) ≤ length s.inputs
 place_within s t h = let w : s.place ≤ length s.inputs = h.within in omega (arith, count_most t (rest s), length-drop s.place s.inputs)
@@ -212,7 +212,7 @@ in_time_after s n h = record {
   ahead = ap (from (s.taken + n)) (rest_late s (s.taken + n)) ∙ late_from (s.taken + n) (rest s) (drop_rises s.place s.inputs h.rising);
 }
 
--- the fields of a state without an input before a later time
+-- a state with no input before a later time, by its fields
 module _ (b : BoardState) (xs : List TimedInput) (place t later : ℕ) (quiet : from later (drop place xs) ≡ true) (before : t < later) where
   abbrev quiet_state : TimedState
   quiet_state = record { board = b; inputs = xs; place = place; taken = t }
@@ -231,7 +231,7 @@ module _ (b : BoardState) (xs : List TimedInput) (place t later : ℕ) (quiet : 
       same b (run b (inputs_at (drop place xs) t)) xs place (place + count_before (t + 1) (drop place xs)) t t
       (ap (run b) (sym none_now)) (omega (arith, none)) refl
 
--- the fields of a state whose next inputs were given, so many
+-- a state whose next n inputs were given, by its fields
 module _ (b : BoardState) (xs more : List TimedInput) (place t n : ℕ) (is : more ≡ drop place xs) (count : n ≡ count_before (t + 1) more) where
   abbrev pub old : TimedState
   old = record { board = b; inputs = xs; place = place; taken = t }
@@ -252,7 +252,7 @@ module _ (b : BoardState) (xs more : List TimedInput) (place t n : ℕ) (is : mo
   unfolding with_due
   given_is_due c p ran at = same _ _ xs _ _ _ _ (ran ∙ ap (λ ys. run b (inputs_at ys t)) is) (at ∙ ap (λ i. place + i) number) refl
 
--- ---- the inputs of a time, one after another
+-- ---- the inputs of a time are given one after another
 
 now : (t : ℕ) (x : TimedInput) → t ≤ x.step → x.step ≤ t → nat_eq x.step t ≡ true
 now t x h k = grind (arith, nat_tests)
@@ -265,7 +265,7 @@ inputs_more : (xs : List TimedInput) (t i : ℕ) (d : TimedInput) → i < length
 unfolding inputs_at
 inputs_more xs t i d lt e = rw (filter_more (λ x. nat_eq x.step t) xs i d lt, e, map-append) refl
 
--- one more input was given
+-- one more input is given
 pub ran_more : (b s new : BoardState) (xs : List TimedInput) (t i : ℕ) (x d : TimedInput) → from t xs ≡ true → i < length xs
     → x ≡ get_or xs i d → x.step ≤ t → s ≡ run b (inputs_at (take i xs) t) → new ≡ moved s (event_of x.input) → new ≡ run b (inputs_at (take (i + 1) xs) t)
 ran_more b s new xs t i x d h lt at le was is =
@@ -280,7 +280,7 @@ count_more xs t i x d lt at le was =
     let here : (get_or xs i d).step ≤ t = rw (← at) le in
     length-filter_more (λ y. nat_lt y.step (t + 1)) xs i d lt ∙ rw (soon t (get_or xs i d) here, was) refl
 
--- one of a later time: all that are due were given
+-- at an input of a later time all inputs of this time are given
 pub ran_all : (b s : BoardState) (xs : List TimedInput) (t i : ℕ) (x d : TimedInput) → never_falls xs ≡ true → i < length xs
     → x ≡ get_or xs i d → t < x.step → s ≡ run b (inputs_at (take i xs) t) → s ≡ run b (inputs_at xs t)
 unfolding inputs_at

@@ -13,14 +13,14 @@ use Rattle.rv_monitor.specs.declared.stop.Stop.TheVariants.{Halted, Breakpoint, 
 use Rattle.rv_monitor.specs.State.{Addresses, TimedState, IsInTime, rest, after, with_due}
 use Rattle.rv_monitor.specs.Stops.{stop_after, IsCount, HasStopped, IsRefused}
 use Rattle.rv_monitor.specs.Events.{inputs_at}
-use Rattle.rv_monitor.specs.Bare.{bare}
+use Rattle.rv_monitor.specs.WithoutInputs.{without_inputs}
 use Rattle.rv_monitor.proofs.Times.{from, from_earlier}
 use Rattle.rv_monitor.proofs.Steps.{after_none, after_quiet, none_is_due, halted_due, in_time_due, in_time_after, calls_join}
 
 some_step : (n : ℕ) → 0 < n → nat_lt 0 n ≡ true
 some_step n h = grind (arith, nat_tests)
 
--- what ends a call is the same after each of its steps
+-- the reason to end does not depend on how many steps were taken, if any were
 stop_later : (a : Addresses) (b : BoardState) (n : ℕ) → 0 < n → stop_after a b n ≡ stop_after a b 1
 unfolding stop_after
 stop_later a b n h = rw (some_step n h) refl
@@ -33,7 +33,7 @@ stop_first : (a : Addresses) (b : BoardState) → is_some (halted_of b) ≡ true
 unfolding stop_after
 stop_first a b e = rw e refl
 
--- how many steps a call took
+-- the number of steps that a call took
 took : (s new : TimedState) (n : ℕ) → new ≡ after s n → new.taken - s.taken ≡ n
 unfolding after
 took s new n e = let t : new.taken ≡ s.taken + n = ap (λ u. u.taken) e in omega arith
@@ -52,7 +52,7 @@ unfolding after with_due
 taken_due s new n e = ap (λ u. u.taken) e
 
 module _ (a : Addresses) (most : ℕ) (s : TimedState) where
-  -- nothing ends a call before a step
+  -- a call has no reason to end after fewer than n steps
   abbrev pub GoesOn : ℕ → Type 0
   GoesOn n = (i : ℕ) → i < n → stop_after a (after s i).board i ≡ None
 
@@ -101,7 +101,7 @@ module _ (a : Addresses) (most : ℕ) (s : TimedState) where
         next_writes = w;
       }
 
--- ---- what ends no call
+-- ---- states after which a call goes on
 
 stop_halted : (a : Addresses) (b : BoardState) (n : ℕ) → is_some (halted_of b) ≡ true → stop_after a b n ≡ Some Halted
 unfolding stop_after
@@ -128,64 +128,64 @@ limit_none : (a : Addresses) (b : BoardState) (n : ℕ) → Limit ≡ unwrap_or 
 unfolding stop_after
 limit_none a b n e = limit_by _ _ e
 
--- a word that isn't the limit's is what ended the call
+-- a word other than the limit's is that of a reason to end
 ended_by : (o : Option Stop) (stop : Stop) → stop ≡ unwrap_or o Limit → is_limit stop ≡ false → is_some o ≡ true
 ended_by (Some x) stop e other = refl
 ended_by None stop e other = absurd (false≢true (sym other ∙ ap is_limit e))
 
--- ---- calls before whose steps no input comes, by those on the board alone
+-- ---- calls before whose steps no input comes, by calls without inputs
 
 module _ (a : Addresses) (most : ℕ) (s : TimedState) (quiet : from (s.taken + most) (rest s) ≡ true) (b : BoardState) (n : ℕ) where
   quiet_at : (i : ℕ) → i ≤ most → from (s.taken + i) (rest s) ≡ true
   quiet_at i le = from_earlier (s.taken + i) (s.taken + most) (rest s) quiet (omega arith)
 
-  board_at : (i : ℕ) → i ≤ most → (after s i).board ≡ (after (bare s.board 0) i).board
+  board_at : (i : ℕ) → i ≤ most → (after s i).board ≡ (after (without_inputs s.board 0) i).board
   board_at i le = ap (λ u. u.board) (after_quiet s i (quiet_at i le))
 
-  ran_is : n ≤ most → b ≡ (after (bare s.board 0) n).board → record s { board = b; taken = s.taken + n } ≡ after s n
+  ran_is : n ≤ most → b ≡ (after (without_inputs s.board 0) n).board → record s { board = b; taken = s.taken + n } ≡ after s n
   ran_is le e =
       let moved : BoardState → TimedState = λ c. record s { board = c; taken = s.taken + n } in
       ap moved e ∙ sym (after_quiet s n (quiet_at n le))
 
-  pub stopped_quiet : (stop : Stop) → HasStopped a most (bare s.board 0) (bare b n) stop → HasStopped a most s (record s { board = b; taken = s.taken + n }) stop
+  pub stopped_quiet : (stop : Stop) → HasStopped a most (without_inputs s.board 0) (without_inputs b n) stop → HasStopped a most s (record s { board = b; taken = s.taken + n }) stop
   stopped_quiet stop h =
       let z : n - 0 ≡ n = omega arith in
-      let c : IsCount a (bare s.board 0) most n = rw (← z) h.count in
-      let is : b ≡ (after (bare s.board 0) n).board = ap (λ u. u.board) h.state ∙ ap (λ i. (after (bare s.board 0) i).board) z in
+      let c : IsCount a (without_inputs s.board 0) most n = rw (← z) h.count in
+      let is : b ≡ (after (without_inputs s.board 0) n).board = ap (λ u. u.board) h.state ∙ ap (λ i. (after (without_inputs s.board 0) i).board) z in
       stopped a most s n _ stop (λ i lt. ap (λ x. stop_after a x i) (board_at i (let w : n ≤ most = c.within in omega arith)) ∙ c.going i lt) c.within (ran_is c.within is)
       (λ lt. ap (λ x. is_some (stop_after a x n)) is ∙ c.least lt) (h.word ∙ ap (λ i. unwrap_or (stop_after a b i) Limit) z)
 
-  due_bare : (i : ℕ) → (with_due (after (bare s.board 0) i)).board ≡ (after (bare s.board 0) i).board
+  no_input_due_after : (i : ℕ) → (with_due (after (without_inputs s.board 0) i)).board ≡ (after (without_inputs s.board 0) i).board
   unfolding after with_due inputs_at
-  due_bare i = refl
+  no_input_due_after i = refl
 
-  pub refused_quiet : IsRefused a most (bare s.board 0) (bare b n) → IsRefused a most s (record s { board = b; taken = s.taken + n })
+  pub refused_quiet : IsRefused a most (without_inputs s.board 0) (without_inputs b n) → IsRefused a most s (record s { board = b; taken = s.taken + n })
   refused_quiet h =
       let z : n - 0 ≡ n = omega arith in
       let lt : n < most = rw (← z) h.within in
-      let is : b ≡ (after (bare s.board 0) n).board = ap (λ u. u.board) h.state ∙ (due_bare (n - 0) ∙ ap (λ i. (after (bare s.board 0) i).board) z) in
+      let is : b ≡ (after (without_inputs s.board 0) n).board = ap (λ u. u.board) h.state ∙ (no_input_due_after (n - 0) ∙ ap (λ i. (after (without_inputs s.board 0) i).board) z) in
       refused a most s n _ (λ i less. ap (λ x. stop_after a x i) (board_at i (omega arith)) ∙ h.going i (omega arith)) lt
       (none_is_due b s.inputs s.place (s.taken + n) (s.taken + most) quiet (omega arith) ∙ ap with_due (ran_is (omega arith) is)) h.next_writes
 
--- by the fields of the state
+-- the same, by the fields of the state
 module _ (a : Addresses) (most : ℕ) (b0 : BoardState) (xs : List TimedInput) (place t : ℕ) (s : TimedState) (b : BoardState) (n : ℕ) where
   quiet_of : record { board = b0; inputs = xs; place = place; taken = t } ≡ s → from (s.taken + most) (rest s) ≡ true → from (t + most) (drop place xs) ≡ true
   quiet_of e quiet = ap (λ u. from (u.taken + most) (rest u)) e ∙ quiet
 
   pub stopped_fields : (r : Result Stop NoMemory) → record { board = b0; inputs = xs; place = place; taken = t } ≡ s → from (s.taken + most) (rest s) ≡ true
-      → IfOk r (HasStopped a most (bare b0 0) (bare b n)) → IfOk r (HasStopped a most s (record { board = b; inputs = xs; place = place; taken = t + n }))
+      → IfOk r (HasStopped a most (without_inputs b0 0) (without_inputs b n)) → IfOk r (HasStopped a most s (record { board = b; inputs = xs; place = place; taken = t + n }))
   stopped_fields (Ok stop) e quiet h = rw (← e) (stopped_quiet a most (record { board = b0; inputs = xs; place = place; taken = t }) (quiet_of e quiet) b n stop h)
   stopped_fields (Err x) e quiet h = tt
 
   pub refused_fields : (r : Result Stop NoMemory) → record { board = b0; inputs = xs; place = place; taken = t } ≡ s → from (s.taken + most) (rest s) ≡ true
-      → OnErr r (IsRefused a most (bare b0 0) (bare b n)) → OnErr r (IsRefused a most s (record { board = b; inputs = xs; place = place; taken = t + n }))
+      → OnErr r (IsRefused a most (without_inputs b0 0) (without_inputs b n)) → OnErr r (IsRefused a most s (record { board = b; inputs = xs; place = place; taken = t + n }))
   refused_fields (Ok stop) e quiet h = tt
   refused_fields (Err x) e quiet h = rw (← e) (refused_quiet a most (record { board = b0; inputs = xs; place = place; taken = t }) (quiet_of e quiet) b n h)
 
   pub ahead_fields : record { board = b0; inputs = xs; place = place; taken = t } ≡ s → from (s.taken + most) (rest s) ≡ true → n ≤ most → from (t + n) (drop place xs) ≡ true
   ahead_fields e quiet le = from_earlier (t + n) (t + most) (drop place xs) (quiet_of e quiet) (omega arith)
 
--- ---- a call on a state whose next inputs were given goes on with one that took steps
+-- ---- a call that took steps, and goes on from its state with the next inputs given
 
 module _ (a : Addresses) (most : ℕ) (s : TimedState) (h : IsInTime s) (n : ℕ) (mid given : TimedState) (at : mid ≡ after s n) (due : given ≡ with_due mid) (before : GoesOn a most s (n + 1)) where
   given_is : given ≡ with_due (after s n)

@@ -1,4 +1,4 @@
--- Inputs whose times never fall.
+-- Lists of inputs whose times never fall.
 use Rattle.std.proofs.Common.{◌≡◌, ◌∙◌, ℕ, suc, ◌+◌, ◌<◌, ◌≤◌, Bool, true, false, cond, List, [], ◌∷◌, length, get_or, take, drop, refl, ap, arith, zero-add, zero}
 use Rattle.std.specs.Prelude.{nat_le, nat_lt, nat_eq, ◌==◌, ◌&&◌, filter}
 use Rattle.std.specs.List.{list_all}
@@ -9,7 +9,7 @@ use Rattle.rv_lists.specs.declared.input.TimedInput.{TimedInput}
 use Rattle.rv_lists.specs.Timed.{never_falls}
 use Rattle.rv_monitor.specs.State.{count_before}
 
--- ---- tests
+-- ---- comparisons as tests
 
 le : (m n : ℕ) → m ≤ n → nat_le m n ≡ true
 le m n h = grind (arith, nat_tests)
@@ -51,11 +51,11 @@ suc_sum a b c h = omega arith
 
 -- ---- lists that never fall
 
--- every time is at least this
+-- whether each input's time is at least t
 abbrev pub from : ℕ → List TimedInput → Bool
 from t xs = list_all (λ x. nat_le t x.step) xs
 
--- the inputs of a time
+-- the inputs of time t
 abbrev pub of : ℕ → List TimedInput → List TimedInput
 of t xs = filter (λ x. x.step == t) xs
 
@@ -79,7 +79,7 @@ drop_rises zero xs h = h
 drop_rises (suc n) [] h = h
 drop_rises (suc n) (x ∷ xs) h = drop_rises n xs (tail_rises x xs h)
 
--- the first from a place on has the least time, and behind the last there is none
+-- the time of the input at an index is the least from there on, and after the last there is none
 pub from_place : (xs : List TimedInput) (n : ℕ) (d : TimedInput) → never_falls xs ≡ true → n < length xs → from (get_or xs n d).step (drop n xs) ≡ true
 from_place [] n d h k = absurd (omega arith)
 from_place (x ∷ xs) zero d h k = all_from x.step x xs h (omega arith)
@@ -91,13 +91,13 @@ from_end t (suc n) [] h = refl
 from_end t zero (x ∷ xs) h = absurd (omega arith)
 from_end t (suc n) (x ∷ xs) h = from_end t n xs (omega arith)
 
--- the first is at least what all are
+-- a time that all inputs have reached is at most the time of the first
 pub place_from : (xs : List TimedInput) (n : ℕ) (d : TimedInput) (t : ℕ) → n < length xs → from t (drop n xs) ≡ true → t ≤ (get_or xs n d).step
 place_from [] n d t k h = absurd (omega arith)
 place_from (x ∷ xs) zero d t k h = le_is t x.step (and_left (nat_le t x.step) (from t xs) h)
 place_from (x ∷ xs) (suc n) d t k h = place_from xs n d t (omega arith) h
 
--- and so every time is at least one that is earlier
+-- and all of them have reached each earlier time
 pub from_earlier : (t u : ℕ) (xs : List TimedInput) → from u xs ≡ true → t ≤ u → from t xs ≡ true
 from_earlier t u [] h k = refl
 from_earlier t u (x ∷ xs) h k =
@@ -109,7 +109,7 @@ drop_from t zero xs h = h
 drop_from t (suc n) [] h = h
 drop_from t (suc n) (x ∷ xs) h = drop_from t n xs (and_right (nat_le t x.step) (from t xs) h)
 
--- none is before a time that all have reached
+-- no input is before a time that all have reached
 pub none_before : (t : ℕ) (xs : List TimedInput) → from t xs ≡ true → count_before t xs ≡ 0
 none_before t [] h = refl
 none_before t (x ∷ xs) h =
@@ -123,12 +123,12 @@ from_first (x ∷ xs) = rw (le 0 x.step (omega arith)) (from_first xs)
 pub count_most : (t : ℕ) (xs : List TimedInput) → count_before t xs ≤ length xs
 count_most t xs = omega (arith, length-filter (λ x. nat_lt x.step t) xs, count_by-le-length (λ x. nat_lt x.step t) xs)
 
--- what is before a time is dropped, and all else stays
+-- the inputs before a time are dropped, and the others stay
 module _ (t : ℕ) where
   abbrev late : List TimedInput → List TimedInput
   late xs = drop (count_before t xs) xs
 
-  -- one that isn't before it, nor is any behind it
+  -- an input that is not before t, as those after it are not
   late_all : (x : TimedInput) (xs : List TimedInput) → never_falls (x ∷ xs) ≡ true → nat_lt x.step t ≡ false → count_before t (x ∷ xs) ≡ 0
   late_all x xs h e = none_before t (x ∷ xs) (all_from t x xs h (not_lt_is x.step t e))
 
@@ -167,15 +167,15 @@ module _ (t : ℕ) where
     late_count [] h = refl
     late_count (x ∷ xs) h = late_count_by x xs (nat_lt x.step t) refl h (late_count xs (tail_rises x xs h))
 
--- ---- the inputs of a time that all have reached, one after the other
+-- ---- the inputs of a time that all have reached, one after another
 
--- an input of that time
+-- each input has reached that time
 pub due_step : (t : ℕ) (xs : List TimedInput) (i : ℕ) (d : TimedInput) → from t xs ≡ true → i < length xs → t ≤ (get_or xs i d).step
 due_step t [] i d h k = absurd (omega arith)
 due_step t (x ∷ xs) zero d h k = le_is t x.step (and_left (nat_le t x.step) (from t xs) h)
 due_step t (x ∷ xs) (suc i) d h k = due_step t xs i d (and_right (nat_le t x.step) (from t xs) h) (omega arith)
 
--- none behind one of a later time is of that time
+-- no input after one of a later time is of time t
 module _ (t : ℕ) where
   pub none_of : (xs : List TimedInput) → from (t + 1) xs ≡ true → of t xs ≡ []
   none_of [] h = refl

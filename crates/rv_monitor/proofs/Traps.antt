@@ -1,4 +1,4 @@
--- Traps, one behind the other.
+-- The lines of traps, one after another.
 use Rattle.std.proofs.Common.{◌≡◌, ◌∙◌, ℕ, zero, suc, ◌+◌, ◌<◌, ◌≤◌, List, [], ◌∷◌, ◌++◌, length, take, refl, sym, ap, add-one, append-nil, append_assoc, rules, arith}
 use Rattle.std.specs.Prelude.{Option, Some, IsSome, slice_get}
 use Rattle.std.specs.List.{flat_map}
@@ -16,23 +16,25 @@ more [] (suc i) t e = absurd cc
 more (x ∷ xs) zero t e = let same : t ≡ x = cc in rw same (append-nil (trap_text x))
 more (x ∷ xs) (suc i) t e = ap (λ text. trap_text x ++ text) (more xs i t e) ∙ sym (append_assoc (trap_text x) (flat_map trap_text (take i xs)) (trap_text t))
 
--- behind a text
+-- no line after a text
 pub no_trap : (text : List ℕ) (ts : List TrapRecord) → text ++ flat_map trap_text (take 0 ts) ≡ text
 no_trap text ts = ap (λ lines. text ++ lines) (none ts) ∙ append-nil text
 
+-- one more line
 pub one_more_trap : (text : List ℕ) (ts : List TrapRecord) (i : ℕ) (t : TrapRecord) → Some t ≡ slice_get ts i
     → text ++ flat_map trap_text (take (i + 1) ts) ≡ text ++ flat_map trap_text (take i ts) ++ trap_text t
 one_more_trap text ts i t e =
     ap (λ lines. text ++ lines) (ap (λ n. flat_map trap_text (take n ts)) (add-one i) ∙ more ts i t e)
     ∙ sym (append_assoc text (flat_map trap_text (take i ts)) (trap_text t))
 
+-- all lines
 pub all_traps : (text : List ℕ) (ts : List TrapRecord) (n : ℕ) → length ts ≤ n → text ++ flat_map trap_text (take n ts) ≡ text ++ flat_map trap_text ts
 all_traps text ts n h = ap (λ lines. text ++ flat_map trap_text lines) (take_all n ts h)
 
--- a text with the traps before one, and then that one behind it, has one more
-pub trap_behind : (text before after : List ℕ) (ts : List TrapRecord) (i : ℕ) (t : TrapRecord) → Some t ≡ slice_get ts i
+-- a text with the lines of the first i traps, with the next line appended, has those of i + 1
+pub trap_appended : (text before after : List ℕ) (ts : List TrapRecord) (i : ℕ) (t : TrapRecord) → Some t ≡ slice_get ts i
     → before ≡ text ++ flat_map trap_text (take i ts) → after ≡ before ++ trap_text t → after ≡ text ++ flat_map trap_text (take (i + 1) ts)
-trap_behind text before after ts i t here stands appended =
+trap_appended text before after ts i t here stands appended =
     appended ∙ ap (λ head. head ++ trap_text t) stands ∙ sym (one_more_trap text ts i t here)
 
 some_trap : (ts : List TrapRecord) (i : ℕ) → i < length ts → IsSome (slice_get ts i)
@@ -40,6 +42,6 @@ some_trap [] i h = absurd (omega (arith, h))
 some_trap (t ∷ ts) zero h = search rules
 some_trap (t ∷ ts) (suc i) h = some_trap ts i (omega (arith, h))
 
--- each index below the count has a trap
+-- there is a trap at each index below the count
 pub has_trap : (ts : List TrapRecord) (i : ℕ) (answered : Option TrapRecord) → answered ≡ slice_get ts i → i < length ts → IsSome answered
 has_trap ts i answered e h = rw e (some_trap ts i h)

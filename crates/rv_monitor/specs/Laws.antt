@@ -1,5 +1,5 @@
 -- To audit: public contracts cite this.
--- Calls one after another.
+-- Laws: steps that are taken in several calls.
 use Rattle.std.specs.Prelude.{◌≡◌, ℕ, ◌+◌, true, List, drop}
 use Rattle.rv_board.specs.State.{BoardState}
 use Rattle.rv_board.specs.Move.{run}
@@ -8,14 +8,14 @@ use Rattle.rv_lists.specs.declared.input.TimedInput.{TimedInput}
 use Rattle.rv_monitor.specs.Events.{events_of}
 use Rattle.rv_monitor.specs.State.{TimedState, count_before, after, with_due}
 
--- a run of the first steps and then of the next, with the inputs that weren't given, is the run of all
+-- a run of the first steps and then of the next, with the inputs that are left, is the run of all
 abbrev pub RunsJoin : Type 0
 RunsJoin =
     (b : BoardState) (timed : List TimedInput) (k j : ℕ) → never_falls timed ≡ true
     → run (run b (events_of timed 0 k)) (events_of (drop (count_before k timed) timed) k j) ≡ run b (events_of timed 0 (k + j))
 
--- so steps may be taken in as many calls as one likes, and no step is no change; after a refusal the next call goes on with
--- the refused step, and gives no input again
+-- so steps may be taken in any number of calls, and no step is no change; after memory ran out at a step the
+-- next call goes on with that step, and gives no input again
 pub record CallsJoin (s : TimedState) : Type 0 where
   pub none : after s 0 ≡ s
   pub more : (k j : ℕ) → after (after s k) j ≡ after s (k + j)

@@ -3,12 +3,11 @@ pub mod State
 pub mod Breaks
 pub mod Stops
 pub mod Laws
-pub mod Asked
 pub mod Commands
-pub mod Answered
-pub mod Marks
-pub mod Bare
+pub mod Answers
+pub mod Filter
+pub mod WithoutInputs
 pub mod Numbers
 pub mod Room
 pub mod Views
-pub mod Appended
+pub mod Growth

@@ -1,5 +1,5 @@
 -- To audit: public contracts cite this.
--- All that a session is.
+-- The state of a session.
 use Rattle.std.specs.Prelude.{◌≡◌, ℕ, ◌+◌, ◌-◌, ◌≤◌, ◌==◌, if◌then◌else◌, min, true, List, length, drop, filter, nat_le, nat_lt}
 use Rattle.std.specs.List.{list_all}
 use Rattle.std.specs.Ordering.{nat_cmp}
@@ -16,15 +16,15 @@ use Rattle.rv_monitor.specs.Events.{inputs_at, events_of}
 abbrev pub Addresses : Type 0
 Addresses = FinSet nat_cmp
 
--- a board with all its timed inputs, the place of the first that it wasn't given, and how many steps were taken
+-- a board with all its timed inputs, the index of the next one, and the number of steps taken
 pub record TimedState : Type 0 where
   pub board : BoardState
   pub inputs : List TimedInput
   pub place : ℕ
   pub taken : ℕ
 
--- with the program that was booted, the most steps that may be taken, the breakpoints, and for how many more of them there is
--- room, so that they take no memory
+-- that with the program that was booted, the largest number of steps that may be taken, the breakpoints, and
+-- how many more of them there is room for without allocating
 pub record SessionState : Type 0 where
   pub timed : TimedState
   pub program : Assembly
@@ -32,11 +32,11 @@ pub record SessionState : Type 0 where
   pub breakpoints : Addresses
   pub room : ℕ
 
--- the inputs that weren't given
+-- the inputs that are left to be given
 abbrev pub rest : TimedState → List TimedInput
 rest s = drop s.place s.inputs
 
--- no input comes before one of an earlier time, and those of steps that were taken were given
+-- the times of the inputs never fall, and the inputs of all steps taken were given
 pub record IsInTime (s : TimedState) : Type 0 where
   pub within : s.place ≤ length s.inputs
   pub rising : never_falls s.inputs ≡ true
@@ -47,32 +47,34 @@ abbrev pub start : BoardState → List TimedInput → Assembly → ℕ → Sessi
 start board inputs program limit =
     record { timed = record { board = board; inputs = inputs; place = 0; taken = 0 }; program = program; limit = limit; breakpoints = set.empty; room = 0 }
 
--- the most steps that a call for so many may take
+-- the largest number of steps that a call for n may take
 abbrev pub most_of : SessionState → ℕ → ℕ
 most_of s n = min n (s.limit - s.timed.taken)
 
 -- ---- breakpoints
 
--- the room behind one that was set: where it was there already, it took none; another takes a place, and where there was none,
--- room for nine was made first
+-- the room after an address was set: one that was there already takes none; another takes a place, and where
+-- there was none, room for nine was made first
 abbrev pub room_behind : Addresses → ℕ → ℕ → ℕ
-room_behind breakpoints room address = if set.contains breakpoints address then room else (if room == 0 then 9 else room) - 1
+room_behind breakpoints room address =
+    if set.contains breakpoints address then room else (if room == 0 then 9 else room) - 1
 
--- with one more
+-- a session with one breakpoint more
 abbrev pub with_break : SessionState → ℕ → SessionState
-with_break s address = record s { breakpoints = set.insert s.breakpoints address; room = room_behind s.breakpoints s.room address }
+with_break s address =
+    record s { breakpoints = set.insert s.breakpoints address; room = room_behind s.breakpoints s.room address }
 
--- with one less, which gives no room back
+-- a session with one breakpoint less, which gives no room back
 abbrev pub without_break : SessionState → ℕ → SessionState
 without_break s address = record s { breakpoints = set.remove s.breakpoints address }
 
--- ---- what steps make of it
+-- ---- steps
 
--- how many inputs have a time below this
+-- the number of inputs with a time below `step`
 abbrev pub count_before : ℕ → List TimedInput → ℕ
 count_before step timed = length (filter (λ x. nat_lt x.step step) timed)
 
--- after so many more steps
+-- the state after more steps
 unfoldable pub after : TimedState → ℕ → TimedState
 after s count = record s {
   board = run s.board (events_of (rest s) s.taken count);
@@ -80,7 +82,7 @@ after s count = record s {
   taken = s.taken + count;
 }
 
--- with the inputs of the next step given
+-- the state with the inputs of the next step given
 unfoldable pub with_due : TimedState → TimedState
 with_due s = record s {
   board = run s.board (inputs_at (rest s) s.taken);

@@ -1,6 +1,5 @@
 -- To audit: public contracts cite this.
--- What is printed of a board: one definition a command.
--- This project's own language.
+-- The text that each command prints of a board (this project's own: docs/MONITOR.md).
 use Rattle.std.specs.Prelude.{ℕ, zero, suc, ◌+◌, ◌-◌, ◌*◌, ◌%◌, ◌^◌, ◌==◌, List, [], ◌∷◌, ◌++◌, if◌then◌else◌, min, Option, Some, None, unwrap_or, codes}
 use Rattle.std.specs.List.{flat_map}
 use Rattle.std.specs.Fmt.{decimal}
@@ -13,21 +12,23 @@ use Rattle.rv_pmp.specs.declared.mode.Mode.TheVariants.{User, Machine}
 use Rattle.rv_plic.specs.Edges.{edges_of}
 use Rattle.rv_board.specs.State.{BoardState, reg_of, pc_of, mode_of, csr_of, byte_of, steps_of, plic_of}
 use Rattle.rv_board.specs.declared.event.TrapRecord.{TrapRecord}
-use Rattle.rv_monitor.specs.Numbers.{hex, two_decimals}
+use Rattle.rv_base.specs.Digits.{hex}
+use Rattle.rv_monitor.specs.Numbers.{two_decimals}
 
 -- ---- pieces of text
 
--- with its line end
+-- a line: a text with a line end
 abbrev pub line : List ℕ → List ℕ
 line text = text ++ 10 ∷ []
 
--- the pieces of the numbers below n, one behind the other
+-- the pieces of the numbers below n, one after another
 unfoldable pub pieces : (ℕ → List ℕ) → ℕ → List ℕ
 pieces piece zero = []
 pieces piece (suc n) = pieces piece n ++ piece n
 
 -- ---- registers
 
+-- the letter of a mode
 abbrev pub mode_letter : Mode → List ℕ
 mode_letter User = codes "U"
 mode_letter Machine = codes "M"
@@ -40,60 +41,61 @@ place_text b = codes "pc=" ++ hex 8 (pc_of b) ++ codes " mode=" ++ mode_letter (
 unfoldable pub register_text : BoardState → ℕ → List ℕ
 register_text b r = codes "x" ++ two_decimals r ++ codes "=" ++ hex 8 (reg_of b r)
 
--- a register in its line: behind the last of four stands a line end, behind the others a space
+-- a register in its line: a line end follows the last of four, and a space the others
 unfoldable pub register_in_line : BoardState → ℕ → List ℕ
 register_in_line b r = register_text b r ++ (if r % 4 == 3 then codes "\n" else codes " ")
 
--- `r`: x0 to x31, four in a line; then the pc and the mode
+-- `r`: x0 to x31, four in a line; then a line of the pc and the mode
 unfoldable pub registers_text : BoardState → List ℕ
 registers_text b = pieces (register_in_line b) 32 ++ line (place_text b)
 
--- `p`: a control register by the name that it was asked by
+-- `p`: a control register, by the name that the command gives
 unfoldable pub control_register_text : BoardState → List ℕ → ℕ → List ℕ
 control_register_text b name csr = line (name ++ codes "=" ++ hex 8 (unwrap_or (csr_of b csr) 0))
 
 -- ---- memory
 
--- the byte that stands so far behind an address; addresses go on modulo 2 ^ 32
+-- the byte at an offset from an address, modulo 2 ^ 32
 abbrev pub byte_behind : BoardState → ℕ → ℕ → Option ℕ
 byte_behind b addr offset = byte_of b ((addr + offset) % 2 ^ 32)
 
--- a byte, or `--` where none is
+-- a byte, or `--` where there is no memory
 abbrev pub byte_text : Option ℕ → List ℕ
 byte_text None = codes "--"
 byte_text (Some byte) = hex 2 byte
 
--- a byte in its line, behind a space
+-- a byte in its line: a space and the byte
 unfoldable pub byte_in_line : BoardState → ℕ → ℕ → List ℕ
 byte_in_line b addr offset = codes " " ++ byte_text (byte_behind b addr offset)
 
--- an address and so many bytes from there on
+-- a line of a dump: an address, and `count` bytes from there on
 unfoldable pub bytes_line : BoardState → ℕ → ℕ → List ℕ
 bytes_line b addr count = line (hex 8 addr ++ codes ":" ++ pieces (byte_in_line b addr) count)
 
--- line k of so many bytes in all: 16 of them, and in the last line those that are left
+-- line k of a dump of `count` bytes: 16 of them, and in the last line those that are left
 unfoldable pub memory_line : BoardState → ℕ → ℕ → ℕ → List ℕ
 memory_line b addr count k = bytes_line b ((addr + 16 * k) % 2 ^ 32) (min 16 (count - 16 * k))
 
--- `m`: as many lines as it takes
+-- `m`: a dump of `count` bytes
 unfoldable pub memory_text : BoardState → ℕ → ℕ → List ℕ
 memory_text b addr count = pieces (memory_line b addr count) (div_ceil count 16)
 
--- the word of four bytes, low one first, where all are there
+-- the word of four bytes, low one first, if there is memory for all
 abbrev pub word_from : Option ℕ → Option ℕ → Option ℕ → Option ℕ → Option ℕ
 word_from (Some b0) (Some b1) (Some b2) (Some b3) = Some (b0 + 256 * b1 + 65536 * b2 + 16777216 * b3)
 word_from _ _ _ _ = None
 
--- the word at an address
+-- the word at an address, if there is memory for it
 unfoldable pub word_of : BoardState → ℕ → Option ℕ
-word_of b addr = word_from (byte_behind b addr 0) (byte_behind b addr 1) (byte_behind b addr 2) (byte_behind b addr 3)
+word_of b addr =
+    word_from (byte_behind b addr 0) (byte_behind b addr 1) (byte_behind b addr 2) (byte_behind b addr 3)
 
--- an instruction's text, or `illegal` where none has the word
+-- an instruction's text, or `illegal` where no instruction has the word
 abbrev pub meaning_text : Option Kind → List ℕ
 meaning_text None = codes "illegal"
 meaning_text (Some kind) = text kind
 
--- a word and what it means, or `--------` where it isn't there whole
+-- a word and its instruction, or `--------` where there is no word
 abbrev pub word_text : Option ℕ → List ℕ
 word_text None = codes "--------"
 word_text (Some word) = hex 8 word ++ codes " " ++ meaning_text (means word)
@@ -104,26 +106,30 @@ instruction_text b addr = line (hex 8 addr ++ codes ": " ++ word_text (word_of b
 
 -- ---- traps
 
--- a word behind its label
+-- a label and a word
 unfoldable pub labelled : List ℕ → ℕ → List ℕ
 labelled label word = label ++ hex 8 word
 
+-- the line of a trap
 unfoldable pub trap_text : TrapRecord → List ℕ
-trap_text t = line (labelled (codes "trap cause=") t.cause ++ labelled (codes " epc=") t.epc ++ labelled (codes " tval=") t.tval)
+trap_text t =
+    line (labelled (codes "trap cause=") t.cause ++ labelled (codes " epc=") t.epc
+    ++ labelled (codes " tval=") t.tval)
 
--- `t`: the kept traps, oldest first
+-- `t`: the traps that the board keeps, oldest first
 abbrev pub traps_text : BoardState → List ℕ
 traps_text b = flat_map trap_text b.traps
 
--- ---- waiting edges
+-- ---- pending edges
 
--- `e`: how many edges of a source wait
+-- `e`: how many edges of a source are pending
 unfoldable pub edges_text : BoardState → ℕ → List ℕ
 edges_text b source =
     line (codes "source " ++ decimal source ++ codes " edges=" ++ decimal (edges_of (plic_of b).gateways.edges source))
 
 -- ---- stops
 
--- `s` and `c`: why the steps ended, and where the board stands
+-- `s` and `c`: why the steps ended, and how the board stands
 unfoldable pub stop_text : BoardState → List ℕ → List ℕ
-stop_text b word = line (codes "stop " ++ word ++ codes " " ++ place_text b ++ codes " steps=" ++ decimal (steps_of b))
+stop_text b word =
+    line (codes "stop " ++ word ++ codes " " ++ place_text b ++ codes " steps=" ++ decimal (steps_of b))

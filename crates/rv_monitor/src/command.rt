@@ -1,41 +1,41 @@
-//! Commands over a session.
+//! The commands over a session, and their answers.
 ghost use Rattle.std.specs.Prelude.{◌≡◌, ◌++◌, ◌+◌, ◌-◌, ◌≤◌, Some, length, IfOk, OnOk, OnErr, vec_len, vec_capacity};
-ghost use Rattle.rv_monitor.specs.Numbers.{hex};
+ghost use Rattle.rv_base.specs.Digits.{hex};
 ghost use Rattle.rv_monitor.specs.Views.{line};
 ghost use Rattle.rv_program.specs.Program.{value_of};
 ghost use Rattle.rv_commands.specs.Commands.{IsNamed};
 ghost use Rattle.rv_commands.specs.declared.command.Command.{Command};
-ghost use Rattle.rv_monitor.specs.Answered.{Answered};
+ghost use Rattle.rv_monitor.specs.Answers.{AppendsAnswer};
 ghost use Rattle.rv_monitor.specs.Commands.{Leaves, LeavesRefused, answer, next_of, word_of, command_in};
 
 use crate::session::Session;
 use crate::stop::Stop;
 use crate::views::{
-    STOP_BYTES, eight_digits, write_control_register, write_edges, write_instruction, write_memory,
+    STOP_BYTES, write_control_register, write_edges, write_instruction, write_memory,
     write_registers, write_stop, write_traps,
 };
-use rv_base::{NoMemory, append_within};
+use rv_base::{NoMemory, append_within, word_digits};
 use rv_cache::Decoded;
 use rv_commands::{Command, SymbolLookup, read_command};
 use rv_program::Program;
 use rv_ram::ByteMemory;
 
-/// What comes behind a command.
+/// Whether commands follow a command.
 #[derive(Clone, Copy, PartialEq, Eq, Debug)]
 pub enum Next {
-    /// More commands.
+    /// The next command follows.
     More,
-    /// None.
+    /// No command follows.
     Quit,
 }
 
-/// How many bytes the word of a stop has at most.
+/// The largest number of bytes of a stop's word.
 const WORD_BYTES: usize = 6;
 
-/// How many bytes the line of a breakpoint has at most.
+/// The largest number of bytes of a breakpoint's line.
 const BREAK_BYTES: usize = 15;
 
-/// The word of a stop.
+/// Returns the word of a stop.
 fn stop_word(stop: Stop) -> &'static str
     ensures word { result.now ≡ word_of stop }
     ensures short { length result.now ≤ WORD_BYTES }
@@ -47,8 +47,8 @@ fn stop_word(stop: Stop) -> &'static str
     }
 }
 
-/// What comes behind a command.
-fn next_behind<'a>(command: &Command<'a>) -> Next
+/// Returns whether commands follow a command.
+fn next_after<'a>(command: &Command<'a>) -> Next
     ensures { result ≡ next_of (Some command.now) }
 {
     match command {
@@ -57,22 +57,22 @@ fn next_behind<'a>(command: &Command<'a>) -> Next
     }
 }
 
-/// Appends a line of an address behind a word, to a text that has room for it.
+/// Appends a line of a word and an address, to a text that has room for it.
 fn append_address(text: &mut Vec<u8>, word: &[u8], addr: u32)
     requires { vec_len text.old + length word.now + 9 ≤ vec_capacity text.old }
     ensures { text.new.items ≡ text.old.items ++ line (word.now ++ hex 8 addr) }
 {
     append_within(text, word);
-    append_within(text, &eight_digits(addr));
+    append_within(text, &word_digits(addr));
     append_within(text, b"\n");
 }
 
-/// The names of a program.
+/// The symbols of a program, for the addresses in commands.
 #[derive(Drop)]
-struct Names<'a>(&'a Program);
+struct ProgramSymbols<'a>(&'a Program);
 
-impl<'a> SymbolLookup for Names<'a> {
-    ghost symbols = { λ names. value_of names.0.now.symbols };
+impl<'a> SymbolLookup for ProgramSymbols<'a> {
+    ghost symbols = { λ symbols. value_of symbols.0.now.symbols };
 
     fn symbol(&self, name: &[u8]) -> Option<i64> {
         self.0.symbol(name)
@@ -80,32 +80,31 @@ impl<'a> SymbolLookup for Names<'a> {
 }
 
 impl<M: ByteMemory, C: Decoded> Session<M, C> {
-    /// Takes steps, and says why they ended.
+    /// Executes `s`: takes steps, and answers why they ended.
     fn answer_step(&mut self, count: u64, text: &mut Vec<u8>) -> Result<(), NoMemory>
-        ensures { Answered (Some (Command.Step count)) (vec_capacity text.old - vec_len text.old) self.old self.new text.old.items text.new.items result }
+        ensures { AppendsAnswer (Some (Command.Step count)) (vec_capacity text.old - vec_len text.old)
+            self.old self.new text.old.items text.new.items result }
     {
         text.reserve(WORD_BYTES + STOP_BYTES)?;
-        match self.step(count) {
-            Ok(stop) => write_stop(self.board(), stop_word(stop), text),
-            Err(NoMemory) => Err(NoMemory),
-        }
+        let stop = self.step(count)?;
+        write_stop(self.board(), stop_word(stop), text)
     }
 
-    /// Takes steps up to a breakpoint, or all that are left, and says why they ended.
+    /// Executes `c`: takes steps up to a breakpoint, or all that are left, and answers why they ended.
     fn answer_go(&mut self, count: Option<u64>, text: &mut Vec<u8>) -> Result<(), NoMemory>
-        ensures { Answered (Some (Command.Go count)) (vec_capacity text.old - vec_len text.old) self.old self.new text.old.items text.new.items result }
+        ensures { AppendsAnswer (Some (Command.Go count)) (vec_capacity text.old - vec_len text.old)
+            self.old self.new text.old.items text.new.items result }
     {
         text.reserve(WORD_BYTES + STOP_BYTES)?;
         let most = count.unwrap_or(self.limit() - self.taken());
-        match self.go(most) {
-            Ok(stop) => write_stop(self.board(), stop_word(stop), text),
-            Err(NoMemory) => Err(NoMemory),
-        }
+        let stop = self.go(most)?;
+        write_stop(self.board(), stop_word(stop), text)
     }
 
-    /// Sets a breakpoint, and says where.
+    /// Executes `b`: sets a breakpoint, and answers its address.
     fn answer_set(&mut self, addr: u32, text: &mut Vec<u8>) -> Result<(), NoMemory>
-        ensures { Answered (Some (Command.SetBreak addr)) (vec_capacity text.old - vec_len text.old) self.old self.new text.old.items text.new.items result }
+        ensures { AppendsAnswer (Some (Command.SetBreak addr)) (vec_capacity text.old - vec_len text.old)
+            self.old self.new text.old.items text.new.items result }
     {
         text.reserve(BREAK_BYTES)?;
         self.set_break(addr)?;
@@ -113,9 +112,10 @@ impl<M: ByteMemory, C: Decoded> Session<M, C> {
         Ok(())
     }
 
-    /// Clears a breakpoint, and says where it was.
+    /// Executes `d`: removes a breakpoint, and answers its address, or that there was none.
     fn answer_clear(&mut self, addr: u32, text: &mut Vec<u8>) -> Result<(), NoMemory>
-        ensures { Answered (Some (Command.ClearBreak addr)) (vec_capacity text.old - vec_len text.old) self.old self.new text.old.items text.new.items result }
+        ensures { AppendsAnswer (Some (Command.ClearBreak addr)) (vec_capacity text.old - vec_len text.old)
+            self.old self.new text.old.items text.new.items result }
     {
         text.reserve(BREAK_BYTES)?;
         if self.clear_break(addr) {
@@ -126,10 +126,11 @@ impl<M: ByteMemory, C: Decoded> Session<M, C> {
         Ok(())
     }
 
-    /// Does a command and appends its answer.
+    /// Executes a command, and appends its answer.
     fn answer<'a>(&mut self, command: Command<'a>, text: &mut Vec<u8>) -> Result<(), NoMemory>
         requires { IsNamed command }
-        ensures { Answered (Some command.entry) (vec_capacity text.old - vec_len text.old) self.old self.new text.old.items text.new.items result }
+        ensures { AppendsAnswer (Some command.entry) (vec_capacity text.old - vec_len text.old) self.old
+            self.new text.old.items text.new.items result }
     {
         let board = self.board();
         match command {
@@ -149,26 +150,31 @@ impl<M: ByteMemory, C: Decoded> Session<M, C> {
         }
     }
 
-    /// Does what a command line says, and appends its answer to a text.
+    /// Executes a command line, and appends its answer to `text`.
     ///
-    /// Room for the answer is made first. Where memory is refused, the text is as it was, and only steps that were taken
-    /// stand: none where the text had no room. A command that looks at the board is refused only where the text had no
-    /// room for the longest answer of its kind.
+    /// Room for the longest answer of its kind is made first.
+    ///
+    /// # Errors
+    ///
+    /// `NoMemory` if memory runs out. `text` is left as it was, and nothing has changed but the steps taken so far, which
+    /// are none if there was no room for the answer. A command that only looks at the board fails only if there was no
+    /// room for the answer.
     pub fn command(&mut self, line: &[u8], text: &mut Vec<u8>) -> Result<Next, NoMemory>
         ensures next { IfOk result (λ next. next ≡ next_of (command_in line.now self.old)) }
         ensures ok { OnOk result (Leaves (command_in line.now self.old) self.old self.new) }
-        ensures text { OnOk result (text.new.items ≡ text.old.items ++ answer (command_in line.now self.old) self.old self.new) }
-        ensures err { OnErr result (LeavesRefused (command_in line.now self.old) (vec_capacity text.old - vec_len text.old) self.old self.new) }
+        ensures text { OnOk result (text.new.items ≡ text.old.items
+            ++ answer (command_in line.now self.old) self.old self.new) }
+        ensures err { OnErr result
+            (LeavesRefused (command_in line.now self.old) (vec_capacity text.old - vec_len text.old)
+            self.old self.new) }
         ensures unwritten { OnErr result (text.new.items ≡ text.old.items) }
     {
-        let Some(command) = read_command(line, &Names(self.program())) else {
+        let Some(command) = read_command(line, &ProgramSymbols(self.program())) else {
             text.extend_from_slice(b"?\n")?;
             return Ok(Next::More);
         };
-        let next = next_behind(&command);
-        match self.answer(command, text) {
-            Ok(()) => Ok(next),
-            Err(NoMemory) => Err(NoMemory),
-        }
+        let next = next_after(&command);
+        self.answer(command, text)?;
+        Ok(next)
     }
 }

@@ -1,10 +1,10 @@
-//! A session over a board: it takes steps and gives the inputs of a timed list before theirs, up to a limit, and may
-//! stop at breakpoints. Its commands, and what they print of a board.
+//! A session: a board with its timed inputs and breakpoints, which takes steps up to a limit; the commands over it, and
+//! the text that they print of a board.
 #![tactic(auto)]
 
 mod breakpoints;
 mod command;
-mod marks;
+mod filter;
 mod session;
 mod stop;
 mod timed;
@@ -14,6 +14,6 @@ pub use command::Next;
 pub use session::{Session, calls_join};
 pub use stop::Stop;
 pub use views::{
-    STOP_BYTES, eight_digits, mode_letter, two_digits, write_control_register, write_edges,
-    write_instruction, write_memory, write_registers, write_stop, write_traps,
+    STOP_BYTES, mode_letter, write_control_register, write_edges, write_instruction, write_memory,
+    write_registers, write_stop, write_traps,
 };

@@ -1,4 +1,4 @@
-//! Sessions.
+//! Sessions: what a caller may ask of one.
 ghost use Rattle.std.specs.Prelude.{◌≡◌, ◌-◌, ◌≤◌, false, OnOk, OnErr, IfOk};
 ghost use Rattle.std.specs.FinSet as set;
 ghost use Rattle.rv_monitor.specs.Laws.{RunsJoin, CallsJoin};
@@ -19,17 +19,17 @@ use std::marker::Model;
 
 /// A board with the program that it was booted with, its timed inputs, a limit of steps, and breakpoints.
 ///
-/// Step number t, from 0, comes behind the inputs of time t in their order. However many calls take the steps, the
-/// board ends as if one call had taken them.
+/// Step number t, counted from 0, follows the inputs of time t in their order. However many calls take the steps, the
+/// board ends as if one call had taken them all.
 pub struct Session<M: ByteMemory, C: Decoded> {
     timed: TimedBoard<M, C>,
     program: Program,
-    /// The most steps that may be taken in all.
+    /// The largest number of steps that may be taken in all.
     limit: u64,
     breakpoints: Breakpoints,
 }
 
-// Written out, so that to let it go is one call where it is owned, and not one for each of its parts.
+// Hand-written: a derived `Drop` would be proved anew at each exit (docs/PROVING.md).
 impl<M: ByteMemory, C: Decoded> Drop for Session<M, C> {
     fn drop(self) {
         let Session {
@@ -59,7 +59,7 @@ impl<M: ByteMemory, C: Decoded> Model for Session<M, C> {
 }
 
 impl<M: ByteMemory, C: Decoded> Session<M, C> {
-    /// A session that has taken no step and may take so many, with no breakpoint. It takes no memory.
+    /// Returns a session that has taken no step and may take `limit` steps, without breakpoints. It does not allocate.
     pub fn new(
         alloc: Global,
         board: Board<M, C>,
@@ -77,7 +77,7 @@ impl<M: ByteMemory, C: Decoded> Session<M, C> {
         }
     }
 
-    /// The board.
+    /// Returns the board.
     pub fn board(&self) -> &Board<M, C>
         ensures value { result.now ≡ self.now.timed.board }
         ensures in_time { IsInTime self.now.timed }
@@ -85,14 +85,14 @@ impl<M: ByteMemory, C: Decoded> Session<M, C> {
         self.timed.board()
     }
 
-    /// The program that the board was booted with.
+    /// Returns the program that the board was booted with.
     pub fn program(&self) -> &Program
         ensures { result.now ≡ self.now.program }
     {
         &self.program
     }
 
-    /// How many steps were taken in this session.
+    /// Returns how many steps the session has taken.
     pub fn taken(&self) -> u64
         ensures value { result ≡ self.now.timed.taken }
         ensures most { result ≤ self.now.limit }
@@ -101,22 +101,26 @@ impl<M: ByteMemory, C: Decoded> Session<M, C> {
         self.timed.taken()
     }
 
-    /// The most steps that may be taken in all.
+    /// Returns the largest number of steps that may be taken in all.
     pub fn limit(&self) -> u64
         ensures { result ≡ self.now.limit }
     {
         self.limit
     }
 
-    /// Whether an address is a breakpoint.
+    /// Returns whether an address is a breakpoint.
     pub fn has_break(&self, address: u32) -> bool
         ensures { result ≡ set.contains self.now.breakpoints address }
     {
         self.breakpoints.contains(address)
     }
 
-    /// Makes an address a breakpoint. A refused call changes nothing. Only one for an address that is none can be refused,
-    /// and only where the breakpoints have no room, which is made for nine of them at a time.
+    /// Makes an address a breakpoint. Room is made for nine breakpoints at a time.
+    ///
+    /// # Errors
+    ///
+    /// `NoMemory` if memory runs out, which it can only for an address that is no breakpoint yet, where the breakpoints
+    /// have no room. Nothing changes then.
     pub fn set_break(&mut self, address: u32) -> Result<(), NoMemory>
         ensures ok { OnOk result (self.new ≡ with_break self.old address) }
         ensures err { OnErr result (self.new ≡ self.old) }
@@ -126,7 +130,7 @@ impl<M: ByteMemory, C: Decoded> Session<M, C> {
         self.breakpoints.insert(address)
     }
 
-    /// Takes a breakpoint away, and says whether it was there.
+    /// Removes a breakpoint, and returns whether it was there.
     pub fn clear_break(&mut self, address: u32) -> bool
         ensures was { result ≡ set.contains self.old.breakpoints address }
         ensures gone { self.new ≡ without_break self.old address }
@@ -134,10 +138,12 @@ impl<M: ByteMemory, C: Decoded> Session<M, C> {
         self.breakpoints.remove(address)
     }
 
-    /// Takes so many steps, whatever the breakpoints, unless the board halts or the limit comes first.
+    /// Takes `n` steps, past any breakpoint, unless the board halts or the limit comes first.
     ///
-    /// A refused step leaves the board behind the steps before it and the inputs before it. The next call goes on with
-    /// the refused step, and gives no input again.
+    /// # Errors
+    ///
+    /// `NoMemory` if memory runs out at a step. The steps before it are taken, and the inputs before it are given. The next
+    /// call goes on with that step, and gives no input again.
     pub fn step(&mut self, n: u64) -> Result<Stop, NoMemory>
         ensures ok { IfOk result (HasStopped set.empty (most_of self.old n) self.old.timed self.new.timed) }
         ensures err { OnErr result (IsRefused set.empty (most_of self.old n) self.old.timed self.new.timed) }
@@ -147,14 +153,17 @@ impl<M: ByteMemory, C: Decoded> Session<M, C> {
         self.timed.advance(most, None)
     }
 
-    /// Takes so many steps, unless the board halts, comes to a breakpoint or the limit comes first. A breakpoint is
-    /// asked after each step, and so not before the first.
+    /// Takes `n` steps, unless the board halts, comes to a breakpoint, or the limit comes first. It does not stop at a
+    /// breakpoint before the first step.
     ///
-    /// A refused step leaves the board behind the steps before it and the inputs before it. The next call goes on with
-    /// the refused step, and gives no input again.
+    /// # Errors
+    ///
+    /// As those of [`step`](Session::step).
     pub fn go(&mut self, n: u64) -> Result<Stop, NoMemory>
-        ensures ok { IfOk result (HasStopped self.old.breakpoints (most_of self.old n) self.old.timed self.new.timed) }
-        ensures err { OnErr result (IsRefused self.old.breakpoints (most_of self.old n) self.old.timed self.new.timed) }
+        ensures ok { IfOk result
+            (HasStopped self.old.breakpoints (most_of self.old n) self.old.timed self.new.timed) }
+        ensures err { OnErr result
+            (IsRefused self.old.breakpoints (most_of self.old n) self.old.timed self.new.timed) }
         ensures others { self.new ≡ record self.old { timed = self.new.timed } }
     {
         let most = n.min(self.limit - self.timed.taken());
@@ -162,7 +171,8 @@ impl<M: ByteMemory, C: Decoded> Session<M, C> {
     }
 }
 
-/// A law: steps may be taken in as many calls as one likes, and a call behind a refusal goes on where it stood.
+/// Law: steps may be taken in any number of calls, and the call after one that ran out of memory goes on where that one
+/// stopped.
 #[tactic(auto, using(crate::proofs::Steps::runs_join))]
 pub fn calls_join()
     ensures runs { RunsJoin }

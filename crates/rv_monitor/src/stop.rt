@@ -1,11 +1,11 @@
-//! Why a call ended.
+//! The reasons why steps end.
 
-/// Why a call took no further step.
+/// The reason why a call took no further step.
 #[derive(Clone, Copy, PartialEq, Eq, Debug)]
 pub enum Stop {
     /// The board has halted.
     Halted,
-    /// The next instruction stands at a breakpoint.
+    /// The next instruction is at a breakpoint.
     Breakpoint,
     /// As many steps were taken as the call or the session allows.
     Limit,

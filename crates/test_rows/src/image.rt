@@ -2,8 +2,7 @@
 use crate::boards::program;
 use crate::row::{Row, behind_mark, number};
 use rv_asm::Program;
-use rv_base::{NoMemory, cut_lines};
-use rv_monitor::{eight_digits, two_digits};
+use rv_base::{NoMemory, byte_digits, cut_lines, word_digits};
 use std::alloc::Global;
 
 /// The address of an image's first byte.
@@ -13,14 +12,14 @@ const IMAGE: u32 = 0x8000_0000;
 fn append_group(group: &[u8], text: &mut Vec<u8>) -> Result<(), NoMemory> {
     text.extend_from_slice(b" ")?;
     for byte in group.iter().rev() {
-        text.extend_from_slice(&two_digits(*byte))?;
+        text.extend_from_slice(&byte_digits(*byte))?;
     }
     Ok(())
 }
 
 /// Appends a line of bytes, so many as one number.
 fn append_line(address: u32, bytes: &[u8], by: usize, text: &mut Vec<u8>) -> Result<(), NoMemory> {
-    text.extend_from_slice(&eight_digits(address))?;
+    text.extend_from_slice(&word_digits(address))?;
     text.extend_from_slice(b":")?;
     for group in bytes.chunks(by.max(1)) {
         append_group(group, text)?;

@@ -1,8 +1,8 @@
 //! All that a board can be read by, as a text.
-use rv_base::NoMemory;
+use rv_base::{NoMemory, byte_digits, word_digits};
 use rv_board::Board;
 use rv_cache::Decoded;
-use rv_monitor::{eight_digits, two_digits, write_memory, write_registers, write_traps};
+use rv_monitor::{write_memory, write_registers, write_traps};
 use rv_ram::ByteMemory;
 
 /// The control registers that hold something.
@@ -25,7 +25,7 @@ const COMPARED: u32 = 0x4000;
 fn append_number(name: &[u8], number: u32, text: &mut Vec<u8>) -> Result<(), NoMemory> {
     text.extend_from_slice(name)?;
     text.extend_from_slice(b"=")?;
-    text.extend_from_slice(&eight_digits(number))?;
+    text.extend_from_slice(&word_digits(number))?;
     Ok(())
 }
 
@@ -47,7 +47,7 @@ pub fn append_devices<M: ByteMemory, C: Decoded>(
     )?;
     text.extend_from_slice(b" sent=")?;
     for byte in board.console() {
-        text.extend_from_slice(&two_digits(*byte))?;
+        text.extend_from_slice(&byte_digits(*byte))?;
     }
     text.extend_from_slice(b"\n")?;
     Ok(())

@@ -1,4 +1,4 @@
-//! Waiting edges, as they are printed.
+//! The line of pending edges.
 ghost use Rattle.std.specs.Prelude.{◌≡◌, ◌++◌, ◌+◌, ◌<◌, OnOk, OnErr, vec_len, vec_capacity};
 ghost use Rattle.rv_monitor.specs.Room.{edges_room};
 ghost use Rattle.rv_monitor.specs.Views.{edges_text};
@@ -10,10 +10,10 @@ use rv_cache::Decoded;
 use rv_plic::Source;
 use rv_ram::ByteMemory;
 
-/// How many bytes the line has at most.
+/// The largest number of bytes of the line.
 const LINE_BYTES: usize = 27;
 
-/// Appends how many edges of a source wait.
+/// Appends the line of a source's number and how many of its edges are pending.
 #[tactic(auto, using(crate::proofs::Decimals::two_at_most), unfolding(crate::specs::Views::edges_text))]
 pub fn write_edges<M: ByteMemory, C: Decoded>(
     board: &Board<M, C>,

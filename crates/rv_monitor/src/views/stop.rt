@@ -1,4 +1,4 @@
-//! Stops, as they are printed.
+//! The line of a stop.
 ghost use Rattle.std.specs.Prelude.{◌≡◌, ◌++◌, ◌+◌, ◌≤◌, IsOk, OnOk, OnErr, vec_len, vec_capacity};
 ghost use Rattle.rv_monitor.specs.Room.{stop_room};
 ghost use Rattle.rv_monitor.specs.Views.{stop_text};
@@ -10,11 +10,11 @@ use rv_board::Board;
 use rv_cache::Decoded;
 use rv_ram::ByteMemory;
 
-/// How many bytes the line of a stop has at most, beside its word.
+/// The largest number of bytes of a stop's line, beside its word.
 pub const STOP_BYTES: usize = 52;
 
-/// Appends the line of a stop: why the steps ended, the pc, the mode, and how many steps the board has done. Memory is
-/// asked for only where the text has no room for the word and `STOP_BYTES` more.
+/// Appends the line of a stop: why the steps ended, the pc, the mode, and how many steps the board has taken. It allocates
+/// only if the text has no room for the word and `STOP_BYTES` more.
 #[tactic(auto, unfolding(crate::specs::Views::stop_text, crate::specs::Views::place_text))]
 pub fn write_stop<M: ByteMemory, C: Decoded>(
     board: &Board<M, C>,

@@ -1,33 +1,32 @@
-//! Traps, as they are printed.
+//! The lines of the last traps.
 ghost use Rattle.std.specs.Prelude.{◌≡◌, ◌++◌, ◌+◌, ◌*◌, ◌<◌, ◌≤◌, length, OnOk, OnErr, vec_len, vec_capacity};
-ghost use Rattle.rv_monitor.specs.Appended.{Appended};
+ghost use Rattle.rv_monitor.specs.Growth.{GrewBy};
 ghost use Rattle.rv_monitor.specs.Room.{traps_room};
 ghost use Rattle.rv_monitor.specs.Views.{labelled, trap_text, traps_text};
 
-use super::number::eight_digits;
-use rv_base::{NoMemory, append_within};
+use rv_base::{NoMemory, append_within, word_digits};
 use rv_board::{Board, TrapRecord};
 use rv_cache::Decoded;
 use rv_ram::ByteMemory;
 
-/// How many bytes the line of a trap has.
+/// The number of bytes of a trap's line.
 const TRAP_BYTES: usize = 47;
 
-/// Appends a word behind its label.
+/// Appends a label and a word.
 #[tactic(auto, unfolding(crate::specs::Views::labelled))]
 fn append_labelled(label: &[u8], word: u32, text: &mut Vec<u8>)
     requires { vec_len text.old + length label.now + 8 ≤ vec_capacity text.old }
-    ensures { Appended text.old text.new (labelled label.now word) (length label.now + 8) }
+    ensures { GrewBy text.old text.new (labelled label.now word) (length label.now + 8) }
 {
     append_within(text, label);
-    append_within(text, &eight_digits(word));
+    append_within(text, &word_digits(word));
 }
 
 /// Appends the line of a trap.
 #[tactic(auto, unfolding(crate::specs::Views::trap_text, crate::specs::Views::labelled))]
 fn append_trap(trap: TrapRecord, text: &mut Vec<u8>)
     requires { vec_len text.old + TRAP_BYTES ≤ vec_capacity text.old }
-    ensures { Appended text.old text.new (trap_text trap) TRAP_BYTES }
+    ensures { GrewBy text.old text.new (trap_text trap) TRAP_BYTES }
 {
     append_labelled(b"trap cause=", trap.cause, text);
     append_labelled(b" epc=", trap.epc, text);
@@ -35,7 +34,7 @@ fn append_trap(trap: TrapRecord, text: &mut Vec<u8>)
     append_within(text, b"\n");
 }
 
-/// Appends a line for each kept trap, oldest first.
+/// Appends a line for each trap that the board keeps, oldest first.
 #[tactic(auto, using(crate::proofs::Traps::no_trap, crate::proofs::Traps::one_more_trap, crate::proofs::Traps::all_traps))]
 pub fn write_traps<M: ByteMemory, C: Decoded>(
     board: &Board<M, C>,
@@ -43,7 +42,8 @@ pub fn write_traps<M: ByteMemory, C: Decoded>(
 ) -> Result<(), NoMemory>
     ensures ok { OnOk result (text.new.items ≡ text.old.items ++ traps_text board.now) }
     ensures err { OnErr result (text.new.items ≡ text.old.items) }
-    ensures room { OnErr result (vec_capacity text.old < vec_len text.old + traps_room (length board.now.traps)) }
+    ensures room { OnErr result
+        (vec_capacity text.old < vec_len text.old + traps_room (length board.now.traps)) }
 {
     text.reserve(TRAP_BYTES * board.trap_count())?;
     for index in 0..board.trap_count() {

@@ -2,7 +2,7 @@ use Rattle.std.proofs.Common.{◌≡◌, ◌+◌, ◌*◌, ◌≤◌, ◌++◌, 
 use Rattle.rv_monitor.specs.Views.{pieces, byte_in_line}
 use Rattle.rv_monitor.proofs.views.memory.append_bytes.Given as goal
 
--- the bytes below the offset stand behind the text, 3 bytes each
+-- the bytes below the offset were appended, 3 bytes of text each
 abbrev pub invariant-loop-offset : goal.invariant-loop-offset
 invariant-loop-offset g l =
     (l.text.items ≡ l.initial.text.items ++ pieces (byte_in_line l.board l.addr) l.offset)

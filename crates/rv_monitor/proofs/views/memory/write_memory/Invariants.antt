@@ -3,7 +3,7 @@ use Rattle.std.specs.Int.{div_ceil}
 use Rattle.rv_monitor.specs.Views.{pieces, memory_line}
 use Rattle.rv_monitor.proofs.views.memory.write_memory.Given as goal
 
--- the lines below the number stand behind the text, and there is room for the others
+-- the lines below the number were appended, and there is room for the others
 abbrev pub invariant-loop-number : goal.invariant-loop-number
 invariant-loop-number g l =
     (l.text.items ≡ l.fn.text.items ++ pieces (memory_line l.board l.addr l.count) l.number)

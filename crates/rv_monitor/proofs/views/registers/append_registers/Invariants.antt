@@ -2,7 +2,7 @@ use Rattle.std.proofs.Common.{◌≡◌, ◌+◌, ◌*◌, ◌≤◌, ◌++◌, 
 use Rattle.rv_monitor.specs.Views.{pieces, register_in_line}
 use Rattle.rv_monitor.proofs.views.registers.append_registers.Given as goal
 
--- the registers below the number stand behind the text, 13 bytes each
+-- the registers below the number were appended, 13 bytes each
 abbrev pub invariant-loop-number : goal.invariant-loop-number
 invariant-loop-number g l =
     (l.text.items ≡ l.initial.text.items ++ pieces (register_in_line l.board) l.number)

@@ -1,6 +1,6 @@
 use Rattle.std.proofs.Common.{◌≡◌, ◌∙◌, ◌<◌, length, rules, arith}
 use Rattle.std.specs.Prelude.{Some, slice_get}
-use Rattle.rv_monitor.proofs.Traps.{has_trap, trap_behind, all_traps}
+use Rattle.rv_monitor.proofs.Traps.{has_trap, trap_appended, all_traps}
 use Rattle.rv_monitor.proofs.views.trap.write_traps.Goals as goal
 
 pub unwrap-trap-requires : goal.unwrap-trap-requires
@@ -14,7 +14,7 @@ append_trap-requires g c =
 pub loop-index-preserved : goal.loop-index-preserved
 loop-index-preserved g c =
     let here : Some c.unwrap-trap.result ≡ slice_get c.args.board.now.traps c.loop-index.index = search rules in (
-      trap_behind c.args.text.now.items c.loop-index.text.items c.append_trap.new.text.items c.args.board.now.traps c.loop-index.index c.unwrap-trap.result
+      trap_appended c.args.text.now.items c.loop-index.text.items c.append_trap.new.text.items c.args.board.now.traps c.loop-index.index c.unwrap-trap.result
           here c.loop-index.invariant.0 c.append_trap.ensures.0,
       omega (arith, c.loop-index.invariant.1, c.append_trap.ensures.1, c.append_trap.ensures.2),
     )

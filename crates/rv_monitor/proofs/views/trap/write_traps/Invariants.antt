@@ -3,7 +3,7 @@ use Rattle.std.specs.List.{flat_map}
 use Rattle.rv_monitor.specs.Views.{trap_text}
 use Rattle.rv_monitor.proofs.views.trap.write_traps.Given as goal
 
--- the traps before the index stand behind the text, and there is room for the others
+-- the lines of the traps before the index were appended, and there is room for the others
 abbrev pub invariant-loop-index : goal.invariant-loop-index
 invariant-loop-index g l =
     (l.text.items ≡ l.fn.text.items ++ flat_map trap_text (take l.index l.board.traps))
