@@ -30,23 +30,29 @@ none_at q =
     and_right (nat_le 1 q) _ (and_unless (nat_lt q 32) _ (λ high. ap (λ n. nat_lt 0 n) (get_or-replicate 32 q 0 0 (ltb-true q 32 high))))
 
 pub none_above : (s : Sources) → s ≡ empty → sources_above (replicate 32 0) 0 ≡ s
-none_above s none = same_sources _ _ (λ q. contains-above (replicate 32 0) 0 q ∙ none_at q ∙ sym (ap (λ u. contains u q) none ∙ contains-empty nat_cmp q))
+none_above s none =
+    same_sources _ _ (λ q. contains-above (replicate 32 0) 0 q ∙ none_at q
+    ∙ sym (ap (λ u. contains u q) none ∙ contains-empty nat_cmp q))
 
 -- ---- a priority is set
 other_above : (ps : List ℕ) (t s v q : ℕ) → (q ≡ s → ⊥) → is_above (slice_set ps s v) t q ≡ is_above ps t q
-other_above ps t s v q other = ap (λ n. nat_le 1 q && (nat_lt q 32 && nat_lt t n)) (get_or-set_other ps s q v 0 other)
+other_above ps t s v q other =
+    ap (λ n. nat_le 1 q && (nat_lt q 32 && nat_lt t n)) (get_or-set_other ps s q v 0 other)
 
-this_above : (ps : List ℕ) (t s v q : ℕ) (b : Bool) → 0 < s → s < 32 → q ≡ s → nat_lt t (slice_index (slice_set ps s v) s) ≡ b → is_above (slice_set ps s v) t q ≡ b
+this_above : (ps : List ℕ) (t s v q : ℕ) (b : Bool) → 0 < s → s < 32 → q ≡ s
+    → nat_lt t (slice_index (slice_set ps s v) s) ≡ b → is_above (slice_set ps s v) t q ≡ b
 this_above ps t s v q b low high e is =
     ap (λ k. is_above (slice_set ps s v) t k) e
     ∙ ap (λ c. c && (nat_lt s 32 && nat_lt t (slice_index (slice_set ps s v) s))) (le-leb 1 s low)
     ∙ ap (λ c. c && nat_lt t (slice_index (slice_set ps s v) s)) (lt-ltb s 32 high)
     ∙ is
 
-set_here : (ps : List ℕ) (t s v : ℕ) → length ps ≡ 32 → s < 32 → nat_lt t (slice_index (slice_set ps s v) s) ≡ nat_lt t v
+set_here : (ps : List ℕ) (t s v : ℕ) → length ps ≡ 32 → s < 32
+    → nat_lt t (slice_index (slice_set ps s v) s) ≡ nat_lt t v
 set_here ps t s v long high = ap (nat_lt t) (get_or-set_same ps s v 0 (omega (arith, long, high)))
 
-pub above_raised : (ps : List ℕ) (t s v : ℕ) (above : Sources) → sources_above ps t ≡ above → length ps ≡ 32 → 0 < s → s < 32 → t < v → sources_above (slice_set ps s v) t ≡ insert above s
+pub above_raised : (ps : List ℕ) (t s v : ℕ) (above : Sources) → sources_above ps t ≡ above → length ps ≡ 32
+    → 0 < s → s < 32 → t < v → sources_above (slice_set ps s v) t ≡ insert above s
 above_raised ps t s v above is long low high over =
     same_sources _ _ (λ q.
     contains-above (slice_set ps s v) t q
@@ -54,9 +60,11 @@ above_raised ps t s v above is long low high over =
       | inl e ↦ this_above ps t s v q true low high e (set_here ps t s v long high ∙ lt-ltb t v over) ∙ sym (or_left (q == s) _ (eq-eqb q s e))
       | inr other ↦ other_above ps t s v q other ∙ sym (ap (λ b. b || is_above ps t q) (ne_eqb q s other))
     ]
-    ∙ sym (contains-insert nat_cmp_total above s q ∙ (λ i. unsigned_tied q s i || (ap (λ u. contains u q) (sym is) ∙ contains-above ps t q) i)))
+    ∙ sym (contains-insert nat_cmp_total above s q
+    ∙ (λ i. unsigned_tied q s i || (ap (λ u. contains u q) (sym is) ∙ contains-above ps t q) i)))
 
-pub above_lowered : (ps : List ℕ) (t s v : ℕ) (above : Sources) → sources_above ps t ≡ above → length ps ≡ 32 → 0 < s → s < 32 → v ≤ t → sources_above (slice_set ps s v) t ≡ remove above s
+pub above_lowered : (ps : List ℕ) (t s v : ℕ) (above : Sources) → sources_above ps t ≡ above
+    → length ps ≡ 32 → 0 < s → s < 32 → v ≤ t → sources_above (slice_set ps s v) t ≡ remove above s
 above_lowered ps t s v above is long low high under =
     same_sources _ _ (λ q.
     contains-above (slice_set ps s v) t q
@@ -64,26 +72,34 @@ above_lowered ps t s v above is long low high under =
       | inl e ↦ this_above ps t s v q false low high e (set_here ps t s v long high ∙ le-ltb t v under) ∙ sym (ap (λ b. not b && is_above ps t q) (eq-eqb q s e))
       | inr other ↦ other_above ps t s v q other ∙ sym (ap (λ b. not b && is_above ps t q) (ne_eqb q s other))
     ]
-    ∙ sym (contains-remove nat_cmp_total above s q ∙ (λ i. not (unsigned_tied q s i) && (ap (λ u. contains u q) (sym is) ∙ contains-above ps t q) i)))
+    ∙ sym (contains-remove nat_cmp_total above s q
+    ∙ (λ i. not (unsigned_tied q s i) && (ap (λ u. contains u q) (sym is) ∙ contains-above ps t q) i)))
 
 -- ---- the external line
-in_notified : (plic : PlicState) (above : Sources) (q : ℕ) → sources_above plic.priorities plic.threshold ≡ above → contains (intersection (intersection plic.pending plic.enabled) above) q ≡ (is_waiting plic q && is_above plic.priorities plic.threshold q)
+in_notified : (plic : PlicState) (above : Sources) (q : ℕ)
+    → sources_above plic.priorities plic.threshold ≡ above
+    → contains (intersection (intersection plic.pending plic.enabled) above) q ≡ (is_waiting plic q && is_above plic.priorities plic.threshold q)
 in_notified plic above q is =
     contains-intersection nat_cmp_total (intersection plic.pending plic.enabled) above q
     ∙ (λ i. contains-intersection nat_cmp_total plic.pending plic.enabled q i && (ap (λ u. contains u q) (sym is) ∙ contains-above plic.priorities plic.threshold q) i)
 
-with_range : (w : Bool) (ps : List ℕ) (t q : ℕ) → 1 ≤ q → q < 32 → (w && nat_lt t (slice_index ps q)) ≡ (w && is_above ps t q)
+with_range : (w : Bool) (ps : List ℕ) (t q : ℕ) → 1 ≤ q → q < 32
+    → (w && nat_lt t (slice_index ps q)) ≡ (w && is_above ps t q)
 with_range w ps t q low high =
-    ap (λ b. w && b) (sym (ap (λ c. c && (nat_lt q 32 && nat_lt t (slice_index ps q))) (le-leb 1 q low) ∙ ap (λ c. c && nat_lt t (slice_index ps q)) (lt-ltb q 32 high)))
+    ap (λ b. w && b) (sym (ap (λ c. c && (nat_lt q 32 && nat_lt t (slice_index ps q))) (le-leb 1 q low)
+    ∙ ap (λ c. c && nat_lt t (slice_index ps q)) (lt-ltb q 32 high)))
 
-pub none_notified : (plic : PlicState) (above : Sources) → sources_above plic.priorities plic.threshold ≡ above → intersection (intersection plic.pending plic.enabled) above ≡ empty → is_notified plic ≡ false
+pub none_notified : (plic : PlicState) (above : Sources)
+    → sources_above plic.priorities plic.threshold ≡ above
+    → intersection (intersection plic.pending plic.enabled) above ≡ empty → is_notified plic ≡ false
 unfolding is_notified sources
 none_notified plic above is none =
     none-range (λ s. is_waiting plic s && nat_lt plic.threshold (slice_index plic.priorities s)) 1 31 (λ q low high.
     with_range (is_waiting plic q) plic.priorities plic.threshold q low high
     ∙ sym (in_notified plic above q is) ∙ ap (λ u. contains u q) none ∙ contains-empty nat_cmp q)
 
-some_other : (plic : PlicState) (above : Sources) → sources_above plic.priorities plic.threshold ≡ above → is_notified plic ≡ false → intersection (intersection plic.pending plic.enabled) above ≡ empty
+some_other : (plic : PlicState) (above : Sources) → sources_above plic.priorities plic.threshold ≡ above
+    → is_notified plic ≡ false → intersection (intersection plic.pending plic.enabled) above ≡ empty
 unfolding is_notified sources
 some_other plic above is quiet =
     same_sources _ _ (λ q. in_notified plic above q is ∙ not_one q ∙ sym (contains-empty nat_cmp q))
@@ -93,7 +109,9 @@ some_other plic above is quiet =
         let range = in_range plic.priorities plic.threshold q (and_parts _ _ one).1 in
         both_ways _ quiet (any-range (λ s. is_waiting plic s && nat_lt plic.threshold (slice_index plic.priorities s)) 1 31 q range.0 range.1 (with_range (is_waiting plic q) plic.priorities plic.threshold q range.0 range.1 ∙ one)))
 
-pub some_notified : (plic : PlicState) (above : Sources) → sources_above plic.priorities plic.threshold ≡ above → intersection (intersection plic.pending plic.enabled) above ≢ empty → is_notified plic ≡ true
+pub some_notified : (plic : PlicState) (above : Sources)
+    → sources_above plic.priorities plic.threshold ≡ above
+    → intersection (intersection plic.pending plic.enabled) above ≢ empty → is_notified plic ≡ true
 some_notified plic above is some = by_level (is_notified plic) refl
   where
     by_level : (b : Bool) → is_notified plic ≡ b → is_notified plic ≡ true
@@ -114,9 +132,11 @@ starts_empty ps t s none q = ap (λ u. contains u q) none ∙ contains-empty nat
     nothing : (q : ℕ) → (nat_lt q 1 && is_above ps t q) ≡ false
     nothing q = and_unless (nat_lt q 1) _ (λ low. and_left (nat_le 1 q) _ (below q (ltb-true q 1 low)))
 
-at_number : (ps : List ℕ) (t n : ℕ) (b : Bool) → 0 < n → n < 32 → nat_lt t (slice_index ps n) ≡ b → is_above ps t n ≡ b
+at_number : (ps : List ℕ) (t n : ℕ) (b : Bool) → 0 < n → n < 32 → nat_lt t (slice_index ps n) ≡ b
+    → is_above ps t n ≡ b
 at_number ps t n b low high is =
-    ap (λ c. c && (nat_lt n 32 && nat_lt t (slice_index ps n))) (le-leb 1 n low) ∙ ap (λ c. c && nat_lt t (slice_index ps n)) (lt-ltb n 32 high) ∙ is
+    ap (λ c. c && (nat_lt n 32 && nat_lt t (slice_index ps n))) (le-leb 1 n low)
+    ∙ ap (λ c. c && nat_lt t (slice_index ps n)) (lt-ltb n 32 high) ∙ is
 
 next_number : (q n : ℕ) → (q ≡ n → ⊥) → nat_lt q n ≡ nat_lt q (n + 1)
 next_number q n other = grind (arith, nat_tests)
@@ -127,7 +147,8 @@ its_number q n e = lt-ltb q (n + 1) (omega arith)
 no_number : (q n : ℕ) → q ≡ n → nat_lt q n ≡ false
 no_number q n e = le-ltb q n (omega arith)
 
-pub with_next : (ps : List ℕ) (t n : ℕ) (s : Sources) → HasThoseBelow n ps t s → 0 < n → n < 32 → t < slice_index ps n → HasThoseBelow (n + 1) ps t (insert s n)
+pub with_next : (ps : List ℕ) (t n : ℕ) (s : Sources) → HasThoseBelow n ps t s → 0 < n → n < 32
+    → t < slice_index ps n → HasThoseBelow (n + 1) ps t (insert s n)
 with_next ps t n s so_far low high over q =
     (contains-insert nat_cmp_total s n q ∙ (λ i. unsigned_tied q n i || so_far q i))
     ∙ elim (cases_eq q n) [
@@ -135,7 +156,8 @@ with_next ps t n s so_far low high over q =
       | inr other ↦ ap (λ b. b || (nat_lt q n && is_above ps t q)) (ne_eqb q n other) ∙ ap (λ b. b && is_above ps t q) (next_number q n other)
     ]
 
-pub without_next : (ps : List ℕ) (t n : ℕ) (s : Sources) → HasThoseBelow n ps t s → 0 < n → n < 32 → slice_index ps n ≤ t → HasThoseBelow (n + 1) ps t s
+pub without_next : (ps : List ℕ) (t n : ℕ) (s : Sources) → HasThoseBelow n ps t s → 0 < n → n < 32
+    → slice_index ps n ≤ t → HasThoseBelow (n + 1) ps t s
 without_next ps t n s so_far low high under q =
     so_far q
     ∙ elim (cases_eq q n) [
@@ -144,7 +166,8 @@ without_next ps t n s so_far low high under q =
     ]
 
 pub has_all : (ps : List ℕ) (t n : ℕ) (s : Sources) → 32 ≤ n → HasThoseBelow n ps t s → s ≡ sources_above ps t
-has_all ps t n s past all = same_sources _ _ (λ q. all q ∙ limit q (is_above ps t q) refl ∙ sym (contains-above ps t q))
+has_all ps t n s past all =
+    same_sources _ _ (λ q. all q ∙ limit q (is_above ps t q) refl ∙ sym (contains-above ps t q))
   where
     limit : (q : ℕ) (b : Bool) → is_above ps t q ≡ b → (nat_lt q n && is_above ps t q) ≡ is_above ps t q
     limit q true e = let high : q < 1 + 31 = (in_range ps t q e).1 in and_from _ _ (lt-ltb q n (omega arith)) e ∙ sym e

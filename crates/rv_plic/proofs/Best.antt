@@ -16,23 +16,27 @@ pub and_unless : (x y : Bool) → (x ≡ true → y ≡ false) → (x && y) ≡ 
 and_unless true y h = h refl
 and_unless false y h = refl
 
-pub none-range : (test : ℕ → Bool) (a n : ℕ) → ((t : ℕ) → a ≤ t → t < a + n → test t ≡ false) → list_any test (range_with_len a n) ≡ false
+pub none-range : (test : ℕ → Bool) (a n : ℕ) → ((t : ℕ) → a ≤ t → t < a + n → test t ≡ false)
+    → list_any test (range_with_len a n) ≡ false
 none-range test a zero none = refl
 none-range test a (suc n) none =
     or_from (test a) _ (none a (omega arith) (omega arith)) (none-range test (a + 1) n (λ t low high. none t (omega arith) (omega arith)))
 
-find_none-range : (test : ℕ → Bool) (a n : ℕ) → ((t : ℕ) → a ≤ t → t < a + n → test t ≡ false) → find test (range_with_len a n) ≡ None
+find_none-range : (test : ℕ → Bool) (a n : ℕ) → ((t : ℕ) → a ≤ t → t < a + n → test t ≡ false)
+    → find test (range_with_len a n) ≡ None
 find_none-range test a zero none = refl
 find_none-range test a (suc n) none =
     ap (λ b. cond b (Some a) (find test (range_with_len (a + 1) n))) (none a (omega arith) (omega arith))
     ∙ find_none-range test (a + 1) n (λ t low high. none t (omega arith) (omega arith))
 
 -- a search finds the only number that passes
-find_first : (test : ℕ → Bool) (a b : ℕ) (later : Option ℕ) (v : Bool) → test a ≡ v → (test a ≡ true → a ≡ b) → (test a ≡ false → later ≡ Some b) → cond v (Some a) later ≡ Some b
+find_first : (test : ℕ → Bool) (a b : ℕ) (later : Option ℕ) (v : Bool) → test a ≡ v
+    → (test a ≡ true → a ≡ b) → (test a ≡ false → later ≡ Some b) → cond v (Some a) later ≡ Some b
 find_first test a b later true is first rest = ap (λ t. Some t) (first is)
 find_first test a b later false is first rest = rest is
 
-find_only-range : (test : ℕ → Bool) (a n b : ℕ) → a ≤ b → b < a + n → test b ≡ true → ((t : ℕ) → a ≤ t → t < a + n → test t ≡ true → t ≡ b) → find test (range_with_len a n) ≡ Some b
+find_only-range : (test : ℕ → Bool) (a n b : ℕ) → a ≤ b → b < a + n → test b ≡ true
+    → ((t : ℕ) → a ≤ t → t < a + n → test t ≡ true → t ≡ b) → find test (range_with_len a n) ≡ Some b
 find_only-range test a zero b low high is only = absurd (omega arith)
 find_only-range test a (suc n) b low high is only =
     find_first test a b (find test (range_with_len (a + 1) n)) (test a) refl (only a (omega arith) (omega arith)) (λ fails.
@@ -53,7 +57,8 @@ module _ (passes : ℕ → Bool) (priority : ℕ → ℕ) where
         | inr differ ↦ and_left _ _ (ne_eqb (priority other) (priority source) differ)
       ])
 
-  before_other : (source other : ℕ) → IsFirst priority source other → (other ≡ source → ⊥) → before source other ≡ true
+  before_other : (source other : ℕ) → IsFirst priority source other → (other ≡ source → ⊥)
+      → before source other ≡ true
   before_other source other first is_other =
       elim (cases_eq (priority other) (priority source)) [
         | inl e ↦ or_right _ _ (and_from _ _ (eq-eqb (priority source) (priority other) (sym e)) (let least : source ≤ other = first.lower e in lt-ltb source other (grind arith)))
@@ -64,11 +69,13 @@ module _ (passes : ℕ → Bool) (priority : ℕ → ℕ) where
     abbrev is_unbeaten : ℕ → Bool
     is_unbeaten source = passes source && not (list_any (λ other. passes other && before other source) (range_with_len 1 n))
 
-    best_is_unbeaten : (source : ℕ) → IsBestBelow (1 + n) passes priority (Some source) → is_unbeaten source ≡ true
+    best_is_unbeaten : (source : ℕ) → IsBestBelow (1 + n) passes priority (Some source)
+        → is_unbeaten source ≡ true
     best_is_unbeaten source is =
         and_from _ _ is.2 (not_from_false _ (none-range (λ other. passes other && before other source) 1 n (λ t low high. and_unless (passes t) _ (λ p. not_before source t (is.3 t low high p)))))
 
-    unbeaten_is_best : (source other : ℕ) → IsBestBelow (1 + n) passes priority (Some source) → 1 ≤ other → other < 1 + n → is_unbeaten other ≡ true → other ≡ source
+    unbeaten_is_best : (source other : ℕ) → IsBestBelow (1 + n) passes priority (Some source) → 1 ≤ other
+        → other < 1 + n → is_unbeaten other ≡ true → other ≡ source
     unbeaten_is_best source other is low high lead =
         let parts : (passes other ≡ true) × (not (list_any (λ t. passes t && before t other) (range_with_len 1 n)) ≡ true) = and_parts _ _ lead in
         elim (cases_eq other source) [
@@ -76,7 +83,8 @@ module _ (passes : ℕ → Bool) (priority : ℕ → ℕ) where
           | inr differ ↦ absurd (both_ways _ (not-true _ parts.1) (any-range (λ t. passes t && before t other) 1 n source is.0 is.1 (and_from _ _ is.2 (before_other source other (is.3 other low high parts.0) differ))))
         ]
 
-    search_finds_best : (found : Option ℕ) → IsBestBelow (1 + n) passes priority found → find is_unbeaten (range_with_len 1 n) ≡ found
+    search_finds_best : (found : Option ℕ) → IsBestBelow (1 + n) passes priority found
+        → find is_unbeaten (range_with_len 1 n) ≡ found
     search_finds_best None none = find_none-range is_unbeaten 1 n (λ t low high. and_left (passes t) _ (none t low high))
     search_finds_best (Some source) is =
         find_only-range is_unbeaten 1 n source is.0 is.1 (best_is_unbeaten source is) (λ t low high lead. unbeaten_is_best source t is low high lead)
@@ -97,7 +105,9 @@ module _ (is_in : ℕ → Bool) (priority : ℕ → ℕ) where
   has_priority source is more = and_from _ _ is (lt-ltb 0 (priority source) more)
 
   -- the next source goes before each one so far
-  next_is_first : (number : ℕ) (found : Option ℕ) → IsBestBelow number in_with_priority priority found → option_map_or priority found 0 < priority number → (other : ℕ) → 0 < other → other < number → in_with_priority other ≡ true → IsFirst priority number other
+  next_is_first : (number : ℕ) (found : Option ℕ) → IsBestBelow number in_with_priority priority found
+      → option_map_or priority found 0 < priority number → (other : ℕ) → 0 < other → other < number
+      → in_with_priority other ≡ true → IsFirst priority number other
   next_is_first number None best_so_far more other low high passes = absurd (both_ways _ (best_so_far other low high) passes)
   next_is_first number (Some source) best_so_far more other low high passes =
       let first : IsFirst priority source other = best_so_far.3 other low high passes in
@@ -106,7 +116,9 @@ module _ (is_in : ℕ → Bool) (priority : ℕ → ℕ) where
   itself_is_first : (number other : ℕ) → other ≡ number → IsFirst priority number other
   itself_is_first number other e = record { higher = let same : priority other ≡ priority number = ap priority e in omega arith; lower = λ _. omega arith }
 
-  pub best_with_next : (number : ℕ) (found : Option ℕ) → IsBestBelow number in_with_priority priority found → 0 < number → is_in number ≡ true → option_map_or priority found 0 < priority number → IsBestBelow (number + 1) in_with_priority priority (Some number)
+  pub best_with_next : (number : ℕ) (found : Option ℕ) → IsBestBelow number in_with_priority priority found
+      → 0 < number → is_in number ≡ true → option_map_or priority found 0 < priority number
+      → IsBestBelow (number + 1) in_with_priority priority (Some number)
   best_with_next number found best_so_far low is more = (
     low,
     omega arith,
@@ -117,7 +129,10 @@ module _ (is_in : ℕ → Bool) (priority : ℕ → ℕ) where
     ],
   )
 
-  pub best_without_next : (number : ℕ) (found : Option ℕ) → IsBestBelow number in_with_priority priority found → 0 < number → (is_in number ≡ true → priority number ≤ option_map_or priority found 0) → IsBestBelow (number + 1) in_with_priority priority found
+  pub best_without_next : (number : ℕ) (found : Option ℕ)
+      → IsBestBelow number in_with_priority priority found → 0 < number
+      → (is_in number ≡ true → priority number ≤ option_map_or priority found 0)
+      → IsBestBelow (number + 1) in_with_priority priority found
   best_without_next number None best_so_far low less =
       λ other above below. elim (step_above number other below) [
         | inl e ↦ ap in_with_priority e ∙ and_unless (is_in number) _ (λ is. le-ltb 0 (priority number) (less is))
@@ -135,7 +150,8 @@ module _ (is_in : ℕ → Bool) (priority : ℕ → ℕ) where
     ],
   )
 
-pub best_of_intersection : (plic : PlicState) (found : Option ℕ) → IsBestBelow 32 (λ s. contains (intersection plic.pending plic.enabled) s && nat_lt 0 (slice_index plic.priorities s)) (slice_index plic.priorities) found → IsBest plic found
+pub best_of_intersection : (plic : PlicState) (found : Option ℕ)
+    → IsBestBelow 32 (λ s. contains (intersection plic.pending plic.enabled) s && nat_lt 0 (slice_index plic.priorities s)) (slice_index plic.priorities) found → IsBest plic found
 best_of_intersection plic found is =
     let same : (λ s. contains (intersection plic.pending plic.enabled) s) ≡ is_waiting plic = λ i s. contains-intersection nat_cmp_total plic.pending plic.enabled s i in
     subst (λ (w : ℕ → Bool). IsBestBelow 32 (λ s. w s && nat_lt 0 (slice_index plic.priorities s)) (slice_index plic.priorities) found) same is

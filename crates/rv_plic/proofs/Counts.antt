@@ -1,32 +1,36 @@
 -- Counts of edges, where those of a set of sources are changed.
-use Rattle.std.proofs.Common.{◌≡◌, ℕ, zero, suc, ◌+◌, ◌-◌, ◌<◌, ◌≤◌, Bool, true, false, cond, List, [], ◌∷◌, inl, inr, refl, sym, ◌∙◌, ap, arith}
-use Rattle.std.specs.Prelude.{◌&&◌, nat_lt, nat_le, length, slice_index, slice_set, get_or, if◌then◌else◌}
+use Rattle.std.proofs.Common.{◌≡◌, ℕ, zero, suc, ◌+◌, ◌-◌, ◌<◌, ◌≤◌, Bool, true, false, List, [], ◌∷◌, inl, inr, refl, sym, ◌∙◌, ap, arith}
+use Rattle.std.specs.Prelude.{nat_lt, length, slice_index, slice_set, get_or, if◌then◌else◌}
 use Rattle.std.specs.FinSet.{contains}
-use Rattle.std.proofs.lemmas.Bool.{cases_eq, and_parts, and_from, and_left, and_right, ltb-true, leb-true, le-ltb, lt-ltb, le-leb}
+use Rattle.std.proofs.lemmas.Bool.{cases_eq, and_parts, ltb-true, leb-true, lt-ltb}
 use Rattle.std.proofs.lemmas.List.{get_or-set_same, get_or-set_other, length-set, same_lists}
 use Rattle.rv_plic.specs.Sources.{Sources}
-use Rattle.rv_plic.specs.Edges.{Edges, most, some_wait, one_more, one_less, changed, taken, given_back}
+use Rattle.rv_plic.specs.Edges.{Edges, most, some_wait, one_more, one_less, changed}
 
-pub nothing_changed : (f : ℕ → ℕ) (s : Sources) (a : ℕ) (edges : Edges) → ((q : ℕ) → a ≤ q → contains s q ≡ false) → changed f s a edges ≡ edges
+pub nothing_changed : (f : ℕ → ℕ) (s : Sources) (a : ℕ) (edges : Edges)
+    → ((q : ℕ) → a ≤ q → contains s q ≡ false) → changed f s a edges ≡ edges
 unfolding changed
 nothing_changed f s a [] none = refl
 nothing_changed f s a (n ∷ ns) none =
     λ i. ap (λ b. if b then f n else n) (none a (omega arith)) i ∷ nothing_changed f s (a + 1) ns (λ q from. none q (omega arith)) i
 
-pub length-changed : (f : ℕ → ℕ) (s : Sources) (a : ℕ) (edges : Edges) → length (changed f s a edges) ≡ length edges
+pub length-changed : (f : ℕ → ℕ) (s : Sources) (a : ℕ) (edges : Edges)
+    → length (changed f s a edges) ≡ length edges
 unfolding changed
 length-changed f s a [] = refl
 length-changed f s a (n ∷ ns) = ap suc (length-changed f s (a + 1) ns)
 
-get_or-changed : (f : ℕ → ℕ) (s : Sources) (a : ℕ) (edges : Edges) (k d : ℕ) → k < length edges → get_or (changed f s a edges) k d ≡ (if contains s (a + k) then f (get_or edges k d) else get_or edges k d)
+get_or-changed : (f : ℕ → ℕ) (s : Sources) (a : ℕ) (edges : Edges) (k d : ℕ) → k < length edges
+    → get_or (changed f s a edges) k d ≡ (if contains s (a + k) then f (get_or edges k d) else get_or edges k d)
 unfolding changed
 get_or-changed f s a [] k d in_list = absurd (omega arith)
-get_or-changed f s a (n ∷ ns) zero d in_list = let same : a ≡ a + 0 = omega arith in ap (λ q. if contains s q then f n else n) same
+get_or-changed f s a (n ∷ ns) zero d in_list =
+    let same : a ≡ a + 0 = omega arith in ap (λ q. if contains s q then f n else n) same
 get_or-changed f s a (n ∷ ns) (suc k) d in_list =
     let same : a + 1 + k ≡ a + suc k = omega arith in
     get_or-changed f s (a + 1) ns k d (omega arith) ∙ ap (λ q. if contains s q then f (get_or ns k d) else get_or ns k d) same
 
--- a pending edge that is taken and given again_same leaves the count as it was
+-- a pending edge that is taken and given back leaves the count as it was
 again_same : (n : ℕ) → some_wait n ≡ true → one_more (one_less n) ≡ n
 again_same n is =
     let low : 0 < n = ltb-true 0 n (and_parts (nat_lt 0 n) _ is).0 in
@@ -34,13 +38,16 @@ again_same n is =
     let again : n - 1 + 1 ≡ n = omega (arith, low) in
     ap (λ b. if b then n - 1 + 1 else n - 1) (lt-ltb (n - 1) most (omega (arith, low, high))) ∙ again
 
-pub taken_and_given : (s : Sources) (a : ℕ) (edges : Edges) → ((k : ℕ) → k < length edges → contains s (a + k) ≡ true → some_wait (slice_index edges k) ≡ true) → changed one_more s a (changed one_less s a edges) ≡ edges
+pub taken_and_given : (s : Sources) (a : ℕ) (edges : Edges)
+    → ((k : ℕ) → k < length edges → contains s (a + k) ≡ true → some_wait (slice_index edges k) ≡ true)
+    → changed one_more s a (changed one_less s a edges) ≡ edges
 unfolding changed
 taken_and_given s a [] each = refl
 taken_and_given s a (n ∷ ns) each =
     λ i. first (contains s a) refl i ∷ taken_and_given s (a + 1) ns (λ k in_list is. let same : a + suc k ≡ a + 1 + k = omega arith in each (suc k) (omega arith) (ap (contains s) same ∙ is)) i
   where
-    first : (b : Bool) → contains s a ≡ b → (if contains s a then one_more (if contains s a then one_less n else n) else (if contains s a then one_less n else n)) ≡ n
+    first : (b : Bool) → contains s a ≡ b
+        → (if contains s a then one_more (if contains s a then one_less n else n) else (if contains s a then one_less n else n)) ≡ n
     first true is = ap (λ b. if b then one_more (if b then one_less n else n) else (if b then one_less n else n)) is ∙ again_same n (let same : a + 0 ≡ a = omega arith in each zero (omega arith) (ap (contains s) same ∙ is))
     first false is = ap (λ b. if b then one_more (if b then one_less n else n) else (if b then one_less n else n)) is
 
@@ -49,14 +56,19 @@ taken_and_given s a (n ∷ ns) each =
 pub record IsChangedBelow (f : ℕ → ℕ) (number : ℕ) (s : Sources) (old new : Edges) : Type 0 where
   pub old_length : length old ≡ 8
   pub new_length : length new ≡ 8
-  pub changed_below : (k : ℕ) → 24 + k < number → slice_index new k ≡ (if contains s (24 + k) then f (slice_index old k) else slice_index old k)
+  pub changed_below : (k : ℕ) → 24 + k < number
+      → slice_index new k ≡ (if contains s (24 + k) then f (slice_index old k) else slice_index old k)
   pub same_from : (k : ℕ) → number ≤ 24 + k → slice_index new k ≡ slice_index old k
 
-pub none_changed : (f : ℕ → ℕ) (s : Sources) (old new : Edges) → length old ≡ 8 → new ≡ old → IsChangedBelow f 24 s old new
+pub none_changed : (f : ℕ → ℕ) (s : Sources) (old new : Edges) → length old ≡ 8 → new ≡ old
+    → IsChangedBelow f 24 s old new
 none_changed f s old new old_length e =
     record { old_length = old_length; new_length = ap length e ∙ old_length; changed_below = λ k low. absurd (omega arith); same_from = λ k from. ap (λ l. slice_index l k) e }
 
-pub one_changed : (f : ℕ → ℕ) (number : ℕ) (s : Sources) (old new : Edges) (count : ℕ) → IsChangedBelow f number s old new → 24 ≤ number → number < 32 → contains s number ≡ true → count ≡ f (slice_index new (number - 24)) → IsChangedBelow f (number + 1) s old (slice_set new (number - 24) count)
+pub one_changed : (f : ℕ → ℕ) (number : ℕ) (s : Sources) (old new : Edges) (count : ℕ)
+    → IsChangedBelow f number s old new → 24 ≤ number → number < 32 → contains s number ≡ true
+    → count ≡ f (slice_index new (number - 24))
+    → IsChangedBelow f (number + 1) s old (slice_set new (number - 24) count)
 one_changed f number s old new count so_far from below is its =
     record {
       old_length = so_far.old_length;
@@ -69,13 +81,15 @@ one_changed f number s old new count so_far from below is its =
             ∙ its
             ∙ ap (λ j. f (slice_index new j)) (sym e)
             ∙ ap f (so_far.same_from k (omega (arith, place)))
-            ∙ sym (ap (λ b. if b then f (slice_index old k) else slice_index old k) (ap (contains s) place ∙ is))
+            ∙ sym (ap (λ b. if b then f (slice_index old k) else slice_index old k) (ap (contains s) place
+            ∙ is))
         | inr other ↦ get_or-set_other new (number - 24) k count 0 other ∙ so_far.changed_below k (omega (arith, other, low, from))
       ];
       same_from = λ k past. get_or-set_other new (number - 24) k count 0 (λ e. omega (arith, e, past, from)) ∙ so_far.same_from k (omega (arith, past));
     }
 
-pub one_left : (f : ℕ → ℕ) (number : ℕ) (s : Sources) (old new : Edges) → IsChangedBelow f number s old new → 24 ≤ number → number < 32 → contains s number ≡ false → IsChangedBelow f (number + 1) s old new
+pub one_left : (f : ℕ → ℕ) (number : ℕ) (s : Sources) (old new : Edges) → IsChangedBelow f number s old new
+    → 24 ≤ number → number < 32 → contains s number ≡ false → IsChangedBelow f (number + 1) s old new
 one_left f number s old new so_far from below is =
     record {
       old_length = so_far.old_length;
@@ -87,7 +101,8 @@ one_left f number s old new so_far from below is =
       same_from = λ k past. so_far.same_from k (omega (arith, past));
     }
 
-pub all_changed : (f : ℕ → ℕ) (number : ℕ) (s : Sources) (old new : Edges) → 32 ≤ number → IsChangedBelow f number s old new → new ≡ changed f s 24 old
+pub all_changed : (f : ℕ → ℕ) (number : ℕ) (s : Sources) (old new : Edges) → 32 ≤ number
+    → IsChangedBelow f number s old new → new ≡ changed f s 24 old
 all_changed f number s old new past all =
     same_lists new (changed f s 24 old) (all.new_length ∙ sym (length-changed f s 24 old ∙ all.old_length)) (λ k d in_list.
     get_or_any new k d in_list

@@ -19,10 +19,12 @@ same_sources = same_set nat_cmp_total nat_cmp-IsAntisymmetric
 
 -- ---- the operations of sets as those of words
 pub or_word : (a b : ℕ) → IsSourceWord a → IsSourceWord b → IsSourceWord (bit_or a b)
-or_word a b is also = record { fits = or_lt 32 a b is.fits also.fits; no_zero = omega (arith, bit_at_lowest a, bit_at_lowest b, bit_at_lowest (bit_or a b), bit_at_or a b 0) }
+or_word a b is also =
+    record { fits = or_lt 32 a b is.fits also.fits; no_zero = omega (arith, bit_at_lowest a, bit_at_lowest b, bit_at_lowest (bit_or a b), bit_at_or a b 0) }
 
 pub and_word : (a b : ℕ) → IsSourceWord a → IsSourceWord (bit_and a b)
-and_word a b is = record { fits = omega (arith, and_le_l a b, is.fits); no_zero = omega (arith, bit_at_lowest a, bit_at_lowest b, bit_at_lowest (bit_and a b), bit_at_and a b 0) }
+and_word a b is =
+    record { fits = omega (arith, and_le_l a b, is.fits); no_zero = omega (arith, bit_at_lowest a, bit_at_lowest b, bit_at_lowest (bit_and a b), bit_at_and a b 0) }
 
 max_one : (x y : ℕ) → x < 2 → y < 2 → (max x y == 1) ≡ (x == 1 || y == 1)
 max_one zero zero h k = refl
@@ -51,23 +53,28 @@ min_not_one (suc (suc x)) y h k = absurd (omega arith)
 min_not_one zero (suc (suc y)) h k = absurd (omega arith)
 min_not_one (suc zero) (suc (suc y)) h k = absurd (omega arith)
 
-pub union_word : (a b : ℕ) → IsSourceWord a → IsSourceWord b → sources_of (bit_or a b) ≡ union (sources_of a) (sources_of b)
+pub union_word : (a b : ℕ) → IsSourceWord a → IsSourceWord b
+    → sources_of (bit_or a b) ≡ union (sources_of a) (sources_of b)
 union_word a b is also =
     same_sources _ _ (λ q.
     contains-sources_of (bit_or a b) q (or_word a b is also)
     ∙ ap (λ n. n == 1) (bit_at_or a b q)
     ∙ max_one _ _ (bit_at-lt a q) (bit_at-lt b q)
-    ∙ sym (contains-union nat_cmp_total (sources_of a) (sources_of b) q ∙ (λ i. contains-sources_of a q is i || contains-sources_of b q also i)))
+    ∙ sym (contains-union nat_cmp_total (sources_of a) (sources_of b) q
+    ∙ (λ i. contains-sources_of a q is i || contains-sources_of b q also i)))
 
-pub intersection_word : (a b : ℕ) → IsSourceWord a → IsSourceWord b → sources_of (bit_and a b) ≡ intersection (sources_of a) (sources_of b)
+pub intersection_word : (a b : ℕ) → IsSourceWord a → IsSourceWord b
+    → sources_of (bit_and a b) ≡ intersection (sources_of a) (sources_of b)
 intersection_word a b is also =
     same_sources _ _ (λ q.
     contains-sources_of (bit_and a b) q (and_word a b is)
     ∙ ap (λ n. n == 1) (bit_at_and a b q)
     ∙ min_one _ _ (bit_at-lt a q) (bit_at-lt b q)
-    ∙ sym (contains-intersection nat_cmp_total (sources_of a) (sources_of b) q ∙ (λ i. contains-sources_of a q is i && contains-sources_of b q also i)))
+    ∙ sym (contains-intersection nat_cmp_total (sources_of a) (sources_of b) q
+    ∙ (λ i. contains-sources_of a q is i && contains-sources_of b q also i)))
 
-without_bit : (a b q : ℕ) → IsSourceWord a → IsSourceWord b → bit_at (bit_and a (bit_not w32 b)) q ≡ min (bit_at a q) (1 - bit_at b q)
+without_bit : (a b q : ℕ) → IsSourceWord a → IsSourceWord b
+    → bit_at (bit_and a (bit_not w32 b)) q ≡ min (bit_at a q) (1 - bit_at b q)
 without_bit a b q is also =
     bit_at_and a (bit_not w32 b) q
     ∙ elim (cases_lt q 32) [
@@ -75,13 +82,15 @@ without_bit a b q is also =
       | inr above ↦ omega (arith, bit_at_above a 32 q is.fits above)
     ]
 
-pub difference_word : (a b : ℕ) → IsSourceWord a → IsSourceWord b → sources_of (bit_and a (bit_not w32 b)) ≡ difference (sources_of a) (sources_of b)
+pub difference_word : (a b : ℕ) → IsSourceWord a → IsSourceWord b
+    → sources_of (bit_and a (bit_not w32 b)) ≡ difference (sources_of a) (sources_of b)
 difference_word a b is also =
     same_sources _ _ (λ q.
     contains-sources_of _ q (and_word a _ is)
     ∙ ap (λ n. n == 1) (without_bit a b q is also)
     ∙ min_not_one _ _ (bit_at-lt a q) (bit_at-lt b q)
-    ∙ sym (contains-difference nat_cmp_total (sources_of a) (sources_of b) q ∙ (λ i. contains-sources_of a q is i && not (contains-sources_of b q also i))))
+    ∙ sym (contains-difference nat_cmp_total (sources_of a) (sources_of b) q
+    ∙ (λ i. contains-sources_of a q is i && not (contains-sources_of b q also i))))
 
 -- the word of one source
 pub place_word : (s : ℕ) → 0 < s → s < 32 → IsSourceWord (1 * 2 ^ s % 2 ^ 32)
@@ -90,7 +99,8 @@ place_word s low high =
     let below : 2 ^ s < 2 ^ 32 = pow-lt high in
     record { fits = omega arith; no_zero = omega (arith, bit_at_lowest (2 ^ s), bit_at-pow_other s 0 other) }
 
-pub insert_word : (a s : ℕ) → IsSourceWord a → 0 < s → s < 32 → sources_of (bit_or a (1 * 2 ^ s % 2 ^ 32)) ≡ insert (sources_of a) s
+pub insert_word : (a s : ℕ) → IsSourceWord a → 0 < s → s < 32
+    → sources_of (bit_or a (1 * 2 ^ s % 2 ^ 32)) ≡ insert (sources_of a) s
 insert_word a s is low high =
     same_sources _ _ (λ q.
     contains-sources_of _ q (or_word a _ is (place_word s low high))
@@ -98,16 +108,19 @@ insert_word a s is low high =
       | inl e ↦ ap (λ n. n == 1) (ap (λ k. bit_at (bit_or a (1 * 2 ^ s % 2 ^ 32)) k) e ∙ bit_at_set_same w32 a s high) ∙ sym (or_left (q == s) _ (eq-eqb q s e))
       | inr other ↦ ap (λ n. n == 1) (bit_at_set_other w32 a s high q other) ∙ sym (ap (λ b. b || bit_at a q == 1) (ne_eqb q s other))
     ]
-    ∙ sym (contains-insert nat_cmp_total (sources_of a) s q ∙ (λ i. unsigned_tied q s i || contains-sources_of a q is i)))
+    ∙ sym (contains-insert nat_cmp_total (sources_of a) s q
+    ∙ (λ i. unsigned_tied q s i || contains-sources_of a q is i)))
 
-cleared_bit : (a s q : ℕ) → IsSourceWord a → s < 32 → (q ≡ s → ⊥) → bit_at (bit_and a (bit_not w32 (1 * 2 ^ s % 2 ^ 32))) q ≡ bit_at a q
+cleared_bit : (a s q : ℕ) → IsSourceWord a → s < 32 → (q ≡ s → ⊥)
+    → bit_at (bit_and a (bit_not w32 (1 * 2 ^ s % 2 ^ 32))) q ≡ bit_at a q
 cleared_bit a s q is high other =
     elim (cases_lt q 32) [
       | inl below ↦ bit_at_clear_other w32 a s high q below other
       | inr above ↦ omega (arith, bit_at_and a (bit_not w32 (1 * 2 ^ s % 2 ^ 32)) q, bit_at_above a 32 q is.fits above)
     ]
 
-pub remove_word : (a s : ℕ) → IsSourceWord a → 0 < s → s < 32 → sources_of (bit_and a (bit_not w32 (1 * 2 ^ s % 2 ^ 32))) ≡ remove (sources_of a) s
+pub remove_word : (a s : ℕ) → IsSourceWord a → 0 < s → s < 32
+    → sources_of (bit_and a (bit_not w32 (1 * 2 ^ s % 2 ^ 32))) ≡ remove (sources_of a) s
 remove_word a s is low high =
     same_sources _ _ (λ q.
     contains-sources_of _ q (and_word a _ is)
@@ -115,9 +128,11 @@ remove_word a s is low high =
       | inl e ↦ ap (λ n. n == 1) (ap (λ k. bit_at (bit_and a (bit_not w32 (1 * 2 ^ s % 2 ^ 32))) k) e ∙ bit_at_clear_same w32 a s high) ∙ sym (ap (λ b. not b && bit_at a q == 1) (eq-eqb q s e))
       | inr other ↦ ap (λ n. n == 1) (cleared_bit a s q is high other) ∙ sym (ap (λ b. not b && bit_at a q == 1) (ne_eqb q s other))
     ]
-    ∙ sym (contains-remove nat_cmp_total (sources_of a) s q ∙ (λ i. not (unsigned_tied q s i) && contains-sources_of a q is i)))
+    ∙ sym (contains-remove nat_cmp_total (sources_of a) s q
+    ∙ (λ i. not (unsigned_tied q s i) && contains-sources_of a q is i)))
 
-filter-range : (p r : ℕ → Bool) (a n : ℕ) → ((s : ℕ) → a ≤ s → s < a + n → p s ≡ r s) → filter p (range_with_len a n) ≡ filter r (range_with_len a n)
+filter-range : (p r : ℕ → Bool) (a n : ℕ) → ((s : ℕ) → a ≤ s → s < a + n → p s ≡ r s)
+    → filter p (range_with_len a n) ≡ filter r (range_with_len a n)
 filter-range p r a zero same = refl
 filter-range p r a (suc n) same =
     let rest : filter p (range_with_len (a + 1) n) ≡ filter r (range_with_len (a + 1) n) =
@@ -126,7 +141,8 @@ filter-range p r a (suc n) same =
     λ i. cond (first i) (a ∷ rest i) (rest i)
 
 kept_bit : (word s : ℕ) → 1 ≤ s → s < 1 + 31 → bit_at (bit_and word (2 ^ 32 - 2 ^ 1)) s ≡ bit_at word s
-kept_bit word s low high = omega (arith, bit_at_and word (2 ^ 32 - 2 ^ 1) s, bit_at_mask_inside 1 32 s low high, bit_at-lt word s)
+kept_bit word s low high =
+    omega (arith, bit_at_and word (2 ^ 32 - 2 ^ 1) s, bit_at_mask_inside 1 32 s low high, bit_at-lt word s)
 
 -- without bit 0 a word has the same sources
 pub even_word : (word : ℕ) → sources_of (bit_and word (bit_not w32 1)) ≡ sources_of word
@@ -153,10 +169,13 @@ pub zero_is_empty : (word : ℕ) → word ≡ 0 → sources_of word ≡ empty
 zero_is_empty word is = ap sources_of is ∙ empty_word
 
 -- the test of a bit
-pub tested_bit : (word number : ℕ) → IsSourceWord word → contains (sources_of word) number ≡ (bit_and (word / 2 ^ number) 1 == 1)
-tested_bit word number is = contains-sources_of word number is ∙ ap (λ n. n == 1) (sym (shr_and_one word number))
+pub tested_bit : (word number : ℕ) → IsSourceWord word
+    → contains (sources_of word) number ≡ (bit_and (word / 2 ^ number) 1 == 1)
+tested_bit word number is =
+    contains-sources_of word number is ∙ ap (λ n. n == 1) (sym (shr_and_one word number))
 
 pub no_bit : (word number : ℕ) → IsSourceWord word → 32 ≤ number → contains (sources_of word) number ≡ false
-no_bit word number is high = contains-sources_of word number is ∙ ap (λ n. n == 1) (bit_at_above word 32 number is.fits high)
+no_bit word number is high =
+    contains-sources_of word number is ∙ ap (λ n. n == 1) (bit_at_above word 32 number is.fits high)
 
 pub ruleset words = (union_word, intersection_word, difference_word, insert_word, remove_word, even_word, even_is_word, or_word, and_word, place_word, empty_word, empty_is_zero, zero_is_empty, tested_bit, no_bit, word_of-sources_of)

@@ -36,7 +36,8 @@ asking_sources high edges = from_list (filter (asks high edges) sources)
 
 -- the sources with a request to forward: those that ask, and have no request that is outstanding or pending
 abbrev pub requests : GatewayState → Sources → Sources
-requests gateways pending = difference (difference (asking_sources gateways.high gateways.edges) gateways.outstanding) pending
+requests gateways pending =
+    difference (difference (asking_sources gateways.high gateways.edges) gateways.outstanding) pending
 
 -- the gateways after they forwarded their requests
 abbrev pub after_requests : GatewayState → Sources → GatewayState

@@ -21,7 +21,8 @@ pub record PlicState : Type 0 where
 
 -- the controller at reset
 abbrev pub reset : PlicState
-reset = record { gateways = all_low; pending = empty; enabled = empty; priorities = replicate 32 0; threshold = 0 }
+reset =
+    record { gateways = all_low; pending = empty; enabled = empty; priorities = replicate 32 0; threshold = 0 }
 
 -- ---- the lines and their requests
 -- the controller after the line of a source is set to a level
@@ -35,7 +36,10 @@ ready plic = requests plic.gateways plic.pending
 -- the controller after each gateway with a request has forwarded it
 abbrev pub forwarded : PlicState → PlicState
 forwarded plic =
-    record plic { gateways = after_requests plic.gateways plic.pending; pending = union plic.pending (requests plic.gateways plic.pending) }
+    record plic {
+      gateways = after_requests plic.gateways plic.pending;
+      pending = union plic.pending (requests plic.gateways plic.pending);
+    }
 
 -- the controller before the requests of these sources were forwarded
 abbrev pub withdrawn : PlicState → Sources → PlicState
@@ -65,11 +69,14 @@ goes_before plic first second =
 -- the candidate that no other candidate goes before
 unfoldable pub best : PlicState → Option ℕ
 best plic =
-    find (λ source. is_candidate plic source && not (list_any (λ other. is_candidate plic other && goes_before plic other source) sources)) sources
+    find (λ source. is_candidate plic source
+    && not (list_any (λ other. is_candidate plic other && goes_before plic other source) sources))
+    sources
 
 -- whether the external line is high ("Interrupt Notifications", "Priority Thresholds")
 unfoldable pub is_notified : PlicState → Bool
-is_notified plic = list_any (λ source. is_waiting plic source && nat_lt plic.threshold (priority_of plic source)) sources
+is_notified plic =
+    list_any (λ source. is_waiting plic source && nat_lt plic.threshold (priority_of plic source)) sources
 
 -- ---- claim and completion ("Interrupt Claim Process", "Interrupt Completion")
 -- the controller after a claim of a source: it is no longer pending. The threshold plays no part
@@ -104,7 +111,8 @@ word_at plic Claim = unwrap_or (best plic) 0
 -- the controller after a word is stored in a register: priorities and the threshold keep three bits, and
 -- there is no source 0 to enable
 abbrev pub with_word : PlicState → PlicReg → ℕ → PlicState
-with_word plic (Priority source) word = record plic { priorities = slice_set plic.priorities source (word % 8) }
+with_word plic (Priority source) word =
+    record plic { priorities = slice_set plic.priorities source (word % 8) }
 with_word plic Pending word = plic
 with_word plic Enables word = record plic { enabled = sources_of word }
 with_word plic Threshold word = record plic { threshold = word % 8 }

@@ -20,7 +20,8 @@ pub record IsSourceWord (word : ℕ) : Type 0 where
   pub no_zero : word % 2 ≡ 0
 
 -- one of n numbers from a on passes a test
-pub any-range : (test : ℕ → Bool) (a n q : ℕ) → a ≤ q → q < a + n → test q ≡ true → list_any test (range_with_len a n) ≡ true
+pub any-range : (test : ℕ → Bool) (a n q : ℕ) → a ≤ q → q < a + n → test q ≡ true
+    → list_any test (range_with_len a n) ≡ true
 any-range test a zero q low high is = absurd (omega arith)
 any-range test a (suc n) q low high is =
     elim (cases_eq q a) [
@@ -36,18 +37,22 @@ and_self : (x y : Bool) → (x ≡ true → y ≡ true) → (x && y) ≡ x
 and_self true y h = h refl
 and_self false y h = refl
 
-pub contains-filtered : (p : ℕ → Bool) (a n q : ℕ) → (p q ≡ true → (a ≤ q) × (q < a + n)) → contains (from_list {R = nat_cmp} (filter p (range_with_len a n))) q ≡ p q
+pub contains-filtered : (p : ℕ → Bool) (a n q : ℕ) → (p q ≡ true → (a ≤ q) × (q < a + n))
+    → contains (from_list {R = nat_cmp} (filter p (range_with_len a n))) q ≡ p q
 contains-filtered p a n q within =
     contains-from_list_nat (filter p (range_with_len a n)) q
     ∙ any-filter_same (λ y. nat_eq y q) p (p q) (λ k e. ap p (eqb-true k q e)) (range_with_len a n)
     ∙ and_self (p q) _ (λ is. any-range (λ y. nat_eq y q) a n q (within is).0 (within is).1 (eq-eqb q q refl))
 
-pub contains-sources_of : (word q : ℕ) → IsSourceWord word → contains (sources_of word) q ≡ (bit_at word q == 1)
+pub contains-sources_of : (word q : ℕ) → IsSourceWord word
+    → contains (sources_of word) q ≡ (bit_at word q == 1)
 unfolding sources_of sources
-contains-sources_of word q is = contains-filtered (λ s. bit_at word s == 1) 1 31 q (λ e. source_bit word q is (eqb-true _ _ e))
+contains-sources_of word q is =
+    contains-filtered (λ s. bit_at word s == 1) 1 31 q (λ e. source_bit word q is (eqb-true _ _ e))
 
 -- ---- the word of a set of sources
-sum-range : (f : ℕ → ℕ) (word a n : ℕ) → ((s : ℕ) → f s ≡ bit_at word s * 2 ^ s) → sum_by f (range_with_len a n) + word % 2 ^ a ≡ word % 2 ^ (a + n)
+sum-range : (f : ℕ → ℕ) (word a n : ℕ) → ((s : ℕ) → f s ≡ bit_at word s * 2 ^ s)
+    → sum_by f (range_with_len a n) + word % 2 ^ a ≡ word % 2 ^ (a + n)
 sum-range f word a zero each = omega (arith, ap (λ (j : ℕ). word % 2 ^ j) (add-zero a))
 sum-range f word a (suc n) each =
     let next : 1 + a ≡ a + 1 = omega arith in
@@ -61,4 +66,5 @@ bit_place (suc (suc b)) s below = absurd (omega arith)
 
 pub word_of-sources_of : (word : ℕ) → IsSourceWord word → word_of (sources_of word) ≡ word
 unfolding word_of sources
-word_of-sources_of word is = omega (arith, is.fits, is.no_zero, sum-range (λ s. if contains (sources_of word) s then 2 ^ s else 0) word 1 31 (λ s. ap (λ b. if b then 2 ^ s else 0) (contains-sources_of word s is) ∙ bit_place (bit_at word s) s (bit_at-lt word s)))
+word_of-sources_of word is =
+    omega (arith, is.fits, is.no_zero, sum-range (λ s. if contains (sources_of word) s then 2 ^ s else 0) word 1 31 (λ s. ap (λ b. if b then 2 ^ s else 0) (contains-sources_of word s is) ∙ bit_place (bit_at word s) s (bit_at-lt word s)))
