@@ -28,27 +28,32 @@ with_ram b ram = record b { ram = ram }
 
 -- ---- a property of each location is one of the location at an address
 
-word_devices : (P : Location → Type 0) (a : ℕ) (x y z : Bool) → P Halt → P (Timer (a - 0x02000000)) → P (Plic (a - 0x0c000000)) → P Nowhere
+word_devices : (P : Location → Type 0) (a : ℕ) (x y z : Bool) → P Halt → P (Timer (a - 0x02000000))
+    → P (Plic (a - 0x0c000000)) → P Nowhere
     → P (if x then Halt else (if y then Timer (a - 0x02000000) else (if z then Plic (a - 0x0c000000) else Nowhere)))
 word_devices P a true y z halt timer plic nowhere = halt
 word_devices P a false true z halt timer plic nowhere = timer
 word_devices P a false false true halt timer plic nowhere = plic
 word_devices P a false false false halt timer plic nowhere = nowhere
 
-serial_or : (P : Location → Type 0) (x y z : Bool) (rest : Location) → ((reg : SerialReg) → P (Serial reg)) → P rest
+serial_or : (P : Location → Type 0) (x y z : Bool) (rest : Location) → ((reg : SerialReg) → P (Serial reg))
+    → P rest
     → P (if x then Serial Tx else (if y then Serial Rx else (if z then Serial Status else rest)))
 serial_or P true y z rest serial other = serial Tx
 serial_or P false true z rest serial other = serial Rx
 serial_or P false false true rest serial other = serial Status
 serial_or P false false false rest serial other = other
 
-memory_or : (P : Location → Type 0) (x y : Bool) (off : ℕ) (rest : Location) → (x ≡ true → P (Ram off)) → P Nowhere → P rest
+memory_or : (P : Location → Type 0) (x y : Bool) (off : ℕ) (rest : Location) → (x ≡ true → P (Ram off))
+    → P Nowhere → P rest
     → P (if x then (if y then Ram off else Nowhere) else rest)
 memory_or P true true off rest ram nowhere other = ram refl
 memory_or P true false off rest ram nowhere other = nowhere
 memory_or P false y off rest ram nowhere other = other
 
-pub each_location : (P : Location → Type 0) (size a : ℕ) (w : Width) → (ram_base ≤ a → P (Ram (a - ram_base))) → P Halt → ((off : ℕ) → P (Timer off)) → ((off : ℕ) → P (Plic off)) → ((reg : SerialReg) → P (Serial reg)) → P Nowhere
+pub each_location : (P : Location → Type 0) (size a : ℕ) (w : Width)
+    → (ram_base ≤ a → P (Ram (a - ram_base))) → P Halt → ((off : ℕ) → P (Timer off))
+    → ((off : ℕ) → P (Plic off)) → ((reg : SerialReg) → P (Serial reg)) → P Nowhere
     → P (location_of size a w)
 unfolding location_of
 each_location P size a w ram halt timer plic serial nowhere =
@@ -66,10 +71,13 @@ each_location P size a w ram halt timer plic serial nowhere =
 abbrev pub SameBytes : List ℕ → List ℕ → ℕ → ℕ → Type 0
 SameBytes one other off count = (i : ℕ) → i < count → slice_index other (off + i) ≡ slice_index one (off + i)
 
-first_byte : (one other : List ℕ) (off count : ℕ) → 0 < count → SameBytes one other off count → slice_index other off ≡ slice_index one off
-first_byte one other off count some same = subst (λ k. slice_index other k ≡ slice_index one k) (add-zero off) (same 0 some)
+first_byte : (one other : List ℕ) (off count : ℕ) → 0 < count → SameBytes one other off count
+    → slice_index other off ≡ slice_index one off
+first_byte one other off count some same =
+    subst (λ k. slice_index other k ≡ slice_index one k) (add-zero off) (same 0 some)
 
-pub same_value : (one other : List ℕ) (off : ℕ) (w : Width) → SameBytes one other off (bytes_of w) → value_at other off w ≡ value_at one off w
+pub same_value : (one other : List ℕ) (off : ℕ) (w : Width) → SameBytes one other off (bytes_of w)
+    → value_at other off w ≡ value_at one off w
 same_value one other off One same = first_byte one other off 1 (omega arith) same
 same_value one other off Two same =
     let e0 = first_byte one other off 2 (omega arith) same in
@@ -85,7 +93,9 @@ same_value one other off Four same =
 -- ---- loads and fetches
 
 -- a load of the same bytes returns the same value
-pub same_load : (b : BusState) (ram : List ℕ) (a : ℕ) (w : Width) → length ram ≡ length b.ram → (ram_base ≤ a → SameBytes b.ram ram (a - ram_base) (bytes_of w)) → load (with_ram b ram) a w ≡ load b a w
+pub same_load : (b : BusState) (ram : List ℕ) (a : ℕ) (w : Width) → length ram ≡ length b.ram
+    → (ram_base ≤ a → SameBytes b.ram ram (a - ram_base) (bytes_of w))
+    → load (with_ram b ram) a w ≡ load b a w
 unfolding load
 same_load b ram a w size same =
     ap (λ n. load_at (with_ram b ram) (location_of n a w) w) size
@@ -93,7 +103,8 @@ same_load b ram a w size same =
     (λ above. ap Some (same_value b.ram ram (a - ram_base) w (same above))) refl (λ off. refl) (λ off. refl) (λ reg. refl) refl
 
 -- the devices after a load don't depend on the memory
-pub same_after_load : (b : BusState) (ram : List ℕ) (a : ℕ) (w : Width) → length ram ≡ length b.ram → after_load (with_ram b ram) a w ≡ with_ram (after_load b a w) ram
+pub same_after_load : (b : BusState) (ram : List ℕ) (a : ℕ) (w : Width) → length ram ≡ length b.ram
+    → after_load (with_ram b ram) a w ≡ with_ram (after_load b a w) ram
 unfolding after_load
 same_after_load b ram a w size =
     ap (λ n. after_load_at (with_ram b ram) (location_of n a w)) size
@@ -105,7 +116,8 @@ unfolding after_load
 memory_after_load b a w =
     each_location (λ p. (after_load_at b p).ram ≡ b.ram) (length b.ram) a w (λ above. refl) refl (λ off. refl) (λ off. refl) (λ reg. refl) refl
 
-pub same_fetch : (one other : List ℕ) (a : ℕ) → length other ≡ length one → (ram_base ≤ a → SameBytes one other (a - ram_base) 4) → fetch other a ≡ fetch one a
+pub same_fetch : (one other : List ℕ) (a : ℕ) → length other ≡ length one
+    → (ram_base ≤ a → SameBytes one other (a - ram_base) 4) → fetch other a ≡ fetch one a
 unfolding fetch
 same_fetch one other a size same =
     ap (λ n. word_of other (location_of n a Four)) size
@@ -114,7 +126,9 @@ same_fetch one other a size same =
 
 -- ---- stores
 
-same_set : (one other : List ℕ) (i v k : ℕ) → length other ≡ length one → slice_index other k ≡ slice_index one k → slice_index (slice_set other i v) k ≡ slice_index (slice_set one i v) k
+same_set : (one other : List ℕ) (i v k : ℕ) → length other ≡ length one
+    → slice_index other k ≡ slice_index one k
+    → slice_index (slice_set other i v) k ≡ slice_index (slice_set one i v) k
 same_set one other i v k size same =
     elim (cases_eq k i) [
       | inl here ↦ elim (cases_lt i (length one)) [
@@ -128,7 +142,9 @@ length_set : (bs : List ℕ) (i v : ℕ) → length (slice_set bs i v) ≡ lengt
 length_set bs i v = grind (arith, common_steps)
 
 -- a byte that is the same in both memories is the same after the same store
-same_put : (one other : List ℕ) (off v k : ℕ) (w : Width) → length other ≡ length one → slice_index other k ≡ slice_index one k → slice_index (put other off w v) k ≡ slice_index (put one off w v) k
+same_put : (one other : List ℕ) (off v k : ℕ) (w : Width) → length other ≡ length one
+    → slice_index other k ≡ slice_index one k
+    → slice_index (put other off w v) k ≡ slice_index (put one off w v) k
 same_put one other off v k One size same = same_set one other off (v % 256) k size same
 same_put one other off v k Two size same =
     let size1 = length_set other off (v % 256) ∙ (size ∙ sym (length_set one off (v % 256))) in
@@ -147,8 +163,10 @@ pub record StoresAlike (b : BusState) (ram : List ℕ) (a : ℕ) (w : Width) (on
   pub rest : other ≡ with_ram one other.ram
   pub size : length one.ram ≡ length b.ram
   pub other_size : length other.ram ≡ length one.ram
-  pub kept : (k : ℕ) → ((i : ℕ) → i < bytes_of w → a + i ≢ ram_base + k) → slice_index one.ram k ≡ slice_index b.ram k
-  pub same : (k : ℕ) → slice_index ram k ≡ slice_index b.ram k → slice_index other.ram k ≡ slice_index one.ram k
+  pub kept : (k : ℕ) → ((i : ℕ) → i < bytes_of w → a + i ≢ ram_base + k)
+      → slice_index one.ram k ≡ slice_index b.ram k
+  pub same : (k : ℕ) → slice_index ram k ≡ slice_index b.ram k
+      → slice_index other.ram k ≡ slice_index one.ram k
 
 abbrev pub BothStore : BusState → List ℕ → ℕ → Width → Option BusState → Option BusState → Type 0
 BothStore b ram a w None None = Unit {0}
@@ -157,7 +175,8 @@ BothStore b ram a w (Some one) None = ⊥
 BothStore b ram a w (Some one) (Some other) = StoresAlike b ram a w one other
 
 -- stores to a device, to the memory, and to the timer
-device_store : (b : BusState) (ram : List ℕ) (a : ℕ) (w : Width) (one : BusState) → length ram ≡ length b.ram → one.ram ≡ b.ram → StoresAlike b ram a w one (with_ram one ram)
+device_store : (b : BusState) (ram : List ℕ) (a : ℕ) (w : Width) (one : BusState)
+    → length ram ≡ length b.ram → one.ram ≡ b.ram → StoresAlike b ram a w one (with_ram one ram)
 device_store b ram a w one size still = record {
   rest = refl;
   size = ap length still;
@@ -176,12 +195,14 @@ memory_store b ram a v w size above = record {
   same = λ k e. same_put b.ram ram (a - ram_base) v k w size e;
 }
 
-timer_store : (b : BusState) (ram : List ℕ) (a : ℕ) (w : Width) (t : Option TimerState) → length ram ≡ length b.ram
+timer_store : (b : BusState) (ram : List ℕ) (a : ℕ) (w : Width) (t : Option TimerState)
+    → length ram ≡ length b.ram
     → BothStore b ram a w (option_map (λ t. record b { timer = t }) t) (option_map (λ t. record (with_ram b ram) { timer = t }) t)
 timer_store b ram a w None size = tt
 timer_store b ram a w (Some t) size = device_store b ram a w (record b { timer = t }) size refl
 
-pub same_store : (b : BusState) (ram : List ℕ) (a v : ℕ) (w : Width) → length ram ≡ length b.ram → BothStore b ram a w (store b a w v) (store (with_ram b ram) a w v)
+pub same_store : (b : BusState) (ram : List ℕ) (a v : ℕ) (w : Width) → length ram ≡ length b.ram
+    → BothStore b ram a w (store b a w v) (store (with_ram b ram) a w v)
 unfolding store
 same_store b ram a v w size =
     subst (λ n. BothStore b ram a w (store_at b (location_of (length b.ram) a w) w v) (store_at (with_ram b ram) (location_of n a w) w v)) (sym size)
@@ -195,7 +216,9 @@ same_store b ram a v w size =
 
 -- ---- a byte at an address
 
-pub same_byte : (one other : List ℕ) (a : ℕ) → length other ≡ length one → (ram_base ≤ a → slice_index other (a - ram_base) ≡ slice_index one (a - ram_base)) → ram_byte other a ≡ ram_byte one a
+pub same_byte : (one other : List ℕ) (a : ℕ) → length other ≡ length one
+    → (ram_base ≤ a → slice_index other (a - ram_base) ≡ slice_index one (a - ram_base))
+    → ram_byte other a ≡ ram_byte one a
 same_byte one other a size same =
     ap (λ n. if nat_le ram_base a && nat_lt (a - ram_base) n then Some (slice_index other (a - ram_base)) else None) size
     ∙ by_tests (nat_le ram_base a) (nat_lt (a - ram_base) (length one)) (λ t. same (leb-true ram_base a t))
@@ -206,10 +229,12 @@ same_byte one other a size same =
     by_tests true false e = refl
     by_tests false y e = refl
 
-pub byte_same : (one other : List ℕ) (k : ℕ) → length other ≡ length one → ram_byte other (ram_base + k) ≡ ram_byte one (ram_base + k) → slice_index other k ≡ slice_index one k
+pub byte_same : (one other : List ℕ) (k : ℕ) → length other ≡ length one
+    → ram_byte other (ram_base + k) ≡ ram_byte one (ram_base + k) → slice_index other k ≡ slice_index one k
 byte_same one other k size same = by_tests (nat_lt k (length one)) refl
   where
-    at_byte : (bs : List ℕ) → nat_lt k (length bs) ≡ true → ram_byte bs (ram_base + k) ≡ Some (slice_index bs k)
+    at_byte : (bs : List ℕ) → nat_lt k (length bs) ≡ true
+        → ram_byte bs (ram_base + k) ≡ Some (slice_index bs k)
     at_byte bs t =
         let le : nat_le ram_base (ram_base + k) ≡ true = grind (arith, nat_tests) in
         let off : ram_base + k - ram_base ≡ k = omega arith in

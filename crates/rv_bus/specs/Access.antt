@@ -110,7 +110,8 @@ snapshot_before b tick =
 
 -- the levels of the interrupt lines into the hart
 abbrev pub lines_of : BusState → InterruptLines
-lines_of b = record { software = b.timer.software; timer = timer.is_due b.timer; external = plic.is_notified b.plic }
+lines_of b =
+    record { software = b.timer.software; timer = timer.is_due b.timer; external = plic.is_notified b.plic }
 
 -- the bus after the line of an interrupt source is set to a level
 abbrev pub with_line : BusState → ℕ → Bool → BusState

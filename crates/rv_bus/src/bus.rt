@@ -40,7 +40,7 @@ impl From<NoMemory> for StoreRefusal {
     }
 }
 
-/// The timer and the interrupt controller as they were, which is what undoes a tick.
+/// A snapshot of the timer and the interrupt controller, by which ticks are undone.
 #[derive(Clone, Copy)]
 pub struct Snapshot {
     timer: Timer,
@@ -92,8 +92,8 @@ impl Model for Tick {
 /// | 0x10000000, +4, +8 | serial port: transmit, receive, status | 1, 2, 4 |
 /// | 0x80000000 and on | memory | 1, 2, 4, fetch |
 ///
-/// An access at any other address, of another width, or any other fetch is a fault. A narrow access of a
-/// register has its low bits.
+/// Any other access is a fault, by its address, its width, or since it is a fetch. A narrow load of a
+/// register returns its low bits.
 #[derive(Drop)]
 pub struct Bus<M: ByteMemory> {
     ram: M,
@@ -268,7 +268,7 @@ impl<M: ByteMemory> Bus<M> {
         self.serial.receive(byte);
     }
 
-    /// Returns a snapshot, by which ticks can be undone.
+    /// Returns a snapshot of the timer and the interrupt controller.
     pub fn snapshot(&self) -> Snapshot
         ensures { result ≡ record { timer = self.now.timer; plic = self.now.plic } }
     {

@@ -37,7 +37,7 @@ pub enum Location {
     Plic(u32),
     /// A register of the serial port. It takes accesses of every width.
     Serial(SerialReg),
-    /// Nowhere: an access is a fault.
+    /// No location: an access is a fault.
     Nowhere,
 }
 

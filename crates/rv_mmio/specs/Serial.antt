@@ -23,7 +23,8 @@ received_word None = 0x80000000
 -- the status: bit 0 where a byte is waiting, bit 1 since a byte may always be sent, bit 2 where a byte was
 -- lost
 abbrev pub status_word : SerialState → ℕ
-status_word serial = (if nat_lt 0 (length serial.waiting) then 1 else 0) + 2 + (if serial.overrun then 4 else 0)
+status_word serial =
+    (if nat_lt 0 (length serial.waiting) then 1 else 0) + 2 + (if serial.overrun then 4 else 0)
 
 -- the word that a load of a register returns
 abbrev pub load_value : SerialState → SerialReg → ℕ

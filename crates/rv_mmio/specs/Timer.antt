@@ -1,7 +1,7 @@
 -- To audit: public contracts cite this.
 -- The machine timer: mtime and mtimecmp of the Privileged Architecture 20211203, section 3.2.1, and the
 -- software interrupt bit msip of section 3.1.9, each read and written by words.
-use Rattle.std.specs.Prelude.{◌≡◌, ℕ, Bool, false, ◌+◌, ◌-◌, ◌*◌, ◌/◌, ◌%◌, ◌^◌, ◌==◌, nat_le, if◌then◌else◌, Option, Some, None}
+use Rattle.std.specs.Prelude.{◌≡◌, ℕ, Bool, false, ◌+◌, ◌-◌, ◌/◌, ◌%◌, ◌^◌, ◌==◌, nat_le, if◌then◌else◌, Option, Some, None}
 use Rattle.std.specs.Option.{option_map}
 use Rattle.rv_base.specs.Halves.{with_low, with_high}
 use Rattle.rv_mmio.specs.declared.timer.TimerReg.{TimerReg}

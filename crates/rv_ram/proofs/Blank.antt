@@ -14,18 +14,21 @@ drop_front (x ∷ xs) ys k zero e = absurd (omega arith)
 drop_front (x ∷ xs) ys k (suc j) e = drop_front xs ys k j (omega arith)
 
 -- the bytes of a page are neighbours in the memory
-page_of_all : (ps : List PageState) (d : PageState) (i : ℕ) → HasWholePages ps → i < length ps → take 4096 (drop (4096 * i) (all_bytes ps)) ≡ (get_or ps i d).bytes
+page_of_all : (ps : List PageState) (d : PageState) (i : ℕ) → HasWholePages ps → i < length ps
+    → take 4096 (drop (4096 * i) (all_bytes ps)) ≡ (get_or ps i d).bytes
 page_of_all [] d i w l = absurd (omega arith)
 page_of_all (p ∷ ps) d zero w l = take_at p.bytes (all_bytes ps) 4096 w.0
 page_of_all (p ∷ ps) d (suc i) w l =
-    ap (take 4096) (drop_front p.bytes (all_bytes ps) (4096 * i) (4096 * suc i) (omega (arith, w.0))) ∙ page_of_all ps d i w.1 (omega arith)
+    ap (take 4096) (drop_front p.bytes (all_bytes ps) (4096 * i) (4096 * suc i) (omega (arith, w.0)))
+    ∙ page_of_all ps d i w.1 (omega arith)
 
 all_zeros : (n : ℕ) → list_all (λ byte. byte == 0) (zeros n) ≡ true
 unfolding zeros
 all_zeros zero = refl
 all_zeros (suc n) = all_zeros n
 
-pub blank_page : (ps : List PageState) (off : ℕ) (d : PageState) → HasWholePages ps → off / 4096 < length ps → (get_or ps (off / 4096) d).bytes ≡ zeros 4096 → is_blank (all_bytes ps) off ≡ true
+pub blank_page : (ps : List PageState) (off : ℕ) (d : PageState) → HasWholePages ps → off / 4096 < length ps
+    → (get_or ps (off / 4096) d).bytes ≡ zeros 4096 → is_blank (all_bytes ps) off ≡ true
 unfolding is_blank
 blank_page ps off d w l e =
     ap (list_all (λ byte. byte == 0)) (page_of_all ps d (off / 4096) w l ∙ e) ∙ all_zeros 4096
@@ -34,13 +37,17 @@ blank_page ps off d w l e =
 abbrev pub has_zeros : List ℕ → ℕ → ℕ → Bool
 has_zeros bs first count = list_all (λ byte. byte == 0) (take count (drop first bs))
 
-pub one_more_zero : (bs : List ℕ) (first count : ℕ) → first + count < length bs → has_zeros bs first count ≡ true → slice_index bs (first + count) ≡ 0 → has_zeros bs first (count + 1) ≡ true
+pub one_more_zero : (bs : List ℕ) (first count : ℕ) → first + count < length bs
+    → has_zeros bs first count ≡ true → slice_index bs (first + count) ≡ 0
+    → has_zeros bs first (count + 1) ≡ true
 one_more_zero bs first count l z e =
     list_all_more (λ byte. byte == 0) (drop first bs) count 0 (omega (arith, length-drop first bs))
-    ∙ (ap (λ b. b && (get_or (drop first bs) count 0 == 0)) z ∙ ap (λ byte. byte == 0) (get_or-drop first bs count 0 ∙ e))
+    ∙ (ap (λ b. b && (get_or (drop first bs) count 0 == 0)) z
+    ∙ ap (λ byte. byte == 0) (get_or-drop first bs count 0 ∙ e))
 
 -- a page is blank where each of its bytes is zero
-pub is_blank_page : (bs : List ℕ) (off first : ℕ) → first ≡ off / 4096 * 4096 → has_zeros bs first 4096 ≡ true → is_blank bs off ≡ true
+pub is_blank_page : (bs : List ℕ) (off first : ℕ) → first ≡ off / 4096 * 4096
+    → has_zeros bs first 4096 ≡ true → is_blank bs off ≡ true
 unfolding is_blank
 is_blank_page bs off first e z =
     let k : 4096 * (off / 4096) ≡ first = omega arith in

@@ -18,7 +18,8 @@ byte_of (x ∷ xs) at = refl
 
 -- a word that is kept of a page is that of the page
 pub word_of_page : (xs : List ℕ) (at : ℕ) → word_at xs at ≡ word_at (page_of xs).bytes at
-word_of_page [] at = let a = get_zeros 4096 at in let b = get_zeros 4096 (at + 1) in let c = get_zeros 4096 (at + 2) in let d = get_zeros 4096 (at + 3) in omega (arith, a, b, c, d)
+word_of_page [] at =
+    let a = get_zeros 4096 at in let b = get_zeros 4096 (at + 1) in let c = get_zeros 4096 (at + 2) in let d = get_zeros 4096 (at + 3) in omega (arith, a, b, c, d)
 word_of_page (x ∷ xs) at = refl
 
 -- ---- a page that does not exist, of which no byte is kept
@@ -30,7 +31,8 @@ pub no_word : (xs : List ℕ) (at : ℕ) → length xs ≡ 0 → 0 ≡ word_at (
 no_word [] at l = word_of_page [] at
 no_word (x ∷ xs) at l = absurd (omega arith)
 
-pub put_unmade : (xs : List ℕ) (i v : ℕ) (w : Width) → length xs ≡ 0 → is_zero w v ≡ true → (page_of xs).bytes ≡ put (page_of xs).bytes i w v
+pub put_unmade : (xs : List ℕ) (i v : ℕ) (w : Width) → length xs ≡ 0 → is_zero w v ≡ true
+    → (page_of xs).bytes ≡ put (page_of xs).bytes i w v
 put_unmade [] i v w l z = sym (put_zeros 4096 i v w z)
 put_unmade (x ∷ xs) i v w l z = absurd (omega arith)
 
@@ -53,10 +55,12 @@ is_made_page (x ∷ xs) l = refl
 
 pub length_all_bytes : (ps : List PageState) → HasWholePages ps → length (all_bytes ps) ≡ 4096 * length ps
 length_all_bytes [] w = refl
-length_all_bytes (p ∷ ps) w = omega (arith, length-append p.bytes (all_bytes ps), w.0, length_all_bytes ps w.1)
+length_all_bytes (p ∷ ps) w =
+    omega (arith, length-append p.bytes (all_bytes ps), w.0, length_all_bytes ps w.1)
 
 -- ---- the bytes of a table are those of its pages
-all_bytes_get : (ps : List PageState) (d : PageState) (i o : ℕ) → HasWholePages ps → i < length ps → o < 4096 → get_or (all_bytes ps) (4096 * i + o) 0 ≡ get_or (get_or ps i d).bytes o 0
+all_bytes_get : (ps : List PageState) (d : PageState) (i o : ℕ) → HasWholePages ps → i < length ps
+    → o < 4096 → get_or (all_bytes ps) (4096 * i + o) 0 ≡ get_or (get_or ps i d).bytes o 0
 all_bytes_get [] d i o w l m = absurd (omega arith)
 all_bytes_get (p ∷ ps) d zero o w l m =
     let h : o < length p.bytes = omega (arith, w.0) in
@@ -67,20 +71,28 @@ all_bytes_get (p ∷ ps) d (suc i) o w l m =
     get_or-append_right p.bytes (all_bytes ps) 4096 (4096 * suc i + o) 0 w.0 (omega arith)
     ∙ (ap (λ k. get_or (all_bytes ps) k 0) e ∙ all_bytes_get ps d i o w.1 (omega arith) m)
 
-byte_at : (ps : List PageState) (off k : ℕ) (d : PageState) → HasWholePages ps → off < length (all_bytes ps) → off % 4096 + k < 4096 → get_or (get_or ps (off / 4096) d).bytes (off % 4096 + k) 0 ≡ get_or (all_bytes ps) (off + k) 0
+byte_at : (ps : List PageState) (off k : ℕ) (d : PageState) → HasWholePages ps → off < length (all_bytes ps)
+    → off % 4096 + k < 4096
+    → get_or (get_or ps (off / 4096) d).bytes (off % 4096 + k) 0 ≡ get_or (all_bytes ps) (off + k) 0
 byte_at ps off k d w l m =
     let len = length_all_bytes ps w in
     let e : 4096 * (off / 4096) + (off % 4096 + k) ≡ off + k = omega arith in
-    sym (all_bytes_get ps d (off / 4096) (off % 4096 + k) w (omega arith) m) ∙ ap (λ j. get_or (all_bytes ps) j 0) e
+    sym (all_bytes_get ps d (off / 4096) (off % 4096 + k) w (omega arith) m)
+    ∙ ap (λ j. get_or (all_bytes ps) j 0) e
 
-pub byte_of_all : (ps : List PageState) (off : ℕ) (d : PageState) → HasWholePages ps → off < length (all_bytes ps) → get_or (get_or ps (off / 4096) d).bytes (off % 4096) 0 ≡ get_or (all_bytes ps) off 0
+pub byte_of_all : (ps : List PageState) (off : ℕ) (d : PageState) → HasWholePages ps
+    → off < length (all_bytes ps)
+    → get_or (get_or ps (off / 4096) d).bytes (off % 4096) 0 ≡ get_or (all_bytes ps) off 0
 byte_of_all ps off d w l =
     let a : off % 4096 + 0 ≡ off % 4096 = omega arith in
     let b : off + 0 ≡ off = omega arith in
-    ap (λ o. get_or (get_or ps (off / 4096) d).bytes o 0) (sym a) ∙ (byte_at ps off 0 d w l (omega arith) ∙ ap (λ o. get_or (all_bytes ps) o 0) b)
+    ap (λ o. get_or (get_or ps (off / 4096) d).bytes o 0) (sym a)
+    ∙ (byte_at ps off 0 d w l (omega arith) ∙ ap (λ o. get_or (all_bytes ps) o 0) b)
 
 -- an aligned word is that of its page
-pub word_of_all : (ps : List PageState) (off : ℕ) (d : PageState) → HasWholePages ps → off + 4 ≤ length (all_bytes ps) → off % 4 ≡ 0 → word_at (get_or ps (off / 4096) d).bytes (off % 4096) ≡ word_at (all_bytes ps) off
+pub word_of_all : (ps : List PageState) (off : ℕ) (d : PageState) → HasWholePages ps
+    → off + 4 ≤ length (all_bytes ps) → off % 4 ≡ 0
+    → word_at (get_or ps (off / 4096) d).bytes (off % 4096) ≡ word_at (all_bytes ps) off
 word_of_all ps off d w l a =
     let r : off % 4096 + 4 ≤ 4096 = omega arith in
     let b0 = byte_of_all ps off d w (omega arith) in
@@ -96,17 +108,25 @@ in_page Two off a = omega arith
 in_page Four off a = omega arith
 
 -- a write to a page is a write to the memory
-all_bytes_with : (ps : List PageState) (i o v : ℕ) (w : Width) (q d : PageState) → HasWholePages ps → i < length ps → o + bytes_of w ≤ 4096 → q.bytes ≡ put (get_or ps i d).bytes o w v → all_bytes (set ps i q) ≡ put (all_bytes ps) (4096 * i + o) w v
+all_bytes_with : (ps : List PageState) (i o v : ℕ) (w : Width) (q d : PageState) → HasWholePages ps
+    → i < length ps → o + bytes_of w ≤ 4096 → q.bytes ≡ put (get_or ps i d).bytes o w v
+    → all_bytes (set ps i q) ≡ put (all_bytes ps) (4096 * i + o) w v
 all_bytes_with [] i o v w q d h l m e = absurd (omega arith)
 all_bytes_with (p ∷ ps) zero o v w q d h l m e =
     let k : 4096 * 0 + o ≡ o = omega arith in
-    ap (λ b. b ++ all_bytes ps) e ∙ (sym (put_left p.bytes (all_bytes ps) o v w (omega (arith, h.0))) ∙ ap (λ j. put (p.bytes ++ all_bytes ps) j w v) (sym k))
+    ap (λ b. b ++ all_bytes ps) e
+    ∙ (sym (put_left p.bytes (all_bytes ps) o v w (omega (arith, h.0)))
+    ∙ ap (λ j. put (p.bytes ++ all_bytes ps) j w v) (sym k))
 all_bytes_with (p ∷ ps) (suc i) o v w q d h l m e =
     let k : 4096 + (4096 * i + o) ≡ 4096 * suc i + o = omega arith in
     ap (λ b. p.bytes ++ b) (all_bytes_with ps i o v w q d h.1 (omega arith) m e)
-    ∙ (sym (put_right p.bytes (all_bytes ps) 4096 (4096 * i + o) v w h.0) ∙ ap (λ j. put (p.bytes ++ all_bytes ps) j w v) k)
+    ∙ (sym (put_right p.bytes (all_bytes ps) 4096 (4096 * i + o) v w h.0)
+    ∙ ap (λ j. put (p.bytes ++ all_bytes ps) j w v) k)
 
-pub all_bytes_put : (ps : List PageState) (off v : ℕ) (w : Width) (q d : PageState) → HasWholePages ps → off + bytes_of w ≤ length (all_bytes ps) → off % bytes_of w ≡ 0 → q.bytes ≡ put (get_or ps (off / 4096) d).bytes (off % 4096) w v → all_bytes (set ps (off / 4096) q) ≡ put (all_bytes ps) off w v
+pub all_bytes_put : (ps : List PageState) (off v : ℕ) (w : Width) (q d : PageState) → HasWholePages ps
+    → off + bytes_of w ≤ length (all_bytes ps) → off % bytes_of w ≡ 0
+    → q.bytes ≡ put (get_or ps (off / 4096) d).bytes (off % 4096) w v
+    → all_bytes (set ps (off / 4096) q) ≡ put (all_bytes ps) off w v
 all_bytes_put ps off v w q d h l a e =
     let len = length_all_bytes ps h in
     let r : 4096 * (off / 4096) + off % 4096 ≡ off = omega arith in
@@ -117,29 +137,34 @@ all_bytes_put ps off v w q d h l a e =
     below Two l = omega (arith, length_all_bytes ps h)
     below Four l = omega (arith, length_all_bytes ps h)
 
-pub whole_pages_set : (ps : List PageState) (i : ℕ) (q : PageState) → HasWholePages ps → length q.bytes ≡ 4096 → HasWholePages (set ps i q)
+pub whole_pages_set : (ps : List PageState) (i : ℕ) (q : PageState) → HasWholePages ps
+    → length q.bytes ≡ 4096 → HasWholePages (set ps i q)
 whole_pages_set [] i q h l = h
 whole_pages_set (p ∷ ps) zero q h l = (l, h.1)
 whole_pages_set (p ∷ ps) (suc i) q h l = (h.0, whole_pages_set ps i q h.1 l)
 
-pub is_table_set : (ps : List PageState) (i : ℕ) (q : PageState) → IsTable ps → length q.bytes ≡ 4096 → IsTable (set ps i q)
+pub is_table_set : (ps : List PageState) (i : ℕ) (q : PageState) → IsTable ps → length q.bytes ≡ 4096
+    → IsTable (set ps i q)
 is_table_set ps i q t l = record {
   some = omega (arith, length-set ps i q, t.some);
   most = omega (arith, length-set ps i q, t.most);
   whole = whole_pages_set ps i q t.whole l;
 }
 
-pub made_of_set : (ps : List PageState) (i : ℕ) (q : PageState) → made_of (set ps i q) ≡ set (made_of ps) i q.made
+pub made_of_set : (ps : List PageState) (i : ℕ) (q : PageState)
+    → made_of (set ps i q) ≡ set (made_of ps) i q.made
 made_of_set [] i q = refl
 made_of_set (p ∷ ps) zero q = refl
 made_of_set (p ∷ ps) (suc i) q = ap (λ ms. p.made ∷ ms) (made_of_set ps i q)
 
-pub made_of_get : (ps : List PageState) (i : ℕ) (d : PageState) → i < length ps → slice_index_or (made_of ps) i false ≡ (get_or ps i d).made
+pub made_of_get : (ps : List PageState) (i : ℕ) (d : PageState) → i < length ps
+    → slice_index_or (made_of ps) i false ≡ (get_or ps i d).made
 made_of_get [] i d l = absurd (omega arith)
 made_of_get (p ∷ ps) zero d l = refl
 made_of_get (p ∷ ps) (suc i) d l = made_of_get ps i d (omega arith)
 
-pub index_in : (ps : List PageState) (off n : ℕ) → HasWholePages ps → 0 < n → off + n ≤ length (all_bytes ps) → off / 4096 < length ps
+pub index_in : (ps : List PageState) (off n : ℕ) → HasWholePages ps → 0 < n
+    → off + n ≤ length (all_bytes ps) → off / 4096 < length ps
 index_in ps off n w z l = omega (arith, length_all_bytes ps w)
 
 -- ---- a table of new pages
@@ -166,7 +191,9 @@ new_zero = refl
 pub new_more : (n : ℕ) → new_table (n + 1) ≡ new_table n ++ new_page ∷ []
 unfolding new_table
 new_more zero = refl
-new_more (suc n) = let e : suc n + 1 ≡ suc (n + 1) = omega arith in ap (λ k. replicate k new_page) e ∙ ap (λ ps. new_page ∷ ps) (new_more n)
+new_more (suc n) =
+    let e : suc n + 1 ≡ suc (n + 1) = omega arith in ap (λ k. replicate k new_page) e
+    ∙ ap (λ ps. new_page ∷ ps) (new_more n)
 
 pub all_bytes_new : (n : ℕ) → all_bytes (new_table n) ≡ zeros (4096 * n)
 unfolding new_table

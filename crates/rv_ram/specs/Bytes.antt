@@ -11,7 +11,9 @@ half_at bs i = slice_index bs i + 256 * slice_index bs (i + 1)
 
 -- the value of the four bytes at an offset
 abbrev pub word_at : List ℕ → ℕ → ℕ
-word_at bs i = slice_index bs i + 256 * slice_index bs (i + 1) + 65536 * slice_index bs (i + 2) + 16777216 * slice_index bs (i + 3)
+word_at bs i =
+    slice_index bs i + 256 * slice_index bs (i + 1)
+    + 65536 * slice_index bs (i + 2) + 16777216 * slice_index bs (i + 3)
 
 -- the value of as many bytes as a width has, at an offset
 abbrev pub value_at : List ℕ → ℕ → Width → ℕ
@@ -23,7 +25,10 @@ value_at bs i Four = word_at bs i
 abbrev pub put : List ℕ → ℕ → Width → ℕ → List ℕ
 put bs i One v = slice_set bs i (v % 256)
 put bs i Two v = slice_set (slice_set bs i (v % 256)) (i + 1) (v / 256 % 256)
-put bs i Four v = slice_set (slice_set (slice_set (slice_set bs i (v % 256)) (i + 1) (v / 256 % 256)) (i + 2) (v / 65536 % 256)) (i + 3) (v / 16777216)
+put bs i Four v =
+    slice_set
+    (slice_set (slice_set (slice_set bs i (v % 256)) (i + 1) (v / 256 % 256)) (i + 2) (v / 65536 % 256))
+    (i + 3) (v / 16777216)
 
 -- n zeros. Proofs use lemmas about them, and see no list of 16 million numbers
 unfoldable pub zeros : ℕ → List ℕ

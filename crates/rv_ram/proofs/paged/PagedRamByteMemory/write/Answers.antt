@@ -3,4 +3,5 @@ use Rattle.rv_ram.proofs.Table.{whole_pages_set}
 use Rattle.rv_ram.proofs.paged.PagedRamByteMemory.write.Goals as goal
 
 pub invariant_of-self : goal.invariant_of-self
-invariant_of-self c = record { some = search rules; most = search rules; whole = search (rules, whole_pages_set) }
+invariant_of-self c =
+    record { some = search rules; most = search rules; whole = search (rules, whole_pages_set) }
