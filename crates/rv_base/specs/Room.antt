@@ -8,4 +8,6 @@ HasRoom text piece = vec_len text + length piece ≤ vec_capacity text
 
 -- the text has grown by a piece, and its capacity is no less
 abbrev pub Appended : {Z : Type 0} → Vec ℕ Z → Vec ℕ Z → List ℕ → Type 0
-Appended old new piece = (new.items ≡ old.items ++ piece) × (vec_len new ≡ vec_len old + length piece) × (vec_capacity old ≤ vec_capacity new)
+Appended old new piece =
+    (new.items ≡ old.items ++ piece) × (vec_len new ≡ vec_len old + length piece)
+    × (vec_capacity old ≤ vec_capacity new)

@@ -1,4 +1,4 @@
--- What the search through the kinds finds.
+-- The search through the kinds finds the meaning of a word.
 use Rattle.std.proofs.Common.{◌≡◌, ℕ, zero, suc, ◌<◌, ◌==◌, Bool, true, false, List, [], ◌∷◌, Option, Some, None, refl, sym, subst, inl, inr, arith, true≢false}
 use Rattle.std.specs.Prelude.{ℤ, pos, negsuc, slice_get, IfSome, IsSome, if◌then◌else◌}
 use Rattle.std.proofs.lemmas.Bool.{cases_lt, eqb-true, eq-eqb}
@@ -24,15 +24,15 @@ use Rattle.rv_isa.specs.declared.op.ShiftOp.TheVariants.{Slli, Srli, Srai}
 use Rattle.rv_isa.specs.declared.op.AluOp.{AluOp}
 use Rattle.rv_isa.specs.declared.op.AluOp.TheVariants.{Add, Sll, Slt, Sltu, Xor, Srl, Or, And, Sub, Sra, Mul, Mulh, Mulhsu, Mulhu, Div, Divu, Rem, Remu}
 
--- what is found, if anything, has the property
+-- the result of a search, if any, has the property
 record Only {A : Type 0} (P : A → Type 0) (o : Option A) : Type 0 where
   pub holds : IfSome o P
 
--- something is found
+-- the search finds something
 record Found {A : Type 0} (o : Option A) : Type 0 where
   pub some : IsSome o
 
--- ---- a search finds only what is answered at some place
+-- ---- a search finds only a result of one of its places
 
 only-or : {A : Type 0} {P : A → Type 0} (a b : Option A) → Only P a → Only P b → Only P (option_or a b)
 only-or None b p q = q
@@ -60,7 +60,7 @@ unfolding first_in
 only-in [] f h = record { holds = tt }
 only-in (x ∷ xs) f h = only-or _ _ (h x) (only-in xs f h)
 
--- ---- a search finds something where it is answered somewhere
+-- ---- a search finds something if one of its places has a result
 
 found-left : {A : Type 0} (a b : Option A) → Found a → Found (option_or a b)
 found-left None b p = record { some = absurd (true≢false (sym p.some)) }
@@ -235,7 +235,7 @@ found-kind f Ebreak r p = found-row _ 15 _ refl p
 found-kind f Mret r p = found-row _ 16 _ refl p
 found-kind f Wfi r p = found-row _ 17 _ refl p
 
--- ---- the kind that a word stands for
+-- ---- the kind that a word means
 
 means-from : (w : ℕ) (o : Option Kind) → IfSome o (λ k. IsInRange k × (word k ≡ w)) → ((k : Kind) → IsInRange k → word k ≡ w → IsSome o) → Means w o
 unfolding Means
@@ -248,7 +248,7 @@ only-means w k r = only-if (word k == w) (Some k) (λ e. record { holds = (r, eq
 found-means : (w : ℕ) (k : Kind) → word k ≡ w → Found (if word k == w then Some k else None)
 found-means w k e = found-if (word k == w) (Some k) (eq-eqb _ _ e) (record { some = refl })
 
--- the search finds what the word means
+-- the search finds the kind that the word means
 pub means_inverts : (w : ℕ) → Means w (means w)
 unfolding means
 means_inverts w =

@@ -9,13 +9,13 @@ use lib.IntN.{neg_ℤ}
 use Rattle.rv_isa.specs.Number.{signed}
 use Rattle.rv_isa.specs.Alu.{reduced}
 
--- what a cast to a signed number gives
+-- a cast to a signed number
 signed_is : (a : ℕ) → to_z w32 a ≡ signed a
 signed_is a =
     let same : 2 ^ 32 - suc a ≡ 2 ^ 32 - 1 - a = omega arith in
     ap (λ (n : ℕ). if nat_lt a (2 ^ 31) then pos a else negsuc n) same
 
--- what is left of numbers that are passed on
+-- a number after casts to a word, to 64 bits and back
 widened : (x : ℤ) → SFits w32 x → to_z w64 (of_z w64 (to_z w32 (of_z w32 x))) ≡ x
 widened x f = ap (λ (z : ℤ). to_z w64 (of_z w64 z)) (to_z-of_z w32 x f) ∙ to_z-of_z w64 x (record { sfits = omega (arith, f.sfits) })
 
@@ -23,7 +23,7 @@ abs_le : (x : ℤ) → SFits w32 x → unsigned_abs x ≤ 2 ^ 31
 abs_le (pos n) f = omega (arith, f.sfits)
 abs_le (negsuc n) f = omega (arith, f.sfits)
 
--- the product of two words as signed numbers, and of a signed and an unsigned one, where it is passed on
+-- the product of two words as signed numbers, and of a signed and an unsigned one, in 64 bits
 pub signed_product : (a b : ℕ) (x y : ℤ) → SFits w32 x → SFits w32 y → x ≡ to_z w32 a → y ≡ to_z w32 b
     → to_z w64 (of_z w64 (to_z w64 (of_z w64 (to_z w32 (of_z w32 x))) *ℤ to_z w64 (of_z w64 (to_z w32 (of_z w32 y))))) ≡ signed a *ℤ signed b
 signed_product a b x y f g e d =
@@ -72,7 +72,7 @@ pub remainder_word : (x y : ℤ) → SFits w32 x → of_z w32 (int_rem x y) ≡ 
 remainder_word (pos a) y f = word_above (a % unsigned_abs y) (omega (arith, mod-le a (unsigned_abs y)))
 remainder_word (negsuc a) y f = word_below (suc a % unsigned_abs y) (omega (arith, mod-le (suc a) (unsigned_abs y)))
 
--- what an operation gives of the signed numbers of two words, passed on as a word
+-- the value of an operation on the signed numbers of two words, cast to a word
 pub word_of : (op : ℤ → ℤ → ℤ) (meaning : ℤ → ℤ → ℕ) (a b r : ℕ) (x y z : ℤ) → SFits w32 x → SFits w32 y → SFits w32 z
     → x ≡ to_z w32 a → y ≡ to_z w32 b → z ≡ op (to_z w32 (of_z w32 x)) (to_z w32 (of_z w32 y)) → r ≡ of_z w32 (to_z w32 (of_z w32 z))
     → of_z w32 (op x y) ≡ meaning x y → r ≡ meaning (signed a) (signed b)

@@ -1,9 +1,9 @@
 pub mod Alu
-pub mod Line
 pub mod Meaning
 pub mod Names
 pub mod Number
 pub mod Op
 pub mod Text
+pub mod TextParts
 pub mod Word
 pub mod Width

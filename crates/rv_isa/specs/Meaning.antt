@@ -1,6 +1,6 @@
 -- To audit: public contracts cite this.
--- The kind that a word stands for: the table of words read backwards, by a search through every kind in range.
--- No program runs the search: it says which function `decode` computes.
+-- The kind that a word means: the inverse of the table of words, by a search through every kind in range.
+-- No program runs the search: it defines the function that `decode` computes.
 use Rattle.std.specs.Prelude.{ℕ, zero, suc, ◌^◌, ◌==◌, if◌then◌else◌, ℤ, pos, negsuc, List, [], ◌∷◌, Option, Some, None}
 use Rattle.std.specs.Option.{option_or}
 use Rattle.rv_isa.specs.Number.{modulo}
@@ -22,7 +22,7 @@ use Rattle.rv_isa.specs.declared.op.ShiftOp.TheVariants.{Slli, Srli, Srai}
 use Rattle.rv_isa.specs.declared.op.AluOp.{AluOp}
 use Rattle.rv_isa.specs.declared.op.AluOp.TheVariants.{Add, Sll, Slt, Sltu, Xor, Srl, Or, And, Sub, Sra, Mul, Mulh, Mulhsu, Mulhu, Div, Divu, Rem, Remu}
 
--- ---- searches: what f answers at the first place at which it answers
+-- ---- searches: the result of f at the first place where it has one
 
 -- among the numbers below n
 unfoldable pub first_below : {A : Type 0} → ℕ → (ℕ → Option A) → Option A
@@ -42,7 +42,7 @@ unfoldable pub first_in : {A B : Type 0} → List A → (A → Option B) → Opt
 first_in [] f = None
 first_in (x ∷ xs) f = option_or (f x) (first_in xs f)
 
--- among some answers
+-- among some results
 unfoldable pub first_of : {A : Type 0} → List (Option A) → Option A
 first_of [] = None
 first_of (o ∷ os) = option_or o (first_of os)

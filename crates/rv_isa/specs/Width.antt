@@ -1,5 +1,5 @@
 -- To audit: public contracts cite this.
--- How wide an access is, and what a load or an immediate instruction asks for.
+-- The widths of accesses, and the operations of loads and of instructions with an immediate.
 -- RISC-V Unprivileged ISA 20191213, sections 2.4 and 2.6.
 use Rattle.std.specs.Prelude.{ℕ, Bool, true, false}
 use Rattle.rv_isa.specs.declared.op.AluOp.{AluOp}

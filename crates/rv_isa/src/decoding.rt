@@ -1,7 +1,7 @@
-//! Words to their instructions.
+//! Decodes words.
 //!
-//! `decode` jumps on the opcode; each major opcode has a function of its own, and each field of a word one that takes
-//! it out. RISC-V Unprivileged ISA 20191213, sections 2.2 and 2.3 and chapter 24.
+//! `decode` matches on the opcode; each major opcode has a function of its own, and each field of a word a function
+//! that extracts it. RISC-V Unprivileged ISA 20191213, sections 2.2 and 2.3 and chapter 24.
 ghost use Rattle.std.specs.Prelude.{◌≡◌, ◌≢◌, ◌<◌, ◌≤◌, ◌*◌, ◌/◌, ◌%◌, ◌^◌};
 ghost use Rattle.rv_isa.specs.Number.{modulo, IsWithin, IsDistance};
 ghost use Rattle.rv_isa.specs.Word.{Means};
@@ -10,26 +10,27 @@ ghost use Rattle.rv_isa.specs.Meaning.{means};
 use crate::encoding::one_meaning;
 use crate::{AluOp, Cond, CsrOp, ImmOp, Instr, Kind, LoadOp, Reg, ShiftOp, Width, opcode};
 
-/// The instruction that has a word, or `None` where no instruction has it.
+/// Returns the instruction that has a word, or `None` where no instruction has it.
 ///
-/// Every 32-bit word is answered. An instruction has one word and a word at most one instruction, as `words_differ`
-/// says, so the answer undoes `encode`. RISC-V Unprivileged ISA 20191213, chapter 24.
+/// An instruction has one word, and a word at most one instruction (`words_differ`): so this is the inverse of
+/// `encode`. RISC-V Unprivileged ISA 20191213, chapter 24.
 pub fn decode(word: u32) -> Option<Instr>
     ensures means { result ≡ means word }
     ensures inverse { Means word result }
 {
     one_meaning();
-    by_opcode(word)
+    decode_opcode(word)
 }
 
-/// The function `means` reads the table of words backwards.
+/// A law: the definition `means` is the inverse of the table of words.
 #[tactic(auto, using(crate::proofs::Meaning::means_inverts))]
 pub fn meaning_inverts(word: u32)
     ensures { Means word (means word) }
 {}
 
+/// Decodes a word by its opcode, its lowest seven bits.
 #[tactic(auto, unfolding(crate::specs::Word::word, crate::specs::Word::Means))]
-fn by_opcode(word: u32) -> Option<Instr>
+fn decode_opcode(word: u32) -> Option<Instr>
     ensures { Means word result }
 {
     match word % 128 {
@@ -114,7 +115,7 @@ fn store(word: u32) -> Option<Instr>
     }))
 }
 
-/// Under the function codes 1 and 5 the high seven bits are a code of the shift, else part of the immediate.
+/// For the function codes 1 and 5 the high seven bits are the code of a shift, else a part of the immediate.
 #[tactic(auto, unfolding(crate::specs::Word::word, crate::specs::Word::Means))]
 fn op_imm(word: u32) -> Option<Instr>
     requires { word % 2 ^ 7 ≡ 0x13 }
@@ -189,7 +190,7 @@ fn system(word: u32) -> Option<Instr>
             opcode::WFI => Some(Instr::of(Kind::Wfi)),
             _ => None,
         },
-        // Each operation stands once with a register, and 4 codes above with an immediate.
+        // An operation with an immediate has the code of the operation with a register, plus 4.
         funct3 => {
             let op = CsrOp::from_funct3(funct3 % 4)?;
             if funct3 < 4 {
@@ -247,14 +248,14 @@ fn rs2(word: u32) -> Reg
     Reg::from_low_bits(word >> 20)
 }
 
-/// The high twelve bits as they are: the number of a control register, or the sets of a fence.
+/// Returns the high twelve bits, unsigned: the number of a control register, or the sets of a fence.
 fn high_12(word: u32) -> u16
     ensures { result ≡ word / 2 ^ 20 }
 {
     (word >> 20) as u16
 }
 
-// ---- the immediates: each clause says where some of its bits stand in the word
+// ---- the immediates: each clause says where some of their bits are in the word
 
 fn i_imm(word: u32) -> i32
     ensures within { IsWithin (2 ^ 11) result }
@@ -305,7 +306,7 @@ fn j_imm(word: u32) -> i32
     sign_extend(bits, 1 << 20)
 }
 
-/// The number with these bits, of which the highest, `sign`, stands for `-sign`.
+/// Returns the number with these bits in two's complement, where the value of the sign bit is `-sign`.
 fn sign_extend(bits: u32, sign: u32) -> i32
     requires bits { bits < 2 * sign }
     requires sign { sign ≤ 2 ^ 20 }

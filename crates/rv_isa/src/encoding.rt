@@ -1,6 +1,6 @@
-//! Instructions to their words.
+//! Encodes instructions.
 //!
-//! Each format has a function that puts the fields into their places. RISC-V Unprivileged ISA 20191213, sections 2.2
+//! Each format has a function that puts the fields in their places. RISC-V Unprivileged ISA 20191213, sections 2.2
 //! and 2.3 and chapter 24.
 ghost use Rattle.std.specs.Prelude.{◌≡◌, ◌<◌, ◌^◌};
 ghost use Rattle.rv_isa.specs.Number.{modulo, IsWithin};
@@ -10,7 +10,7 @@ ghost use Rattle.rv_isa.specs.declared.kind.Kind.{Kind};
 
 use crate::{Instr, Kind, Reg, opcode};
 
-/// The word of an instruction: the sum of its fields, each times the power of two of its place.
+/// Returns the word of an instruction: the sum of its fields, each times the power of two of its lowest bit.
 ///
 /// RISC-V Unprivileged ISA 20191213, sections 2.2 and 2.3 and chapter 24.
 #[tactic(auto, unfolding(crate::specs::Word::word))]
@@ -55,7 +55,7 @@ pub fn encode(instr: Instr) -> u32
         Kind::Csr { op, rd, rs1, csr } => {
             i_plain(opcode::SYSTEM, rd, op.funct3(), rs1.number(), csr)
         }
-        // With an immediate each operation has the code 4 above its own.
+        // An operation with an immediate has the code of the operation with a register, plus 4.
         Kind::CsrImm { op, rd, imm, csr } => {
             i_plain(opcode::SYSTEM, rd, op.funct3() + 4, imm, csr)
         }
@@ -66,7 +66,7 @@ pub fn encode(instr: Instr) -> u32
     }
 }
 
-/// A word with what stands in bits 11:7 and in 31:25 beside the fields that the R, S and B formats share.
+/// Returns a word of the R, S or B format: `low` is in bits 11:7 and `high` in 31:25, where the formats differ.
 fn word_of(opcode: u32, low: u32, funct3: u32, rs1: Reg, rs2: u8, high: u32) -> u32
     requires { (opcode < 2 ^ 7) × (low < 2 ^ 5) × (funct3 < 2 ^ 3) × (rs2 < 2 ^ 5) × (high < 2 ^ 7) }
     ensures { result ≡ spec.r_type opcode low funct3 rs1 rs2 high }
@@ -79,7 +79,7 @@ fn word_of(opcode: u32, low: u32, funct3: u32, rs1: Reg, rs2: u8, high: u32) -> 
         + (high << 25)
 }
 
-/// A word of the R format: bits 24:20 are a register, or the amount of a shift.
+/// Returns a word of the R format: `rs2` is a register, or the amount of a shift.
 fn r_type(opcode: u32, rd: Reg, funct3: u32, rs1: Reg, rs2: u8, funct7: u32) -> u32
     requires { (opcode < 2 ^ 7) × (funct3 < 2 ^ 3) × (rs2 < 2 ^ 5) × (funct7 < 2 ^ 7) }
     ensures { result ≡ spec.r_type opcode rd funct3 rs1 rs2 funct7 }
@@ -87,7 +87,7 @@ fn r_type(opcode: u32, rd: Reg, funct3: u32, rs1: Reg, rs2: u8, funct7: u32) -> 
     word_of(opcode, rd.number() as u32, funct3, rs1, rs2, funct7)
 }
 
-/// A word of the I format with a signed immediate.
+/// Returns a word of the I format with a signed immediate.
 fn i_signed(opcode: u32, rd: Reg, funct3: u32, rs1: Reg, imm: i32) -> u32
     requires { (opcode < 2 ^ 7) × (funct3 < 2 ^ 3) × IsWithin (2 ^ 11) imm }
     ensures { result ≡ spec.i_type opcode rd funct3 rs1 (modulo imm (2 ^ 12)) }
@@ -95,7 +95,7 @@ fn i_signed(opcode: u32, rd: Reg, funct3: u32, rs1: Reg, imm: i32) -> u32
     i_plain(opcode, rd, funct3, rs1.number(), low_12(imm))
 }
 
-/// A word of the I format whose high twelve bits stand as they are; bits 19:15 are a register, or a small number.
+/// Returns a word of the I format with an unsigned immediate; `rs1` is a register, or a number of five bits.
 fn i_plain(opcode: u32, rd: Reg, funct3: u32, rs1: u8, imm: u16) -> u32
     requires { (opcode < 2 ^ 7) × (funct3 < 2 ^ 3) × (rs1 < 2 ^ 5) × (imm < 2 ^ 12) }
     ensures { result ≡ spec.i_type opcode rd funct3 rs1 imm }
@@ -107,7 +107,7 @@ fn i_plain(opcode: u32, rd: Reg, funct3: u32, rs1: u8, imm: u16) -> u32
         + ((imm as u32) << 20)
 }
 
-/// A word of the S format.
+/// Returns a word of the S format.
 fn s_type(opcode: u32, funct3: u32, rs1: Reg, rs2: Reg, offset: i32) -> u32
     requires { (opcode < 2 ^ 7) × (funct3 < 2 ^ 3) × IsWithin (2 ^ 11) offset }
     ensures { result ≡ spec.s_type opcode funct3 rs1 rs2 (modulo offset (2 ^ 12)) }
@@ -116,7 +116,7 @@ fn s_type(opcode: u32, funct3: u32, rs1: Reg, rs2: Reg, offset: i32) -> u32
     word_of(opcode, imm % 32, funct3, rs1, rs2.number(), imm >> 5)
 }
 
-/// A word of the B format: the lowest bit of the distance is 0 and has no place.
+/// Returns a word of the B format. The lowest bit of the distance is 0 and isn't encoded.
 fn b_type(opcode: u32, funct3: u32, rs1: Reg, rs2: Reg, offset: i32) -> u32
     requires { (opcode < 2 ^ 7) × (funct3 < 2 ^ 3) × IsWithin (2 ^ 12) offset }
     ensures { result ≡ spec.b_type opcode funct3 rs1 rs2 (modulo offset (2 ^ 13)) }
@@ -127,7 +127,7 @@ fn b_type(opcode: u32, funct3: u32, rs1: Reg, rs2: Reg, offset: i32) -> u32
     word_of(opcode, low, funct3, rs1, rs2.number(), high)
 }
 
-/// A word of the U format.
+/// Returns a word of the U format.
 fn u_type(opcode: u32, rd: Reg, imm: u32) -> u32
     requires { (opcode < 2 ^ 7) × (imm < 2 ^ 20) }
     ensures { result ≡ spec.u_type opcode rd imm }
@@ -135,7 +135,7 @@ fn u_type(opcode: u32, rd: Reg, imm: u32) -> u32
     opcode + ((rd.number() as u32) << 7) + (imm << 12)
 }
 
-/// A word of the J format: the lowest bit of the distance is 0 and has no place.
+/// Returns a word of the J format. The lowest bit of the distance is 0 and isn't encoded.
 fn j_type(opcode: u32, rd: Reg, offset: i32) -> u32
     requires { (opcode < 2 ^ 7) × IsWithin (2 ^ 20) offset }
     ensures { result ≡ spec.j_type opcode rd (modulo offset (2 ^ 21)) }
@@ -149,7 +149,7 @@ fn j_type(opcode: u32, rd: Reg, offset: i32) -> u32
         + (imm >> 20 << 31)
 }
 
-/// The twelve bits of a signed immediate.
+/// Returns the twelve bits of a signed immediate.
 fn low_12(imm: i32) -> u16
     requires { IsWithin (2 ^ 11) imm }
     ensures value { result ≡ modulo imm (2 ^ 12) }
@@ -158,13 +158,13 @@ fn low_12(imm: i32) -> u16
     (imm.cast_unsigned() % (1 << 12)) as u16
 }
 
-/// No two instructions have one word, so a word says all of its instruction.
+/// A law: no two instructions have the same word.
 #[tactic(auto, unfolding(crate::specs::Word::word))]
 pub fn words_differ()
     ensures { (a b : Kind) → IsInRange a → IsInRange b → spec.word a ≡ spec.word b → a ≡ b }
 {}
 
-/// A word has one meaning: one instruction, or none. So `decode` could give no other answer.
+/// A law: a word means one instruction or none, so `decode` could return nothing else.
 pub fn one_meaning()
     ensures { OneMeaning }
 {

@@ -1,7 +1,7 @@
-//! The operations that instructions share, and the function codes that stand for them in a word.
+//! The operations of instructions, and their function codes.
 //!
-//! RISC-V Unprivileged ISA 20191213, chapter 24, has the codes: funct3 has three bits, funct7 has seven. A code's
-//! contract says which operation it stands for, and that a code without an operation is `None`.
+//! RISC-V Unprivileged ISA 20191213, chapter 24, has the codes: funct3 has three bits, funct7 has seven. Each
+//! operation has its codes, and `from_funct3` and `from_codes` return the operation, or `None` for other codes.
 ghost use Rattle.std.specs.Prelude.{◌≡◌, ◌≢◌, ◌<◌, ◌%◌, ◌==◌, MatchOption};
 ghost use Rattle.rv_isa.specs.Width.{bytes_of, load_width, is_signed_load, imm_alu_op, shift_alu_op};
 ghost use Rattle.rv_isa.specs.Op.{cond_funct3, load_op_funct3, width_funct3, imm_op_funct3, csr_op_funct3, shift_op_funct3, alu_op_funct3, shift_op_funct7, alu_op_funct7};
@@ -13,9 +13,9 @@ ghost use Rattle.rv_isa.specs.declared.op.CsrOp.{CsrOp};
 ghost use Rattle.rv_isa.specs.declared.op.ShiftOp.{ShiftOp};
 ghost use Rattle.rv_isa.specs.declared.op.AluOp.{AluOp};
 
-/// The condition under which a branch is taken, of its two registers.
+/// The condition of a branch on its two registers; `branch_taken` evaluates it.
 ///
-/// RISC-V Unprivileged ISA 20191213, section 2.5. `branch_taken` is what each one asks.
+/// RISC-V Unprivileged ISA 20191213, section 2.5.
 #[derive(Clone, Copy)]
 pub enum Cond {
     /// BEQ: equal.
@@ -62,25 +62,25 @@ impl Cond {
     }
 }
 
-/// What a load reads, and how it is extended to a word.
+/// The operation of a load: how many bytes it reads, and how they are extended to a word.
 ///
 /// RISC-V Unprivileged ISA 20191213, section 2.6.
 #[derive(Clone, Copy)]
 pub enum LoadOp {
-    /// LB: one byte, extended with its sign.
+    /// LB: one byte, sign-extended.
     Lb,
-    /// LH: two bytes, extended with their sign.
+    /// LH: two bytes, sign-extended.
     Lh,
     /// LW: four bytes.
     Lw,
-    /// LBU: one byte, extended with zeros.
+    /// LBU: one byte, zero-extended.
     Lbu,
-    /// LHU: two bytes, extended with zeros.
+    /// LHU: two bytes, zero-extended.
     Lhu,
 }
 
 impl LoadOp {
-    /// How many bytes the load reads, all of which are asked for. Section 2.6.
+    /// Returns how many bytes the load reads. Section 2.6.
     pub fn width(self) -> Width
         ensures { result ≡ load_width self }
     {
@@ -91,8 +91,8 @@ impl LoadOp {
         }
     }
 
-    /// Whether what is read is extended to a word with its sign, or else with zeros. At four bytes both are the same,
-    /// and LW counts as signed. Section 2.6.
+    /// Whether the load extends with the sign, and not with zeros. For four bytes both are the same, and LW is signed.
+    /// Section 2.6.
     pub fn is_signed(self) -> bool
         ensures { result ≡ is_signed_load self }
     {
@@ -129,7 +129,7 @@ impl LoadOp {
     }
 }
 
-/// How many bytes a load or a store moves. A store's operation is its width: SB, SH, SW.
+/// The width of a load or a store in bytes. The operation of a store is its width: SB, SH, SW.
 ///
 /// RISC-V Unprivileged ISA 20191213, section 2.6.
 #[derive(Clone, Copy, PartialEq, Eq, Debug)]
@@ -143,7 +143,7 @@ pub enum Width {
 }
 
 impl Width {
-    /// The number of bytes: 1, 2 or 4.
+    /// Returns the number of bytes: 1, 2 or 4.
     pub fn bytes(self) -> u32
         ensures { result ≡ bytes_of self }
     {
@@ -154,7 +154,7 @@ impl Width {
         }
     }
 
-    /// Whether a byte address is a multiple of the number of bytes, as a naturally aligned access's is. Section 2.6.
+    /// Whether an access at a byte address is naturally aligned: the address is a multiple of the width. Section 2.6.
     pub fn is_aligned(self, addr: u32) -> bool
         ensures { result ≡ (addr % bytes_of self == 0) }
     {
@@ -195,9 +195,9 @@ impl Width {
 pub enum ImmOp {
     /// ADDI: the sum.
     Addi,
-    /// SLTI: 1 where the register is less, as signed numbers, else 0.
+    /// SLTI: 1 if the register is less, as signed numbers, else 0.
     Slti,
-    /// SLTIU: the same as unsigned numbers; the immediate is extended with its sign first.
+    /// SLTIU: the same as unsigned numbers; the immediate is sign-extended first.
     Sltiu,
     /// XORI: bitwise exclusive or.
     Xori,
@@ -208,7 +208,7 @@ pub enum ImmOp {
 }
 
 impl ImmOp {
-    /// The operation on the register and the immediate, which counts as a word (modulo 2^32). Section 2.4.
+    /// Returns the operation on the register and the immediate, which is a word modulo 2^32. Section 2.4.
     pub fn alu_op(self) -> AluOp
         ensures { result ≡ imm_alu_op self }
     {
@@ -251,7 +251,7 @@ impl ImmOp {
     }
 }
 
-/// What an instruction does to a control register.
+/// The change of a control register by an instruction.
 ///
 /// RISC-V Unprivileged ISA 20191213, section 9.1.
 #[derive(Clone, Copy)]
@@ -288,7 +288,7 @@ impl CsrOp {
     }
 }
 
-/// A shift of a register by an amount that stands in the instruction.
+/// A shift of a register by an amount in the instruction.
 ///
 /// RISC-V Unprivileged ISA 20191213, section 2.4.
 #[derive(Clone, Copy)]
@@ -302,7 +302,7 @@ pub enum ShiftOp {
 }
 
 impl ShiftOp {
-    /// The operation on the register and the amount, which counts as a word. Section 2.4.
+    /// Returns the operation on the register and the amount as a word. Section 2.4.
     pub fn alu_op(self) -> AluOp
         ensures { result ≡ shift_alu_op self }
     {
@@ -347,7 +347,7 @@ impl ShiftOp {
     }
 }
 
-/// An operation on two words. `alu` is what each one gives.
+/// An operation on two words; `alu` evaluates it.
 ///
 /// RISC-V Unprivileged ISA 20191213, section 2.4, and from `Mul` on chapter 7.
 #[derive(Clone, Copy, PartialEq, Eq, Debug)]
@@ -356,9 +356,9 @@ pub enum AluOp {
     Add,
     /// SLL: the first to the left, by the low five bits of the second.
     Sll,
-    /// SLT: 1 where the first is less, as signed numbers, else 0.
+    /// SLT: 1 if the first is less, as signed numbers, else 0.
     Slt,
-    /// SLTU: 1 where the first is less, as unsigned numbers, else 0.
+    /// SLTU: 1 if the first is less, as unsigned numbers, else 0.
     Sltu,
     /// XOR: bitwise exclusive or.
     Xor,
@@ -380,13 +380,13 @@ pub enum AluOp {
     Mulhsu,
     /// MULHU: the high word of the product of two unsigned numbers.
     Mulhu,
-    /// DIV: the quotient of signed numbers, rounded towards zero; of a zero divisor all ones.
+    /// DIV: the quotient of signed numbers, rounded towards zero; all ones if the divisor is zero.
     Div,
-    /// DIVU: the quotient of unsigned numbers, rounded down; of a zero divisor all ones.
+    /// DIVU: the quotient of unsigned numbers, rounded down; all ones if the divisor is zero.
     Divu,
-    /// REM: the remainder of signed numbers, with the dividend's sign; of a zero divisor the dividend.
+    /// REM: the remainder of signed numbers, with the dividend's sign; the dividend if the divisor is zero.
     Rem,
-    /// REMU: the remainder of unsigned numbers; of a zero divisor the dividend.
+    /// REMU: the remainder of unsigned numbers; the dividend if the divisor is zero.
     Remu,
 }
 

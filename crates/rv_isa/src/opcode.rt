@@ -1,4 +1,4 @@
-//! The major opcodes, which stand in a word's low seven bits, and the four words that are instructions as a whole.
+//! The major opcodes, in the low seven bits of a word, and the four instructions that have no fields.
 //!
 //! RISC-V Unprivileged ISA 20191213, chapter 24, table 24.1, and Privileged Architecture 20211203, sections 3.3.2
 //! and 3.3.3. Encoding and decoding share them.

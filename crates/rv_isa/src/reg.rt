@@ -5,7 +5,7 @@ use std::marker::Model;
 
 /// One of the integer registers x0 to x31, seen as its number.
 ///
-/// RISC-V Unprivileged ISA 20191213, section 2.1. Its text is the number's name, as `x10`.
+/// RISC-V Unprivileged ISA 20191213, section 2.1. Its text is `x` and the number, as `x10`.
 #[derive(Clone, Copy)]
 pub struct Reg(pub(crate) u8);
 
@@ -22,7 +22,7 @@ impl Model for Reg {
 }
 
 impl Reg {
-    /// The register with a number, or `None` exactly from 32 on.
+    /// Returns the register with a number, or `None` exactly if the number is above 31.
     pub fn new(number: u8) -> Option<Reg>
         ensures valid { IsSome result ↔ (number < 32) }
         ensures value { IfSome result (λ r. r ≡ number) }
@@ -30,7 +30,15 @@ impl Reg {
         if number < 32 { Some(Reg(number)) } else { None }
     }
 
-    /// The number: 0 to 31.
+    /// Returns the register with a number below 32.
+    pub fn of(number: u8) -> Reg
+        requires { number < 32 }
+        ensures { result ≡ number }
+    {
+        Reg(number)
+    }
+
+    /// Returns the number: 0 to 31.
     pub fn number(self) -> u8
         ensures value { result ≡ self }
         ensures below { result < 32 }
@@ -38,7 +46,7 @@ impl Reg {
         self.0
     }
 
-    /// The number as an index into the 32 registers.
+    /// Returns the number as an index into the 32 registers.
     pub fn index(self) -> usize
         ensures value { result ≡ self }
         ensures below { result < 32 }
@@ -46,7 +54,7 @@ impl Reg {
         self.0 as usize
     }
 
-    /// The register whose number stands in the low five bits, whatever the others are.
+    /// Returns the register whose number is in the low five bits, whatever the others are.
     pub(crate) fn from_low_bits(bits: u32) -> Reg
         ensures value { result ≡ bits % 32 }
         ensures below { result < 32 }

@@ -4,4 +4,4 @@ use Rattle.rv_isa.proofs.Signed.{signed_product}
 use Rattle.rv_isa.proofs.arith.mulh.Goals as goal
 
 pub returns : goal.returns
-returns c = c.high_word.ensures ∙ ap high (search (rules, signed_product))
+returns c = c.signed_high_word.ensures ∙ ap high (search (rules, signed_product))
