@@ -25,7 +25,7 @@ impl<'a> Name<'a> {
         Name { bytes }
     }
 
-    /// Returns a copy of the name. A `Copy` type with a lifetime has no proof in Rattle.
+    /// Returns a copy of the name: a struct with a `Model` and a lifetime can't be `Copy`.
     pub fn again(&self) -> Name<'a>
         ensures { result ≡ self.now }
     {
