@@ -1,7 +1,6 @@
 //! The instructions that a statement is assembled to.
 ghost use Rattle.std.specs.Prelude.{◌≡◌, ◌<◌, ◌^◌, ◌++◌, [], ◌∷◌, Ok};
 ghost use Rattle.rv_isa.specs.Number.{IsWithin, IsDistance};
-ghost use Rattle.rv_isa.specs.Word.{IsInRange};
 ghost use Rattle.rv_asm.specs.Kept.{KindBecomes};
 ghost use Rattle.rv_asm.specs.Listing.{bytes, with_immediate};
 ghost use Rattle.rv_isa.specs.declared.kind.Kind.TheVariants.{Lui, Auipc, Jal, Branch, OpImm, Shift, CsrImm};
@@ -112,21 +111,7 @@ pub fn write_instr(instr: Instr, out: &mut Vec<u8>) -> Result<(), FaultKind>
 pub fn zero() -> Reg
     ensures { result ≡ 0 }
 {
-    let Some(zero) = Reg::new(0) else {
-        unreachable!()
-    };
-    zero
-}
-
-/// Returns the instruction of a kind whose fields are in range.
-fn instr(kind: Kind) -> Instr
-    requires { IsInRange kind }
-    ensures { result ≡ kind }
-{
-    let Some(instr) = Instr::new(kind) else {
-        unreachable!()
-    };
-    instr
+    Reg::of(0)
 }
 
 // `number()` is called for its postcondition, `< 32`.
@@ -136,7 +121,7 @@ pub fn lui(rd: Reg, imm: u32) -> Instr
     ensures { result ≡ Lui rd imm }
 {
     let _ = rd.number();
-    instr(Kind::Lui { rd, imm })
+    Instr::of(Kind::Lui { rd, imm })
 }
 
 pub fn auipc(rd: Reg, imm: u32) -> Instr
@@ -144,7 +129,7 @@ pub fn auipc(rd: Reg, imm: u32) -> Instr
     ensures { result ≡ Auipc rd imm }
 {
     let _ = rd.number();
-    instr(Kind::Auipc { rd, imm })
+    Instr::of(Kind::Auipc { rd, imm })
 }
 
 pub fn op_imm(op: ImmOp, rd: Reg, rs1: Reg, imm: i32) -> Instr
@@ -153,7 +138,7 @@ pub fn op_imm(op: ImmOp, rd: Reg, rs1: Reg, imm: i32) -> Instr
 {
     let _ = rd.number();
     let _ = rs1.number();
-    instr(Kind::OpImm { op, rd, rs1, imm })
+    Instr::of(Kind::OpImm { op, rd, rs1, imm })
 }
 
 pub fn jal(rd: Reg, offset: i32) -> Instr
@@ -161,7 +146,7 @@ pub fn jal(rd: Reg, offset: i32) -> Instr
     ensures { result ≡ Jal rd offset }
 {
     let _ = rd.number();
-    instr(Kind::Jal { rd, offset })
+    Instr::of(Kind::Jal { rd, offset })
 }
 
 pub fn branch(cond: Cond, rs1: Reg, rs2: Reg, offset: i32) -> Instr
@@ -169,7 +154,7 @@ pub fn branch(cond: Cond, rs1: Reg, rs2: Reg, offset: i32) -> Instr
     ensures { result ≡ Branch cond rs1 rs2 offset }
 {
     let _ = (rs1.number(), rs2.number());
-    instr(Kind::Branch {
+    Instr::of(Kind::Branch {
         cond,
         rs1,
         rs2,
@@ -182,7 +167,7 @@ pub fn shift(op: ShiftOp, rd: Reg, rs1: Reg, amount: u8) -> Instr
     ensures { result ≡ Shift op rd rs1 amount }
 {
     let _ = (rd.number(), rs1.number());
-    instr(Kind::Shift {
+    Instr::of(Kind::Shift {
         op,
         rd,
         rs1,
@@ -196,7 +181,7 @@ pub fn csr_imm(op: CsrOp, rd: Reg, imm: u8, csr: Csr) -> Instr
 {
     let _ = rd.number();
     let csr = csr.number();
-    instr(Kind::CsrImm { op, rd, imm, csr })
+    Instr::of(Kind::CsrImm { op, rd, imm, csr })
 }
 
 /// Returns an instruction with its 12-bit immediate put in.
@@ -208,11 +193,11 @@ pub fn with_immediate(taker: ImmediateTaker, imm: i32) -> Instr
         ImmediateTaker::Jalr { rd, base } => {
             let _ = (rd.number(), base.number());
             let offset = imm;
-            instr(Kind::Jalr { rd, base, offset })
+            Instr::of(Kind::Jalr { rd, base, offset })
         }
         ImmediateTaker::Load { op, rd, base } => {
             let _ = (rd.number(), base.number());
-            instr(Kind::Load {
+            Instr::of(Kind::Load {
                 op,
                 rd,
                 base,
@@ -225,7 +210,7 @@ pub fn with_immediate(taker: ImmediateTaker, imm: i32) -> Instr
             base,
         } => {
             let _ = (source.number(), base.number());
-            instr(Kind::Store {
+            Instr::of(Kind::Store {
                 width,
                 source,
                 base,

@@ -25,10 +25,7 @@ pub fn x(number: u8) -> Reg
     requires { number < 32 }
     ensures { result ≡ number }
 {
-    let Some(reg) = Reg::new(number) else {
-        unreachable!()
-    };
-    reg
+    Reg::of(number)
 }
 
 /// Returns the statement of an instruction whose fields are in range.
@@ -36,10 +33,7 @@ pub fn instruction<'a>(kind: Kind) -> Statement<'a>
     requires { IsInRange kind }
     ensures { result ≡ s.Instruction kind }
 {
-    let Some(instr) = Instr::new(kind) else {
-        unreachable!()
-    };
-    Statement::Instruction(instr)
+    Statement::Instruction(Instr::of(kind))
 }
 
 // `number()` is called for its postcondition, `< 32`.
