@@ -1,4 +1,4 @@
-//! Kinds by their named fields: the words of LLVM's assembler, and the ranges of the fields.
+//! Kinds by their named fields: their words as LLVM's assembler writes them, and the ranges of the fields.
 use rv_isa::{AluOp, Cond, CsrOp, ImmOp, Instr, Kind, LoadOp, Reg, ShiftOp, Width, decode, encode};
 use std::process::Abort;
 use std::test::Fail;
@@ -7,7 +7,7 @@ fn reg(number: u8) -> Result<Reg, &'static str> {
     Reg::new(number).ok_or("no such register")
 }
 
-/// The kind has this word, and the word this kind.
+/// Checks that a kind has a word, and the word the kind.
 fn check(rt: &impl Abort, kind: Kind, word: u32) -> Result<(), Fail> {
     let instr = Instr::new(kind).ok_or("a field is out of its range")?;
     assert_eq!(rt; encode(instr), word);

@@ -1,4 +1,4 @@
-//! Tests of public calls of the instructions: values from outside, and calls that want no memory.
+//! Tests of rv_isa: words, texts and values from other sources, and texts for which memory is refused.
 #![tactic(auto)]
 
 #[cfg(test)]

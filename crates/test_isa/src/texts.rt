@@ -3,7 +3,7 @@ use rv_base::NoMemory;
 use rv_isa::{Instr, Kind, write_instr};
 use std::test::Fail;
 
-/// Run with an allocation that fails (`rt try --test --fail-alloc 1`, then 2) this sees the bytes as they were.
+/// With a failing allocation (`rt try --test --fail-alloc 1`, then 2) this sees that the bytes are unchanged.
 #[test]
 fn refused_text_leaves_the_bytes(rt: HostRuntime) -> Result<(), Fail> {
     let mut out = Vec::new(rt.alloc());

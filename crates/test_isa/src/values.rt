@@ -1,4 +1,4 @@
-//! Values of operations: those of the standard's tables (RISC-V Unprivileged ISA 20191213, sections 2.4, 2.5 and 7.2).
+//! Values of operations, from the standard's tables (RISC-V Unprivileged ISA 20191213, sections 2.4, 2.5 and 7.2).
 use rv_isa::{AluOp, Cond, ImmOp, LoadOp, ShiftOp, Width, alu, branch_taken};
 
 #[test]
@@ -23,7 +23,7 @@ fn values(rt: HostRuntime) {
 }
 
 #[test]
-fn questions_of_a_kind(rt: HostRuntime) {
+fn parts_of_a_kind(rt: HostRuntime) {
     assert_eq!(rt; LoadOp::Lhu.width(), Width::Two);
     assert!(rt; LoadOp::Lh.is_signed());
     assert!(rt; !LoadOp::Lhu.is_signed());

@@ -1,10 +1,10 @@
-//! Words and their texts from outside: those of LLVM's assembler. Each row is told in both directions.
+//! Words and their texts, as LLVM's assembler writes them. Each row is checked in both directions.
 use rv_isa::{decode, encode, write_instr};
 use std::alloc::Global;
 use std::process::Abort;
 use std::test::Fail;
 
-/// The word has an instruction with this text, and the instruction has this word.
+/// Checks that a word has an instruction with a text, and the instruction the word.
 fn check_row(rt: &impl Abort, alloc: Global, word: u32, text: &str) -> Result<(), Fail> {
     let instr = decode(word).ok_or("no instruction")?;
     assert_eq!(rt; encode(instr), word, "{text}");
@@ -137,7 +137,7 @@ fn system(rt: HostRuntime) -> Result<(), Fail> {
     check_rows(&rt, rt.alloc(), &SYSTEM)
 }
 
-/// The fields of a FENCE are kept, and its text doesn't tell them.
+/// The fields of a FENCE are kept in the instruction, and aren't written in its text.
 #[test]
 fn other_fences(rt: HostRuntime) -> Result<(), Fail> {
     for word in [0x8330000f, 0x0120000f, 0xffff8f8f] {
