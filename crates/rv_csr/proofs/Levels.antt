@@ -1,4 +1,4 @@
--- User mode may read and write no control register.
+-- User mode may neither read nor write any control register.
 use Rattle.std.proofs.Common.{◌≡◌, ℕ, ◌+◌, ◌*◌, ◌/◌, ◌%◌, ◌^◌, ◌<◌, ◌≤◌, ◌==◌, Bool, true, false, Option, Some, None, refl, ap, ◌∙◌, arith}
 use Rattle.std.specs.Prelude.{◌&&◌, not, if◌then◌else◌}
 use Rattle.std.specs.Option.{option_map}
@@ -84,12 +84,15 @@ may_read-from_write addr mode h = both (may_read addr mode) (not (addr / 2 ^ 10 
 pub no_store : (old : PmpState) (addr word : ℕ) (new : PmpState) (mode : Mode) (result : Option Unit)
     → may_write addr mode ≡ true → mode ≡ User → protection.Stores old addr word new result → result ≡ None
 unfolding protection.store
-no_store old addr word new mode (Some done) may user stores = let none = protection-user addr (level_0 addr (rw user at (may_read-from_write addr mode may))) in absurd (gone none stores) where
-  gone : protection.register_at addr ≡ None
-      → option_map (λ register. record { entries = protection.with_word old.entries register word })
-      (protection.register_at addr) ≡ Some new
-      → ⊥
-  gone none e = let q = rw none at e in cc
+no_store old addr word new mode (Some done) may user stores =
+    let none = protection-user addr (level_0 addr (rw user at (may_read-from_write addr mode may))) in
+    absurd (gone none stores)
+  where
+    gone : protection.register_at addr ≡ None
+        → option_map (λ register. record { entries = protection.with_word old.entries register word })
+        (protection.register_at addr) ≡ Some new
+        → ⊥
+    gone none e = let q = rw none at e in cc
 no_store old addr word new mode None may user stores = refl
 
 -- by the definition of a read

@@ -22,7 +22,13 @@ pub record CsrState : Type 0 where
 abbrev pub reset : CsrState
 reset = record {
   status =
-      record { interrupts = false; previous_interrupts = false; previous_mode = User; modify_privilege = false; timeout_wait = false };
+      record {
+        interrupts = false;
+        previous_interrupts = false;
+        previous_mode = User;
+        modify_privilege = false;
+        timeout_wait = false;
+      };
   enables = record { software = false; timer = false; external = false };
   trap = record { vector = 0; scratch = 0; epc = 0; cause = 0; value = 0 };
   counters = record { cycles = 0; retired = 0 };

@@ -48,7 +48,11 @@ takes_interrupts state mode =
 unfoldable pub entered : CsrState → ℕ → ℕ → ℕ → Mode → CsrState
 entered state cause epc tval mode = record state {
   status =
-      record state.status { interrupts = false; previous_interrupts = state.status.interrupts; previous_mode = mode };
+      record state.status {
+        interrupts = false;
+        previous_interrupts = state.status.interrupts;
+        previous_mode = mode;
+      };
   trap = record state.trap { epc = aligned epc; cause = cause; value = tval };
 }
 

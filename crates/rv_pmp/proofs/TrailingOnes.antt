@@ -32,7 +32,8 @@ count_trailing_zeros-complement (suc n) p h =
     let rest = 2 ^ suc n - 1 - p in
     let half : rest / 2 ≡ 2 ^ n - 1 - p / 2 = omega (arith, pow-suc 2 n) in
     let below : p / 2 < 2 ^ n = omega (arith, pow-suc 2 n) in
-    let tail : count_trailing_zeros n (rest / 2) ≡ trailing_ones n (p / 2) = ap (count_trailing_zeros n) half ∙ count_trailing_zeros-complement n (p / 2) below in
+    let tail : count_trailing_zeros n (rest / 2) ≡ trailing_ones n (p / 2)
+    = ap (count_trailing_zeros n) half ∙ count_trailing_zeros-complement n (p / 2) below in
     go (p % 2 == 1) refl (rest % 2) refl tail
   where
     go : (b : Bool) → (p % 2 == 1) ≡ b → (r : ℕ) → (2 ^ suc n - 1 - p) % 2 ≡ r

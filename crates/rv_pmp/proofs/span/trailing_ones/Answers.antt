@@ -9,5 +9,6 @@ returns-clause-value c =
 
 pub returns-clause-below : goal.returns-clause-below
 returns-clause-below c =
-    let same : c.trailing_ones.result ≡ trailing_ones 32 c.args.number = c.trailing_ones.ensures ∙ count_trailing_zeros-complement 32 c.args.number (omega arith) in
+    let same : c.trailing_ones.result ≡ trailing_ones 32 c.args.number
+    = c.trailing_ones.ensures ∙ count_trailing_zeros-complement 32 c.args.number (omega arith) in
     rw same (trailing_ones-le 32 c.args.number)
