@@ -20,7 +20,8 @@ taken : (b : Bool) (v d : ℤ) → Some d ≡ (if b then Some v else None) → (
 taken true v d h = (refl, cc)
 taken false v d h = absurd cc
 
-pub jump_within : (o : Option ℤ) (v : ℤ) → o ≡ (if is_between (negsuc 1048575) (pos 1048574) v && (modulo v 2 == 0) then Some v else None) → IfSome o (IsDistance (2 ^ 20))
+pub jump_within : (o : Option ℤ) (v : ℤ) → o ≡ (if is_between (negsuc 1048575) (pos 1048574) v
+    && (modulo v 2 == 0) then Some v else None) → IfSome o (IsDistance (2 ^ 20))
 jump_within None v h = tt
 jump_within (Some d) v h =
     let of = taken (is_between (negsuc 1048575) (pos 1048574) v && (modulo v 2 == 0)) v d h in
@@ -31,7 +32,8 @@ branch_range : (v : ℤ) → is_between (negsuc 4095) (pos 4094) v ≡ true → 
 branch_range (pos n) h = grind (arith, nat_tests)
 branch_range (negsuc n) h = grind (arith, nat_tests)
 
-pub branch_within : (o : Option ℤ) (v : ℤ) → o ≡ (if is_between (negsuc 4095) (pos 4094) v && (modulo v 2 == 0) then Some v else None) → IfSome o (IsDistance (2 ^ 12))
+pub branch_within : (o : Option ℤ) (v : ℤ) → o ≡ (if is_between (negsuc 4095) (pos 4094) v
+    && (modulo v 2 == 0) then Some v else None) → IfSome o (IsDistance (2 ^ 12))
 branch_within None v h = tt
 branch_within (Some d) v h =
     let of = taken (is_between (negsuc 4095) (pos 4094) v && (modulo v 2 == 0)) v d h in

@@ -18,14 +18,21 @@ IsUpTo k known = All (λ d. d.line ≤ k) known.definitions.locals
 pub up_to_labelled : (k : ℕ) (known : Known) (l : Label) → IsUpTo k known → IsUpTo k (labelled k known l)
 up_to_labelled k known (label.Name name) h = h
 up_to_labelled k known (label.Local number) h =
-    All-push (λ (d : LocalLabel). d.line ≤ k) known.definitions.locals (record { number = number; line = k; address = known.address }) h (omega arith)
+    All-push (λ (d : LocalLabel). d.line ≤ k) known.definitions.locals
+    (record { number = number; line = k; address = known.address }) h (omega arith)
 
-named_by : (k : ℕ) (known next : Known) (name : List ℕ) (old : Bool) → cond old (Err DuplicateSymbol) (Ok (labelled k known (label.Name name))) ≡ Ok next → IsUpTo k known → IsUpTo k next
+named_by : (k : ℕ) (known next : Known) (name : List ℕ) (old : Bool) →
+    cond old (Err DuplicateSymbol) (Ok (labelled k known (label.Name name))) ≡ Ok next → IsUpTo k known →
+    IsUpTo k next
 named_by k known next name true e h = absurd cc
-named_by k known next name false e h = let same : labelled k known (label.Name name) ≡ next = cc in rw (← same) h
+named_by k known next name false e h =
+    let same : labelled k known (label.Name name) ≡ next = cc in rw (← same) h
 
-pub up_to_newly : (k : ℕ) (known next : Known) (l : Label) → newly_labelled k known l ≡ Ok next → IsUpTo k known → IsUpTo k next
+pub up_to_newly : (k : ℕ) (known next : Known) (l : Label) → newly_labelled k known l ≡ Ok next →
+    IsUpTo k known → IsUpTo k next
 unfolding newly_labelled
-up_to_newly k known next (label.Name name) e h = named_by k known next name (is_some (value_of known.definitions.names name)) e h
+up_to_newly k known next (label.Name name) e h =
+    named_by k known next name (is_some (value_of known.definitions.names name)) e h
 up_to_newly k known next (label.Local number) e h =
-    let same : labelled k known (label.Local number) ≡ next = cc in rw (← same) (up_to_labelled k known (label.Local number) h)
+    let same : labelled k known (label.Local number) ≡ next =
+    cc in rw (← same) (up_to_labelled k known (label.Local number) h)

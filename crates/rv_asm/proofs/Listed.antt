@@ -41,7 +41,8 @@ none_last : (fault : ℕ → Option FaultKind) (n : ℕ) → first_fault fault (
 unfolding first
 none_last fault n h = unmapped _ (fault n) (right_none (first_fault fault n) _ h)
 
-none_before : (fault : ℕ → Option FaultKind) (n : ℕ) → first_fault fault (suc n) ≡ None → first_fault fault n ≡ None
+none_before : (fault : ℕ → Option FaultKind) (n : ℕ) → first_fault fault (suc n) ≡ None →
+    first_fault fault n ≡ None
 unfolding first
 none_before fault n h = left_none (first_fault fault n) _ h
 
@@ -59,34 +60,49 @@ abbrev pub listed_at : List Said → ℕ → List ℕ
 listed_at lines k = listed (line_bytes lines k)
 
 abbrev bytes_if : Definitions → ℕ → Known → Option Statement → Result (List ℕ) FaultKind
-bytes_if ds k known statement = elim statement as (λ _. Result (List ℕ) FaultKind) [ None ↦ Ok [] | Some s ↦ item_bytes ds (item_of k known s) ]
+bytes_if ds k known statement = elim statement as (λ _. Result (List ℕ) FaultKind) [
+  | None ↦ Ok []
+  | Some s ↦
+      item_bytes ds (item_of k known s)
+]
 
 abbrev item_if : ℕ → Known → Option Statement → List Item
 item_if k known statement = elim statement as (λ _. List Item) [ None ↦ [] | Some s ↦ item_of k known s ∷ [] ]
 
 answered : (k : ℕ) (out : List ℕ) (r : Result (List ℕ) FaultKind)
-    → (at_line k (appended out r) >>= λ t. Ok t) ≡ unless (option_map (λ kind. record { line = suc k; kind = kind }) (fault_in r)) (Ok (out ++ listed r))
+    → (at_line k (appended out r) >>= λ t. Ok t) ≡ unless
+    (option_map (λ kind. record { line = suc k; kind = kind }) (fault_in r)) (Ok (out ++ listed r))
 answered k out (Ok bs) = refl
 answered k out (Err kind) = refl
 
 emitted : (ds : Definitions) (k : ℕ) (known : Known) (out : List ℕ) (statement : Option Statement)
     → run (item_step ds) out (item_if k known statement)
-    ≡ unless (option_map (λ kind. record { line = suc k; kind = kind }) (fault_in (bytes_if ds k known statement))) (Ok (out ++ listed (bytes_if ds k known statement)))
+    ≡ unless (option_map (λ kind. record { line = suc k; kind = kind })
+    (fault_in (bytes_if ds k known statement))) (Ok (out ++ listed (bytes_if ds k known statement)))
 unfolding run item_step
 emitted ds k known out None = ap (λ xs. Ok xs) (sym (append-nil out))
 emitted ds k known out (Some s) = answered k out (item_bytes ds (item_of k known s))
 
 module _ (lines : List Said) where
   emitted_by : (n : ℕ) (fault : Option AsmFault) → first_fault (phase_three_fault lines) n ≡ fault
-      → run (item_step (definitions lines)) [] (joined (item_at lines) n) ≡ unless fault (Ok (joined (listed_at lines) n))
-      → run (item_step (definitions lines)) [] (joined (item_at lines) (suc n)) ≡ unless (first_fault (phase_three_fault lines) (suc n)) (Ok (joined (listed_at lines) (suc n)))
+      → run (item_step (definitions lines)) [] (joined (item_at lines) n)
+      ≡ unless fault (Ok (joined (listed_at lines) n))
+      → run (item_step (definitions lines)) [] (joined (item_at lines) (suc n))
+      ≡ unless (first_fault (phase_three_fault lines) (suc n)) (Ok (joined (listed_at lines) (suc n)))
   unfolding first joined
-  emitted_by n (Some fault) e h = rw (run_append (item_step (definitions lines)) [] (joined (item_at lines) n) (item_at lines n), h, e) refl
+  emitted_by n (Some fault) e h = rw (
+    run_append (item_step (definitions lines)) [] (joined (item_at lines) n)
+        (item_at lines n),
+    h,
+    e,
+  ) refl
   emitted_by n None e h =
       rw (run_append (item_step (definitions lines)) [] (joined (item_at lines) n) (item_at lines n), h, e)
-      (emitted (definitions lines) n (known_at lines n) (joined (listed_at lines) n) (line_at lines n).statement)
+      (emitted (definitions lines) n (known_at lines n) (joined (listed_at lines) n)
+      (line_at lines n).statement)
 
-  pub emission : (n : ℕ) → run (item_step (definitions lines)) [] (joined (item_at lines) n) ≡ unless (first_fault (phase_three_fault lines) n) (Ok (joined (listed_at lines) n))
+  pub emission : (n : ℕ) → run (item_step (definitions lines)) [] (joined (item_at lines) n)
+      ≡ unless (first_fault (phase_three_fault lines) n) (Ok (joined (listed_at lines) n))
   unfolding run first joined
   emission zero = refl
   emission (suc n) = emitted_by n (first_fault (phase_three_fault lines) n) refl (emission n)
@@ -96,16 +112,19 @@ module _ (lines : List Said) where
 below_suc : (n : ℕ) (items : List Item) → All (λ i. i.line < n) items → All (λ i. i.line < suc n) items
 below_suc n items h i d within = let below = h i d within in omega (arith, below)
 
-below_line : (n : ℕ) (known : Known) (statement : Option Statement) → All (λ i. i.line < suc n) (item_if n known statement)
+below_line : (n : ℕ) (known : Known) (statement : Option Statement) →
+    All (λ i. i.line < suc n) (item_if n known statement)
 below_line n known None = All-nil (λ (i : Item). i.line < suc n)
-below_line n known (Some s) = All-push (λ (i : Item). i.line < suc n) [] (item_of n known s) (All-nil (λ (i : Item). i.line < suc n)) (omega arith)
+below_line n known (Some s) = All-push (λ (i : Item). i.line < suc n) [] (item_of n known s)
+    (All-nil (λ (i : Item). i.line < suc n)) (omega arith)
 
 pub items_below : (lines : List Said) (n : ℕ) → All (λ i. i.line < n) (joined (item_at lines) n)
 unfolding joined
 items_below lines zero = All-nil (λ (i : Item). i.line < 0)
 items_below lines (suc n) =
     All-append (λ (i : Item). i.line < suc n) (joined (item_at lines) n) (item_at lines n)
-    (below_suc n (joined (item_at lines) n) (items_below lines n)) (below_line n (known_at lines n) (line_at lines n).statement)
+    (below_suc n (joined (item_at lines) n) (items_below lines n))
+    (below_line n (known_at lines n) (line_at lines n).statement)
 
 -- ---- the size of the image
 
@@ -115,36 +134,50 @@ address_labels k known (label.Name name ∷ ls) = address_labels k (labelled k k
 address_labels k known (label.Local number ∷ ls) = address_labels k (labelled k known (label.Local number)) ls
 
 -- a constant that is known passes its test
-taken_by : (takes : ℤ → Bool) (v c : ℤ) (b : Bool) → takes v ≡ b → cond b (Some v) None ≡ Some c → takes c ≡ true
+taken_by : (takes : ℤ → Bool) (v c : ℤ) (b : Bool) → takes v ≡ b → cond b (Some v) None ≡ Some c →
+    takes c ≡ true
 taken_by takes v c true e h = let same : v ≡ c = cc in rw (← same) e
 taken_by takes v c false e h = absurd cc
 
-taken_value : (takes : ℤ → Bool) (o : Option ℤ) (c : ℤ) → option_and_then (taken takes) o ≡ Some c → takes c ≡ true
+taken_value : (takes : ℤ → Bool) (o : Option ℤ) (c : ℤ) → option_and_then (taken takes) o ≡ Some c →
+    takes c ≡ true
 taken_value takes None c h = absurd cc
 taken_value takes (Some v) c h = taken_by takes v c (takes v) refl h
 
 taken_asked : (ds : Definitions) (k here : ℕ) (o : Option (List Term × (ℤ → Bool))) (c : ℤ)
-    → elim o as (λ _. Option ℤ) [ None ↦ Some (pos 0) | Some a ↦ option_and_then (taken a.1) (sum_value ds k here a.0) ] ≡ Some c
+    → elim o as (λ _. Option ℤ) [
+      | None ↦ Some (pos 0)
+      | Some a ↦
+          option_and_then (taken a.1) (sum_value ds k here a.0)
+    ] ≡ Some c
     → elim o as (λ _. Type 0) [ None ↦ c ≡ pos 0 | Some a ↦ a.1 c ≡ true ]
 taken_asked ds k here None c h = cc
 taken_asked ds k here (Some a) c h = taken_value a.1 (sum_value ds k here a.0) c h
 
-is_taken : (k : ℕ) (known : Known) (s : Statement) → statement_fault k known s ≡ None → IsTaken (item_of k known s).constant s
+is_taken : (k : ℕ) (known : Known) (s : Statement) → statement_fault k known s ≡ None →
+    IsTaken (item_of k known s).constant s
 unfolding IsTaken
-is_taken k known s free = taken_asked known.definitions k known.address (asked s) (item_of k known s).constant (free_placed k known s free).known_value
+is_taken k known s free = taken_asked known.definitions k known.address (asked s) (item_of k known s).constant
+    (free_placed k known s free).known_value
 
-sized_answer : (r : Result (List ℕ) FaultKind) (n : ℕ) → ((bs : List ℕ) → r ≡ Ok bs → length bs ≡ n) → fault_in r ≡ None → length (listed r) ≡ n
+sized_answer : (r : Result (List ℕ) FaultKind) (n : ℕ) → ((bs : List ℕ) → r ≡ Ok bs → length bs ≡ n) →
+    fault_in r ≡ None → length (listed r) ≡ n
 sized_answer (Ok bs) n h e = h bs refl
 sized_answer (Err kind) n h e = absurd cc
 
-size_line : (ds : Definitions) (k : ℕ) (known : Known) (statement : Option Statement) → option_and_then (statement_fault k known) statement ≡ None → fault_in (bytes_if ds k known statement) ≡ None
-    → known.address + length (listed (bytes_if ds k known statement)) ≡ (with_statement k known statement).address
+size_line : (ds : Definitions) (k : ℕ) (known : Known) (statement : Option Statement) →
+    option_and_then (statement_fault k known) statement ≡ None →
+    fault_in (bytes_if ds k known statement) ≡ None
+    → known.address + length (listed (bytes_if ds k known statement))
+    ≡ (with_statement k known statement).address
 size_line ds k known None free e = omega arith
 size_line ds k known (Some s) free e =
     let item = item_of k known s in
-    ap (λ n. known.address + n) (sized_answer (item_bytes ds item) (size_of known.address item.constant s) (λ bs is. item_size (sum_value ds k known.address) item bs (is_taken k known s free) is) e)
+    ap (λ n. known.address + n) (sized_answer (item_bytes ds item) (size_of known.address item.constant s)
+    (λ bs is. item_size (sum_value ds k known.address) item bs (is_taken k known s free) is) e)
 
-within_line : (k : ℕ) (known : Known) (statement : Option Statement) → option_and_then (statement_fault k known) statement ≡ None → known.address ≤ ram_base + image_limit
+within_line : (k : ℕ) (known : Known) (statement : Option Statement) →
+    option_and_then (statement_fault k known) statement ≡ None → known.address ≤ ram_base + image_limit
     → (with_statement k known statement).address ≤ ram_base + image_limit
 unfolding size_in
 within_line k known None free h = h
@@ -154,26 +187,34 @@ unlabelled : (b : Bool) (o : Option FaultKind) → cond b (Some DuplicateSymbol)
 unlabelled true o h = absurd cc
 unlabelled false o h = h
 
-statement_free : (lines : List Said) (n : ℕ) → phase_two_fault lines n ≡ None → option_and_then (statement_fault n (known_at lines n)) (line_at lines n).statement ≡ None
+statement_free : (lines : List Said) (n : ℕ) → phase_two_fault lines n ≡ None →
+    option_and_then (statement_fault n (known_at lines n)) (line_at lines n).statement ≡ None
 unfolding phase_two_fault
-statement_free lines n h = unlabelled (relabels (known_before lines n).definitions.names (line_at lines n).labels) _ h
+statement_free lines n h =
+    unlabelled (relabels (known_before lines n).definitions.names (line_at lines n).labels) _ h
 
-pub within_limit : (lines : List Said) (n : ℕ) → first_fault (phase_two_fault lines) n ≡ None → (known_before lines n).address ≤ ram_base + image_limit
+pub within_limit : (lines : List Said) (n : ℕ) → first_fault (phase_two_fault lines) n ≡ None →
+    (known_before lines n).address ≤ ram_base + image_limit
 unfolding known_before
 within_limit lines zero h = omega arith
 within_limit lines (suc n) h =
     let line = line_at lines n in
     let before = within_limit lines n (none_before (phase_two_fault lines) n h) in
     let same = address_labels n (known_before lines n) line.labels in
-    within_line n (known_at lines n) line.statement (statement_free lines n (none_last (phase_two_fault lines) n h)) (rw same before)
+    within_line n (known_at lines n) line.statement
+    (statement_free lines n (none_last (phase_two_fault lines) n h)) (rw same before)
 
 -- the bytes of n lines without a fault reach from the base to the address following these lines
-pub size_listed : (lines : List Said) (n : ℕ) → first_fault (phase_two_fault lines) n ≡ None → first_fault (phase_three_fault lines) n ≡ None
+pub size_listed : (lines : List Said) (n : ℕ) → first_fault (phase_two_fault lines) n ≡ None →
+    first_fault (phase_three_fault lines) n ≡ None
     → ram_base + length (joined (listed_at lines) n) ≡ (known_before lines n).address
 unfolding joined known_before
 size_listed lines zero h e = refl
 size_listed lines (suc n) h e =
-    let before = size_listed lines n (none_before (phase_two_fault lines) n h) (none_before (phase_three_fault lines) n e) in
+    let before = size_listed lines n (none_before (phase_two_fault lines) n h)
+    (none_before (phase_three_fault lines) n e) in
     let same = address_labels n (known_before lines n) (line_at lines n).labels in
-    let last = size_line (definitions lines) n (known_at lines n) (line_at lines n).statement (statement_free lines n (none_last (phase_two_fault lines) n h)) (none_last (phase_three_fault lines) n e) in
+    let last = size_line (definitions lines) n (known_at lines n) (line_at lines n).statement
+    (statement_free lines n (none_last (phase_two_fault lines) n h))
+    (none_last (phase_three_fault lines) n e) in
     omega (arith, length-append (joined (listed_at lines) n) (listed_at lines n), before, same, last)

@@ -15,7 +15,8 @@ nops_suc (suc n) =
     let w = to_le_bytes w32 (word (OpImm Addi 0 0 (pos 0))) in
     ap (λ bs. w ++ bs) (nops_suc n) ∙ sym (append_assoc w (bytes (nops n)) w)
 
-pub nops_more : (n : ℕ) → bytes (nops (n + 1)) ≡ bytes (nops n) ++ to_le_bytes w32 (word (OpImm Addi 0 0 (pos 0)))
+pub nops_more : (n : ℕ) → bytes (nops (n + 1)) ≡ bytes (nops n)
+    ++ to_le_bytes w32 (word (OpImm Addi 0 0 (pos 0)))
 nops_more n = rw add-one (nops_suc n)
 
 abbrev written : Result (List ℕ) FaultKind → List ℕ
@@ -23,10 +24,13 @@ written (Ok bs) = bs
 written (Err kind) = []
 
 -- one more after the first n
-pub nops_behind : (out before new : List ℕ) (n : ℕ) (kind : Kind) → before ≡ out ++ bytes (nops n) → kind ≡ OpImm Addi 0 0 (pos 0)
-    → Path (Result (List ℕ) FaultKind) (Ok (before ++ bytes (kind ∷ []))) (Ok new) → new ≡ out ++ bytes (nops (n + 1))
+pub nops_behind : (out before new : List ℕ) (n : ℕ) (kind : Kind) → before ≡ out ++ bytes (nops n) →
+    kind ≡ OpImm Addi 0 0 (pos 0)
+    → Path (Result (List ℕ) FaultKind) (Ok (before ++ bytes (kind ∷ []))) (Ok new) →
+    new ≡ out ++ bytes (nops (n + 1))
 nops_behind out before new n kind b k h =
     let w = to_le_bytes w32 (word (OpImm Addi 0 0 (pos 0))) in
     let here : bytes (kind ∷ []) ≡ w = rw k (append-nil w) in
-    let behind : before ++ bytes (kind ∷ []) ≡ out ++ bytes (nops (n + 1)) = rw (here, b, nops_more, append_assoc) refl in
+    let behind : before ++ bytes (kind ∷ []) ≡ out ++ bytes (nops (n + 1)) =
+    rw (here, b, nops_more, append_assoc) refl in
     sym (ap written h) ∙ behind

@@ -21,7 +21,8 @@ length_nops : (n : ℕ) → length (nops n) ≡ n
 length_nops zero = refl
 length_nops (suc n) = ap suc (length_nops n)
 
-length_padding : (here n : ℕ) → length (padding here n) ≡ min n (gap here 4) + 4 * ((n - min n (gap here 4)) / 4)
+length_padding : (here n : ℕ) → length (padding here n) ≡ min n (gap here 4)
+    + 4 * ((n - min n (gap here 4)) / 4)
 length_padding here n =
     let zeros = min n (gap here 4) in
     length-append (replicate zeros 0) (bytes (nops ((n - zeros) / 4)))
@@ -40,7 +41,8 @@ gap_some here m h p =
 whole_words : (g here k q r : ℕ) → q * 4 + r ≡ here → (r ≡ 0 → g ≡ 0) → (0 < r → g + r ≡ k * 4)
     → min g ((4 - here % 4) % 4) + 4 * ((g - min g ((4 - here % 4) % 4)) / 4) ≡ g
 whole_words g here k q zero e none some = let z : g ≡ 0 = none refl in rw z (omega arith)
-whole_words g here k q (suc r) e none some = let s : g + suc r ≡ k * 4 = some (omega arith) in omega (arith, e, s)
+whole_words g here k q (suc r) e none some =
+    let s : g + suc r ≡ k * 4 = some (omega arith) in omega (arith, e, s)
 
 padded_fours : (here k : ℕ) → 0 < k → length (padding here (gap here (k * 4))) ≡ gap here (k * 4)
 padded_fours here k h =
@@ -49,7 +51,8 @@ padded_fours here k h =
     let assoc : here / m * k * 4 ≡ here / m * m = mul_assoc (here / m) k 4 in
     let f : here / m * k * 4 + here % m ≡ here = omega (arith, e, assoc) in
     length_padding here (gap here m)
-    ∙ whole_words (gap here m) here k (here / m * k) (here % m) f (gap_none here m) (gap_some here m (omega arith))
+    ∙ whole_words (gap here m) here k (here / m * k) (here % m) f (gap_none here m)
+    (gap_some here m (omega arith))
 
 padded_one : (here : ℕ) → length (padding here (gap here 1)) ≡ gap here 1
 padded_one here = length_padding here (gap here 1) ∙ omega arith
@@ -61,10 +64,13 @@ padded_two here = length_padding here (gap here 2) ∙ omega arith
 abbrev pub is_regular : ℕ → Bool
 is_regular m = nat_lt 0 m && ((m == 1) || ((m == 2) || (m % 4 == 0)))
 
-padded_by : (here m : ℕ) (p a b c : Bool) → nat_lt 0 m ≡ p → (m == 1) ≡ a → (m == 2) ≡ b → (m % 4 == 0) ≡ c → (p && (a || (b || c))) ≡ true
+padded_by : (here m : ℕ) (p a b c : Bool) → nat_lt 0 m ≡ p → (m == 1) ≡ a → (m == 2) ≡ b → (m % 4 == 0) ≡ c →
+    (p && (a || (b || c))) ≡ true
     → length (padding here (gap here m)) ≡ gap here m
-padded_by here m true true b c e f g h t = let is : m ≡ 1 = grind (arith, nat_tests) in rw is (padded_one here)
-padded_by here m true false true c e f g h t = let is : m ≡ 2 = grind (arith, nat_tests) in rw is (padded_two here)
+padded_by here m true true b c e f g h t =
+    let is : m ≡ 1 = grind (arith, nat_tests) in rw is (padded_one here)
+padded_by here m true false true c e f g h t =
+    let is : m ≡ 2 = grind (arith, nat_tests) in rw is (padded_two here)
 padded_by here m true false false true e f g h t =
     let z : m % 4 ≡ 0 = grind (arith, nat_tests) in
     let l : 0 < m = grind (arith, nat_tests) in
@@ -89,7 +95,8 @@ divides m = 4096 % m == 0
 -- by trying each value
 divisor_is_regular : (m : ℕ) → m < 4097 → divides m ≡ true → is_regular m ≡ true
 divisor_is_regular m below h =
-    let each : divides m ≡ (divides m && is_regular m) = agree_below_at divides (λ n. divides n && is_regular n) 4097 m refl below in
+    let each : divides m ≡ (divides m && is_regular m) =
+    agree_below_at divides (λ n. divides n && is_regular n) 4097 m refl below in
     let both : (true && is_regular m) ≡ true = rw h at (sym each ∙ h) in both
 
 pub multiple_is_regular : (c : ℤ) → is_multiple c ≡ true → is_regular (modulo c (2 ^ 32)) ≡ true

@@ -13,18 +13,29 @@ use Rattle.rv_asm.specs.Steps.{Item, size_in, placed, end_of, definition_in, new
 
 -- the item of a statement on line k, once the labels of the line are defined
 abbrev pub item_of : ℕ → Known → Statement → Item
-item_of k known statement = record { line = k; address = known.address; constant = unwrap_or (constant_of k known statement) (pos 0); statement = statement }
+item_of k known statement = record {
+  line = k;
+  address = known.address;
+  constant =
+      unwrap_or (constant_of k known statement) (pos 0);
+  statement = statement;
+}
 
 abbrev fault_by : Bool → Option ℤ → Bool → (ℤ → Bool) → Option FaultKind
 fault_by renamed value misplaced past =
-    cond renamed (Some DuplicateSymbol) (elim value as (λ _. Option FaultKind) [ None ↦ Some NotConstant | Some c ↦ cond misplaced (Some Misplaced) (cond (past c) (Some TooLarge) None) ])
+    cond renamed (Some DuplicateSymbol) (elim value as (λ _. Option FaultKind) [
+      | None ↦
+          Some NotConstant
+      | Some c ↦ cond misplaced (Some Misplaced) (cond (past c) (Some TooLarge) None)
+    ])
 
 record IsFree (renamed : Bool) (value : Option ℤ) (past : ℤ → Bool) : Type 0 where
   new : renamed ≡ false
   known : value ≡ Some (unwrap_or value (pos 0))
   within : past (unwrap_or value (pos 0)) ≡ false
 
-free : (renamed : Bool) (value : Option ℤ) (misplaced : Bool) (past : ℤ → Bool) → fault_by renamed value misplaced past ≡ None → IsFree renamed value past
+free : (renamed : Bool) (value : Option ℤ) (misplaced : Bool) (past : ℤ → Bool) →
+    fault_by renamed value misplaced past ≡ None → IsFree renamed value past
 free true value misplaced past h = absurd cc
 free false None misplaced past h = absurd cc
 free false (Some c) true past h = absurd cc
@@ -45,21 +56,38 @@ pub record IsPlaced (k : ℕ) (known : Known) (statement : Statement) (item : It
 below : (m n : ℕ) → nat_lt m n ≡ false → n ≤ m
 below m n h = grind (arith, nat_tests)
 
-placed_by : (k : ℕ) (known : Known) (statement : Statement) (item : Item) (fault : Option FaultKind) → statement_fault k known statement ≡ fault
-    → elim fault as (λ _. Result Item FaultKind) [ Some kind ↦ Err kind | None ↦ Ok (item_of k known statement) ] ≡ Ok item → IsPlaced k known statement item
+placed_by : (k : ℕ) (known : Known) (statement : Statement) (item : Item) (fault : Option FaultKind) →
+    statement_fault k known statement ≡ fault
+    → elim fault as (λ _. Result Item FaultKind) [
+      | Some kind ↦ Err kind
+      | None ↦
+          Ok (item_of k known statement)
+    ] ≡ Ok item → IsPlaced k known statement item
 unfolding statement_fault size_in
 placed_by k known statement item (Some kind) e h = absurd cc
 placed_by k known statement item None e h =
     let is : item_of k known statement ≡ item = cc in
-    let f = free (renames known.definitions.names statement) (constant_of k known statement) _ (λ c. nat_lt (ram_base + image_limit) (known.address + size_of known.address c statement)) e in
-    rw (← is) (record { is = refl; said = refl; here = refl; new = f.new; known_value = f.known; within = below _ _ f.within })
+    let f = free (renames known.definitions.names statement) (constant_of k known statement) _
+    (λ c. nat_lt (ram_base + image_limit) (known.address + size_of known.address c statement)) e in
+    rw (← is) (record {
+      is = refl;
+      said = refl;
+      here = refl;
+      new = f.new;
+      known_value = f.known;
+      within =
+          below _ _ f.within;
+    })
 
-pub placed_is : (k : ℕ) (known : Known) (statement : Statement) (item : Item) → placed k known statement ≡ Ok item → IsPlaced k known statement item
+pub placed_is : (k : ℕ) (known : Known) (statement : Statement) (item : Item) →
+    placed k known statement ≡ Ok item → IsPlaced k known statement item
 unfolding placed
-placed_is k known statement item h = placed_by k known statement item (statement_fault k known statement) refl h
+placed_is k known statement item h =
+    placed_by k known statement item (statement_fault k known statement) refl h
 
 -- a statement without a fault is placed
-pub free_placed : (k : ℕ) (known : Known) (statement : Statement) → statement_fault k known statement ≡ None → IsPlaced k known statement (item_of k known statement)
+pub free_placed : (k : ℕ) (known : Known) (statement : Statement) → statement_fault k known statement ≡ None →
+    IsPlaced k known statement (item_of k known statement)
 free_placed k known statement h = placed_by k known statement (item_of k known statement) None h refl
 
 -- ---- a name that `.equ` defines is new
@@ -71,12 +99,17 @@ not_some (Some x) h = cc
 abbrev with_value : ℤ → List ℕ → List ℕ × ℤ
 with_value c name = (name, c)
 
-new_by : (names : List (List ℕ × ℤ)) (o : Option (List ℕ)) (c : ℤ) (d : List ℕ × ℤ) → option_map (with_value c) o ≡ Some d
-    → elim o as (λ _. Bool) [ None ↦ false | Some name ↦ is_some (value_of names name) ] ≡ false → value_of names d.0 ≡ None
+new_by : (names : List (List ℕ × ℤ)) (o : Option (List ℕ)) (c : ℤ) (d : List ℕ × ℤ) →
+    option_map (with_value c) o ≡ Some d
+    → elim o as (λ _. Bool) [ None ↦ false | Some name ↦ is_some (value_of names name) ] ≡ false →
+    value_of names d.0 ≡ None
 new_by names None c d e h = absurd cc
-new_by names (Some name) c d e h = let same : name ≡ d.0 = cc in rw (← same) (not_some (value_of names name) h)
+new_by names (Some name) c d e h =
+    let same : name ≡ d.0 = cc in rw (← same) (not_some (value_of names name) h)
 
-pub definition_new : (k : ℕ) (known : Known) (statement : Statement) (item : Item) (d : List ℕ × ℤ) → placed k known statement ≡ Ok item → definition_in item ≡ Some d → value_of known.definitions.names d.0 ≡ None
+pub definition_new : (k : ℕ) (known : Known) (statement : Statement) (item : Item) (d : List ℕ × ℤ) →
+    placed k known statement ≡ Ok item → definition_in item ≡ Some d →
+    value_of known.definitions.names d.0 ≡ None
 unfolding definition_in
 definition_new k known statement item d h e =
     let p = placed_is k known statement item h in
@@ -84,36 +117,74 @@ definition_new k known statement item d h e =
 
 -- ---- the state after a statement
 
-stated_by : (known : Known) (end : ℕ) (c : ℤ) (o : Option (List ℕ)) (d : List ℕ × ℤ) → option_map (with_value c) o ≡ Some d
-    → (let after : Known = elim o as (λ _. Known) [ None ↦ known | Some name ↦ record known { definitions = record known.definitions { names = known.definitions.names ++ (name, c) ∷ [] } } ] in record after { address = end })
-    ≡ record { address = end; definitions = record { names = known.definitions.names ++ d ∷ []; locals = known.definitions.locals } }
+stated_by : (known : Known) (end : ℕ) (c : ℤ) (o : Option (List ℕ)) (d : List ℕ × ℤ) →
+    option_map (with_value c) o ≡ Some d
+    → (let after : Known = elim o as (λ _. Known) [
+      | None ↦ known
+      | Some name ↦
+          record known {
+            definitions = record known.definitions {
+              names =
+                  known.definitions.names ++ (name, c) ∷ [];
+            };
+          }
+    ] in record after { address = end })
+    ≡ record {
+      address = end;
+      definitions = record {
+        names = known.definitions.names ++ d ∷ [];
+        locals =
+            known.definitions.locals;
+      };
+    }
 stated_by known end c None d e = absurd cc
 stated_by known end c (Some name) d e = let same : (name, c) ≡ d = cc in rw (← same) refl
 
 stated_same_by : (known : Known) (end : ℕ) (c : ℤ) (o : Option (List ℕ)) → option_map (with_value c) o ≡ None
-    → (let after : Known = elim o as (λ _. Known) [ None ↦ known | Some name ↦ record known { definitions = record known.definitions { names = known.definitions.names ++ (name, c) ∷ [] } } ] in record after { address = end })
+    → (let after : Known = elim o as (λ _. Known) [
+      | None ↦ known
+      | Some name ↦
+          record known {
+            definitions = record known.definitions {
+              names =
+                  known.definitions.names ++ (name, c) ∷ [];
+            };
+          }
+    ] in record after { address = end })
     ≡ record { address = end; definitions = known.definitions }
 stated_same_by known end c None e = refl
 stated_same_by known end c (Some name) e = absurd cc
 
-module _ (k : ℕ) (known : Known) (statement : Statement) (item : Item) (h : placed k known statement ≡ Ok item) where
+module _ (k : ℕ) (known : Known) (statement : Statement) (item : Item)
+    (h : placed k known statement ≡ Ok item) where
   newly : newly_stated k known statement ≡ Ok (stated known item.constant statement, item)
   unfolding newly_stated
   newly = rw h refl
 
   -- of a statement that defines a name
   pub newly_defined : (d : List ℕ × ℤ) → definition_in item ≡ Some d
-      → newly_stated k known statement ≡ Ok (record { address = end_of item; definitions = record { names = known.definitions.names ++ d ∷ []; locals = known.definitions.locals } }, item)
+      → newly_stated k known statement ≡ Ok (
+        record {
+          address = end_of item;
+          definitions =
+              record { names = known.definitions.names ++ d ∷ []; locals = known.definitions.locals };
+        },
+        item,
+      )
   unfolding size_in definition_in
   newly_defined d e =
       let p = placed_is k known statement item h in
-      let same = stated_by known (known.address + size_of known.address item.constant statement) item.constant (name_in statement) d (rw p.said at e) in
+      let same = stated_by known (known.address + size_of known.address item.constant statement) item.constant
+      (name_in statement) d (rw p.said at e) in
       newly ∙ rw same (rw (p.here, p.said) refl)
 
   -- of a statement that defines none
-  pub newly_passed : definition_in item ≡ None → newly_stated k known statement ≡ Ok (record { address = end_of item; definitions = known.definitions }, item)
+  pub newly_passed : definition_in item ≡ None → newly_stated k known statement
+      ≡ Ok (record { address = end_of item; definitions = known.definitions }, item)
   unfolding size_in definition_in
   newly_passed e =
       let p = placed_is k known statement item h in
-      let same = stated_same_by known (known.address + size_of known.address item.constant statement) item.constant (name_in statement) (rw p.said at e) in
+      let same = stated_same_by known (known.address
+      + size_of known.address item.constant statement) item.constant (name_in statement) (rw p.said at e)
+      in
       newly ∙ rw same (rw (p.here, p.said) refl)

@@ -36,36 +36,42 @@ laid_out-zero ls = refl
 
 -- ---- no local label that is laid out is on a later line
 
-up_to_by : (ls : List Said) (n : ℕ) (fault : Option AsmFault) (s : State) → unless fault (Ok (state_at ls n)) ≡ Ok s → IsUpTo n s.known
+up_to_by : (ls : List Said) (n : ℕ) (fault : Option AsmFault) (s : State) →
+    unless fault (Ok (state_at ls n)) ≡ Ok s → IsUpTo n s.known
 up_to_by ls n (Some fault) s e = absurd cc
 up_to_by ls n None s e = let same : state_at ls n ≡ s = cc in rw (← same) (up_to_before ls n)
 
-pub up_to_laid_out : (ls : List Said) (n : ℕ) (layout : Result State AsmFault) → Gives (λ s. s) layout (laid_out ls n) → IfOk layout (λ s. IsUpTo n s.known)
+pub up_to_laid_out : (ls : List Said) (n : ℕ) (layout : Result State AsmFault) →
+    Gives (λ s. s) layout (laid_out ls n) → IfOk layout (λ s. IsUpTo n s.known)
 unfolding laid_out
 up_to_laid_out ls n (Err fault) h = tt
 up_to_laid_out ls n (Ok s) h = up_to_by ls n (first_fault _ n) s h
 
 -- ---- nor is an item
 
-below_by : (ls : List Said) (n m : ℕ) (fault : Option AsmFault) (s : State) → n ≤ m → unless fault (Ok (state_at ls n)) ≡ Ok s → All (λ i. i.line < m) s.items
+below_by : (ls : List Said) (n m : ℕ) (fault : Option AsmFault) (s : State) → n ≤ m →
+    unless fault (Ok (state_at ls n)) ≡ Ok s → All (λ i. i.line < m) s.items
 below_by ls n m (Some fault) s le e = absurd cc
 below_by ls n m None s le e =
     let same : state_at ls n ≡ s = cc in
     rw (← same) (λ i d within. let below = items_below ls n i d within in omega (arith, below))
 
-pub below_laid_out : (ls : List Said) (n m : ℕ) (layout : Result State AsmFault) → n ≤ m → Gives (λ s. s) layout (laid_out ls n) → IfOk layout (λ s. All (λ i. i.line < m) s.items)
+pub below_laid_out : (ls : List Said) (n m : ℕ) (layout : Result State AsmFault) → n ≤ m →
+    Gives (λ s. s) layout (laid_out ls n) → IfOk layout (λ s. All (λ i. i.line < m) s.items)
 unfolding laid_out
 below_laid_out ls n m (Err fault) le h = tt
 below_laid_out ls n m (Ok s) le h = below_by ls n m (first_fault _ n) s le h
 
 -- ---- the first fault of some lines is also the first of more lines
 
-kept : (fault : ℕ → Option FaultKind) (n d : ℕ) (f : AsmFault) → first_fault fault n ≡ Some f → first_fault fault (n + d) ≡ Some f
+kept : (fault : ℕ → Option FaultKind) (n d : ℕ) (f : AsmFault) → first_fault fault n ≡ Some f →
+    first_fault fault (n + d) ≡ Some f
 unfolding first
 kept fault n zero f h = rw add-zero h
 kept fault n (suc d) f h = rw (add-suc n d, kept fault n d f h) refl
 
-first_more : (fault : ℕ → Option FaultKind) (n m : ℕ) (f : AsmFault) → n ≤ m → first_fault fault n ≡ Some f → first_fault fault m ≡ Some f
+first_more : (fault : ℕ → Option FaultKind) (n m : ℕ) (f : AsmFault) → n ≤ m → first_fault fault n ≡ Some f →
+    first_fault fault m ≡ Some f
 first_more fault n m f le h = let e : n + (m - n) ≡ m = omega arith in rw e at (kept fault n (m - n) f h)
 
 -- ---- one more line
@@ -75,14 +81,17 @@ record IsAt {X : Type 0} (xs : List X) (n : ℕ) (x : X) (ys : List X) (d : X) :
   item : get_or xs n d ≡ x
   after : drop (suc n) xs ≡ ys
 
-dropped : {X : Type 0} (xs : List X) (n : ℕ) (x : X) (ys : List X) (d : X) → drop n xs ≡ x ∷ ys → IsAt xs n x ys d
+dropped : {X : Type 0} (xs : List X) (n : ℕ) (x : X) (ys : List X) (d : X) → drop n xs ≡ x ∷ ys →
+    IsAt xs n x ys d
 dropped [] zero x ys d e = absurd cc
 dropped [] (suc n) x ys d e = absurd cc
 dropped (y ∷ xs) zero x ys d e = record { below = omega arith; item = cc; after = cc }
-dropped (y ∷ xs) (suc n) x ys d e = let r = dropped xs n x ys d e in record { below = omega (arith, r.below); item = r.item; after = r.after }
+dropped (y ∷ xs) (suc n) x ys d e = let r = dropped xs n x ys d e
+    in record { below = omega (arith, r.below); item = r.item; after = r.after }
 
 -- out of memory, or the fault of the line
-unread_kind : (fault : LineFault) (r : Result Said LineFault) → LineFails fault r → (kind_of fault ≡ OutOfMemory) ⊎ (r ≡ Err fault)
+unread_kind : (fault : LineFault) (r : Result Said LineFault) → LineFails fault r →
+    (kind_of fault ≡ OutOfMemory) ⊎ (r ≡ Err fault)
 unread_kind line.OutOfMemory r h = inl refl
 unread_kind line.BadByte r h = inr h
 unread_kind line.LineTooLong r h = inr h
@@ -104,15 +113,22 @@ module _ (texts rest : List (List ℕ)) (n : ℕ) (so : SoFar texts rest n) wher
       here = ap said next.item ∙ is
 
       none_here : phase_one_fault texts n ≡ None
-      none_here = ap (λ r. elim r as (λ _. Option FaultKind) [ Ok l ↦ None | Err fault ↦ Some (kind_of fault) ]) here
+      none_here =
+          ap (λ r. elim r as (λ _. Option FaultKind) [ Ok l ↦ None | Err fault ↦ Some (kind_of fault) ]) here
 
       pub read_more : SoFar texts after (n + 1)
       unfolding first
-      read_more = rw add-one (record { left = sym next.after; none = rw (so.none, none_here) refl; within = omega (arith, next.below) })
+      read_more = rw add-one (record {
+        left = sym next.after;
+        none = rw (so.none, none_here) refl;
+        within =
+            omega (arith, next.below);
+      })
 
       read_line_at : line_at (all_said texts) n ≡ line
       read_line_at =
-          get_or-map (λ t. elim (said t) as (λ _. Said) [ Ok l ↦ l | Err fault ↦ blank ]) texts n [] blank next.below
+          get_or-map (λ t. elim (said t) as (λ _. Said) [ Ok l ↦ l | Err fault ↦ blank ]) texts n [] blank
+          next.below
           ∙ ap (λ r. elim r as (λ _. Said) [ Ok l ↦ l | Err fault ↦ blank ]) here
 
       pub laid_out_more : extended n line (laid_out (all_said texts) n) ≡ laid_out (all_said texts) (n + 1)
@@ -120,24 +136,30 @@ module _ (texts rest : List (List ℕ)) (n : ℕ) (so : SoFar texts rest n) wher
 
     -- a line that can't be read
     module _ (fault : LineFault) where
-      unread_fault : said text ≡ Err fault → first_fault (phase_one_fault texts) (suc n) ≡ Some (record { line = suc n; kind = kind_of fault })
+      unread_fault : said text ≡ Err fault → first_fault (phase_one_fault texts) (suc n)
+          ≡ Some (record { line = suc n; kind = kind_of fault })
       unfolding first
       unread_fault is =
           let e : said (get_or texts n []) ≡ Err fault = ap said next.item ∙ is in
-          let some : phase_one_fault texts n ≡ Some (kind_of fault) = ap (λ r. elim r as (λ _. Option FaultKind) [ Ok l ↦ None | Err f ↦ Some (kind_of f) ]) e in
+          let some : phase_one_fault texts n ≡ Some (kind_of fault) =
+          ap (λ r. elim r as (λ _. Option FaultKind) [ Ok l ↦ None | Err f ↦ Some (kind_of f) ]) e in
           rw (so.none, some) refl
 
-      unread_all : said text ≡ Err fault → lines_laid_out texts ≡ Err (record { line = n + 1; kind = kind_of fault })
+      unread_all : said text ≡ Err fault → lines_laid_out texts
+          ≡ Err (record { line = n + 1; kind = kind_of fault })
       unfolding lines_laid_out
       unread_all is =
-          let more = first_more (phase_one_fault texts) (suc n) (length texts) (record { line = suc n; kind = kind_of fault }) (omega (arith, next.below)) (unread_fault is) in
+          let more = first_more (phase_one_fault texts) (suc n) (length texts)
+          (record { line = suc n; kind = kind_of fault }) (omega (arith, next.below)) (unread_fault is) in
           rw (more, add-one) refl
 
-      unread_by : (at : AsmFault) → ((kind_of fault ≡ OutOfMemory) ⊎ (said text ≡ Err fault)) → IsFaultAt (n + 1) (kind_of fault) at → Fails at (lines_laid_out texts)
+      unread_by : (at : AsmFault) → ((kind_of fault ≡ OutOfMemory) ⊎ (said text ≡ Err fault)) →
+          IsFaultAt (n + 1) (kind_of fault) at → Fails at (lines_laid_out texts)
       unread_by at (inl o) e = let f = rw o at e in rw f refl
       unread_by at (inr p) e = fails_at (n + 1) (kind_of fault) at (lines_laid_out texts) e (unread_all p)
 
-      pub unread : (at answer : AsmFault) → LineFails fault (said text) → IsFaultAt (n + 1) (kind_of fault) at → answer ≡ at → Fails answer (lines_laid_out texts)
+      pub unread : (at answer : AsmFault) → LineFails fault (said text) →
+          IsFaultAt (n + 1) (kind_of fault) at → answer ≡ at → Fails answer (lines_laid_out texts)
       unread at answer h e is = rw is (unread_by at (unread_kind fault (said text) h) e)
 
   pub read_all : rest ≡ [] → lines_laid_out texts ≡ laid_out (all_said texts) n

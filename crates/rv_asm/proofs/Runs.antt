@@ -11,17 +11,20 @@ use Rattle.rv_asm.specs.Kept.{KindFails}
 use Rattle.rv_asm.specs.Listing.{◌>>=◌}
 use Rattle.rv_asm.specs.Steps.{at_line, run}
 
-bind_bind : {A B C E : Type 0} (r : Result A E) (f : A → Result B E) (g : B → Result C E) → ((r >>= f) >>= g) ≡ (r >>= λ x. f x >>= g)
+bind_bind : {A B C E : Type 0} (r : Result A E) (f : A → Result B E) (g : B → Result C E) →
+    ((r >>= f) >>= g) ≡ (r >>= λ x. f x >>= g)
 bind_bind (Ok x) f g = refl
 bind_bind (Err e) f g = refl
 
-bind_same : {A B E : Type 0} (r : Result A E) (f g : A → Result B E) → ((x : A) → f x ≡ g x) → (r >>= f) ≡ (r >>= g)
+bind_same : {A B E : Type 0} (r : Result A E) (f g : A → Result B E) → ((x : A) → f x ≡ g x) →
+    (r >>= f) ≡ (r >>= g)
 bind_same (Ok x) f g h = h x
 bind_same (Err e) f g h = refl
 
 -- ---- a fault is passed on
 
-pub kind_fails_bind : {A B : Type 0} (kind : FaultKind) (r : Result A FaultKind) (f : A → Result B FaultKind) → KindFails kind r → KindFails kind (r >>= f)
+pub kind_fails_bind : {A B : Type 0} (kind : FaultKind) (r : Result A FaultKind) (f : A →
+    Result B FaultKind) → KindFails kind r → KindFails kind (r >>= f)
 kind_fails_bind BadByte r f h = rw h refl
 kind_fails_bind LineTooLong r f h = rw h refl
 kind_fails_bind Syntax r f h = rw h refl
@@ -35,7 +38,8 @@ kind_fails_bind Undefined r f h = rw h refl
 kind_fails_bind OutOfRange r f h = rw h refl
 kind_fails_bind OutOfMemory r f h = h
 
-pub fails_bind : {A B : Type 0} (kind : FaultKind) (fault : AsmFault) (r : Result A AsmFault) (f : A → Result B AsmFault) → FailsBy kind fault r → FailsBy kind fault (r >>= f)
+pub fails_bind : {A B : Type 0} (kind : FaultKind) (fault : AsmFault) (r : Result A AsmFault) (f : A →
+    Result B AsmFault) → FailsBy kind fault r → FailsBy kind fault (r >>= f)
 fails_bind BadByte fault r f h = rw h refl
 fails_bind LineTooLong fault r f h = rw h refl
 fails_bind Syntax fault r f h = rw h refl
@@ -49,7 +53,8 @@ fails_bind Undefined fault r f h = rw h refl
 fails_bind OutOfRange fault r f h = rw h refl
 fails_bind OutOfMemory fault r f h = h
 
-pub fails_at : {B : Type 0} (line : ℕ) (kind : FaultKind) (fault : AsmFault) (meaning : Result B AsmFault) → IsFaultAt line kind fault → meaning ≡ Err (record { line = line; kind = kind }) → Fails fault meaning
+pub fails_at : {B : Type 0} (line : ℕ) (kind : FaultKind) (fault : AsmFault) (meaning : Result B AsmFault) →
+    IsFaultAt line kind fault → meaning ≡ Err (record { line = line; kind = kind }) → Fails fault meaning
 fails_at line BadByte fault m e h = rw (e, h) refl
 fails_at line LineTooLong fault m e h = rw (e, h) refl
 fails_at line Syntax fault m e h = rw (e, h) refl
@@ -63,50 +68,68 @@ fails_at line Undefined fault m e h = rw (e, h) refl
 fails_at line OutOfRange fault m e h = rw (e, h) refl
 fails_at line OutOfMemory fault m e h = rw e refl
 
-pub fails_at_line : {B : Type 0} (k : ℕ) (kind : FaultKind) (fault : AsmFault) (r : Result B FaultKind) → KindFails kind r → IsFaultAt (k + 1) kind fault → Fails fault (at_line k r)
+pub fails_at_line : {B : Type 0} (k : ℕ) (kind : FaultKind) (fault : AsmFault) (r : Result B FaultKind) →
+    KindFails kind r → IsFaultAt (k + 1) kind fault → Fails fault (at_line k r)
 fails_at_line k BadByte fault r h e = fails_at (k + 1) BadByte fault (at_line k r) e (rw (h, add-one) refl)
-fails_at_line k LineTooLong fault r h e = fails_at (k + 1) LineTooLong fault (at_line k r) e (rw (h, add-one) refl)
+fails_at_line k LineTooLong fault r h e =
+    fails_at (k + 1) LineTooLong fault (at_line k r) e (rw (h, add-one) refl)
 fails_at_line k Syntax fault r h e = fails_at (k + 1) Syntax fault (at_line k r) e (rw (h, add-one) refl)
-fails_at_line k UnknownWord fault r h e = fails_at (k + 1) UnknownWord fault (at_line k r) e (rw (h, add-one) refl)
-fails_at_line k BadOperands fault r h e = fails_at (k + 1) BadOperands fault (at_line k r) e (rw (h, add-one) refl)
-fails_at_line k DuplicateSymbol fault r h e = fails_at (k + 1) DuplicateSymbol fault (at_line k r) e (rw (h, add-one) refl)
-fails_at_line k NotConstant fault r h e = fails_at (k + 1) NotConstant fault (at_line k r) e (rw (h, add-one) refl)
-fails_at_line k Misplaced fault r h e = fails_at (k + 1) Misplaced fault (at_line k r) e (rw (h, add-one) refl)
+fails_at_line k UnknownWord fault r h e =
+    fails_at (k + 1) UnknownWord fault (at_line k r) e (rw (h, add-one) refl)
+fails_at_line k BadOperands fault r h e =
+    fails_at (k + 1) BadOperands fault (at_line k r) e (rw (h, add-one) refl)
+fails_at_line k DuplicateSymbol fault r h e =
+    fails_at (k + 1) DuplicateSymbol fault (at_line k r) e (rw (h, add-one) refl)
+fails_at_line k NotConstant fault r h e =
+    fails_at (k + 1) NotConstant fault (at_line k r) e (rw (h, add-one) refl)
+fails_at_line k Misplaced fault r h e =
+    fails_at (k + 1) Misplaced fault (at_line k r) e (rw (h, add-one) refl)
 fails_at_line k TooLarge fault r h e = fails_at (k + 1) TooLarge fault (at_line k r) e (rw (h, add-one) refl)
-fails_at_line k Undefined fault r h e = fails_at (k + 1) Undefined fault (at_line k r) e (rw (h, add-one) refl)
-fails_at_line k OutOfRange fault r h e = fails_at (k + 1) OutOfRange fault (at_line k r) e (rw (h, add-one) refl)
+fails_at_line k Undefined fault r h e =
+    fails_at (k + 1) Undefined fault (at_line k r) e (rw (h, add-one) refl)
+fails_at_line k OutOfRange fault r h e =
+    fails_at (k + 1) OutOfRange fault (at_line k r) e (rw (h, add-one) refl)
 fails_at_line k OutOfMemory fault r h e = rw e refl
 
 -- ---- runs
 
-pub run_append : {S X E : Type 0} (step : S → X → Result S E) (s : S) (xs ys : List X) → run step s (xs ++ ys) ≡ (run step s xs >>= λ t. run step t ys)
+pub run_append : {S X E : Type 0} (step : S → X → Result S E) (s : S) (xs ys : List X) →
+    run step s (xs ++ ys) ≡ (run step s xs >>= λ t. run step t ys)
 unfolding run
 run_append step s [] ys = refl
 run_append step s (x ∷ xs) ys =
-    bind_same (step s x) (λ t. run step t (xs ++ ys)) (λ t. run step t xs >>= λ u. run step u ys) (λ t. run_append step t xs ys)
+    bind_same (step s x) (λ t. run step t (xs ++ ys)) (λ t. run step t xs >>= λ u. run step u ys)
+    (λ t. run_append step t xs ys)
     ∙ sym (bind_bind (step s x) (λ t. run step t xs) (λ u. run step u ys))
 
 module _ {S X E : Type 0} (step : S → X → Result S E) (s : S) (xs : List X) (i : ℕ) where
-  pub run_at : (d : X) → i < length xs → run step s (drop i xs) ≡ (step s (get_or xs i d) >>= λ t. run step t (drop (i + 1) xs))
+  pub run_at : (d : X) → i < length xs → run step s (drop i xs)
+      ≡ (step s (get_or xs i d) >>= λ t. run step t (drop (i + 1) xs))
   unfolding run
-  run_at d h = let e : drop i xs ≡ get_or xs i d ∷ drop (suc i) xs = drop-cons xs i d h in rw (e, add-one) refl
+  run_at d h =
+      let e : drop i xs ≡ get_or xs i d ∷ drop (suc i) xs = drop-cons xs i d h in rw (e, add-one) refl
 
   pub run_end : length xs ≤ i → run step s (drop i xs) ≡ Ok s
   unfolding run
   run_end h = let e : drop i xs ≡ [] = drop_all i xs h in rw e refl
 
-module _ {S X E : Type 0} (step : S → X → Result S E) (s : S) (xs : List X) (i : ℕ) (x : X) (item : x ≡ get_or xs i x) (within : i < length xs) where
+module _ {S X E : Type 0} (step : S → X → Result S E) (s : S) (xs : List X) (i : ℕ) (x : X)
+    (item : x ≡ get_or xs i x) (within : i < length xs) where
   pub run_item : run step s (drop i xs) ≡ (step s x >>= λ u. run step u (drop (i + 1) xs))
   run_item = run_at step s xs i x within ∙ ap (λ y. step s y >>= λ u. run step u (drop (i + 1) xs)) (sym item)
 
   pub run_more : (t : S) → step s x ≡ Ok t → run step s (drop i xs) ≡ run step t (drop (i + 1) xs)
   run_more t e = run_item ∙ ap (λ r. r >>= λ u. run step u (drop (i + 1) xs)) e
 
-module _ {S X : Type 0} (step : S → X → Result S FaultKind) (s : S) (xs : List X) (i : ℕ) (x : X) (item : x ≡ get_or xs i x) (within : i < length xs) where
+module _ {S X : Type 0} (step : S → X → Result S FaultKind) (s : S) (xs : List X) (i : ℕ) (x : X)
+    (item : x ≡ get_or xs i x) (within : i < length xs) where
   -- a run fails if one of its steps does
   pub run_fails : (kind : FaultKind) → KindFails kind (step s x) → KindFails kind (run step s (drop i xs))
-  run_fails kind h = rw (run_item step s xs i x item within) (kind_fails_bind kind (step s x) (λ u. run step u (drop (i + 1) xs)) h)
+  run_fails kind h = rw (run_item step s xs i x item within)
+      (kind_fails_bind kind (step s x) (λ u. run step u (drop (i + 1) xs)) h)
 
-module _ {S X : Type 0} (step : S → X → Result S AsmFault) (s : S) (xs : List X) (i : ℕ) (x : X) (item : x ≡ get_or xs i x) (within : i < length xs) where
+module _ {S X : Type 0} (step : S → X → Result S AsmFault) (s : S) (xs : List X) (i : ℕ) (x : X)
+    (item : x ≡ get_or xs i x) (within : i < length xs) where
   pub run_fails_at : (fault : AsmFault) → Fails fault (step s x) → Fails fault (run step s (drop i xs))
-  run_fails_at fault h = rw (run_item step s xs i x item within) (fails_bind fault.kind fault (step s x) (λ u. run step u (drop (i + 1) xs)) h)
+  run_fails_at fault h = rw (run_item step s xs i x item within)
+      (fails_bind fault.kind fault (step s x) (λ u. run step u (drop (i + 1) xs)) h)

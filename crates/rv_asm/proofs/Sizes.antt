@@ -27,11 +27,13 @@ one_counted : {A : Type 0} (kind : A → Kind) (m : Result A FaultKind) → coun
 one_counted kind (Ok x) = refl
 one_counted kind (Err fault) = refl
 
-two_counted : {A : Type 0} (kinds : A → Kind × Kind) (m : Result A FaultKind) → count_or 2 (m >>= λ x. Ok ((kinds x).0 ∷ (kinds x).1 ∷ [])) ≡ 2
+two_counted : {A : Type 0} (kinds : A → Kind × Kind) (m : Result A FaultKind) →
+    count_or 2 (m >>= λ x. Ok ((kinds x).0 ∷ (kinds x).1 ∷ [])) ≡ 2
 two_counted kinds (Ok x) = refl
 two_counted kinds (Err fault) = refl
 
-words_counted : (n : ℕ) (m : Result (List Kind) FaultKind) → count_or n m ≡ n → count_or (4 * n) (m >>= λ kinds. Ok (bytes kinds)) ≡ 4 * n
+words_counted : (n : ℕ) (m : Result (List Kind) FaultKind) → count_or n m ≡ n →
+    count_or (4 * n) (m >>= λ kinds. Ok (bytes kinds)) ≡ 4 * n
 words_counted n (Ok kinds) h = length_bytes kinds ∙ ap (λ k. 4 * k) h
 words_counted n (Err fault) h = refl
 
@@ -41,27 +43,37 @@ length_value Two v = refl
 length_value Four v = refl
 
 module _ (width : Width) where
-  more_bytes : (n : ℕ) (v : ℤ) (r : Result (List ℕ) FaultKind) → count_or (bytes_of width * n) r ≡ bytes_of width * n
-      → count_or (bytes_of width * suc n) (r >>= λ bs. Ok (value_bytes width v ++ bs)) ≡ bytes_of width * suc n
+  more_bytes : (n : ℕ) (v : ℤ) (r : Result (List ℕ) FaultKind) →
+      count_or (bytes_of width * n) r ≡ bytes_of width * n
+      → count_or (bytes_of width * suc n) (r >>= λ bs. Ok (value_bytes width v ++ bs))
+      ≡ bytes_of width * suc n
   more_bytes n v (Ok bs) h = length-append (value_bytes width v) bs ∙ (rw (length_value, h) (omega arith))
   more_bytes n v (Err fault) h = refl
 
-  if_fits : (n : ℕ) (b : Bool) (r : Result (List ℕ) FaultKind) (fault : FaultKind) → count_or n r ≡ n → count_or n (cond b r (Err fault)) ≡ n
+  if_fits : (n : ℕ) (b : Bool) (r : Result (List ℕ) FaultKind) (fault : FaultKind) → count_or n r ≡ n →
+      count_or n (cond b r (Err fault)) ≡ n
   if_fits n true r fault h = h
   if_fits n false r fault h = refl
 
-  more_data : (n : ℕ) (v : ℤ) (r : Result (List ℤ) FaultKind) → count_or (bytes_of width * n) (r >>= λ vs. data_bytes width vs) ≡ bytes_of width * n
-      → count_or (bytes_of width * suc n) ((r >>= λ vs. Ok (v ∷ vs)) >>= λ vs. data_bytes width vs) ≡ bytes_of width * suc n
-  more_data n v (Ok vs) h = if_fits (bytes_of width * suc n) (fits width v) (data_bytes width vs >>= λ bs. Ok (value_bytes width v ++ bs)) _ (more_bytes n v (data_bytes width vs) h)
+  more_data : (n : ℕ) (v : ℤ) (r : Result (List ℤ) FaultKind) →
+      count_or (bytes_of width * n) (r >>= λ vs. data_bytes width vs) ≡ bytes_of width * n
+      → count_or (bytes_of width * suc n) ((r >>= λ vs. Ok (v ∷ vs)) >>= λ vs. data_bytes width vs)
+      ≡ bytes_of width * suc n
+  more_data n v (Ok vs) h = if_fits (bytes_of width * suc n) (fits width v)
+      (data_bytes width vs >>= λ bs. Ok (value_bytes width v ++ bs)) _
+      (more_bytes n v (data_bytes width vs) h)
   more_data n v (Err fault) h = refl
 
   module _ (value : Valuation) where
-    data_by : (e : List Term) (es : List (List Term)) (o : Option ℤ) → value e ≡ o → count_or (bytes_of width * length es) (sums_bytes value width es) ≡ bytes_of width * length es
-        → count_or (bytes_of width * suc (length es)) (sums_bytes value width (e ∷ es)) ≡ bytes_of width * suc (length es)
+    data_by : (e : List Term) (es : List (List Term)) (o : Option ℤ) → value e ≡ o →
+        count_or (bytes_of width * length es) (sums_bytes value width es) ≡ bytes_of width * length es
+        → count_or (bytes_of width * suc (length es)) (sums_bytes value width (e ∷ es))
+        ≡ bytes_of width * suc (length es)
     data_by e es None known h = rw (known, values_of) refl
     data_by e es (Some v) known h = rw (known, values_of) (more_data (length es) v (values_of value es) h)
 
-    data_counted : (es : List (List Term)) → count_or (bytes_of width * length es) (sums_bytes value width es) ≡ bytes_of width * length es
+    data_counted : (es : List (List Term)) → count_or (bytes_of width * length es) (sums_bytes value width es)
+        ≡ bytes_of width * length es
     data_counted [] = omega arith
     data_counted (e ∷ es) = data_by e es (value e) refl (data_counted es)
 
@@ -77,16 +89,24 @@ sized value here c (s.Lui rd imm) t = words_counted 1 _ (one_counted _ (upper_of
 sized value here c (s.WithImmediate taker imm) t = words_counted 1 _ (one_counted _ (immediate_of value imm))
 sized value here c (s.WithValue (takes.Auipc rd) v) t = words_counted 1 _ (one_counted _ (wanted _ (value v)))
 sized value here c (s.WithValue (takes.Jal rd) v) t = words_counted 1 _ (one_counted _ (wanted _ (value v)))
-sized value here c (s.WithValue (takes.Branch cond rs1 rs2) v) t = words_counted 1 _ (one_counted _ (wanted _ (value v)))
-sized value here c (s.WithValue (takes.Shift op rd rs1) v) t = words_counted 1 _ (one_counted _ (wanted _ (value v)))
-sized value here c (s.WithValue (takes.CsrImm op rd csr) v) t = words_counted 1 _ (one_counted _ (wanted _ (value v)))
+sized value here c (s.WithValue (takes.Branch cond rs1 rs2) v) t =
+    words_counted 1 _ (one_counted _ (wanted _ (value v)))
+sized value here c (s.WithValue (takes.Shift op rd rs1) v) t =
+    words_counted 1 _ (one_counted _ (wanted _ (value v)))
+sized value here c (s.WithValue (takes.CsrImm op rd csr) v) t =
+    words_counted 1 _ (one_counted _ (wanted _ (value v)))
 sized value here c (s.WithValue (takes.Li rd) v) t = length_bytes (loading rd (modulo c (2 ^ 32)))
-sized value here c (s.WithValue (takes.La rd) v) t = words_counted 2 _ (two_counted _ (wanted (far here) (value v)))
-sized value here c (s.WithValue (takes.Call link scratch) v) t = words_counted 2 _ (two_counted _ (wanted (far here) (value v)))
-sized value here c (s.WithValue (takes.LoadFrom op rd) v) t = words_counted 2 _ (two_counted _ (wanted (far here) (value v)))
-sized value here c (s.WithValue (takes.StoreTo width source scratch) v) t = words_counted 2 _ (two_counted _ (wanted (far here) (value v)))
+sized value here c (s.WithValue (takes.La rd) v) t =
+    words_counted 2 _ (two_counted _ (wanted (far here) (value v)))
+sized value here c (s.WithValue (takes.Call link scratch) v) t =
+    words_counted 2 _ (two_counted _ (wanted (far here) (value v)))
+sized value here c (s.WithValue (takes.LoadFrom op rd) v) t =
+    words_counted 2 _ (two_counted _ (wanted (far here) (value v)))
+sized value here c (s.WithValue (takes.StoreTo width source scratch) v) t =
+    words_counted 2 _ (two_counted _ (wanted (far here) (value v)))
 sized value here c (s.WithValue takes.Align power) t = padded here (2 ^ modulo c 32) (power_is_regular c t)
-sized value here c (s.WithValue takes.Balign multiple) t = padded here (modulo c (2 ^ 32)) (multiple_is_regular c t)
+sized value here c (s.WithValue takes.Balign multiple) t =
+    padded here (modulo c (2 ^ 32)) (multiple_is_regular c t)
 sized value here c (s.Data width values) t = data_counted width value values
 sized value here c (s.Bytes bs) t = refl
 sized value here c (s.Space size fill) t = filled (modulo c (2 ^ 32)) (fill_of value fill)
@@ -98,4 +118,5 @@ pub item_size : (value : Valuation) (item : Item) (bs : List ℕ) → IsTaken it
     → statement_bytes value item.address item.constant item.statement ≡ Ok bs
     → length bs ≡ size_of item.address item.constant item.statement
 item_size value item bs taken h =
-    sym (ap (count_or (size_of item.address item.constant item.statement)) h) ∙ sized value item.address item.constant item.statement taken
+    sym (ap (count_or (size_of item.address item.constant item.statement)) h)
+    ∙ sized value item.address item.constant item.statement taken

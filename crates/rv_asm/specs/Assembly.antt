@@ -17,7 +17,11 @@ use Rattle.rv_asm.specs.Listing.{statement_bytes}
 -- the fault of line k in phase one, if it has one
 abbrev pub phase_one_fault : List (List ℕ) → ℕ → Option FaultKind
 phase_one_fault texts k =
-    elim (said (get_or texts k [])) as (λ _. Option FaultKind) [ Ok line ↦ None | Err fault ↦ Some (kind_of fault) ]
+    elim (said (get_or texts k [])) as (λ _. Option FaultKind) [
+      | Ok line ↦ None
+      | Err fault ↦
+          Some (kind_of fault)
+    ]
 
 -- the lines as read, if each can be read
 abbrev pub all_said : List (List ℕ) → List Said
@@ -29,16 +33,19 @@ line_bytes lines k =
     let known = known_at lines k in
     elim (line_at lines k).statement as (λ _. Result (List ℕ) FaultKind) [
       | None ↦ Ok []
-      | Some statement ↦ statement_bytes (sum_value (definitions lines) k known.address) known.address (unwrap_or (constant_of k known statement) (pos 0)) statement
+      | Some statement ↦ statement_bytes (sum_value (definitions lines) k known.address) known.address
+          (unwrap_or (constant_of k known statement) (pos 0)) statement
     ]
 
 -- the fault of line k in phase three, if it has one
 abbrev pub phase_three_fault : List Said → ℕ → Option FaultKind
-phase_three_fault lines k = elim (line_bytes lines k) as (λ _. Option FaultKind) [ Ok bs ↦ None | Err kind ↦ Some kind ]
+phase_three_fault lines k =
+    elim (line_bytes lines k) as (λ _. Option FaultKind) [ Ok bs ↦ None | Err kind ↦ Some kind ]
 
 -- the bytes of all lines, if no line has a fault
 abbrev pub bytes : List Said → List ℕ
-bytes lines = joined (λ k. elim (line_bytes lines k) as (λ _. List ℕ) [ Ok bs ↦ bs | Err kind ↦ [] ]) (length lines)
+bytes lines =
+    joined (λ k. elim (line_bytes lines k) as (λ _. List ℕ) [ Ok bs ↦ bs | Err kind ↦ [] ]) (length lines)
 
 -- the fault of the first faulty line among n lines; line numbers count from 1
 abbrev pub first_fault : (ℕ → Option FaultKind) → ℕ → Option AsmFault
@@ -49,7 +56,8 @@ abbrev pub fault_of : List (List ℕ) → Option AsmFault
 fault_of texts =
     let n = length texts in
     option_or (first_fault (phase_one_fault texts) n)
-    (option_or (first_fault (phase_two_fault (all_said texts)) n) (first_fault (phase_three_fault (all_said texts)) n))
+    (option_or (first_fault (phase_two_fault (all_said texts)) n)
+    (first_fault (phase_three_fault (all_said texts)) n))
 
 -- the image and the names of a source, or its fault
 unfoldable pub assembled : List ℕ → Result Assembly AsmFault

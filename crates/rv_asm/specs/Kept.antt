@@ -56,8 +56,10 @@ abbrev pub AreOf : ℕ → List LocalLabel → Type 0
 AreOf n ds = AllByRecursion (λ d. d.number ≡ n) ds
 
 -- one more definition in the list of its number, or no change if memory ran out
-abbrev pub Files : {A E : Type 0} → List (List LocalLabel) → List (List LocalLabel) → LocalLabel → Result A E → Type 0
-Files old new d (Ok x) = (n : ℕ) → get_or new n [] ≡ (if d.number == n then get_or old n [] ++ d ∷ [] else get_or old n [])
+abbrev pub Files : {A E : Type 0} → List (List LocalLabel) → List (List LocalLabel) → LocalLabel →
+    Result A E → Type 0
+Files old new d (Ok x) =
+    (n : ℕ) → get_or new n [] ≡ (if d.number == n then get_or old n [] ++ d ∷ [] else get_or old n [])
 Files old new d (Err e) = (n : ℕ) → get_or new n [] ≡ get_or old n []
 
 -- the lines of the definitions never fall

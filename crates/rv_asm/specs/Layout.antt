@@ -70,7 +70,8 @@ size_of here c (s.Data width values) = bytes_of width * length values
 size_of here c (s.Bytes bytes) = length bytes
 size_of here c (s.Space size fill) = modulo c (2 ^ 32)
 size_of here c (s.WithValue takes.Align power) = gap here (multiple_of (s.WithValue takes.Align power) c)
-size_of here c (s.WithValue takes.Balign multiple) = gap here (multiple_of (s.WithValue takes.Balign multiple) c)
+size_of here c (s.WithValue takes.Balign multiple) =
+    gap here (multiple_of (s.WithValue takes.Balign multiple) c)
 size_of here c (s.Constant name value) = 0
 size_of here c s.Marker = 0
 size_of here c statement = 4
@@ -108,9 +109,19 @@ pub record Known : Type 0 where
 -- with a label on line k, which stands for the address of the next statement
 abbrev pub labelled : ℕ → Known → Label → Known
 labelled k known (label.Name name) =
-    record known { definitions = record known.definitions { names = known.definitions.names ++ (name, pos known.address) ∷ [] } }
+    record known {
+      definitions = record known.definitions {
+        names =
+            known.definitions.names ++ (name, pos known.address) ∷ [];
+      };
+    }
 labelled k known (label.Local number) =
-    record known { definitions = record known.definitions { locals = known.definitions.locals ++ record { number = number; line = k; address = known.address } ∷ [] } }
+    record known {
+      definitions = record known.definitions {
+        locals =
+            known.definitions.locals ++ record { number = number; line = k; address = known.address } ∷ [];
+      };
+    }
 
 abbrev pub with_labels : ℕ → Known → List Label → Known
 with_labels k known [] = known
@@ -120,13 +131,21 @@ with_labels k known (l ∷ ls) = with_labels k (labelled k known l) ls
 abbrev pub named : Known → ℤ → Statement → Known
 named known c statement = elim (name_in statement) as (λ _. Known) [
   | None ↦ known
-  | Some name ↦ record known { definitions = record known.definitions { names = known.definitions.names ++ (name, c) ∷ [] } }
+  | Some name ↦ record known {
+    definitions = record known.definitions {
+      names =
+          known.definitions.names ++ (name, c) ∷ [];
+    };
+  }
 ]
 
 -- after a statement: its name is defined, and the address is past it
 abbrev pub stated : Known → ℤ → Statement → Known
 stated known c statement =
-    let after = named known c statement in record after { address = known.address + size_of known.address c statement }
+    let after = named known c statement in record after {
+      address =
+          known.address + size_of known.address c statement;
+    }
 
 -- the constant of a statement on line k, once the labels of the line are defined
 abbrev pub constant_of : ℕ → Known → Statement → Option ℤ
@@ -135,7 +154,8 @@ constant_of k known statement = constant known.definitions k known.address state
 -- after the statement of line k, if it has one, once the labels of the line are defined
 abbrev pub with_statement : ℕ → Known → Option Statement → Known
 with_statement k known None = known
-with_statement k known (Some statement) = stated known (unwrap_or (constant_of k known statement) (pos 0)) statement
+with_statement k known (Some statement) =
+    stated known (unwrap_or (constant_of k known statement) (pos 0)) statement
 
 -- before the first line
 abbrev pub start : Known
@@ -145,7 +165,8 @@ start = record { address = ram_base; definitions = record { names = []; locals =
 unfoldable pub known_before : List Said → ℕ → Known
 known_before lines zero = start
 known_before lines (suc k) =
-    let line = line_at lines k in with_statement k (with_labels k (known_before lines k) line.labels) line.statement
+    let line =
+    line_at lines k in with_statement k (with_labels k (known_before lines k) line.labels) line.statement
 
 -- after the labels of line k, before its statement
 abbrev pub known_at : List Said → ℕ → Known
@@ -165,7 +186,8 @@ relabels names (label.Local number ∷ ls) = relabels names ls
 
 -- whether `.equ` defines a name that is already defined
 abbrev pub renames : List (List ℕ × ℤ) → Statement → Bool
-renames names statement = elim (name_in statement) as (λ _. Bool) [ None ↦ false | Some name ↦ is_some (value_of names name) ]
+renames names statement =
+    elim (name_in statement) as (λ _. Bool) [ None ↦ false | Some name ↦ is_some (value_of names name) ]
 
 -- the fault in phase two of a statement on line k, once the labels of the line are defined
 unfoldable pub statement_fault : ℕ → Known → Statement → Option FaultKind
@@ -174,7 +196,8 @@ statement_fault k known statement =
     else (elim (constant_of k known statement) as (λ _. Option FaultKind) [
       | None ↦ Some NotConstant
       | Some c ↦ if is_instruction statement && not (known.address % 4 == 0) then Some Misplaced
-          else (if nat_lt (ram_base + image_limit) (known.address + size_of known.address c statement) then Some TooLarge
+          else (if nat_lt (ram_base + image_limit) (known.address + size_of known.address c statement)
+          then Some TooLarge
           else None)
     ])
 

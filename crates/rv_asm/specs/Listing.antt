@@ -37,7 +37,8 @@ Valuation = List Term → Option ℤ
 -- a value converted to the field that it fills; Undefined if there is none, OutOfRange if it doesn't fit
 abbrev pub wanted : {A : Type 0} → (ℤ → Option A) → Option ℤ → Result A FaultKind
 wanted {A = A} place None = Err Undefined
-wanted {A = A} place (Some v) = elim (place v) as (λ _. Result A FaultKind) [ None ↦ Err OutOfRange | Some x ↦ Ok x ]
+wanted {A = A} place (Some v) =
+    elim (place v) as (λ _. Result A FaultKind) [ None ↦ Err OutOfRange | Some x ↦ Ok x ]
 
 -- a part of a value that fits into 32 bits
 abbrev pub part_of : {A : Type 0} → (ℕ → A) → ℤ → Option A
@@ -72,14 +73,16 @@ pair here scratch second target =
 abbrev pub with_value : ℕ → ℤ → ValueTaker → Option ℤ → Result (List Kind) FaultKind
 with_value here c (takes.Auipc rd) v = one (λ x. kind.Auipc rd x) (wanted upper_immediate v)
 with_value here c (takes.Jal rd) v = one (λ x. kind.Jal rd x) (wanted (distance (2 ^ 20) here) v)
-with_value here c (takes.Branch cond rs1 rs2) v = one (λ x. kind.Branch cond rs1 rs2 x) (wanted (distance (2 ^ 12) here) v)
+with_value here c (takes.Branch cond rs1 rs2) v =
+    one (λ x. kind.Branch cond rs1 rs2 x) (wanted (distance (2 ^ 12) here) v)
 with_value here c (takes.Shift op rd rs1) v = one (λ x. kind.Shift op rd rs1 x) (wanted five_bits v)
 with_value here c (takes.CsrImm op rd csr) v = one (λ x. kind.CsrImm op rd x csr) (wanted five_bits v)
 with_value here c (takes.Li rd) v = Ok (loading rd (modulo c (2 ^ 32)))
 with_value here c (takes.La rd) v = pair here rd (takes_imm.OpImm Addi rd rd) v
 with_value here c (takes.Call link scratch) v = pair here scratch (takes_imm.Jalr link scratch) v
 with_value here c (takes.LoadFrom op rd) v = pair here rd (takes_imm.Load op rd rd) v
-with_value here c (takes.StoreTo width source scratch) v = pair here scratch (takes_imm.Store width source scratch) v
+with_value here c (takes.StoreTo width source scratch) v =
+    pair here scratch (takes_imm.Store width source scratch) v
 with_value here c taker v = Ok []
 
 -- the instructions of a statement at an address; none if it isn't assembled to instructions
@@ -112,7 +115,8 @@ values_of value (e ∷ es) = elim (value e) as (λ _. Result (List ℤ) FaultKin
 
 abbrev pub data_bytes : Width → List ℤ → Result (List ℕ) FaultKind
 data_bytes width [] = Ok []
-data_bytes width (v ∷ vs) = if fits width v then (data_bytes width vs >>= λ bs. Ok (value_bytes width v ++ bs)) else Err OutOfRange
+data_bytes width (v ∷ vs) =
+    if fits width v then (data_bytes width vs >>= λ bs. Ok (value_bytes width v ++ bs)) else Err OutOfRange
 
 -- the bytes of expressions, each in the same width
 abbrev pub sums_bytes : Valuation → Width → List (List Term) → Result (List ℕ) FaultKind
@@ -142,7 +146,10 @@ multiple_of statement c = 1
 unfoldable pub statement_bytes : Valuation → ℕ → ℤ → Statement → Result (List ℕ) FaultKind
 statement_bytes value here c (s.Data width es) = sums_bytes value width es
 statement_bytes value here c (s.Bytes bs) = Ok bs
-statement_bytes value here c (s.Space size fill) = fill_of value fill >>= λ b. Ok (replicate (modulo c (2 ^ 32)) b)
-statement_bytes value here c (s.WithValue takes.Align power) = Ok (padding here (gap here (multiple_of (s.WithValue takes.Align power) c)))
-statement_bytes value here c (s.WithValue takes.Balign multiple) = Ok (padding here (gap here (multiple_of (s.WithValue takes.Balign multiple) c)))
+statement_bytes value here c (s.Space size fill) =
+    fill_of value fill >>= λ b. Ok (replicate (modulo c (2 ^ 32)) b)
+statement_bytes value here c (s.WithValue takes.Align power) =
+    Ok (padding here (gap here (multiple_of (s.WithValue takes.Align power) c)))
+statement_bytes value here c (s.WithValue takes.Balign multiple) =
+    Ok (padding here (gap here (multiple_of (s.WithValue takes.Balign multiple) c)))
 statement_bytes value here c statement = instructions value here c statement >>= λ kinds. Ok (bytes kinds)

@@ -29,7 +29,8 @@ pub record Item : Type 0 where
 
 -- the statement of a line with this text, if it can be read and has one
 abbrev pub statement_in : List ℕ → Option Statement
-statement_in text = elim (said text) as (λ _. Option Statement) [ Ok line ↦ line.statement | Err fault ↦ None ]
+statement_in text =
+    elim (said text) as (λ _. Option Statement) [ Ok line ↦ line.statement | Err fault ↦ None ]
 
 -- the same, with a marker, which has no bytes, for a line without a statement
 abbrev pub stated_in : List ℕ → Statement
@@ -51,7 +52,13 @@ size_in here c statement = size_of here c statement
 unfoldable pub placed : ℕ → Known → Statement → Result Item FaultKind
 placed k known statement = elim (statement_fault k known statement) as (λ _. Result Item FaultKind) [
   | Some kind ↦ Err kind
-  | None ↦ Ok (record { line = k; address = known.address; constant = unwrap_or (constant_of k known statement) (pos 0); statement = statement })
+  | None ↦ Ok (record {
+    line = k;
+    address = known.address;
+    constant =
+        unwrap_or (constant_of k known statement) (pos 0);
+    statement = statement;
+  })
 ]
 
 -- the address following the largest image
@@ -73,7 +80,8 @@ definition_in item = option_map (λ name. (name, item.constant)) (name_in item.s
 
 -- the bytes of an item, once all symbols are known
 abbrev pub item_bytes : Definitions → Item → Result (List ℕ) FaultKind
-item_bytes ds item = statement_bytes (sum_value ds item.line item.address) item.address item.constant item.statement
+item_bytes ds item =
+    statement_bytes (sum_value ds item.line item.address) item.address item.constant item.statement
 
 -- the item is this instruction, whatever symbols are defined
 abbrev pub IsAlways : Item → Kind → Type 0
@@ -94,7 +102,8 @@ run step s (x ∷ xs) = step s x >>= λ t. run step t xs
 -- with a label of line k; DuplicateSymbol if its name is already defined
 unfoldable pub newly_labelled : ℕ → Known → Label → Result Known FaultKind
 newly_labelled k known (label.Name name) =
-    if is_some (value_of known.definitions.names name) then Err DuplicateSymbol else Ok (labelled k known (label.Name name))
+    if is_some (value_of known.definitions.names name) then Err DuplicateSymbol
+    else Ok (labelled k known (label.Name name))
 newly_labelled k known (label.Local number) = Ok (labelled k known (label.Local number))
 
 abbrev pub all_labelled : ℕ → Known → List Label → Result Known FaultKind
@@ -102,7 +111,8 @@ all_labelled k known labels = run (newly_labelled k) known labels
 
 -- the state after a statement of line k, and its item, or its fault in phase two
 unfoldable pub newly_stated : ℕ → Known → Statement → Result (Known × Item) FaultKind
-newly_stated k known statement = placed k known statement >>= λ item. Ok (stated known item.constant statement, item)
+newly_stated k known statement =
+    placed k known statement >>= λ item. Ok (stated known item.constant statement, item)
 
 -- the state after some lines, and their items
 pub record State : Type 0 where
@@ -114,11 +124,13 @@ laid known items = record { known = known; items = items }
 
 abbrev pub after_statement : ℕ → Known → List Item → Option Statement → Result State FaultKind
 after_statement k known items None = Ok (laid known items)
-after_statement k known items (Some statement) = newly_stated k known statement >>= λ p. Ok (laid p.0 (items ++ p.1 ∷ []))
+after_statement k known items (Some statement) =
+    newly_stated k known statement >>= λ p. Ok (laid p.0 (items ++ p.1 ∷ []))
 
 -- with one more line, which is line k
 unfoldable pub after_line : ℕ → State → Said → Result State FaultKind
-after_line k s line = all_labelled k s.known line.labels >>= λ known. after_statement k known s.items line.statement
+after_line k s line =
+    all_labelled k s.known line.labels >>= λ known. after_statement k known s.items line.statement
 
 -- ---- the first two phases
 
@@ -137,7 +149,13 @@ item_at lines k =
     let known = known_at lines k in
     elim (line_at lines k).statement as (λ _. List Item) [
       | None ↦ []
-      | Some statement ↦ record { line = k; address = known.address; constant = unwrap_or (constant_of k known statement) (pos 0); statement = statement } ∷ []
+      | Some statement ↦ record {
+        line = k;
+        address = known.address;
+        constant =
+            unwrap_or (constant_of k known statement) (pos 0);
+        statement = statement;
+      } ∷ []
     ]
 
 -- the state after n lines
@@ -154,7 +172,8 @@ extended k line m = m >>= λ s. at_line k (after_line k s line)
 
 -- the state after all lines of a source, or its first fault in the first two phases
 unfoldable pub lines_laid_out : List (List ℕ) → Result State AsmFault
-lines_laid_out texts = unless (first_fault (phase_one_fault texts) (length texts)) (laid_out (all_said texts) (length texts))
+lines_laid_out texts =
+    unless (first_fault (phase_one_fault texts) (length texts)) (laid_out (all_said texts) (length texts))
 
 -- ---- the third phase
 

@@ -26,7 +26,8 @@ nearest_after (d ∷ ds) number line =
 abbrev pub nearest_before : List LocalLabel → ℕ → ℕ → Option ℕ
 nearest_before [] number line = None
 nearest_before (d ∷ ds) number line =
-    option_or (nearest_before ds number line) (if (d.number == number) && nat_le d.line line then Some d.address else None)
+    option_or (nearest_before ds number line) (if (d.number == number) && nat_le d.line line
+    then Some d.address else None)
 
 abbrev pub nearest : List LocalLabel → ℕ → ℕ → Direction → Option ℕ
 nearest labels number line Backward = nearest_before labels number line
@@ -36,7 +37,8 @@ nearest labels number line Forward = nearest_after labels number line
 abbrev pub atom_value : Definitions → ℕ → ℕ → Atom → Option ℤ
 atom_value ds line here (Number n) = Some (pos n)
 atom_value ds line here (Symbol name) = value_of ds.names name
-atom_value ds line here (Local number direction) = option_map (λ a. pos a) (nearest ds.locals number line direction)
+atom_value ds line here (Local number direction) =
+    option_map (λ a. pos a) (nearest ds.locals number line direction)
 atom_value ds line here Here = Some (pos here)
 
 -- a value added to a sum, or subtracted from it
@@ -47,4 +49,5 @@ added sum negative v = if negative then sum -ℤ v else sum +ℤ v
 unfoldable pub sum_value : Definitions → ℕ → ℕ → List Term → Option ℤ
 sum_value ds line here [] = Some (pos 0)
 sum_value ds line here (t ∷ ts) =
-    option_and_then (λ v. option_map (λ w. added w t.negative v) (sum_value ds line here ts)) (atom_value ds line here t.atom)
+    option_and_then (λ v. option_map (λ w. added w t.negative v) (sum_value ds line here ts))
+    (atom_value ds line here t.atom)

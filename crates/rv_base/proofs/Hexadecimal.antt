@@ -15,47 +15,60 @@ unfolding digits
 whole n = refl
 
 spell_last : (k n : ℕ) (acc : List ℕ) → n < 16 → spell (suc k) n acc ≡ last_glyph n ∷ acc
-spell_last k n acc h = ap (λ t. cond t (last_glyph n ∷ acc) (spell k (n / 16) (last_glyph n ∷ acc))) (eq-eqb (n / 16) 0 (omega arith))
+spell_last k n acc h = ap (λ t. cond t (last_glyph n ∷ acc) (spell k (n / 16) (last_glyph n ∷ acc)))
+    (eq-eqb (n / 16) 0 (omega arith))
 
 spell_next : (k n : ℕ) (acc : List ℕ) → 16 ≤ n → spell (suc k) n acc ≡ spell k (n / 16) (last_glyph n ∷ acc)
-spell_next k n acc h = ap (λ t. cond t (last_glyph n ∷ acc) (spell k (n / 16) (last_glyph n ∷ acc))) (ne_eqb (n / 16) 0 (λ e. omega arith))
+spell_next k n acc h = ap (λ t. cond t (last_glyph n ∷ acc) (spell k (n / 16) (last_glyph n ∷ acc)))
+    (ne_eqb (n / 16) 0 (λ e. omega arith))
 
 -- what stands behind the digits
 spell_append : (k n : ℕ) (acc : List ℕ) → spell k n acc ≡ spell k n [] ++ acc
 spell_append zero n acc = refl
 spell_append (suc k) n acc = ⊎_elim
     (λ l. spell_last k n acc l ∙ ap (λ x. x ++ acc) (sym (spell_last k n [] l)))
-    (λ l. spell_next k n acc l ∙ spell_append k (n / 16) (last_glyph n ∷ acc) ∙ sym (append_assoc (spell k (n / 16) []) (last_glyph n ∷ []) acc)
+    (λ l. spell_next k n acc l ∙ spell_append k (n / 16) (last_glyph n ∷ acc)
+    ∙ sym (append_assoc (spell k (n / 16) []) (last_glyph n ∷ []) acc)
     ∙ ap (λ x. x ++ acc) (sym (spell_next k n [] l ∙ spell_append k (n / 16) (last_glyph n ∷ []))))
     (cases_lt n 16)
 
 -- any number of places is as good as another, if there are enough
-spell_enough : (j k n : ℕ) (acc : List ℕ) → n < 16 ^ suc j → n < 16 ^ suc k → spell (suc j) n acc ≡ spell (suc k) n acc
+spell_enough : (j k n : ℕ) (acc : List ℕ) → n < 16 ^ suc j → n < 16 ^ suc k →
+    spell (suc j) n acc ≡ spell (suc k) n acc
 spell_enough zero k n acc p q = spell_last zero n acc (omega arith) ∙ sym (spell_last k n acc (omega arith))
-spell_enough (suc j) zero n acc p q = spell_last (suc j) n acc (omega arith) ∙ sym (spell_last zero n acc (omega arith))
+spell_enough (suc j) zero n acc p q =
+    spell_last (suc j) n acc (omega arith) ∙ sym (spell_last zero n acc (omega arith))
 spell_enough (suc j) (suc k) n acc p q = ⊎_elim
     (λ l. spell_last (suc j) n acc l ∙ sym (spell_last (suc k) n acc l))
-    (λ l. spell_next (suc j) n acc l ∙ spell_enough j k (n / 16) (last_glyph n ∷ acc) (omega arith) (omega arith) ∙ sym (spell_next (suc k) n acc l))
+    (λ l. spell_next (suc j) n acc l ∙ spell_enough j k (n / 16) (last_glyph n ∷ acc) (omega arith)
+    (omega arith) ∙ sym (spell_next (suc k) n acc l))
     (cases_lt n 16)
 
 pub hex_one : (n : ℕ) → n < 16 → digits 16 false n ≡ last_glyph n ∷ []
 hex_one n h = whole n ∙ spell_last 63 n [] h
 
-pub hex_more : (n : ℕ) → 16 ≤ n → n < 2 ^ 32 → digits 16 false n ≡ digits 16 false (n / 16) ++ last_glyph n ∷ []
+pub hex_more : (n : ℕ) → 16 ≤ n → n < 2 ^ 32 → digits 16 false n ≡ digits 16 false (n / 16) ++ last_glyph n
+    ∷ []
 hex_more n h small =
-    whole n ∙ spell_next 63 n [] h ∙ spell_enough 62 63 (n / 16) (last_glyph n ∷ []) (omega arith) (omega arith) ∙ spell_append 64 (n / 16) (last_glyph n ∷ [])
+    whole n ∙ spell_next 63 n [] h ∙ spell_enough 62 63 (n / 16) (last_glyph n ∷ []) (omega arith)
+    (omega arith) ∙ spell_append 64 (n / 16) (last_glyph n ∷ [])
     ∙ ap (λ x. x ++ last_glyph n ∷ []) (sym (whole (n / 16)))
 
 -- the same behind a text, one at a time
-pub more_behind : (text longer : List ℕ) (n : ℕ) → 16 ≤ n → n < 2 ^ 32 → longer ≡ text ++ digits 16 false (n / 16) → text ++ digits 16 false n ≡ longer ++ last_glyph n ∷ []
+pub more_behind : (text longer : List ℕ) (n : ℕ) → 16 ≤ n → n < 2 ^ 32 →
+    longer ≡ text ++ digits 16 false (n / 16) → text ++ digits 16 false n ≡ longer ++ last_glyph n ∷ []
 more_behind text longer n h small is =
-    ap (λ x. text ++ x) (hex_more n h small) ∙ sym (append_assoc text (digits 16 false (n / 16)) (last_glyph n ∷ [])) ∙ ap (λ x. x ++ last_glyph n ∷ []) (sym is)
+    ap (λ x. text ++ x) (hex_more n h small) ∙ sym
+    (append_assoc text (digits 16 false (n / 16)) (last_glyph n ∷ []))
+    ∙ ap (λ x. x ++ last_glyph n ∷ []) (sym is)
 
 pub one_long : (n : ℕ) → n < 16 → length (digits 16 false n) ≡ 1
 one_long n h = ap length (hex_one n h)
 
-pub one_longer : (n : ℕ) → 16 ≤ n → n < 2 ^ 32 → length (digits 16 false n) ≡ length (digits 16 false (n / 16)) + 1
-one_longer n h small = ap length (hex_more n h small) ∙ length-append (digits 16 false (n / 16)) (last_glyph n ∷ [])
+pub one_longer : (n : ℕ) → 16 ≤ n → n < 2 ^ 32 → length (digits 16 false n)
+    ≡ length (digits 16 false (n / 16)) + 1
+one_longer n h small =
+    ap length (hex_more n h small) ∙ length-append (digits 16 false (n / 16)) (last_glyph n ∷ [])
 
 -- a number below 16 ^ k has at most k digits
 pub hex_length : (k n : ℕ) → n < 16 ^ suc k → n < 2 ^ 32 → length (digits 16 false n) ≤ suc k

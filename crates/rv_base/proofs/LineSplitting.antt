@@ -11,38 +11,46 @@ use Rattle.rv_base.specs.Lines.{split, with_byte, without_return, lines}
 abbrev pub until_feed : List ℕ → ℕ
 until_feed s = position_or_len (λ b. b == 10) s
 
-with_byte_front : (b : ℕ) (bs : List ℕ) → ((0 < length bs) → split bs ≡ take (until_feed bs) bs ∷ split (drop 1 (drop (until_feed bs) bs)))
+with_byte_front : (b : ℕ) (bs : List ℕ) → ((0 < length bs) →
+    split bs ≡ take (until_feed bs) bs ∷ split (drop 1 (drop (until_feed bs) bs)))
     → with_byte b (split bs) ≡ (b ∷ take (until_feed bs) bs) ∷ split (drop 1 (drop (until_feed bs) bs))
 unfolding split
 with_byte_front b [] h = refl
 with_byte_front b (c ∷ bs) h = ap (with_byte b) (h (omega arith))
 
-split_step : (b : ℕ) (bs : List ℕ) (t : Bool) → (b == 10) ≡ t → (0 < length bs → split bs ≡ take (until_feed bs) bs ∷ split (drop 1 (drop (until_feed bs) bs)))
-    → split (b ∷ bs) ≡ take (until_feed (b ∷ bs)) (b ∷ bs) ∷ split (drop 1 (drop (until_feed (b ∷ bs)) (b ∷ bs)))
+split_step : (b : ℕ) (bs : List ℕ) (t : Bool) → (b == 10) ≡ t →
+    (0 < length bs → split bs ≡ take (until_feed bs) bs ∷ split (drop 1 (drop (until_feed bs) bs)))
+    → split (b ∷ bs) ≡ take (until_feed (b ∷ bs)) (b ∷ bs)
+    ∷ split (drop 1 (drop (until_feed (b ∷ bs)) (b ∷ bs)))
 unfolding split
 split_step b bs true e h = rw e refl
 split_step b bs false e h = rw (e, one-add) (with_byte_front b bs h)
 
-pub split_front : (s : List ℕ) → 0 < length s → split s ≡ take (until_feed s) s ∷ split (drop 1 (drop (until_feed s) s))
+pub split_front : (s : List ℕ) → 0 < length s → split s ≡ take (until_feed s) s
+    ∷ split (drop 1 (drop (until_feed s) s))
 split_front [] h = absurd (omega arith)
 split_front (b ∷ bs) h = split_step b bs (b == 10) refl (split_front bs)
 
-at_feed : (s : List ℕ) (n : ℕ) (t : Bool) → nat_lt (until_feed s) (length s) ≡ t → cond t (Some (until_feed s)) None ≡ Some n → n ≡ until_feed s
+at_feed : (s : List ℕ) (n : ℕ) (t : Bool) → nat_lt (until_feed s) (length s) ≡ t →
+    cond t (Some (until_feed s)) None ≡ Some n → n ≡ until_feed s
 at_feed s n true e h = cc
 at_feed s n false e h = cc
 
-at_end : (s : List ℕ) (t : Bool) → nat_lt (until_feed s) (length s) ≡ t → cond t (Some (until_feed s)) None ≡ None → length s ≤ until_feed s
+at_end : (s : List ℕ) (t : Bool) → nat_lt (until_feed s) (length s) ≡ t →
+    cond t (Some (until_feed s)) None ≡ None → length s ≤ until_feed s
 at_end s true e h = cc
 at_end s false e h = grind (arith, nat_tests)
 
 -- a text with a LF
-pub lines_feed : (s : List ℕ) (n : ℕ) → 0 < length s → Some n ≡ position (λ b. b == 10) s → lines s ≡ without_return (take n s) ∷ lines (drop 1 (drop n s))
+pub lines_feed : (s : List ℕ) (n : ℕ) → 0 < length s → Some n ≡ position (λ b. b == 10) s →
+    lines s ≡ without_return (take n s) ∷ lines (drop 1 (drop n s))
 lines_feed s n h e =
     let is = at_feed s n (nat_lt (until_feed s) (length s)) refl (sym e) in
     rw is (rw (split_front s h) refl)
 
 -- a text without one
-pub lines_last : (s : List ℕ) → 0 < length s → None ≡ position (λ b. b == 10) s → lines s ≡ without_return s ∷ lines []
+pub lines_last : (s : List ℕ) → 0 < length s → None ≡ position (λ b. b == 10) s →
+    lines s ≡ without_return s ∷ lines []
 unfolding split
 lines_last s h e =
     let past = at_end s (nat_lt (until_feed s) (length s)) refl (sym e) in
@@ -60,7 +68,8 @@ with_byte_length : (b : ℕ) (ls : List (List ℕ)) → length (with_byte b ls) 
 with_byte_length b [] = omega arith
 with_byte_length b (l ∷ ls) = omega arith
 
-split_step_length : (b : ℕ) (bs : List ℕ) (t : Bool) → length (split bs) ≤ length bs → length (cond t ([] ∷ split bs) (with_byte b (split bs))) ≤ suc (length bs)
+split_step_length : (b : ℕ) (bs : List ℕ) (t : Bool) → length (split bs) ≤ length bs →
+    length (cond t ([] ∷ split bs) (with_byte b (split bs))) ≤ suc (length bs)
 split_step_length b bs true h = omega (arith, h)
 split_step_length b bs false h = omega (arith, h, with_byte_length b (split bs))
 

@@ -26,5 +26,6 @@ hex_digit b =
 
 -- two hexadecimal digits
 unfoldable pub byte_of : List ℕ → Option ℕ
-byte_of (high ∷ low ∷ []) = option_and_then (λ h. option_map (λ l. 16 * h + l) (hex_digit low)) (hex_digit high)
+byte_of (high ∷ low ∷ []) =
+    option_and_then (λ h. option_map (λ l. 16 * h + l) (hex_digit low)) (hex_digit high)
 byte_of _ = None

@@ -30,7 +30,8 @@ with_ram b ram = record b { ram = ram }
 
 word_devices : (P : Location → Type 0) (a : ℕ) (x y z : Bool) → P Halt → P (Timer (a - 0x02000000))
     → P (Plic (a - 0x0c000000)) → P Nowhere
-    → P (if x then Halt else (if y then Timer (a - 0x02000000) else (if z then Plic (a - 0x0c000000) else Nowhere)))
+    → P (if x then Halt else (if y then Timer (a - 0x02000000)
+    else (if z then Plic (a - 0x0c000000) else Nowhere)))
 word_devices P a true y z halt timer plic nowhere = halt
 word_devices P a false true z halt timer plic nowhere = timer
 word_devices P a false false true halt timer plic nowhere = plic
@@ -57,13 +58,16 @@ pub each_location : (P : Location → Type 0) (size a : ℕ) (w : Width)
     → P (location_of size a w)
 unfolding location_of
 each_location P size a w ram halt timer plic serial nowhere =
-    memory_or P (nat_le ram_base a) (nat_lt (a - ram_base) size) (a - ram_base) (device_of a w) (λ t. ram (leb-true ram_base a t)) nowhere
+    memory_or P (nat_le ram_base a) (nat_lt (a - ram_base) size) (a - ram_base) (device_of a w)
+    (λ t. ram (leb-true ram_base a t)) nowhere
     (serial_or P (a == 0x10000000) (a == 0x10000004) (a == 0x10000008) (of_width a w) serial (by_width w))
   where
     by_width : (v : Width) → P (of_width a v)
     by_width One = nowhere
     by_width Two = nowhere
-    by_width Four = word_devices P a (a == 0x00100000) (nat_le 0x02000000 a && nat_lt a 0x0200c000) (nat_le 0x0c000000 a && nat_lt a 0x10000000) halt (timer (a - 0x02000000)) (plic (a - 0x0c000000)) nowhere
+    by_width Four = word_devices P a (a == 0x00100000) (nat_le 0x02000000 a && nat_lt a 0x0200c000)
+        (nat_le 0x0c000000 a && nat_lt a 0x10000000) halt (timer (a - 0x02000000))
+        (plic (a - 0x0c000000)) nowhere
 
 -- ---- the bytes of an access
 
@@ -100,7 +104,8 @@ unfolding load
 same_load b ram a w size same =
     ap (λ n. load_at (with_ram b ram) (location_of n a w) w) size
     ∙ each_location (λ p. load_at (with_ram b ram) p w ≡ load_at b p w) (length b.ram) a w
-    (λ above. ap Some (same_value b.ram ram (a - ram_base) w (same above))) refl (λ off. refl) (λ off. refl) (λ reg. refl) refl
+    (λ above. ap Some (same_value b.ram ram (a - ram_base) w (same above))) refl (λ off. refl) (λ off. refl)
+    (λ reg. refl) refl
 
 -- the devices after a load don't depend on the memory
 pub same_after_load : (b : BusState) (ram : List ℕ) (a : ℕ) (w : Width) → length ram ≡ length b.ram
@@ -108,13 +113,15 @@ pub same_after_load : (b : BusState) (ram : List ℕ) (a : ℕ) (w : Width) → 
 unfolding after_load
 same_after_load b ram a w size =
     ap (λ n. after_load_at (with_ram b ram) (location_of n a w)) size
-    ∙ each_location (λ p. after_load_at (with_ram b ram) p ≡ with_ram (after_load_at b p) ram) (length b.ram) a w
+    ∙ each_location (λ p. after_load_at (with_ram b ram) p ≡ with_ram (after_load_at b p) ram)
+    (length b.ram) a w
     (λ above. refl) refl (λ off. refl) (λ off. refl) (λ reg. refl) refl
 
 pub memory_after_load : (b : BusState) (a : ℕ) (w : Width) → (after_load b a w).ram ≡ b.ram
 unfolding after_load
 memory_after_load b a w =
-    each_location (λ p. (after_load_at b p).ram ≡ b.ram) (length b.ram) a w (λ above. refl) refl (λ off. refl) (λ off. refl) (λ reg. refl) refl
+    each_location (λ p. (after_load_at b p).ram ≡ b.ram) (length b.ram) a w (λ above. refl) refl (λ off. refl)
+    (λ off. refl) (λ reg. refl) refl
 
 pub same_fetch : (one other : List ℕ) (a : ℕ) → length other ≡ length one
     → (ram_base ≤ a → SameBytes one other (a - ram_base) 4) → fetch other a ≡ fetch one a
@@ -122,7 +129,8 @@ unfolding fetch
 same_fetch one other a size same =
     ap (λ n. word_of other (location_of n a Four)) size
     ∙ each_location (λ p. word_of other p ≡ word_of one p) (length one) a Four
-    (λ above. ap Some (same_value one other (a - ram_base) Four (same above))) refl (λ off. refl) (λ off. refl) (λ reg. refl) refl
+    (λ above. ap Some (same_value one other (a - ram_base) Four (same above))) refl (λ off. refl)
+    (λ off. refl) (λ reg. refl) refl
 
 -- ---- stores
 
@@ -132,8 +140,10 @@ same_set : (one other : List ℕ) (i v k : ℕ) → length other ≡ length one
 same_set one other i v k size same =
     elim (cases_eq k i) [
       | inl here ↦ elim (cases_lt i (length one)) [
-        | inl within ↦ get_or-set_at other i k v 0 here (omega arith) ∙ sym (get_or-set_at one i k v 0 here within)
-        | inr beyond ↦ ap (λ (bs : List ℕ). slice_index bs k) (set_past other i v (omega arith)) ∙ (same ∙ sym (ap (λ (bs : List ℕ). slice_index bs k) (set_past one i v beyond)))
+        | inl within ↦
+            get_or-set_at other i k v 0 here (omega arith) ∙ sym (get_or-set_at one i k v 0 here within)
+        | inr beyond ↦ ap (λ (bs : List ℕ). slice_index bs k) (set_past other i v (omega arith))
+            ∙ (same ∙ sym (ap (λ (bs : List ℕ). slice_index bs k) (set_past one i v beyond)))
       ]
       | inr away ↦ get_or-set_other other i k v 0 away ∙ (same ∙ sym (get_or-set_other one i k v 0 away))
     ]
@@ -151,8 +161,11 @@ same_put one other off v k Two size same =
     same_set _ _ (off + 1) (v / 256 % 256) k size1 (same_set one other off (v % 256) k size same)
 same_put one other off v k Four size same =
     let size1 = length_set other off (v % 256) ∙ (size ∙ sym (length_set one off (v % 256))) in
-    let size2 = length_set (slice_set other off (v % 256)) (off + 1) (v / 256 % 256) ∙ (size1 ∙ sym (length_set (slice_set one off (v % 256)) (off + 1) (v / 256 % 256))) in
-    let size3 = length_set (slice_set (slice_set other off (v % 256)) (off + 1) (v / 256 % 256)) (off + 2) (v / 65536 % 256) ∙ (size2 ∙ sym (length_set (slice_set (slice_set one off (v % 256)) (off + 1) (v / 256 % 256)) (off + 2) (v / 65536 % 256))) in
+    let size2 = length_set (slice_set other off (v % 256)) (off + 1) (v / 256 % 256)
+    ∙ (size1 ∙ sym (length_set (slice_set one off (v % 256)) (off + 1) (v / 256 % 256))) in
+    let size3 = length_set (slice_set (slice_set other off (v % 256)) (off + 1) (v / 256 % 256)) (off + 2)
+    (v / 65536 % 256) ∙ (size2 ∙ sym (length_set
+    (slice_set (slice_set one off (v % 256)) (off + 1) (v / 256 % 256)) (off + 2) (v / 65536 % 256))) in
     same_set _ _ (off + 3) (v / 16777216) k size3
     (same_set _ _ (off + 2) (v / 65536 % 256) k size2
     (same_set _ _ (off + 1) (v / 256 % 256) k size1 (same_set one other off (v % 256) k size same)))
@@ -186,7 +199,8 @@ device_store b ram a w one size still = record {
 }
 
 memory_store : (b : BusState) (ram : List ℕ) (a v : ℕ) (w : Width) → length ram ≡ length b.ram → ram_base ≤ a
-    → StoresAlike b ram a w (record b { ram = put b.ram (a - ram_base) w v }) (record b { ram = put ram (a - ram_base) w v })
+    → StoresAlike b ram a w (record b { ram = put b.ram (a - ram_base) w v })
+    (record b { ram = put ram (a - ram_base) w v })
 memory_store b ram a v w size above = record {
   rest = refl;
   size = length-put b.ram (a - ram_base) v w;
@@ -197,7 +211,8 @@ memory_store b ram a v w size above = record {
 
 timer_store : (b : BusState) (ram : List ℕ) (a : ℕ) (w : Width) (t : Option TimerState)
     → length ram ≡ length b.ram
-    → BothStore b ram a w (option_map (λ t. record b { timer = t }) t) (option_map (λ t. record (with_ram b ram) { timer = t }) t)
+    → BothStore b ram a w (option_map (λ t. record b { timer = t }) t)
+    (option_map (λ t. record (with_ram b ram) { timer = t }) t)
 timer_store b ram a w None size = tt
 timer_store b ram a w (Some t) size = device_store b ram a w (record b { timer = t }) size refl
 
@@ -205,8 +220,10 @@ pub same_store : (b : BusState) (ram : List ℕ) (a v : ℕ) (w : Width) → len
     → BothStore b ram a w (store b a w v) (store (with_ram b ram) a w v)
 unfolding store
 same_store b ram a v w size =
-    subst (λ n. BothStore b ram a w (store_at b (location_of (length b.ram) a w) w v) (store_at (with_ram b ram) (location_of n a w) w v)) (sym size)
-    (each_location (λ p. BothStore b ram a w (store_at b p w v) (store_at (with_ram b ram) p w v)) (length b.ram) a w
+    subst (λ n. BothStore b ram a w (store_at b (location_of (length b.ram) a w) w v)
+    (store_at (with_ram b ram) (location_of n a w) w v)) (sym size)
+    (each_location (λ p. BothStore b ram a w (store_at b p w v) (store_at (with_ram b ram) p w v))
+    (length b.ram) a w
     (λ above. memory_store b ram a v w size above)
     (device_store b ram a w _ size refl)
     (λ off. timer_store b ram a w (timer.store b.timer off v) size)
@@ -220,11 +237,13 @@ pub same_byte : (one other : List ℕ) (a : ℕ) → length other ≡ length one
     → (ram_base ≤ a → slice_index other (a - ram_base) ≡ slice_index one (a - ram_base))
     → ram_byte other a ≡ ram_byte one a
 same_byte one other a size same =
-    ap (λ n. if nat_le ram_base a && nat_lt (a - ram_base) n then Some (slice_index other (a - ram_base)) else None) size
+    ap (λ n. if nat_le ram_base a && nat_lt (a - ram_base) n then Some (slice_index other (a - ram_base))
+    else None) size
     ∙ by_tests (nat_le ram_base a) (nat_lt (a - ram_base) (length one)) (λ t. same (leb-true ram_base a t))
   where
     by_tests : (x y : Bool) → (x ≡ true → slice_index other (a - ram_base) ≡ slice_index one (a - ram_base))
-        → (if x && y then Some (slice_index other (a - ram_base)) else None) ≡ (if x && y then Some (slice_index one (a - ram_base)) else None)
+        → (if x && y then Some (slice_index other (a - ram_base)) else None)
+        ≡ (if x && y then Some (slice_index one (a - ram_base)) else None)
     by_tests true true e = ap Some (e refl)
     by_tests true false e = refl
     by_tests false y e = refl
@@ -242,7 +261,8 @@ byte_same one other k size same = by_tests (nat_lt k (length one)) refl
 
     by_tests : (x : Bool) → nat_lt k (length one) ≡ x → slice_index other k ≡ slice_index one k
     by_tests true t =
-        let is : Some (slice_index other k) ≡ Some (slice_index one k) = sym (at_byte other (ap (nat_lt k) size ∙ t)) ∙ (same ∙ at_byte one t) in
+        let is : Some (slice_index other k) ≡ Some (slice_index one k) =
+        sym (at_byte other (ap (nat_lt k) size ∙ t)) ∙ (same ∙ at_byte one t) in
         cc
     by_tests false t =
         let high : length one ≤ k = ltb-false k (length one) t in

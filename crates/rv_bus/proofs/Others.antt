@@ -23,7 +23,8 @@ byte-put bs off v j One n = other bs off _ j (λ e. n 0 (omega arith) (omega ari
 byte-put bs off v j Two n =
     other _ (off + 1) _ j (n 1 (omega arith)) ∙ other bs off _ j (λ e. n 0 (omega arith) (omega arith))
 byte-put bs off v j Four n =
-    other _ (off + 3) _ j (n 3 (omega arith)) ∙ other _ (off + 2) _ j (n 2 (omega arith)) ∙ other _ (off + 1) _ j (n 1 (omega arith)) ∙ other bs off _ j (λ e. n 0 (omega arith) (omega arith))
+    other _ (off + 3) _ j (n 3 (omega arith)) ∙ other _ (off + 2) _ j (n 2 (omega arith))
+    ∙ other _ (off + 1) _ j (n 1 (omega arith)) ∙ other bs off _ j (λ e. n 0 (omega arith) (omega arith))
 
 word-put : (bs : List ℕ) (off v k : ℕ) (w : Width)
     → ((j : ℕ) → j < 4 → (i : ℕ) → i < bytes_of w → k + j ≢ off + i)
@@ -55,19 +56,23 @@ none_if xs false p q h k = k
 -- no word can be fetched from a device
 none_word_device : (xs : List ℕ) (a : ℕ) → word_of xs (word_device a) ≡ None
 none_word_device xs a =
-    let plic_or_nowhere : Location = if nat_le 0x0c000000 a && nat_lt a 0x10000000 then Plic (a - 0x0c000000) else Nowhere in
-    none_if xs (a == 0x00100000) Halt (if nat_le 0x02000000 a && nat_lt a 0x0200c000 then Timer (a - 0x02000000) else plic_or_nowhere) refl
+    let plic_or_nowhere : Location =
+    if nat_le 0x0c000000 a && nat_lt a 0x10000000 then Plic (a - 0x0c000000) else Nowhere in
+    none_if xs (a == 0x00100000) Halt (if nat_le 0x02000000 a && nat_lt a 0x0200c000
+    then Timer (a - 0x02000000) else plic_or_nowhere) refl
     (none_if xs (nat_le 0x02000000 a && nat_lt a 0x0200c000) (Timer (a - 0x02000000)) plic_or_nowhere refl
     (none_if xs (nat_le 0x0c000000 a && nat_lt a 0x10000000) (Plic (a - 0x0c000000)) Nowhere refl refl))
 
 none_device : (xs : List ℕ) (a : ℕ) → word_of xs (device_of a Four) ≡ None
 none_device xs a =
-    none_if xs (a == 0x10000000) (Serial Tx) (if a == 0x10000004 then Serial Rx else (if a == 0x10000008 then Serial Status else word_device a)) refl
+    none_if xs (a == 0x10000000) (Serial Tx) (if a == 0x10000004 then Serial Rx
+    else (if a == 0x10000008 then Serial Status else word_device a)) refl
     (none_if xs (a == 0x10000004) (Serial Rx) (if a == 0x10000008 then Serial Status else word_device a) refl
     (none_if xs (a == 0x10000008) (Serial Status) (word_device a) refl (none_word_device xs a)))
 
 same_place : (xs ys : List ℕ) (b c : Bool) (k a : ℕ) → (b ≡ true → word_at xs k ≡ word_at ys k)
-    → word_of xs (if b then (if c then Ram k else Nowhere) else device_of a Four) ≡ word_of ys (if b then (if c then Ram k else Nowhere) else device_of a Four)
+    → word_of xs (if b then (if c then Ram k else Nowhere) else device_of a Four)
+    ≡ word_of ys (if b then (if c then Ram k else Nowhere) else device_of a Four)
 same_place xs ys true true k a h = ap Some (h refl)
 same_place xs ys true false k a h = refl
 same_place xs ys false c k a h = none_device xs a ∙ sym (none_device ys a)
@@ -78,6 +83,7 @@ pub fetch_put : (ram : List ℕ) (off addr a v : ℕ) (w : Width) → off % byte
 unfolding fetch location_of
 fetch_put ram off addr a v w al e s n =
     ap (λ len. word_of (put ram off w v) (location_of len a Four)) (length-put ram off v w)
-    ∙ same_place (put ram off w v) ram (nat_le ram_base a) (nat_lt (a - ram_base) (length ram)) (a - ram_base) a
+    ∙ same_place (put ram off w v) ram (nat_le ram_base a) (nat_lt (a - ram_base) (length ram))
+    (a - ram_base) a
     (λ t. let above : ram_base ≤ a = leb-true ram_base a t in
     word_at-put ram off v (a - ram_base) w al (omega arith) (λ q. n (omega arith)))

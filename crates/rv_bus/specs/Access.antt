@@ -93,7 +93,8 @@ fetch ram a = word_of ram (location_of (length ram) a Four)
 -- the byte of the memory at an address, if there is one
 abbrev pub ram_byte : List ℕ → ℕ → Option ℕ
 ram_byte ram a =
-    if nat_le ram_base a && nat_lt (a - ram_base) (length ram) then Some (slice_index ram (a - ram_base)) else None
+    if nat_le ram_base a && nat_lt (a - ram_base) (length ram) then Some (slice_index ram (a - ram_base))
+    else None
 
 -- the bus after a tick: time passes, and the gateways forward their requests
 abbrev pub ticked : BusState → BusState

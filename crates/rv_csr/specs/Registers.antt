@@ -72,7 +72,8 @@ flag word place = bit word place == 1
 -- mstatus: MIE in bit 3, MPIE in bit 7, MPP in bits 12 and 11, MPRV in bit 17, TW in bit 21
 unfoldable pub status_word : mstatus.Mstatus → ℕ
 status_word status =
-    truth status.interrupts * 2 ^ 3 + truth status.previous_interrupts * 2 ^ 7 + level status.previous_mode * 2 ^ 11
+    truth status.interrupts * 2 ^ 3 + truth status.previous_interrupts * 2 ^ 7
+    + level status.previous_mode * 2 ^ 11
     + truth status.modify_privilege * 2 ^ 17 + truth status.timeout_wait * 2 ^ 21
 
 -- the mode of a field of MPP, which keeps the old mode if the field is no mode

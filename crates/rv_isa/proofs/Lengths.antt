@@ -56,26 +56,63 @@ immediate_length (negsuc n) h = length_signed_le 4 (negsuc n) (omega arith) (ome
 
 branch_length : (z : ℤ) → IsWithin (2 ^ 12) z → length (target z) ≤ 6
 branch_length (pos n) h = omega (arith, length-decimal-le 4 n (omega arith) (omega arith) (omega arith))
-branch_length (negsuc n) h = omega (arith, length-decimal-le 4 (suc n) (omega arith) (omega arith) (omega arith))
+branch_length (negsuc n) h =
+    omega (arith, length-decimal-le 4 (suc n) (omega arith) (omega arith) (omega arith))
 
 jump_length : (z : ℤ) → IsWithin (2 ^ 20) z → length (target z) ≤ 9
 jump_length (pos n) h = omega (arith, length-decimal-le 7 n (omega arith) (omega arith) (omega arith))
-jump_length (negsuc n) h = omega (arith, length-decimal-le 7 (suc n) (omega arith) (omega arith) (omega arith))
+jump_length (negsuc n) h =
+    omega (arith, length-decimal-le 7 (suc n) (omega arith) (omega arith) (omega arith))
 
 -- ---- lines
 
 pub text_length : (k : Kind) → IsInRange k → length (text k) ≤ 19
 unfolding text
 text_length (Lui rd imm) r = simp length-append (omega (arith, register_length rd r.0, upper_length imm r.1))
-text_length (Auipc rd imm) r = simp length-append (omega (arith, register_length rd r.0, upper_length imm r.1))
-text_length (Jal rd offset) r = simp length-append (omega (arith, register_length rd r.0, jump_length offset r.1.0))
-text_length (Jalr rd base offset) r = simp length-append (omega (arith, register_length rd r.0, immediate_length offset r.2, register_length base r.1))
-text_length (Branch cond rs1 rs2 offset) r = simp length-append (omega (arith, cond_length cond, register_length rs1 r.0, register_length rs2 r.1, branch_length offset r.2.0))
-text_length (Load op rd base offset) r = simp length-append (omega (arith, load_length op, register_length rd r.0, immediate_length offset r.2, register_length base r.1))
-text_length (Store width source base offset) r = simp length-append (omega (arith, width_length width, register_length source r.0, immediate_length offset r.2, register_length base r.1))
-text_length (OpImm op rd rs1 imm) r = simp length-append (omega (arith, imm_op_length op, register_length rd r.0, register_length rs1 r.1, immediate_length imm r.2))
-text_length (Shift op rd rs1 amount) r = simp length-append (omega (arith, shift_length op, register_length rd r.0, register_length rs1 r.1, small_length amount r.2))
-text_length (Op op rd rs1 rs2) r = simp length-append (omega (arith, alu_length op, register_length rd r.0, register_length rs1 r.1, register_length rs2 r.2))
-text_length (Csr op rd rs1 csr) r = simp length-append (omega (arith, csr_op_length op, register_length rd r.0, register_length rs1 r.1, csr_length csr r.2))
-text_length (CsrImm op rd imm csr) r = simp length-append (omega (arith, csr_op_length op, register_length rd r.0, small_length imm r.1, csr_length csr r.2))
+text_length (Auipc rd imm) r =
+    simp length-append (omega (arith, register_length rd r.0, upper_length imm r.1))
+text_length (Jal rd offset) r =
+    simp length-append (omega (arith, register_length rd r.0, jump_length offset r.1.0))
+text_length (Jalr rd base offset) r = simp length-append
+    (omega (arith, register_length rd r.0, immediate_length offset r.2, register_length base r.1))
+text_length (Branch cond rs1 rs2 offset) r = simp length-append
+    (omega (
+      arith,
+      cond_length cond,
+      register_length rs1 r.0,
+      register_length rs2 r.1,
+      branch_length offset r.2.0,
+    ))
+text_length (Load op rd base offset) r = simp length-append
+    (omega (
+      arith,
+      load_length op,
+      register_length rd r.0,
+      immediate_length offset r.2,
+      register_length base r.1,
+    ))
+text_length (Store width source base offset) r = simp length-append
+    (omega (
+      arith,
+      width_length width,
+      register_length source r.0,
+      immediate_length offset r.2,
+      register_length base r.1,
+    ))
+text_length (OpImm op rd rs1 imm) r = simp length-append
+    (omega (
+      arith,
+      imm_op_length op,
+      register_length rd r.0,
+      register_length rs1 r.1,
+      immediate_length imm r.2,
+    ))
+text_length (Shift op rd rs1 amount) r = simp length-append
+    (omega (arith, shift_length op, register_length rd r.0, register_length rs1 r.1, small_length amount r.2))
+text_length (Op op rd rs1 rs2) r = simp length-append
+    (omega (arith, alu_length op, register_length rd r.0, register_length rs1 r.1, register_length rs2 r.2))
+text_length (Csr op rd rs1 csr) r = simp length-append
+    (omega (arith, csr_op_length op, register_length rd r.0, register_length rs1 r.1, csr_length csr r.2))
+text_length (CsrImm op rd imm csr) r = simp length-append
+    (omega (arith, csr_op_length op, register_length rd r.0, small_length imm r.1, csr_length csr r.2))
 text_length k r = omega arith

@@ -38,24 +38,32 @@ only-or : {A : Type 0} {P : A → Type 0} (a b : Option A) → Only P a → Only
 only-or None b p q = q
 only-or (Some x) b p q = record { holds = p.holds }
 
-only-below : {A : Type 0} {P : A → Type 0} (n : ℕ) (f : ℕ → Option A) → ((i : ℕ) → i < n → Only P (f i)) → Only P (first_below n f)
+only-below : {A : Type 0} {P : A → Type 0} (n : ℕ) (f : ℕ → Option A) → ((i : ℕ) → i < n → Only P (f i)) →
+    Only P (first_below n f)
 unfolding first_below
 only-below zero f h = record { holds = tt }
-only-below (suc n) f h = only-or _ _ (only-below n f (λ (i : ℕ) (below : i < n). h i (omega arith))) (h n (omega arith))
+only-below (suc n) f h =
+    only-or _ _ (only-below n f (λ (i : ℕ) (below : i < n). h i (omega arith))) (h n (omega arith))
 
-only-within : {A : Type 0} {P : A → Type 0} (n : ℕ) (f : ℤ → Option A) → ((z : ℤ) → IsWithin n z → Only P (f z)) → Only P (first_within n f)
+only-within : {A : Type 0} {P : A → Type 0} (n : ℕ) (f : ℤ → Option A) →
+    ((z : ℤ) → IsWithin n z → Only P (f z)) → Only P (first_within n f)
 unfolding first_within
-only-within n f h = only-or _ _ (only-below n _ (λ i below. h (pos i) below)) (only-below n _ (λ i below. h (negsuc i) below))
+only-within n f h = only-or _ _ (only-below n _ (λ i below. h (pos i) below))
+    (only-below n _ (λ i below. h (negsuc i) below))
 
-only-if : {A : Type 0} {P : A → Type 0} (b : Bool) (o : Option A) → (b ≡ true → Only P o) → Only P (if b then o else None)
+only-if : {A : Type 0} {P : A → Type 0} (b : Bool) (o : Option A) → (b ≡ true → Only P o) →
+    Only P (if b then o else None)
 only-if true o h = h refl
 only-if false o h = record { holds = tt }
 
-only-distance : {A : Type 0} {P : A → Type 0} (n : ℕ) (f : ℤ → Option A) → ((z : ℤ) → IsDistance n z → Only P (f z)) → Only P (first_distance n f)
+only-distance : {A : Type 0} {P : A → Type 0} (n : ℕ) (f : ℤ → Option A) →
+    ((z : ℤ) → IsDistance n z → Only P (f z)) → Only P (first_distance n f)
 unfolding first_distance
-only-distance n f h = only-within n _ (λ z within. only-if (modulo z 2 == 0) (f z) (λ even. h z (within, eqb-true _ _ even)))
+only-distance n f h =
+    only-within n _ (λ z within. only-if (modulo z 2 == 0) (f z) (λ even. h z (within, eqb-true _ _ even)))
 
-only-in : {A B : Type 0} {P : B → Type 0} (xs : List A) (f : A → Option B) → ((x : A) → Only P (f x)) → Only P (first_in xs f)
+only-in : {A B : Type 0} {P : B → Type 0} (xs : List A) (f : A → Option B) → ((x : A) → Only P (f x)) →
+    Only P (first_in xs f)
 unfolding first_in
 only-in [] f h = record { holds = tt }
 only-in (x ∷ xs) f h = only-or _ _ (h x) (only-in xs f h)
@@ -79,7 +87,8 @@ found-below (suc n) f i below p =
       | inr last ↦ let same : i ≡ n = omega arith in found-right _ _ (subst (λ (j : ℕ). Found (f j)) same p)
     ]
 
-found-within : {A : Type 0} (n : ℕ) (f : ℤ → Option A) (z : ℤ) → IsWithin n z → Found (f z) → Found (first_within n f)
+found-within : {A : Type 0} (n : ℕ) (f : ℤ → Option A) (z : ℤ) → IsWithin n z → Found (f z) →
+    Found (first_within n f)
 unfolding first_within
 found-within n f (pos i) below p = found-left _ _ (found-below n _ i below p)
 found-within n f (negsuc i) below p = found-right _ _ (found-below n _ i below p)
@@ -88,11 +97,13 @@ found-if : {A : Type 0} (b : Bool) (o : Option A) → b ≡ true → Found o →
 found-if true o e p = p
 found-if false o e p = record { some = e }
 
-found-distance : {A : Type 0} (n : ℕ) (f : ℤ → Option A) (z : ℤ) → IsDistance n z → Found (f z) → Found (first_distance n f)
+found-distance : {A : Type 0} (n : ℕ) (f : ℤ → Option A) (z : ℤ) → IsDistance n z → Found (f z) →
+    Found (first_distance n f)
 unfolding first_distance
 found-distance n f z d p = found-within n _ z d.0 (found-if (modulo z 2 == 0) (f z) (eq-eqb _ _ d.1) p)
 
-found-in : {A B : Type 0} (xs : List A) (k : ℕ) (f : A → Option B) (x : A) → slice_get xs k ≡ Some x → Found (f x) → Found (first_in xs f)
+found-in : {A B : Type 0} (xs : List A) (k : ℕ) (f : A → Option B) (x : A) → slice_get xs k ≡ Some x →
+    Found (f x) → Found (first_in xs f)
 unfolding first_in
 found-in [] k f x at p = absurd (none-some x at)
 found-in (y ∷ ys) zero f x at p = found-left _ _ (subst (λ z. Found (f z)) (sym (same_Some y x at)) p)
@@ -171,65 +182,95 @@ only-nothing : {A : Type 0} {P : A → Type 0} → Only P (first_of [])
 unfolding first_of
 only-nothing = record { holds = tt }
 
-only-row : {A : Type 0} {P : A → Type 0} (row : Option A) (rows : List (Option A)) → Only P row → Only P (first_of rows) → Only P (first_of (row ∷ rows))
+only-row : {A : Type 0} {P : A → Type 0} (row : Option A) (rows : List (Option A)) → Only P row →
+    Only P (first_of rows) → Only P (first_of (row ∷ rows))
 unfolding first_of
 only-row row rows p q = only-or row (first_of rows) p q
 
-only-kind : {A : Type 0} {P : A → Type 0} (f : Kind → Option A) → ((k : Kind) → IsInRange k → Only P (f k)) → Only P (first_kind f)
+only-kind : {A : Type 0} {P : A → Type 0} (f : Kind → Option A) → ((k : Kind) → IsInRange k → Only P (f k)) →
+    Only P (first_kind f)
 unfolding first_kind
 only-kind f h =
     only-row _ _ (only-below _ _ (λ rd a. only-below _ _ (λ imm b. h (Lui rd imm) (a, b)))) (
     only-row _ _ (only-below _ _ (λ rd a. only-below _ _ (λ imm b. h (Auipc rd imm) (a, b)))) (
     only-row _ _ (only-below _ _ (λ rd a. only-distance _ _ (λ offset b. h (Jal rd offset) (a, b)))) (
-    only-row _ _ (only-below _ _ (λ rd a. only-below _ _ (λ base b. only-within _ _ (λ offset c. h (Jalr rd base offset) (a, b, c))))) (
-    only-row _ _ (only-in _ _ (λ cond. only-below _ _ (λ rs1 a. only-below _ _ (λ rs2 b. only-distance _ _ (λ offset c. h (Branch cond rs1 rs2 offset) (a, b, c)))))) (
-    only-row _ _ (only-in _ _ (λ op. only-below _ _ (λ rd a. only-below _ _ (λ base b. only-within _ _ (λ offset c. h (Load op rd base offset) (a, b, c)))))) (
-    only-row _ _ (only-in _ _ (λ width. only-below _ _ (λ source a. only-below _ _ (λ base b. only-within _ _ (λ offset c. h (Store width source base offset) (a, b, c)))))) (
-    only-row _ _ (only-in _ _ (λ op. only-below _ _ (λ rd a. only-below _ _ (λ rs1 b. only-within _ _ (λ imm c. h (OpImm op rd rs1 imm) (a, b, c)))))) (
-    only-row _ _ (only-in _ _ (λ op. only-below _ _ (λ rd a. only-below _ _ (λ rs1 b. only-below _ _ (λ amount c. h (Shift op rd rs1 amount) (a, b, c)))))) (
-    only-row _ _ (only-in _ _ (λ op. only-below _ _ (λ rd a. only-below _ _ (λ rs1 b. only-below _ _ (λ rs2 c. h (Op op rd rs1 rs2) (a, b, c)))))) (
-    only-row _ _ (only-below _ _ (λ rd a. only-below _ _ (λ rs1 b. only-below _ _ (λ imm c. h (Fence rd rs1 imm) (a, b, c))))) (
-    only-row _ _ (only-below _ _ (λ rd a. only-below _ _ (λ rs1 b. only-below _ _ (λ imm c. h (FenceI rd rs1 imm) (a, b, c))))) (
-    only-row _ _ (only-in _ _ (λ op. only-below _ _ (λ rd a. only-below _ _ (λ rs1 b. only-below _ _ (λ csr c. h (Csr op rd rs1 csr) (a, b, c)))))) (
-    only-row _ _ (only-in _ _ (λ op. only-below _ _ (λ rd a. only-below _ _ (λ imm b. only-below _ _ (λ csr c. h (CsrImm op rd imm csr) (a, b, c)))))) (
-    only-row _ _ (h Ecall tt) (only-row _ _ (h Ebreak tt) (only-row _ _ (h Mret tt) (only-row _ _ (h Wfi tt) only-nothing)))
+    only-row _ _ (only-below _ _ (λ rd a. only-below _ _
+    (λ base b. only-within _ _ (λ offset c. h (Jalr rd base offset) (a, b, c))))) (
+    only-row _ _ (only-in _ _ (λ cond. only-below _ _
+    (λ rs1 a. only-below _ _ (λ rs2 b. only-distance _ _
+    (λ offset c. h (Branch cond rs1 rs2 offset) (a, b, c)))))) (
+    only-row _ _ (only-in _ _ (λ op. only-below _ _
+    (λ rd a. only-below _ _ (λ base b. only-within _ _
+    (λ offset c. h (Load op rd base offset) (a, b, c)))))) (
+    only-row _ _ (only-in _ _ (λ width. only-below _ _
+    (λ source a. only-below _ _ (λ base b. only-within _ _
+    (λ offset c. h (Store width source base offset) (a, b, c)))))) (
+    only-row _ _ (only-in _ _ (λ op. only-below _ _
+    (λ rd a. only-below _ _ (λ rs1 b. only-within _ _ (λ imm c. h (OpImm op rd rs1 imm) (a, b, c)))))) (
+    only-row _ _ (only-in _ _ (λ op. only-below _ _
+    (λ rd a. only-below _ _ (λ rs1 b. only-below _ _
+    (λ amount c. h (Shift op rd rs1 amount) (a, b, c)))))) (
+    only-row _ _ (only-in _ _ (λ op. only-below _ _
+    (λ rd a. only-below _ _ (λ rs1 b. only-below _ _ (λ rs2 c. h (Op op rd rs1 rs2) (a, b, c)))))) (
+    only-row _ _ (only-below _ _ (λ rd a. only-below _ _
+    (λ rs1 b. only-below _ _ (λ imm c. h (Fence rd rs1 imm) (a, b, c))))) (
+    only-row _ _ (only-below _ _ (λ rd a. only-below _ _
+    (λ rs1 b. only-below _ _ (λ imm c. h (FenceI rd rs1 imm) (a, b, c))))) (
+    only-row _ _ (only-in _ _ (λ op. only-below _ _
+    (λ rd a. only-below _ _ (λ rs1 b. only-below _ _ (λ csr c. h (Csr op rd rs1 csr) (a, b, c)))))) (
+    only-row _ _ (only-in _ _ (λ op. only-below _ _
+    (λ rd a. only-below _ _ (λ imm b. only-below _ _ (λ csr c. h (CsrImm op rd imm csr) (a, b, c)))))) (
+    only-row _ _ (h Ecall tt) (only-row _ _ (h Ebreak tt)
+    (only-row _ _ (h Mret tt) (only-row _ _ (h Wfi tt) only-nothing)))
     ))))))))))))))
 
-found-row : {A : Type 0} (rows : List (Option A)) (k : ℕ) (row : Option A) → slice_get rows k ≡ Some row → Found row → Found (first_of rows)
+found-row : {A : Type 0} (rows : List (Option A)) (k : ℕ) (row : Option A) → slice_get rows k ≡ Some row →
+    Found row → Found (first_of rows)
 unfolding first_of
 found-row [] k row at p = absurd (none-some row at)
 found-row (o ∷ os) zero row at p = found-left o _ (subst (λ z. Found z) (sym (same_Some o row at)) p)
 found-row (o ∷ os) (suc k) row at p = found-right o _ (found-row os k row at p)
 
-found-op : {A B : Type 0} (xs : List A) (f : A → Option B) (op : A) → (k : ℕ) × (slice_get xs k ≡ Some op) → Found (f op) → Found (first_in xs f)
+found-op : {A B : Type 0} (xs : List A) (f : A → Option B) (op : A) → (k : ℕ) × (slice_get xs k ≡ Some op) →
+    Found (f op) → Found (first_in xs f)
 found-op xs f op at p = found-in xs at.0 f op at.1 p
 
 found-kind : {A : Type 0} (f : Kind → Option A) (k : Kind) → IsInRange k → Found (f k) → Found (first_kind f)
 unfolding first_kind
 found-kind f (Lui rd imm) r p = found-row _ 0 _ refl (found-below _ _ rd r.0 (found-below _ _ imm r.1 p))
 found-kind f (Auipc rd imm) r p = found-row _ 1 _ refl (found-below _ _ rd r.0 (found-below _ _ imm r.1 p))
-found-kind f (Jal rd offset) r p = found-row _ 2 _ refl (found-below _ _ rd r.0 (found-distance _ _ offset r.1 p))
-found-kind f (Jalr rd base offset) r p = found-row _ 3 _ refl (found-below _ _ rd r.0 (found-below _ _ base r.1 (found-within _ _ offset r.2 p)))
+found-kind f (Jal rd offset) r p =
+    found-row _ 2 _ refl (found-below _ _ rd r.0 (found-distance _ _ offset r.1 p))
+found-kind f (Jalr rd base offset) r p =
+    found-row _ 3 _ refl (found-below _ _ rd r.0 (found-below _ _ base r.1 (found-within _ _ offset r.2 p)))
 found-kind f (Branch cond rs1 rs2 offset) r p =
-    found-row _ 4 _ refl (found-op _ _ cond (at_cond cond) (found-below _ _ rs1 r.0 (found-below _ _ rs2 r.1 (found-distance _ _ offset r.2 p))))
+    found-row _ 4 _ refl (found-op _ _ cond (at_cond cond)
+    (found-below _ _ rs1 r.0 (found-below _ _ rs2 r.1 (found-distance _ _ offset r.2 p))))
 found-kind f (Load op rd base offset) r p =
-    found-row _ 5 _ refl (found-op _ _ op (at_load_op op) (found-below _ _ rd r.0 (found-below _ _ base r.1 (found-within _ _ offset r.2 p))))
+    found-row _ 5 _ refl (found-op _ _ op (at_load_op op)
+    (found-below _ _ rd r.0 (found-below _ _ base r.1 (found-within _ _ offset r.2 p))))
 found-kind f (Store width source base offset) r p =
-    found-row _ 6 _ refl (found-op _ _ width (at_width width) (found-below _ _ source r.0 (found-below _ _ base r.1 (found-within _ _ offset r.2 p))))
+    found-row _ 6 _ refl (found-op _ _ width (at_width width)
+    (found-below _ _ source r.0 (found-below _ _ base r.1 (found-within _ _ offset r.2 p))))
 found-kind f (OpImm op rd rs1 imm) r p =
-    found-row _ 7 _ refl (found-op _ _ op (at_imm_op op) (found-below _ _ rd r.0 (found-below _ _ rs1 r.1 (found-within _ _ imm r.2 p))))
+    found-row _ 7 _ refl (found-op _ _ op (at_imm_op op)
+    (found-below _ _ rd r.0 (found-below _ _ rs1 r.1 (found-within _ _ imm r.2 p))))
 found-kind f (Shift op rd rs1 amount) r p =
-    found-row _ 8 _ refl (found-op _ _ op (at_shift_op op) (found-below _ _ rd r.0 (found-below _ _ rs1 r.1 (found-below _ _ amount r.2 p))))
+    found-row _ 8 _ refl (found-op _ _ op (at_shift_op op)
+    (found-below _ _ rd r.0 (found-below _ _ rs1 r.1 (found-below _ _ amount r.2 p))))
 found-kind f (Op op rd rs1 rs2) r p =
-    found-row _ 9 _ refl (found-op _ _ op (at_alu_op op) (found-below _ _ rd r.0 (found-below _ _ rs1 r.1 (found-below _ _ rs2 r.2 p))))
+    found-row _ 9 _ refl (found-op _ _ op (at_alu_op op)
+    (found-below _ _ rd r.0 (found-below _ _ rs1 r.1 (found-below _ _ rs2 r.2 p))))
 found-kind f (Fence rd rs1 imm) r p =
     found-row _ 10 _ refl (found-below _ _ rd r.0 (found-below _ _ rs1 r.1 (found-below _ _ imm r.2 p)))
 found-kind f (FenceI rd rs1 imm) r p =
     found-row _ 11 _ refl (found-below _ _ rd r.0 (found-below _ _ rs1 r.1 (found-below _ _ imm r.2 p)))
 found-kind f (Csr op rd rs1 csr) r p =
-    found-row _ 12 _ refl (found-op _ _ op (at_csr_op op) (found-below _ _ rd r.0 (found-below _ _ rs1 r.1 (found-below _ _ csr r.2 p))))
+    found-row _ 12 _ refl (found-op _ _ op (at_csr_op op)
+    (found-below _ _ rd r.0 (found-below _ _ rs1 r.1 (found-below _ _ csr r.2 p))))
 found-kind f (CsrImm op rd imm csr) r p =
-    found-row _ 13 _ refl (found-op _ _ op (at_csr_op op) (found-below _ _ rd r.0 (found-below _ _ imm r.1 (found-below _ _ csr r.2 p))))
+    found-row _ 13 _ refl (found-op _ _ op (at_csr_op op)
+    (found-below _ _ rd r.0 (found-below _ _ imm r.1 (found-below _ _ csr r.2 p))))
 found-kind f Ecall r p = found-row _ 14 _ refl p
 found-kind f Ebreak r p = found-row _ 15 _ refl p
 found-kind f Mret r p = found-row _ 16 _ refl p
@@ -237,12 +278,14 @@ found-kind f Wfi r p = found-row _ 17 _ refl p
 
 -- ---- the kind that a word means
 
-means-from : (w : ℕ) (o : Option Kind) → IfSome o (λ k. IsInRange k × (word k ≡ w)) → ((k : Kind) → IsInRange k → word k ≡ w → IsSome o) → Means w o
+means-from : (w : ℕ) (o : Option Kind) → IfSome o (λ k. IsInRange k × (word k ≡ w)) →
+    ((k : Kind) → IsInRange k → word k ≡ w → IsSome o) → Means w o
 unfolding Means
 means-from w (Some k) here all = here
 means-from w None here all = λ k r e. true≢false (sym (all k r e))
 
-only-means : (w : ℕ) (k : Kind) → IsInRange k → Only (λ k. IsInRange k × (word k ≡ w)) (if word k == w then Some k else None)
+only-means : (w : ℕ) (k : Kind) → IsInRange k → Only (λ k. IsInRange k × (word k ≡ w)) (if word k == w
+    then Some k else None)
 only-means w k r = only-if (word k == w) (Some k) (λ e. record { holds = (r, eqb-true _ _ e) })
 
 found-means : (w : ℕ) (k : Kind) → word k ≡ w → Found (if word k == w then Some k else None)

@@ -17,7 +17,8 @@ signed_is a =
 
 -- a number after casts to a word, to 64 bits and back
 widened : (x : ℤ) → SFits w32 x → to_z w64 (of_z w64 (to_z w32 (of_z w32 x))) ≡ x
-widened x f = ap (λ (z : ℤ). to_z w64 (of_z w64 z)) (to_z-of_z w32 x f) ∙ to_z-of_z w64 x (record { sfits = omega (arith, f.sfits) })
+widened x f = ap (λ (z : ℤ). to_z w64 (of_z w64 z)) (to_z-of_z w32 x f)
+    ∙ to_z-of_z w64 x (record { sfits = omega (arith, f.sfits) })
 
 abs_le : (x : ℤ) → SFits w32 x → unsigned_abs x ≤ 2 ^ 31
 abs_le (pos n) f = omega (arith, f.sfits)
@@ -25,19 +26,24 @@ abs_le (negsuc n) f = omega (arith, f.sfits)
 
 -- the product of two words as signed numbers, and of a signed and an unsigned one, in 64 bits
 pub signed_product : (a b : ℕ) (x y : ℤ) → SFits w32 x → SFits w32 y → x ≡ to_z w32 a → y ≡ to_z w32 b
-    → to_z w64 (of_z w64 (to_z w64 (of_z w64 (to_z w32 (of_z w32 x))) *ℤ to_z w64 (of_z w64 (to_z w32 (of_z w32 y))))) ≡ signed a *ℤ signed b
+    → to_z w64 (of_z w64 (to_z w64 (of_z w64 (to_z w32 (of_z w32 x))) *ℤ to_z w64
+    (of_z w64 (to_z w32 (of_z w32 y))))) ≡ signed a *ℤ signed b
 signed_product a b x y f g e d =
     ap (λ (z : ℤ). to_z w64 (of_z w64 z)) (λ i. widened x f i *ℤ widened y g i)
-    ∙ to_z-of_z w64 (x *ℤ y) (fits_signed_mul w64 x y (2 ^ 31) (2 ^ 31) (abs_le x f) (abs_le y g) (omega arith))
+    ∙ to_z-of_z w64 (x *ℤ y) (fits_signed_mul w64 x y (2 ^ 31) (2 ^ 31) (abs_le x f) (abs_le y g)
+    (omega arith))
     ∙ (λ i. (e ∙ signed_is a) i *ℤ (d ∙ signed_is b) i)
 
-mixed_factors : (x : ℤ) (b : ℕ) → SFits w32 x → b < 2 ^ 32 → to_z w64 (of_z w64 (to_z w32 (of_z w32 x))) *ℤ to_z w64 b ≡ x *ℤ pos b
+mixed_factors : (x : ℤ) (b : ℕ) → SFits w32 x → b < 2 ^ 32 →
+    to_z w64 (of_z w64 (to_z w32 (of_z w32 x))) *ℤ to_z w64 b ≡ x *ℤ pos b
 mixed_factors x b f h = λ i. widened x f i *ℤ to_z_pos w64 b (omega arith) i
 
 mixed_is_small : (x : ℤ) (b : ℕ) → SFits w32 x → b < 2 ^ 32 → SFits w64 (x *ℤ pos b)
-mixed_is_small x b f h = fits_signed_mul w64 x (pos b) (2 ^ 31) (2 ^ 32 - 1) (abs_le x f) (omega arith) (omega arith)
+mixed_is_small x b f h =
+    fits_signed_mul w64 x (pos b) (2 ^ 31) (2 ^ 32 - 1) (abs_le x f) (omega arith) (omega arith)
 
-pub mixed_fits : (x : ℤ) (b : ℕ) → SFits w32 x → b < 2 ^ 32 → SFits w64 (to_z w64 (of_z w64 (to_z w32 (of_z w32 x))) *ℤ to_z w64 b)
+pub mixed_fits : (x : ℤ) (b : ℕ) → SFits w32 x → b < 2 ^ 32 →
+    SFits w64 (to_z w64 (of_z w64 (to_z w32 (of_z w32 x))) *ℤ to_z w64 b)
 mixed_fits x b f h = subst (SFits w64) (sym (mixed_factors x b f h)) (mixed_is_small x b f h)
 
 pub mixed_product : (a b : ℕ) (x : ℤ) → SFits w32 x → b < 2 ^ 32 → x ≡ to_z w32 a
@@ -66,16 +72,21 @@ quotient (negsuc a) (pos b) f = word_below (suc a / b) (omega (arith, div-le_sel
 quotient (negsuc a) (negsuc b) f = word_above (suc a / suc b) (omega (arith, div-le_self (suc a) (suc b)))
 
 pub quotient_word : (x y : ℤ) → SFits w32 x → of_z w32 (int_wrapping_div w32 x y) ≡ reduced (int_div x y)
-quotient_word x y f = ap (λ (n : ℕ). of_z w32 (to_z w32 n)) (quotient x y f) ∙ of_z-to_z w32 (reduced (int_div x y)) (is_word (int_div x y))
+quotient_word x y f = ap (λ (n : ℕ). of_z w32 (to_z w32 n)) (quotient x y f)
+    ∙ of_z-to_z w32 (reduced (int_div x y)) (is_word (int_div x y))
 
 pub remainder_word : (x y : ℤ) → SFits w32 x → of_z w32 (int_rem x y) ≡ reduced (int_rem x y)
 remainder_word (pos a) y f = word_above (a % unsigned_abs y) (omega (arith, mod-le a (unsigned_abs y)))
-remainder_word (negsuc a) y f = word_below (suc a % unsigned_abs y) (omega (arith, mod-le (suc a) (unsigned_abs y)))
+remainder_word (negsuc a) y f =
+    word_below (suc a % unsigned_abs y) (omega (arith, mod-le (suc a) (unsigned_abs y)))
 
 -- the value of an operation on the signed numbers of two words, cast to a word
-pub word_of : (op : ℤ → ℤ → ℤ) (meaning : ℤ → ℤ → ℕ) (a b r : ℕ) (x y z : ℤ) → SFits w32 x → SFits w32 y → SFits w32 z
-    → x ≡ to_z w32 a → y ≡ to_z w32 b → z ≡ op (to_z w32 (of_z w32 x)) (to_z w32 (of_z w32 y)) → r ≡ of_z w32 (to_z w32 (of_z w32 z))
+pub word_of : (op : ℤ → ℤ → ℤ) (meaning : ℤ → ℤ → ℕ) (a b r : ℕ) (x y z : ℤ) → SFits w32 x → SFits w32 y →
+    SFits w32 z
+    → x ≡ to_z w32 a → y ≡ to_z w32 b → z ≡ op (to_z w32 (of_z w32 x)) (to_z w32 (of_z w32 y)) →
+    r ≡ of_z w32 (to_z w32 (of_z w32 z))
     → of_z w32 (op x y) ≡ meaning x y → r ≡ meaning (signed a) (signed b)
 word_of op meaning a b r x y z f g h e d is was small =
-    was ∙ ap (of_z w32) (to_z-of_z w32 z h ∙ is ∙ (λ i. op (to_z-of_z w32 x f i) (to_z-of_z w32 y g i))) ∙ small
+    was ∙ ap (of_z w32) (to_z-of_z w32 z h ∙ is ∙ (λ i. op (to_z-of_z w32 x f i) (to_z-of_z w32 y g i)))
+    ∙ small
     ∙ (λ i. meaning ((e ∙ signed_is a) i) ((d ∙ signed_is b) i))

@@ -79,17 +79,26 @@ first_kind f = first_of (
     first_below 32 (λ rd. first_below (2 ^ 20) (λ imm. f (Lui rd imm)))
     ∷ first_below 32 (λ rd. first_below (2 ^ 20) (λ imm. f (Auipc rd imm)))
     ∷ first_below 32 (λ rd. first_distance (2 ^ 20) (λ offset. f (Jal rd offset)))
-    ∷ first_below 32 (λ rd. first_below 32 (λ base. first_within (2 ^ 11) (λ offset. f (Jalr rd base offset))))
-    ∷ first_in conds (λ cond. first_below 32 (λ rs1. first_below 32 (λ rs2. first_distance (2 ^ 12) (λ offset. f (Branch cond rs1 rs2 offset)))))
-    ∷ first_in load_ops (λ op. first_below 32 (λ rd. first_below 32 (λ base. first_within (2 ^ 11) (λ offset. f (Load op rd base offset)))))
-    ∷ first_in widths (λ width. first_below 32 (λ source. first_below 32 (λ base. first_within (2 ^ 11) (λ offset. f (Store width source base offset)))))
-    ∷ first_in imm_ops (λ op. first_below 32 (λ rd. first_below 32 (λ rs1. first_within (2 ^ 11) (λ imm. f (OpImm op rd rs1 imm)))))
-    ∷ first_in shift_ops (λ op. first_below 32 (λ rd. first_below 32 (λ rs1. first_below 32 (λ amount. f (Shift op rd rs1 amount)))))
-    ∷ first_in alu_ops (λ op. first_below 32 (λ rd. first_below 32 (λ rs1. first_below 32 (λ rs2. f (Op op rd rs1 rs2)))))
+    ∷ first_below 32 (λ rd. first_below 32 (λ base.
+    first_within (2 ^ 11) (λ offset. f (Jalr rd base offset))))
+    ∷ first_in conds (λ cond. first_below 32 (λ rs1.
+    first_below 32 (λ rs2. first_distance (2 ^ 12) (λ offset. f (Branch cond rs1 rs2 offset)))))
+    ∷ first_in load_ops (λ op. first_below 32 (λ rd.
+    first_below 32 (λ base. first_within (2 ^ 11) (λ offset. f (Load op rd base offset)))))
+    ∷ first_in widths (λ width. first_below 32 (λ source.
+    first_below 32 (λ base. first_within (2 ^ 11) (λ offset. f (Store width source base offset)))))
+    ∷ first_in imm_ops (λ op. first_below 32 (λ rd.
+    first_below 32 (λ rs1. first_within (2 ^ 11) (λ imm. f (OpImm op rd rs1 imm)))))
+    ∷ first_in shift_ops (λ op. first_below 32 (λ rd.
+    first_below 32 (λ rs1. first_below 32 (λ amount. f (Shift op rd rs1 amount)))))
+    ∷ first_in alu_ops (λ op. first_below 32 (λ rd.
+    first_below 32 (λ rs1. first_below 32 (λ rs2. f (Op op rd rs1 rs2)))))
     ∷ first_below 32 (λ rd. first_below 32 (λ rs1. first_below (2 ^ 12) (λ imm. f (Fence rd rs1 imm))))
     ∷ first_below 32 (λ rd. first_below 32 (λ rs1. first_below (2 ^ 12) (λ imm. f (FenceI rd rs1 imm))))
-    ∷ first_in csr_ops (λ op. first_below 32 (λ rd. first_below 32 (λ rs1. first_below (2 ^ 12) (λ csr. f (Csr op rd rs1 csr)))))
-    ∷ first_in csr_ops (λ op. first_below 32 (λ rd. first_below 32 (λ imm. first_below (2 ^ 12) (λ csr. f (CsrImm op rd imm csr)))))
+    ∷ first_in csr_ops (λ op. first_below 32 (λ rd.
+    first_below 32 (λ rs1. first_below (2 ^ 12) (λ csr. f (Csr op rd rs1 csr)))))
+    ∷ first_in csr_ops (λ op. first_below 32 (λ rd.
+    first_below 32 (λ imm. first_below (2 ^ 12) (λ csr. f (CsrImm op rd imm csr)))))
     ∷ f Ecall
     ∷ f Ebreak
     ∷ f Mret

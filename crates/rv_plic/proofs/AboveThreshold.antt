@@ -27,7 +27,8 @@ contains-above ps t q = contains-filtered (is_above ps t) 1 31 q (in_range ps t 
 -- at reset no source is above the threshold
 none_at : (q : ℕ) → is_above (replicate 32 0) 0 q ≡ false
 none_at q =
-    and_right (nat_le 1 q) _ (and_unless (nat_lt q 32) _ (λ high. ap (λ n. nat_lt 0 n) (get_or-replicate 32 q 0 0 (ltb-true q 32 high))))
+    and_right (nat_le 1 q) _ (and_unless (nat_lt q 32) _
+    (λ high. ap (λ n. nat_lt 0 n) (get_or-replicate 32 q 0 0 (ltb-true q 32 high))))
 
 pub none_above : (s : Sources) → s ≡ empty → sources_above (replicate 32 0) 0 ≡ s
 none_above s none =
@@ -57,7 +58,8 @@ above_raised ps t s v above is long low high over =
     same_sources _ _ (λ q.
     contains-above (slice_set ps s v) t q
     ∙ elim (cases_eq q s) [
-      | inl e ↦ this_above ps t s v q true low high e (set_here ps t s v long high ∙ lt-ltb t v over) ∙ sym (or_left (q == s) _ (eq-eqb q s e))
+      | inl e ↦ this_above ps t s v q true low high e (set_here ps t s v long high ∙ lt-ltb t v over)
+          ∙ sym (or_left (q == s) _ (eq-eqb q s e))
       | inr other ↦ other_above ps t s v q other ∙ sym (ap (λ b. b || is_above ps t q) (ne_eqb q s other))
     ]
     ∙ sym (contains-insert nat_cmp_total above s q
@@ -69,7 +71,8 @@ above_lowered ps t s v above is long low high under =
     same_sources _ _ (λ q.
     contains-above (slice_set ps s v) t q
     ∙ elim (cases_eq q s) [
-      | inl e ↦ this_above ps t s v q false low high e (set_here ps t s v long high ∙ le-ltb t v under) ∙ sym (ap (λ b. not b && is_above ps t q) (eq-eqb q s e))
+      | inl e ↦ this_above ps t s v q false low high e (set_here ps t s v long high ∙ le-ltb t v under)
+          ∙ sym (ap (λ b. not b && is_above ps t q) (eq-eqb q s e))
       | inr other ↦ other_above ps t s v q other ∙ sym (ap (λ b. not b && is_above ps t q) (ne_eqb q s other))
     ]
     ∙ sym (contains-remove nat_cmp_total above s q
@@ -78,10 +81,12 @@ above_lowered ps t s v above is long low high under =
 -- ---- the external line
 in_notified : (plic : PlicState) (above : Sources) (q : ℕ)
     → sources_above plic.priorities plic.threshold ≡ above
-    → contains (intersection (intersection plic.pending plic.enabled) above) q ≡ (is_waiting plic q && is_above plic.priorities plic.threshold q)
+    → contains (intersection (intersection plic.pending plic.enabled) above) q
+    ≡ (is_waiting plic q && is_above plic.priorities plic.threshold q)
 in_notified plic above q is =
     contains-intersection nat_cmp_total (intersection plic.pending plic.enabled) above q
-    ∙ (λ i. contains-intersection nat_cmp_total plic.pending plic.enabled q i && (ap (λ u. contains u q) (sym is) ∙ contains-above plic.priorities plic.threshold q) i)
+    ∙ (λ i. contains-intersection nat_cmp_total plic.pending plic.enabled q i
+    && (ap (λ u. contains u q) (sym is) ∙ contains-above plic.priorities plic.threshold q) i)
 
 with_range : (w : Bool) (ps : List ℕ) (t q : ℕ) → 1 ≤ q → q < 32
     → (w && nat_lt t (slice_index ps q)) ≡ (w && is_above ps t q)
@@ -94,7 +99,8 @@ pub none_notified : (plic : PlicState) (above : Sources)
     → intersection (intersection plic.pending plic.enabled) above ≡ empty → is_notified plic ≡ false
 unfolding is_notified sources
 none_notified plic above is none =
-    none-range (λ s. is_waiting plic s && nat_lt plic.threshold (slice_index plic.priorities s)) 1 31 (λ q low high.
+    none-range (λ s. is_waiting plic s && nat_lt plic.threshold (slice_index plic.priorities s)) 1 31
+    (λ q low high.
     with_range (is_waiting plic q) plic.priorities plic.threshold q low high
     ∙ sym (in_notified plic above q is) ∙ ap (λ u. contains u q) none ∙ contains-empty nat_cmp q)
 
@@ -107,7 +113,9 @@ some_other plic above is quiet =
     not_one : (q : ℕ) → (is_waiting plic q && is_above plic.priorities plic.threshold q) ≡ false
     not_one q = false_from_ne_true _ (λ one.
         let range = in_range plic.priorities plic.threshold q (and_parts _ _ one).1 in
-        both_ways _ quiet (any-range (λ s. is_waiting plic s && nat_lt plic.threshold (slice_index plic.priorities s)) 1 31 q range.0 range.1 (with_range (is_waiting plic q) plic.priorities plic.threshold q range.0 range.1 ∙ one)))
+        both_ways _ quiet (any-range (λ s. is_waiting plic s
+        && nat_lt plic.threshold (slice_index plic.priorities s)) 1 31 q range.0 range.1
+        (with_range (is_waiting plic q) plic.priorities plic.threshold q range.0 range.1 ∙ one)))
 
 pub some_notified : (plic : PlicState) (above : Sources)
     → sources_above plic.priorities plic.threshold ≡ above
@@ -152,8 +160,11 @@ pub with_next : (ps : List ℕ) (t n : ℕ) (s : Sources) → HasThoseBelow n ps
 with_next ps t n s so_far low high over q =
     (contains-insert nat_cmp_total s n q ∙ (λ i. unsigned_tied q n i || so_far q i))
     ∙ elim (cases_eq q n) [
-      | inl e ↦ or_left (q == n) _ (eq-eqb q n e) ∙ sym (and_from _ _ (its_number q n e) (ap (is_above ps t) e ∙ at_number ps t n true low high (lt-ltb t (slice_index ps n) over)))
-      | inr other ↦ ap (λ b. b || (nat_lt q n && is_above ps t q)) (ne_eqb q n other) ∙ ap (λ b. b && is_above ps t q) (next_number q n other)
+      | inl e ↦ or_left (q == n) _ (eq-eqb q n e) ∙ sym
+          (and_from _ _ (its_number q n e) (ap (is_above ps t) e
+          ∙ at_number ps t n true low high (lt-ltb t (slice_index ps n) over)))
+      | inr other ↦ ap (λ b. b || (nat_lt q n && is_above ps t q)) (ne_eqb q n other)
+          ∙ ap (λ b. b && is_above ps t q) (next_number q n other)
     ]
 
 pub without_next : (ps : List ℕ) (t n : ℕ) (s : Sources) → HasThoseBelow n ps t s → 0 < n → n < 32
@@ -161,7 +172,9 @@ pub without_next : (ps : List ℕ) (t n : ℕ) (s : Sources) → HasThoseBelow n
 without_next ps t n s so_far low high under q =
     so_far q
     ∙ elim (cases_eq q n) [
-      | inl e ↦ and_left (nat_lt q n) _ (no_number q n e) ∙ sym (and_right (nat_lt q (n + 1)) _ (ap (is_above ps t) e ∙ at_number ps t n false low high (le-ltb t (slice_index ps n) under)))
+      | inl e ↦ and_left (nat_lt q n) _ (no_number q n e)
+          ∙ sym (and_right (nat_lt q (n + 1)) _ (ap (is_above ps t) e
+          ∙ at_number ps t n false low high (le-ltb t (slice_index ps n) under)))
       | inr other ↦ ap (λ b. b && is_above ps t q) (next_number q n other)
     ]
 
@@ -170,7 +183,8 @@ has_all ps t n s past all =
     same_sources _ _ (λ q. all q ∙ limit q (is_above ps t q) refl ∙ sym (contains-above ps t q))
   where
     limit : (q : ℕ) (b : Bool) → is_above ps t q ≡ b → (nat_lt q n && is_above ps t q) ≡ is_above ps t q
-    limit q true e = let high : q < 1 + 31 = (in_range ps t q e).1 in and_from _ _ (lt-ltb q n (omega arith)) e ∙ sym e
+    limit q true e =
+        let high : q < 1 + 31 = (in_range ps t q e).1 in and_from _ _ (lt-ltb q n (omega arith)) e ∙ sym e
     limit q false e = and_right (nat_lt q n) _ e ∙ sym e
 
 pub ruleset collection = (starts_empty, with_next, without_next, has_all)

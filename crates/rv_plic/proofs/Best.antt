@@ -20,7 +20,8 @@ pub none-range : (test : ℕ → Bool) (a n : ℕ) → ((t : ℕ) → a ≤ t �
     → list_any test (range_with_len a n) ≡ false
 none-range test a zero none = refl
 none-range test a (suc n) none =
-    or_from (test a) _ (none a (omega arith) (omega arith)) (none-range test (a + 1) n (λ t low high. none t (omega arith) (omega arith)))
+    or_from (test a) _ (none a (omega arith) (omega arith))
+    (none-range test (a + 1) n (λ t low high. none t (omega arith) (omega arith)))
 
 find_none-range : (test : ℕ → Bool) (a n : ℕ) → ((t : ℕ) → a ≤ t → t < a + n → test t ≡ false)
     → find test (range_with_len a n) ≡ None
@@ -39,15 +40,18 @@ find_only-range : (test : ℕ → Bool) (a n b : ℕ) → a ≤ b → b < a + n 
     → ((t : ℕ) → a ≤ t → t < a + n → test t ≡ true → t ≡ b) → find test (range_with_len a n) ≡ Some b
 find_only-range test a zero b low high is only = absurd (omega arith)
 find_only-range test a (suc n) b low high is only =
-    find_first test a b (find test (range_with_len (a + 1) n)) (test a) refl (only a (omega arith) (omega arith)) (λ fails.
+    find_first test a b (find test (range_with_len (a + 1) n)) (test a) refl
+    (only a (omega arith) (omega arith)) (λ fails.
     elim (cases_eq a b) [
       | inl e ↦ absurd (both_ways (test a) fails (ap test e ∙ is))
-      | inr other ↦ find_only-range test (a + 1) n b (omega arith) (omega arith) is (λ t l h p. only t (omega arith) (omega arith) p)
+      | inr other ↦ find_only-range test (a + 1) n b (omega arith) (omega arith) is
+          (λ t l h p. only t (omega arith) (omega arith) p)
     ])
 
 module _ (passes : ℕ → Bool) (priority : ℕ → ℕ) where
   abbrev before : ℕ → ℕ → Bool
-  before first second = nat_lt (priority second) (priority first) || (priority first == priority second && nat_lt first second)
+  before first second =
+      nat_lt (priority second) (priority first) || (priority first == priority second && nat_lt first second)
 
   not_before : (source other : ℕ) → IsFirst priority source other → before other source ≡ false
   not_before source other first =
@@ -61,33 +65,42 @@ module _ (passes : ℕ → Bool) (priority : ℕ → ℕ) where
       → before source other ≡ true
   before_other source other first is_other =
       elim (cases_eq (priority other) (priority source)) [
-        | inl e ↦ or_right _ _ (and_from _ _ (eq-eqb (priority source) (priority other) (sym e)) (let least : source ≤ other = first.lower e in lt-ltb source other (grind arith)))
-        | inr differ ↦ let most : priority other ≤ priority source = first.higher in or_left _ _ (lt-ltb (priority other) (priority source) (grind arith))
+        | inl e ↦ or_right _ _ (and_from _ _ (eq-eqb (priority source) (priority other) (sym e))
+            (let least : source ≤ other = first.lower e in lt-ltb source other (grind arith)))
+        | inr differ ↦ let most : priority other ≤ priority source = first.higher
+            in or_left _ _ (lt-ltb (priority other) (priority source) (grind arith))
       ]
 
   module _ (n : ℕ) where
     abbrev is_unbeaten : ℕ → Bool
-    is_unbeaten source = passes source && not (list_any (λ other. passes other && before other source) (range_with_len 1 n))
+    is_unbeaten source =
+        passes source && not (list_any (λ other. passes other && before other source) (range_with_len 1 n))
 
     best_is_unbeaten : (source : ℕ) → IsBestBelow (1 + n) passes priority (Some source)
         → is_unbeaten source ≡ true
     best_is_unbeaten source is =
-        and_from _ _ is.2 (not_from_false _ (none-range (λ other. passes other && before other source) 1 n (λ t low high. and_unless (passes t) _ (λ p. not_before source t (is.3 t low high p)))))
+        and_from _ _ is.2 (not_from_false _ (none-range (λ other. passes other && before other source) 1 n
+        (λ t low high. and_unless (passes t) _ (λ p. not_before source t (is.3 t low high p)))))
 
     unbeaten_is_best : (source other : ℕ) → IsBestBelow (1 + n) passes priority (Some source) → 1 ≤ other
         → other < 1 + n → is_unbeaten other ≡ true → other ≡ source
     unbeaten_is_best source other is low high lead =
-        let parts : (passes other ≡ true) × (not (list_any (λ t. passes t && before t other) (range_with_len 1 n)) ≡ true) = and_parts _ _ lead in
+        let parts : (passes other ≡ true) × (not (list_any (λ t. passes t && before t other)
+        (range_with_len 1 n)) ≡ true) = and_parts _ _ lead in
         elim (cases_eq other source) [
           | inl e ↦ e
-          | inr differ ↦ absurd (both_ways _ (not-true _ parts.1) (any-range (λ t. passes t && before t other) 1 n source is.0 is.1 (and_from _ _ is.2 (before_other source other (is.3 other low high parts.0) differ))))
+          | inr differ ↦ absurd (both_ways _ (not-true _ parts.1)
+              (any-range (λ t. passes t && before t other) 1 n source is.0 is.1
+              (and_from _ _ is.2 (before_other source other (is.3 other low high parts.0) differ))))
         ]
 
     search_finds_best : (found : Option ℕ) → IsBestBelow (1 + n) passes priority found
         → find is_unbeaten (range_with_len 1 n) ≡ found
-    search_finds_best None none = find_none-range is_unbeaten 1 n (λ t low high. and_left (passes t) _ (none t low high))
+    search_finds_best None none =
+        find_none-range is_unbeaten 1 n (λ t low high. and_left (passes t) _ (none t low high))
     search_finds_best (Some source) is =
-        find_only-range is_unbeaten 1 n source is.0 is.1 (best_is_unbeaten source is) (λ t low high lead. unbeaten_is_best source t is low high lead)
+        find_only-range is_unbeaten 1 n source is.0 is.1 (best_is_unbeaten source is)
+        (λ t low high lead. unbeaten_is_best source t is low high lead)
 
 pub best_by_property : (plic : PlicState) (found : Option ℕ) → IsBest plic found → best plic ≡ found
 unfolding best sources
@@ -108,13 +121,18 @@ module _ (is_in : ℕ → Bool) (priority : ℕ → ℕ) where
   next_is_first : (number : ℕ) (found : Option ℕ) → IsBestBelow number in_with_priority priority found
       → option_map_or priority found 0 < priority number → (other : ℕ) → 0 < other → other < number
       → in_with_priority other ≡ true → IsFirst priority number other
-  next_is_first number None best_so_far more other low high passes = absurd (both_ways _ (best_so_far other low high) passes)
+  next_is_first number None best_so_far more other low high passes =
+      absurd (both_ways _ (best_so_far other low high) passes)
   next_is_first number (Some source) best_so_far more other low high passes =
       let first : IsFirst priority source other = best_so_far.3 other low high passes in
       record { higher = omega (arith, first.higher); lower = λ e. absurd (omega (arith, first.higher)) }
 
   itself_is_first : (number other : ℕ) → other ≡ number → IsFirst priority number other
-  itself_is_first number other e = record { higher = let same : priority other ≡ priority number = ap priority e in omega arith; lower = λ _. omega arith }
+  itself_is_first number other e = record {
+    higher = let same : priority other ≡ priority number =
+        ap priority e in omega arith;
+    lower = λ _. omega arith;
+  }
 
   pub best_with_next : (number : ℕ) (found : Option ℕ) → IsBestBelow number in_with_priority priority found
       → 0 < number → is_in number ≡ true → option_map_or priority found 0 < priority number
@@ -135,7 +153,8 @@ module _ (is_in : ℕ → Bool) (priority : ℕ → ℕ) where
       → IsBestBelow (number + 1) in_with_priority priority found
   best_without_next number None best_so_far low less =
       λ other above below. elim (step_above number other below) [
-        | inl e ↦ ap in_with_priority e ∙ and_unless (is_in number) _ (λ is. le-ltb 0 (priority number) (less is))
+        | inl e ↦
+            ap in_with_priority e ∙ and_unless (is_in number) _ (λ is. le-ltb 0 (priority number) (less is))
         | inr lower ↦ best_so_far other above lower
       ]
   best_without_next number (Some source) best_so_far low less = (
@@ -151,13 +170,18 @@ module _ (is_in : ℕ → Bool) (priority : ℕ → ℕ) where
   )
 
 pub best_of_intersection : (plic : PlicState) (found : Option ℕ)
-    → IsBestBelow 32 (λ s. contains (intersection plic.pending plic.enabled) s && nat_lt 0 (slice_index plic.priorities s)) (slice_index plic.priorities) found → IsBest plic found
+    → IsBestBelow 32 (λ s. contains (intersection plic.pending plic.enabled) s
+    && nat_lt 0 (slice_index plic.priorities s)) (slice_index plic.priorities) found → IsBest plic found
 best_of_intersection plic found is =
-    let same : (λ s. contains (intersection plic.pending plic.enabled) s) ≡ is_waiting plic = λ i s. contains-intersection nat_cmp_total plic.pending plic.enabled s i in
-    subst (λ (w : ℕ → Bool). IsBestBelow 32 (λ s. w s && nat_lt 0 (slice_index plic.priorities s)) (slice_index plic.priorities) found) same is
+    let same : (λ s. contains (intersection plic.pending plic.enabled) s) ≡ is_waiting plic =
+    λ i s. contains-intersection nat_cmp_total plic.pending plic.enabled s i in
+    subst (λ (w : ℕ → Bool). IsBestBelow 32 (λ s. w s && nat_lt 0 (slice_index plic.priorities s))
+    (slice_index plic.priorities) found) same is
 
 pub best_of_empty : (plic : PlicState) → intersection plic.pending plic.enabled ≡ empty → IsBest plic None
 best_of_empty plic none =
-    λ t low high. and_left (is_waiting plic t) _ (sym (contains-intersection nat_cmp_total plic.pending plic.enabled t) ∙ ap (λ s. contains s t) none ∙ contains-empty nat_cmp t)
+    λ t low high. and_left (is_waiting plic t) _ (sym
+    (contains-intersection nat_cmp_total plic.pending plic.enabled t) ∙ ap (λ s. contains s t) none
+    ∙ contains-empty nat_cmp t)
 
 pub ruleset best_rules = (best_by_property, best_of_intersection, best_of_empty)

@@ -12,7 +12,8 @@ pub nothing_changed : (f : ℕ → ℕ) (s : Sources) (a : ℕ) (edges : Edges)
 unfolding changed
 nothing_changed f s a [] none = refl
 nothing_changed f s a (n ∷ ns) none =
-    λ i. ap (λ b. if b then f n else n) (none a (omega arith)) i ∷ nothing_changed f s (a + 1) ns (λ q from. none q (omega arith)) i
+    λ i. ap (λ b. if b then f n else n) (none a (omega arith)) i
+    ∷ nothing_changed f s (a + 1) ns (λ q from. none q (omega arith)) i
 
 pub length-changed : (f : ℕ → ℕ) (s : Sources) (a : ℕ) (edges : Edges)
     → length (changed f s a edges) ≡ length edges
@@ -21,14 +22,16 @@ length-changed f s a [] = refl
 length-changed f s a (n ∷ ns) = ap suc (length-changed f s (a + 1) ns)
 
 get_or-changed : (f : ℕ → ℕ) (s : Sources) (a : ℕ) (edges : Edges) (k d : ℕ) → k < length edges
-    → get_or (changed f s a edges) k d ≡ (if contains s (a + k) then f (get_or edges k d) else get_or edges k d)
+    → get_or (changed f s a edges) k d ≡ (if contains s (a + k) then f (get_or edges k d)
+    else get_or edges k d)
 unfolding changed
 get_or-changed f s a [] k d in_list = absurd (omega arith)
 get_or-changed f s a (n ∷ ns) zero d in_list =
     let same : a ≡ a + 0 = omega arith in ap (λ q. if contains s q then f n else n) same
 get_or-changed f s a (n ∷ ns) (suc k) d in_list =
     let same : a + 1 + k ≡ a + suc k = omega arith in
-    get_or-changed f s (a + 1) ns k d (omega arith) ∙ ap (λ q. if contains s q then f (get_or ns k d) else get_or ns k d) same
+    get_or-changed f s (a + 1) ns k d (omega arith)
+    ∙ ap (λ q. if contains s q then f (get_or ns k d) else get_or ns k d) same
 
 -- a pending edge that is taken and given back leaves the count as it was
 again_same : (n : ℕ) → some_wait n ≡ true → one_more (one_less n) ≡ n
@@ -44,12 +47,18 @@ pub taken_and_given : (s : Sources) (a : ℕ) (edges : Edges)
 unfolding changed
 taken_and_given s a [] each = refl
 taken_and_given s a (n ∷ ns) each =
-    λ i. first (contains s a) refl i ∷ taken_and_given s (a + 1) ns (λ k in_list is. let same : a + suc k ≡ a + 1 + k = omega arith in each (suc k) (omega arith) (ap (contains s) same ∙ is)) i
+    λ i. first (contains s a) refl i ∷ taken_and_given s (a + 1) ns
+    (λ k in_list is. let same : a + suc k ≡ a + 1 + k = omega arith
+    in each (suc k) (omega arith) (ap (contains s) same ∙ is)) i
   where
     first : (b : Bool) → contains s a ≡ b
-        → (if contains s a then one_more (if contains s a then one_less n else n) else (if contains s a then one_less n else n)) ≡ n
-    first true is = ap (λ b. if b then one_more (if b then one_less n else n) else (if b then one_less n else n)) is ∙ again_same n (let same : a + 0 ≡ a = omega arith in each zero (omega arith) (ap (contains s) same ∙ is))
-    first false is = ap (λ b. if b then one_more (if b then one_less n else n) else (if b then one_less n else n)) is
+        → (if contains s a then one_more (if contains s a then one_less n else n)
+        else (if contains s a then one_less n else n)) ≡ n
+    first true is = ap (λ b. if b then one_more (if b then one_less n else n)
+        else (if b then one_less n else n)) is ∙ again_same n (let same : a + 0 ≡ a = omega arith
+        in each zero (omega arith) (ap (contains s) same ∙ is))
+    first false is =
+        ap (λ b. if b then one_more (if b then one_less n else n) else (if b then one_less n else n)) is
 
 -- ---- one source after the other
 -- the counts of the sources below `number` are changed, and the others are as before
@@ -63,7 +72,13 @@ pub record IsChangedBelow (f : ℕ → ℕ) (number : ℕ) (s : Sources) (old ne
 pub none_changed : (f : ℕ → ℕ) (s : Sources) (old new : Edges) → length old ≡ 8 → new ≡ old
     → IsChangedBelow f 24 s old new
 none_changed f s old new old_length e =
-    record { old_length = old_length; new_length = ap length e ∙ old_length; changed_below = λ k low. absurd (omega arith); same_from = λ k from. ap (λ l. slice_index l k) e }
+    record {
+      old_length = old_length;
+      new_length = ap length e ∙ old_length;
+      changed_below =
+          λ k low. absurd (omega arith);
+      same_from = λ k from. ap (λ l. slice_index l k) e;
+    }
 
 pub one_changed : (f : ℕ → ℕ) (number : ℕ) (s : Sources) (old new : Edges) (count : ℕ)
     → IsChangedBelow f number s old new → 24 ≤ number → number < 32 → contains s number ≡ true
@@ -83,9 +98,11 @@ one_changed f number s old new count so_far from below is its =
             ∙ ap f (so_far.same_from k (omega (arith, place)))
             ∙ sym (ap (λ b. if b then f (slice_index old k) else slice_index old k) (ap (contains s) place
             ∙ is))
-        | inr other ↦ get_or-set_other new (number - 24) k count 0 other ∙ so_far.changed_below k (omega (arith, other, low, from))
+        | inr other ↦ get_or-set_other new (number - 24) k count 0 other
+            ∙ so_far.changed_below k (omega (arith, other, low, from))
       ];
-      same_from = λ k past. get_or-set_other new (number - 24) k count 0 (λ e. omega (arith, e, past, from)) ∙ so_far.same_from k (omega (arith, past));
+      same_from = λ k past. get_or-set_other new (number - 24) k count 0 (λ e. omega (arith, e, past, from))
+          ∙ so_far.same_from k (omega (arith, past));
     }
 
 pub one_left : (f : ℕ → ℕ) (number : ℕ) (s : Sources) (old new : Edges) → IsChangedBelow f number s old new
@@ -95,7 +112,8 @@ one_left f number s old new so_far from below is =
       old_length = so_far.old_length;
       new_length = so_far.new_length;
       changed_below = λ k low. elim (cases_eq (24 + k) number) [
-        | inl e ↦ so_far.same_from k (omega (arith, e)) ∙ sym (ap (λ b. if b then f (slice_index old k) else slice_index old k) (ap (contains s) e ∙ is))
+        | inl e ↦ so_far.same_from k (omega (arith, e))
+            ∙ sym (ap (λ b. if b then f (slice_index old k) else slice_index old k) (ap (contains s) e ∙ is))
         | inr other ↦ so_far.changed_below k (omega (arith, other, low))
       ];
       same_from = λ k past. so_far.same_from k (omega (arith, past));
@@ -104,10 +122,18 @@ one_left f number s old new so_far from below is =
 pub all_changed : (f : ℕ → ℕ) (number : ℕ) (s : Sources) (old new : Edges) → 32 ≤ number
     → IsChangedBelow f number s old new → new ≡ changed f s 24 old
 all_changed f number s old new past all =
-    same_lists new (changed f s 24 old) (all.new_length ∙ sym (length-changed f s 24 old ∙ all.old_length)) (λ k d in_list.
+    same_lists new (changed f s 24 old) (all.new_length ∙ sym (length-changed f s 24 old ∙ all.old_length))
+    (λ k d in_list.
     get_or_any new k d in_list
     ∙ all.changed_below k (omega (arith, past, in_list, all.new_length))
-    ∙ sym (get_or_any (changed f s 24 old) k d (omega (arith, in_list, all.new_length, all.old_length, length-changed f s 24 old)) ∙ get_or-changed f s 24 old k 0 (omega (arith, in_list, all.new_length, all.old_length))))
+    ∙ sym (get_or_any (changed f s 24 old) k d (omega (
+      arith,
+      in_list,
+      all.new_length,
+      all.old_length,
+      length-changed f s 24 old,
+    )) ∙ get_or-changed f s 24 old k 0
+    (omega (arith, in_list, all.new_length, all.old_length))))
   where
     get_or_any : (l : List ℕ) (k d : ℕ) → k < length l → get_or l k d ≡ slice_index l k
     get_or_any [] k d in_list = absurd (omega arith)

@@ -20,11 +20,19 @@ same_sources = same_set nat_cmp_total nat_cmp-IsAntisymmetric
 -- ---- the operations of sets as those of words
 pub or_word : (a b : ℕ) → IsSourceWord a → IsSourceWord b → IsSourceWord (bit_or a b)
 or_word a b is also =
-    record { fits = or_lt 32 a b is.fits also.fits; no_zero = omega (arith, bit_at_lowest a, bit_at_lowest b, bit_at_lowest (bit_or a b), bit_at_or a b 0) }
+    record {
+      fits = or_lt 32 a b is.fits also.fits;
+      no_zero =
+          omega (arith, bit_at_lowest a, bit_at_lowest b, bit_at_lowest (bit_or a b), bit_at_or a b 0);
+    }
 
 pub and_word : (a b : ℕ) → IsSourceWord a → IsSourceWord (bit_and a b)
 and_word a b is =
-    record { fits = omega (arith, and_le_l a b, is.fits); no_zero = omega (arith, bit_at_lowest a, bit_at_lowest b, bit_at_lowest (bit_and a b), bit_at_and a b 0) }
+    record {
+      fits = omega (arith, and_le_l a b, is.fits);
+      no_zero =
+          omega (arith, bit_at_lowest a, bit_at_lowest b, bit_at_lowest (bit_and a b), bit_at_and a b 0);
+    }
 
 max_one : (x y : ℕ) → x < 2 → y < 2 → (max x y == 1) ≡ (x == 1 || y == 1)
 max_one zero zero h k = refl
@@ -105,8 +113,10 @@ insert_word a s is low high =
     same_sources _ _ (λ q.
     contains-sources_of _ q (or_word a _ is (place_word s low high))
     ∙ elim (cases_eq q s) [
-      | inl e ↦ ap (λ n. n == 1) (ap (λ k. bit_at (bit_or a (1 * 2 ^ s % 2 ^ 32)) k) e ∙ bit_at_set_same w32 a s high) ∙ sym (or_left (q == s) _ (eq-eqb q s e))
-      | inr other ↦ ap (λ n. n == 1) (bit_at_set_other w32 a s high q other) ∙ sym (ap (λ b. b || bit_at a q == 1) (ne_eqb q s other))
+      | inl e ↦ ap (λ n. n == 1) (ap (λ k. bit_at (bit_or a (1 * 2 ^ s % 2 ^ 32)) k) e
+          ∙ bit_at_set_same w32 a s high) ∙ sym (or_left (q == s) _ (eq-eqb q s e))
+      | inr other ↦ ap (λ n. n == 1) (bit_at_set_other w32 a s high q other)
+          ∙ sym (ap (λ b. b || bit_at a q == 1) (ne_eqb q s other))
     ]
     ∙ sym (contains-insert nat_cmp_total (sources_of a) s q
     ∙ (λ i. unsigned_tied q s i || contains-sources_of a q is i)))
@@ -116,7 +126,8 @@ cleared_bit : (a s q : ℕ) → IsSourceWord a → s < 32 → (q ≡ s → ⊥)
 cleared_bit a s q is high other =
     elim (cases_lt q 32) [
       | inl below ↦ bit_at_clear_other w32 a s high q below other
-      | inr above ↦ omega (arith, bit_at_and a (bit_not w32 (1 * 2 ^ s % 2 ^ 32)) q, bit_at_above a 32 q is.fits above)
+      | inr above ↦
+          omega (arith, bit_at_and a (bit_not w32 (1 * 2 ^ s % 2 ^ 32)) q, bit_at_above a 32 q is.fits above)
     ]
 
 pub remove_word : (a s : ℕ) → IsSourceWord a → 0 < s → s < 32
@@ -125,8 +136,10 @@ remove_word a s is low high =
     same_sources _ _ (λ q.
     contains-sources_of _ q (and_word a _ is)
     ∙ elim (cases_eq q s) [
-      | inl e ↦ ap (λ n. n == 1) (ap (λ k. bit_at (bit_and a (bit_not w32 (1 * 2 ^ s % 2 ^ 32))) k) e ∙ bit_at_clear_same w32 a s high) ∙ sym (ap (λ b. not b && bit_at a q == 1) (eq-eqb q s e))
-      | inr other ↦ ap (λ n. n == 1) (cleared_bit a s q is high other) ∙ sym (ap (λ b. not b && bit_at a q == 1) (ne_eqb q s other))
+      | inl e ↦ ap (λ n. n == 1) (ap (λ k. bit_at (bit_and a (bit_not w32 (1 * 2 ^ s % 2 ^ 32))) k) e
+          ∙ bit_at_clear_same w32 a s high) ∙ sym (ap (λ b. not b && bit_at a q == 1) (eq-eqb q s e))
+      | inr other ↦ ap (λ n. n == 1) (cleared_bit a s q is high other)
+          ∙ sym (ap (λ b. not b && bit_at a q == 1) (ne_eqb q s other))
     ]
     ∙ sym (contains-remove nat_cmp_total (sources_of a) s q
     ∙ (λ i. not (unsigned_tied q s i) && contains-sources_of a q is i)))
@@ -148,11 +161,21 @@ kept_bit word s low high =
 pub even_word : (word : ℕ) → sources_of (bit_and word (bit_not w32 1)) ≡ sources_of word
 unfolding sources_of sources
 even_word word =
-    ap (λ xs. from_list {R = nat_cmp} xs) (filter-range (λ s. bit_at (bit_and word (2 ^ 32 - 2 ^ 1)) s == 1) (λ s. bit_at word s == 1) 1 31 (λ s low high. ap (λ n. n == 1) (kept_bit word s low high)))
+    ap (λ xs. from_list {R = nat_cmp} xs) (filter-range (λ s. bit_at (bit_and word (2 ^ 32 - 2 ^ 1)) s == 1)
+    (λ s. bit_at word s == 1) 1 31 (λ s low high. ap (λ n. n == 1) (kept_bit word s low high)))
 
 pub even_is_word : (word : ℕ) → word < 2 ^ 32 → IsSourceWord (bit_and word (bit_not w32 1))
 even_is_word word fits =
-    record { fits = omega (arith, and_le_l word (2 ^ 32 - 2)); no_zero = omega (arith, bit_at_lowest (bit_and word (2 ^ 32 - 2 ^ 1)), bit_at_and word (2 ^ 32 - 2 ^ 1) 0, bit_at_mask_below 1 32 0 (omega arith)) }
+    record {
+      fits = omega (arith, and_le_l word (2 ^ 32 - 2));
+      no_zero =
+          omega (
+            arith,
+            bit_at_lowest (bit_and word (2 ^ 32 - 2 ^ 1)),
+            bit_at_and word (2 ^ 32 - 2 ^ 1) 0,
+            bit_at_mask_below 1 32 0 (omega arith),
+          );
+    }
 
 pub empty_word : sources_of 0 ≡ empty
 unfolding sources_of sources
@@ -178,4 +201,21 @@ pub no_bit : (word number : ℕ) → IsSourceWord word → 32 ≤ number → con
 no_bit word number is high =
     contains-sources_of word number is ∙ ap (λ n. n == 1) (bit_at_above word 32 number is.fits high)
 
-pub ruleset words = (union_word, intersection_word, difference_word, insert_word, remove_word, even_word, even_is_word, or_word, and_word, place_word, empty_word, empty_is_zero, zero_is_empty, tested_bit, no_bit, word_of-sources_of)
+pub ruleset words = (
+  union_word,
+  intersection_word,
+  difference_word,
+  insert_word,
+  remove_word,
+  even_word,
+  even_is_word,
+  or_word,
+  and_word,
+  place_word,
+  empty_word,
+  empty_is_zero,
+  zero_is_empty,
+  tested_bit,
+  no_bit,
+  word_of-sources_of,
+)

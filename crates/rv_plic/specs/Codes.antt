@@ -22,5 +22,12 @@ plic_code =
     code_by (GatewayState × ((Sources × Sources) × (List ℕ × ℕ)))
     (coded× gateway_code (coded× (coded× sources_code sources_code) (coded× (coded_list coded_ℕ) coded_ℕ)))
     (λ p. (p.gateways, ((p.pending, p.enabled), (p.priorities, p.threshold))))
-    (λ t. record { gateways = t.0; pending = t.1.0.0; enabled = t.1.0.1; priorities = t.1.1.0; threshold = t.1.1.1 })
+    (λ t. record {
+      gateways = t.0;
+      pending = t.1.0.0;
+      enabled = t.1.0.1;
+      priorities = t.1.1.0;
+      threshold =
+          t.1.1.1;
+    })
     (λ _. refl)

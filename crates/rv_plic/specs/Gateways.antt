@@ -22,7 +22,8 @@ abbrev pub with_line : GatewayState → ℕ → Bool → GatewayState
 with_line gateways source level =
     record gateways {
       high = if level then insert gateways.high source else remove gateways.high source;
-      edges = if level && not (contains gateways.high source) then after_rise gateways.edges source else gateways.edges;
+      edges = if level && not (contains gateways.high source) then after_rise gateways.edges source
+          else gateways.edges;
     }
 
 -- whether a source asks for a request: one triggered by edges while an edge is pending, any other while its
@@ -50,7 +51,11 @@ after_requests gateways pending =
 -- the gateways before they forwarded the requests of these sources
 abbrev pub withdrawn : GatewayState → Sources → GatewayState
 withdrawn gateways sources =
-    record gateways { outstanding = difference gateways.outstanding sources; edges = given_back sources gateways.edges }
+    record gateways {
+      outstanding = difference gateways.outstanding sources;
+      edges =
+          given_back sources gateways.edges;
+    }
 
 -- the gateways after the request of a source is completed
 abbrev pub after_completion : GatewayState → ℕ → GatewayState

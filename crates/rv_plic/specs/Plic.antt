@@ -22,7 +22,14 @@ pub record PlicState : Type 0 where
 -- the controller at reset
 abbrev pub reset : PlicState
 reset =
-    record { gateways = all_low; pending = empty; enabled = empty; priorities = replicate 32 0; threshold = 0 }
+    record {
+      gateways =
+          all_low;
+      pending = empty;
+      enabled = empty;
+      priorities = replicate 32 0;
+      threshold = 0;
+    }
 
 -- ---- the lines and their requests
 -- the controller after the line of a source is set to a level
@@ -44,7 +51,11 @@ forwarded plic =
 -- the controller before the requests of these sources were forwarded
 abbrev pub withdrawn : PlicState → Sources → PlicState
 withdrawn plic sources =
-    record plic { gateways = gateway.withdrawn plic.gateways sources; pending = difference plic.pending sources }
+    record plic {
+      gateways = gateway.withdrawn plic.gateways sources;
+      pending =
+          difference plic.pending sources;
+    }
 
 -- ---- the best source ("Interrupt Priorities": 0 never interrupts, and of equal priorities the lowest number
 -- goes first)
@@ -87,7 +98,8 @@ claimed plic (Some source) = record plic { pending = remove plic.pending source 
 -- the controller after a completion, which frees the gateway of an enabled source. Any other word is ignored
 abbrev pub completed : PlicState → ℕ → PlicState
 completed plic word =
-    if contains plic.enabled word then record plic { gateways = after_completion plic.gateways word } else plic
+    if contains plic.enabled word then record plic { gateways = after_completion plic.gateways word }
+    else plic
 
 -- ---- the registers ("Memory Map"), at offsets that are multiples of 4
 -- the register at an offset

@@ -57,7 +57,15 @@ sum-range f word a zero each = omega (arith, ap (λ (j : ℕ). word % 2 ^ j) (ad
 sum-range f word a (suc n) each =
     let next : 1 + a ≡ a + 1 = omega arith in
     let after : a + 1 + n ≡ a + suc n = omega arith in
-    omega (arith, sum_by-cons f a (range_with_len (a + 1) n), sum-range f word (a + 1) n each, each a, mod-pow-add word 1 a, ap (λ (j : ℕ). word % 2 ^ j) next, ap (λ (j : ℕ). word % 2 ^ j) after)
+    omega (
+      arith,
+      sum_by-cons f a (range_with_len (a + 1) n),
+      sum-range f word (a + 1) n each,
+      each a,
+      mod-pow-add word 1 a,
+      ap (λ (j : ℕ). word % 2 ^ j) next,
+      ap (λ (j : ℕ). word % 2 ^ j) after,
+    )
 
 bit_place : (b s : ℕ) → b < 2 → (if b == 1 then 2 ^ s else 0) ≡ b * 2 ^ s
 bit_place zero s below = omega arith
@@ -67,4 +75,11 @@ bit_place (suc (suc b)) s below = absurd (omega arith)
 pub word_of-sources_of : (word : ℕ) → IsSourceWord word → word_of (sources_of word) ≡ word
 unfolding word_of sources
 word_of-sources_of word is =
-    omega (arith, is.fits, is.no_zero, sum-range (λ s. if contains (sources_of word) s then 2 ^ s else 0) word 1 31 (λ s. ap (λ b. if b then 2 ^ s else 0) (contains-sources_of word s is) ∙ bit_place (bit_at word s) s (bit_at-lt word s)))
+    omega (
+      arith,
+      is.fits,
+      is.no_zero,
+      sum-range (λ s. if contains (sources_of word) s then 2 ^ s
+          else 0) word 1 31 (λ s. ap (λ b. if b then 2 ^ s else 0) (contains-sources_of word s is)
+          ∙ bit_place (bit_at word s) s (bit_at-lt word s)),
+    )

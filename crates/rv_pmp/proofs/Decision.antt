@@ -368,7 +368,8 @@ answer_each mode access first count i lower (e ∷ es) h granted =
         (cond (region lower e (first + i) || false) (Some (record { entry = e; region = region lower e }))
         (rest (first + i) 1)) ≡ true
     go true m tail r =
-        let parts = both (list_all (region lower e) (bytes_from first count)) (entry_grants e mode access) r in
+        let parts =
+        both (list_all (region lower e) (bytes_from first count)) (entry_grants e mode access) r in
         let held = all_bytes (region lower e) first count i h parts.0 in
         rw (held, held) parts.1
     go false m tail r = rw (any_byte (region lower e) first count i h m) (tail r)

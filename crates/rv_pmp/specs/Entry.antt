@@ -35,7 +35,8 @@ is_top Napot = false
 -- the configuration byte as it is read
 unfoldable pub config_byte : Entry → ℕ
 config_byte entry =
-    truth entry.readable + truth entry.writable * 2 + truth entry.executable * 4 + matching_code entry.matching * 8
+    truth entry.readable + truth entry.writable * 2 + truth entry.executable * 4
+    + matching_code entry.matching * 8
     + truth entry.locked * 128
 
 -- the entry with the fields of a byte; W is kept only together with R

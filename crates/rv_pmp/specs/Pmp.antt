@@ -20,7 +20,15 @@ pub record PmpState : Type 0 where
 -- an entry that matches nothing
 abbrev pub off_entry : Entry
 off_entry =
-    record { address = 0; readable = false; writable = false; executable = false; locked = false; matching = Off }
+    record {
+      address =
+          0;
+      readable = false;
+      writable = false;
+      executable = false;
+      locked = false;
+      matching = Off;
+    }
 
 -- the registers after a reset: sixteen entries
 abbrev pub reset : PmpState

@@ -20,8 +20,10 @@ put_zeros n i v Two z =
     ∙ set_zero n (i + 1) _ (omega arith)
 put_zeros n i v Four z =
     let e : v ≡ 0 = eqb-true v 0 z in
-    ap (λ xs. slice_set (slice_set (slice_set xs (i + 1) (v / 256 % 256)) (i + 2) (v / 65536 % 256)) (i + 3) (v / 16777216)) (set_zero n i (v % 256) (omega arith))
-    ∙ (ap (λ xs. slice_set (slice_set xs (i + 2) (v / 65536 % 256)) (i + 3) (v / 16777216)) (set_zero n (i + 1) _ (omega arith))
+    ap (λ xs. slice_set (slice_set (slice_set xs (i + 1) (v / 256 % 256)) (i + 2) (v / 65536 % 256)) (i + 3)
+    (v / 16777216)) (set_zero n i (v % 256) (omega arith))
+    ∙ (ap (λ xs. slice_set (slice_set xs (i + 2) (v / 65536 % 256)) (i + 3) (v / 16777216))
+    (set_zero n (i + 1) _ (omega arith))
     ∙ (ap (λ xs. slice_set xs (i + 3) (v / 16777216)) (set_zero n (i + 2) _ (omega arith))
     ∙ set_zero n (i + 3) _ (omega arith)))
 
@@ -50,10 +52,14 @@ put_left xs ys o v Four l =
     let l1 = length-set xs o (v % 256) in
     let l2 = length-set (set xs o (v % 256)) (o + 1) (v / 256 % 256) in
     let l3 = length-set (set (set xs o (v % 256)) (o + 1) (v / 256 % 256)) (o + 2) (v / 65536 % 256) in
-    ap (λ b. set (set (set b (o + 1) (v / 256 % 256)) (o + 2) (v / 65536 % 256)) (o + 3) (v / 16777216)) (set-append_left xs ys o (v % 256) (omega arith))
-    ∙ (ap (λ b. set (set b (o + 2) (v / 65536 % 256)) (o + 3) (v / 16777216)) (set-append_left (set xs o (v % 256)) ys (o + 1) (v / 256 % 256) (omega arith))
-    ∙ (ap (λ b. set b (o + 3) (v / 16777216)) (set-append_left (set (set xs o (v % 256)) (o + 1) (v / 256 % 256)) ys (o + 2) (v / 65536 % 256) (omega arith))
-    ∙ set-append_left (set (set (set xs o (v % 256)) (o + 1) (v / 256 % 256)) (o + 2) (v / 65536 % 256)) ys (o + 3) _ (omega arith)))
+    ap (λ b. set (set (set b (o + 1) (v / 256 % 256)) (o + 2) (v / 65536 % 256)) (o + 3) (v / 16777216))
+    (set-append_left xs ys o (v % 256) (omega arith))
+    ∙ (ap (λ b. set (set b (o + 2) (v / 65536 % 256)) (o + 3) (v / 16777216))
+    (set-append_left (set xs o (v % 256)) ys (o + 1) (v / 256 % 256) (omega arith))
+    ∙ (ap (λ b. set b (o + 3) (v / 16777216)) (set-append_left
+    (set (set xs o (v % 256)) (o + 1) (v / 256 % 256)) ys (o + 2) (v / 65536 % 256) (omega arith))
+    ∙ set-append_left (set (set (set xs o (v % 256)) (o + 1) (v / 256 % 256)) (o + 2) (v / 65536 % 256)) ys
+    (o + 3) _ (omega arith)))
 
 set_right : (xs ys : List ℕ) (n k j x : ℕ) → length xs ≡ n → j ≡ n + k → set (xs ++ ys) j x ≡ xs ++ set ys k x
 set_right xs ys n k j x e q =
@@ -68,7 +74,12 @@ put_right xs ys n o v Two e =
     ap (λ b. set b (n + o + 1) (v / 256 % 256)) (set_right xs ys n o (n + o) (v % 256) e refl)
     ∙ set_right xs _ n (o + 1) (n + o + 1) _ e (omega arith)
 put_right xs ys n o v Four e =
-    ap (λ b. set (set (set b (n + o + 1) (v / 256 % 256)) (n + o + 2) (v / 65536 % 256)) (n + o + 3) (v / 16777216)) (set_right xs ys n o (n + o) (v % 256) e refl)
-    ∙ (ap (λ b. set (set b (n + o + 2) (v / 65536 % 256)) (n + o + 3) (v / 16777216)) (set_right xs (set ys o (v % 256)) n (o + 1) (n + o + 1) (v / 256 % 256) e (omega arith))
-    ∙ (ap (λ b. set b (n + o + 3) (v / 16777216)) (set_right xs (set (set ys o (v % 256)) (o + 1) (v / 256 % 256)) n (o + 2) (n + o + 2) (v / 65536 % 256) e (omega arith))
-    ∙ set_right xs (set (set (set ys o (v % 256)) (o + 1) (v / 256 % 256)) (o + 2) (v / 65536 % 256)) n (o + 3) (n + o + 3) _ e (omega arith)))
+    ap (λ b. set (set (set b (n + o + 1) (v / 256 % 256)) (n + o + 2) (v / 65536 % 256)) (n + o + 3)
+    (v / 16777216)) (set_right xs ys n o (n + o) (v % 256) e refl)
+    ∙ (ap (λ b. set (set b (n + o + 2) (v / 65536 % 256)) (n + o + 3) (v / 16777216))
+    (set_right xs (set ys o (v % 256)) n (o + 1) (n + o + 1) (v / 256 % 256) e (omega arith))
+    ∙ (ap (λ b. set b (n + o + 3) (v / 16777216)) (set_right xs
+    (set (set ys o (v % 256)) (o + 1) (v / 256 % 256)) n (o + 2) (n + o + 2) (v / 65536 % 256) e
+    (omega arith))
+    ∙ set_right xs (set (set (set ys o (v % 256)) (o + 1) (v / 256 % 256)) (o + 2) (v / 65536 % 256)) n
+    (o + 3) (n + o + 3) _ e (omega arith)))

@@ -19,7 +19,8 @@ byte_of (x ∷ xs) at = refl
 -- a word that is kept of a page is that of the page
 pub word_of_page : (xs : List ℕ) (at : ℕ) → word_at xs at ≡ word_at (page_of xs).bytes at
 word_of_page [] at =
-    let a = get_zeros 4096 at in let b = get_zeros 4096 (at + 1) in let c = get_zeros 4096 (at + 2) in let d = get_zeros 4096 (at + 3) in omega (arith, a, b, c, d)
+    let a = get_zeros 4096 at in let b = get_zeros 4096 (at + 1) in let c = get_zeros 4096 (at + 2) in let d =
+    get_zeros 4096 (at + 3) in omega (arith, a, b, c, d)
 word_of_page (x ∷ xs) at = refl
 
 -- ---- a page that does not exist, of which no byte is kept
@@ -130,7 +131,8 @@ pub all_bytes_put : (ps : List PageState) (off v : ℕ) (w : Width) (q d : PageS
 all_bytes_put ps off v w q d h l a e =
     let len = length_all_bytes ps h in
     let r : 4096 * (off / 4096) + off % 4096 ≡ off = omega arith in
-    all_bytes_with ps (off / 4096) (off % 4096) v w q d h (below w l) (in_page w off a) e ∙ ap (λ k. put (all_bytes ps) k w v) r
+    all_bytes_with ps (off / 4096) (off % 4096) v w q d h (below w l) (in_page w off a) e
+    ∙ ap (λ k. put (all_bytes ps) k w v) r
   where
     below : (w : Width) → off + bytes_of w ≤ length (all_bytes ps) → off / 4096 < length ps
     below One l = omega (arith, length_all_bytes ps h)

@@ -12,17 +12,23 @@ abbrev pub until_comma : List Token → ℕ
 until_comma ts = position_or_len is_comma ts
 
 comma_step : (t : Token) (ts : List Token) (b : Bool) → is_comma t ≡ b
-    → (until_comma ts < length ts → pieces ts ≡ take (until_comma ts) ts ∷ pieces (drop (suc (until_comma ts)) ts))
-    → until_comma (t ∷ ts) < length (t ∷ ts) → pieces (t ∷ ts) ≡ take (until_comma (t ∷ ts)) (t ∷ ts) ∷ pieces (drop (suc (until_comma (t ∷ ts))) (t ∷ ts))
+    → (until_comma ts < length ts → pieces ts ≡ take (until_comma ts) ts
+    ∷ pieces (drop (suc (until_comma ts)) ts))
+    → until_comma (t ∷ ts) < length (t ∷ ts) → pieces (t ∷ ts) ≡ take (until_comma (t ∷ ts)) (t ∷ ts)
+    ∷ pieces (drop (suc (until_comma (t ∷ ts))) (t ∷ ts))
 unfolding pieces
 comma_step t ts true e h k = rw e refl
-comma_step t ts false e h k = let m = rw (e, one-add) at k in rw (e, one-add) (ap (before t) (h (omega arith)))
+comma_step t ts false e h k =
+    let m = rw (e, one-add) at k in rw (e, one-add) (ap (before t) (h (omega arith)))
 
-pieces_comma : (ts : List Token) → until_comma ts < length ts → pieces ts ≡ take (until_comma ts) ts ∷ pieces (drop (suc (until_comma ts)) ts)
+pieces_comma : (ts : List Token) → until_comma ts < length ts →
+    pieces ts ≡ take (until_comma ts) ts ∷ pieces (drop (suc (until_comma ts)) ts)
 pieces_comma [] h = absurd (omega arith)
 pieces_comma (t ∷ ts) h = comma_step t ts (is_comma t) refl (pieces_comma ts) h
 
-last_step : (t : Token) (ts : List Token) (b : Bool) → is_comma t ≡ b → (length ts ≤ until_comma ts → pieces ts ≡ ts ∷ []) → length (t ∷ ts) ≤ until_comma (t ∷ ts) → pieces (t ∷ ts) ≡ (t ∷ ts) ∷ []
+last_step : (t : Token) (ts : List Token) (b : Bool) → is_comma t ≡ b →
+    (length ts ≤ until_comma ts → pieces ts ≡ ts ∷ []) → length (t ∷ ts) ≤ until_comma (t ∷ ts) →
+    pieces (t ∷ ts) ≡ (t ∷ ts) ∷ []
 unfolding pieces
 last_step t ts true e h k = let m = rw e at k in absurd (omega arith)
 last_step t ts false e h k = let m = rw (e, one-add) at k in rw e (ap (before t) (h (omega arith)))
@@ -32,16 +38,19 @@ unfolding pieces
 pieces_last [] h = refl
 pieces_last (t ∷ ts) h = last_step t ts (is_comma t) refl (pieces_last ts) h
 
-at_comma : (ts : List Token) (n : ℕ) (t : Bool) → nat_lt (until_comma ts) (length ts) ≡ t → cond t (Some (until_comma ts)) None ≡ Some n → n ≡ until_comma ts
+at_comma : (ts : List Token) (n : ℕ) (t : Bool) → nat_lt (until_comma ts) (length ts) ≡ t →
+    cond t (Some (until_comma ts)) None ≡ Some n → n ≡ until_comma ts
 at_comma ts n true e h = cc
 at_comma ts n false e h = cc
 
-at_end : (ts : List Token) (t : Bool) → nat_lt (until_comma ts) (length ts) ≡ t → cond t (Some (until_comma ts)) None ≡ None → length ts ≤ until_comma ts
+at_end : (ts : List Token) (t : Bool) → nat_lt (until_comma ts) (length ts) ≡ t →
+    cond t (Some (until_comma ts)) None ≡ None → length ts ≤ until_comma ts
 at_end ts true e h = cc
 at_end ts false e h = grind (arith, nat_tests)
 
 -- the pieces of tokens with a comma
-pub cut_pieces : (ts : List Token) (n : ℕ) → Some n ≡ position is_comma ts → n < length ts → pieces ts ≡ take n ts ∷ pieces (drop (n + 1) ts)
+pub cut_pieces : (ts : List Token) (n : ℕ) → Some n ≡ position is_comma ts → n < length ts →
+    pieces ts ≡ take n ts ∷ pieces (drop (n + 1) ts)
 cut_pieces ts n e h =
     let is = at_comma ts n (nat_lt (until_comma ts) (length ts)) refl (sym e) in
     rw (add-one, is) (pieces_comma ts (grind (arith, is, h)))
@@ -50,7 +59,8 @@ cut_pieces ts n e h =
 pub one_piece : (ts : List Token) → None ≡ position is_comma ts → pieces ts ≡ ts ∷ []
 one_piece ts e = pieces_last ts (at_end ts (nat_lt (until_comma ts) (length ts)) refl (sym e))
 
-some_step : (b : Bool) (t : Token) (ps qs : List (List Token)) → is_nothing (cond b ([] ∷ qs) (before t ps)) ≡ false
+some_step : (b : Bool) (t : Token) (ps qs : List (List Token)) →
+    is_nothing (cond b ([] ∷ qs) (before t ps)) ≡ false
 some_step true t ps qs = refl
 some_step false t [] qs = refl
 some_step false t (p ∷ ps) qs = refl

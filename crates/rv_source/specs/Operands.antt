@@ -54,7 +54,8 @@ base_of _ = None
 
 -- E(name) or (name): the tokens before the first bracket, and the name
 unfoldable pub indexed_of : List Token → Option (List Token × List ℕ)
-indexed_of ts = option_and_then (λ n. option_map (λ name. (take n ts, name)) (base_of (drop n ts))) (position is_open ts)
+indexed_of ts =
+    option_and_then (λ n. option_map (λ name. (take n ts, name)) (base_of (drop n ts))) (position is_open ts)
 
 -- tokens that begin with a bracket: those inside the brackets, and those following them
 abbrev pub bracketed : List Token → Option (List Token × List Token)

@@ -40,8 +40,8 @@ terms_behind (Some p) ts = elim p.0 as (λ _. Option (List Term)) [
   | Some term ↦ with_terms (term ∷ []) (terms p.1 ts)
 ]
 
--- reading one token: the terms before it, and those of the tokens from it on, are the terms after it, and those
--- of the tokens following it
+-- reading one token: the terms before it, and those of the tokens from it on, are the terms after it, and
+-- those of the tokens following it
 abbrev pub Extends : List Term → List Term → Result Wanted Refusal → Option (List Term) → List Token → Type 0
 Extends old new (Ok next) meaning ts = with_terms old meaning ≡ with_terms new (terms next ts)
 Extends old new (Err refusal) meaning ts = Refuses refusal meaning

@@ -36,7 +36,8 @@ said_by (Some form) operands = ok_or (meaning form operands) BadOperands
 unfoldable pub statement_of : List ℕ → List Token → Result Statement LineFault
 statement_of word ts =
     if is_marker (form_of word) then Ok s.Marker
-    else (if list_all is_operand (operands_of ts) then said_by (form_of word) (operands_of ts) else Err Syntax)
+    else (if list_all is_operand (operands_of ts) then said_by (form_of word) (operands_of ts)
+    else Err Syntax)
 
 -- a statement, or nothing
 abbrev pub rest_of : List Token → Result (Option Statement) LineFault

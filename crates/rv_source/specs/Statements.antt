@@ -74,7 +74,8 @@ low_offset ts = option_map (λ e. i.Low e) (value ts)
 
 -- an offset and a base, by the tokens of the offset and the name of the base
 abbrev pub based : (List Token → Option Immediate) → Option (List Token × List ℕ) → Option (Immediate × ℕ)
-based offset place = option_and_then (λ p. option_and_then (λ base. option_map (λ o. (o, base)) (offset p.0)) (register_named p.1)) place
+based offset place = option_and_then (λ p. option_and_then (λ base. option_map (λ o. (o, base)) (offset p.0))
+    (register_named p.1)) place
 
 -- %lo(E)(register), E(register) or (register): the offset and the base
 unfoldable pub memory : List Token → Option (Immediate × ℕ)
@@ -113,25 +114,33 @@ none s operands = if is_nothing operands then Some s else None
 abbrev pub alone : {A : Type 0} → (List Token → Option A) → List (List Token) → Option A
 alone a operands = option_and_then a (only operands)
 
-abbrev pub one : {A : Type 0} → (List Token → Option A) → (A → Statement) → List (List Token) → Option Statement
+abbrev pub one : {A : Type 0} → (List Token → Option A) → (A → Statement) → List (List Token) →
+    Option Statement
 one a s operands = option_map s (alone a operands)
 
 -- two operands
-abbrev pub both : {A B : Type 0} → (List Token → Option A) → (List Token → Option B) → List (List Token) → Option (A × B)
-both a b operands = option_and_then (λ x. option_and_then (λ p. option_map (λ q. (p, q)) (b x.1)) (a x.0)) (pair operands)
+abbrev pub both : {A B : Type 0} → (List Token → Option A) → (List Token → Option B) → List (List Token) →
+    Option (A × B)
+both a b operands =
+    option_and_then (λ x. option_and_then (λ p. option_map (λ q. (p, q)) (b x.1)) (a x.0)) (pair operands)
 
-abbrev pub two : {A B : Type 0} → (List Token → Option A) → (List Token → Option B) → (A → B → Statement) → List (List Token) → Option Statement
+abbrev pub two : {A B : Type 0} → (List Token → Option A) → (List Token → Option B) → (A → B → Statement) →
+    List (List Token) → Option Statement
 two a b s operands = option_map (λ p. s p.0 p.1) (both a b operands)
 
 -- three operands
-abbrev pub all : {A B C : Type 0} → (List Token → Option A) → (List Token → Option B) → (List Token → Option C) → List (List Token) → Option (A × B × C)
-all a b c operands = option_and_then (λ x. option_and_then (λ p. option_and_then (λ q. option_map (λ r. (p, q, r)) (c x.2)) (b x.1)) (a x.0)) (triple operands)
+abbrev pub all : {A B C : Type 0} → (List Token → Option A) → (List Token → Option B) →
+    (List Token → Option C) → List (List Token) → Option (A × B × C)
+all a b c operands = option_and_then (λ x. option_and_then
+    (λ p. option_and_then (λ q. option_map (λ r. (p, q, r)) (c x.2)) (b x.1)) (a x.0)) (triple operands)
 
-abbrev pub three : {A B C : Type 0} → (List Token → Option A) → (List Token → Option B) → (List Token → Option C) → (A → B → C → Statement) → List (List Token) → Option Statement
+abbrev pub three : {A B C : Type 0} → (List Token → Option A) → (List Token → Option B) →
+    (List Token → Option C) → (A → B → C → Statement) → List (List Token) → Option Statement
 three a b c s operands = option_map (λ p. s p.0 p.1 p.2) (all a b c operands)
 
 -- one of two forms
-abbrev pub either : (List (List Token) → Option Statement) → (List (List Token) → Option Statement) → List (List Token) → Option Statement
+abbrev pub either : (List (List Token) → Option Statement) → (List (List Token) → Option Statement) →
+    List (List Token) → Option Statement
 either a b operands = option_or (a operands) (b operands)
 
 -- the expressions of operands, if each is one
@@ -146,7 +155,8 @@ string terminated ts = option_map (λ bytes. if terminated then bytes ++ 0 ∷ [
 -- the bytes of operands, if each is a string
 unfoldable pub strings : Bool → List (List Token) → Option (List ℕ)
 strings terminated [] = Some []
-strings terminated (x ∷ xs) = option_and_then (λ bs. option_map (λ more. bs ++ more) (strings terminated xs)) (string terminated x)
+strings terminated (x ∷ xs) =
+    option_and_then (λ bs. option_map (λ more. bs ++ more) (strings terminated xs)) (string terminated x)
 
 -- a meaning of one or more operands
 abbrev pub of_some : {A : Type 0} → (List (List Token) → Option A) → List (List Token) → Option A
@@ -156,29 +166,35 @@ of_some f (x ∷ xs) = f (x ∷ xs)
 -- ---- the forms
 
 abbrev pub jal : List (List Token) → Option Statement
-jal = either (two register value (λ rd target. s.WithValue (takes.Jal rd) target)) (one value (λ target. s.WithValue (takes.Jal 1) target))
+jal = either (two register value (λ rd target. s.WithValue (takes.Jal rd) target))
+    (one value (λ target. s.WithValue (takes.Jal 1) target))
 
 abbrev pub jalr : List (List Token) → Option Statement
 jalr =
     either (two register register (λ rd base. s.Instruction (k.Jalr rd base (pos 0))))
     (either (two register memory (λ rd m. s.WithImmediate (takes_imm.Jalr rd m.1) m.0))
-    (either (three register register immediate (λ rd base offset. s.WithImmediate (takes_imm.Jalr rd base) offset))
+    (either (three register register immediate (λ rd base offset.
+    s.WithImmediate (takes_imm.Jalr rd base) offset))
     (one register (λ base. s.Instruction (k.Jalr 1 base (pos 0))))))
 
 abbrev pub load : LoadOp → List (List Token) → Option Statement
-load op = either (two register value (λ rd target. s.WithValue (takes.LoadFrom op rd) target)) (two register memory (λ rd m. s.WithImmediate (takes_imm.Load op rd m.1) m.0))
+load op = either (two register value (λ rd target. s.WithValue (takes.LoadFrom op rd) target))
+    (two register memory (λ rd m. s.WithImmediate (takes_imm.Load op rd m.1) m.0))
 
 abbrev pub store : Width → List (List Token) → Option Statement
 store width =
     either (two register memory (λ source m. s.WithImmediate (takes_imm.Store width source m.1) m.0))
-    (three register value register (λ source target scratch. s.WithValue (takes.StoreTo width source scratch) target))
+    (three register value register (λ source target scratch.
+    s.WithValue (takes.StoreTo width source scratch) target))
 
 -- two sets, or nothing for `iorw,iorw`
 abbrev pub fence : List (List Token) → Option Statement
-fence = either (none (s.Instruction (k.Fence 0 0 255))) (two fence_set fence_set (λ p q. s.Instruction (k.Fence 0 0 (16 * p + q))))
+fence = either (none (s.Instruction (k.Fence 0 0 255)))
+    (two fence_set fence_set (λ p q. s.Instruction (k.Fence 0 0 (16 * p + q))))
 
 abbrev pub space : List (List Token) → Option Statement
-space = either (one value (λ size. s.Space size None)) (two value value (λ size fill. s.Space size (Some fill)))
+space = either (one value (λ size. s.Space size None))
+    (two value value (λ size fill. s.Space size (Some fill)))
 
 -- the statement of an instruction with its operands
 unfoldable pub instruction : Instruction → List (List Token) → Option Statement
@@ -186,11 +202,14 @@ instruction f.Lui = two register upper (λ rd imm. s.Lui rd imm)
 instruction f.Auipc = two register value (λ rd imm. s.WithValue (takes.Auipc rd) imm)
 instruction f.Jal = jal
 instruction f.Jalr = jalr
-instruction (f.Branch cond) = three register register value (λ rs1 rs2 target. s.WithValue (takes.Branch cond rs1 rs2) target)
+instruction (f.Branch cond) =
+    three register register value (λ rs1 rs2 target. s.WithValue (takes.Branch cond rs1 rs2) target)
 instruction (f.Load op) = load op
 instruction (f.Store width) = store width
-instruction (f.OpImm op) = three register register immediate (λ rd rs1 imm. s.WithImmediate (takes_imm.OpImm op rd rs1) imm)
-instruction (f.Shift op) = three register register value (λ rd rs1 amount. s.WithValue (takes.Shift op rd rs1) amount)
+instruction (f.OpImm op) =
+    three register register immediate (λ rd rs1 imm. s.WithImmediate (takes_imm.OpImm op rd rs1) imm)
+instruction (f.Shift op) =
+    three register register value (λ rd rs1 amount. s.WithValue (takes.Shift op rd rs1) amount)
 instruction (f.Op op) = three register register register (λ rd rs1 rs2. s.Instruction (k.Op op rd rs1 rs2))
 instruction (f.Csr op) = three register csr register (λ rd csr rs1. s.Instruction (k.Csr op rd rs1 csr))
 instruction (f.CsrImm op) = three register csr value (λ rd csr imm. s.WithValue (takes.CsrImm op rd csr) imm)
@@ -213,7 +232,8 @@ pseudo p.Sltz = two register register (λ rd rs. s.Instruction (k.Op Slt rd rs 0
 pseudo p.Sgtz = two register register (λ rd rs. s.Instruction (k.Op Slt rd 0 rs))
 pseudo (p.BranchZero cond) = two register value (λ rs target. s.WithValue (takes.Branch cond rs 0) target)
 pseudo (p.ZeroBranch cond) = two register value (λ rs target. s.WithValue (takes.Branch cond 0 rs) target)
-pseudo (p.BranchSwapped cond) = three register register value (λ rs rt target. s.WithValue (takes.Branch cond rt rs) target)
+pseudo (p.BranchSwapped cond) =
+    three register register value (λ rs rt target. s.WithValue (takes.Branch cond rt rs) target)
 pseudo p.Jump = one value (λ target. s.WithValue (takes.Jal 0) target)
 pseudo p.JumpRegister = one register (λ rs. s.Instruction (k.Jalr 0 rs (pos 0)))
 pseudo p.Return = none (s.Instruction (k.Jalr 0 1 (pos 0)))
@@ -228,7 +248,8 @@ pseudo p.Tail = one value (λ target. s.WithValue (takes.Call 0 6) target)
 -- the statement of a directive with its operands
 unfoldable pub directive : Directive → List (List Token) → Option Statement
 directive (d.Data width) = λ operands. option_map (λ es. s.Data width es) (of_some values operands)
-directive (d.Text terminated) = λ operands. option_map (λ bytes. s.Bytes bytes) (of_some (strings terminated) operands)
+directive (d.Text terminated) =
+    λ operands. option_map (λ bytes. s.Bytes bytes) (of_some (strings terminated) operands)
 directive d.Space = space
 directive d.Align = one value (λ power. s.WithValue takes.Align power)
 directive d.Balign = one value (λ multiple. s.WithValue takes.Balign multiple)

@@ -9,23 +9,31 @@ use Rattle.rv_asm.proofs.assembler.lay_out.Goals as goal
 
 pub loop-text-init : goal.loop-text-init
 loop-text-init c =
-    let all : c.into_iter-text-iterator.result ≡ lines c.args.source.now = c.into_iter-text-iterator.ensures.into_iter_gives ∙ c.cut_lines-text-items.ensures.cut in
+    let all : c.into_iter-text-iterator.result ≡ lines c.args.source.now =
+    c.into_iter-text-iterator.ensures.into_iter_gives ∙ c.cut_lines-text-items.ensures.cut in
     record {
       can_next = tt;
       is_finite = tt;
       read = rw all (begun (lines c.args.source.now));
       layout = laid_out-zero (all_said (lines c.args.source.now)) ∙ ap (λ (s : State). Ok s) (sym c.requires);
-      counted = omega (arith, ap length c.into_iter-text-iterator.ensures.into_iter_gives, c.cut_lines-text-items.ensures.within);
+      counted = omega (
+        arith,
+        ap length c.into_iter-text-iterator.ensures.into_iter_gives,
+        c.cut_lines-text-items.ensures.within,
+      );
     }
 
 pub add-requires-clause-up_to : goal.add-requires-clause-up_to
 add-requires-clause-up_to c =
-    up_to_laid_out (all_said (lines c.args.source.now)) c.loop-text.number (so_far c.loop-text.fault (laid c.loop-text.known c.loop-text.items.items)) c.loop-text.invariant.layout
+    up_to_laid_out (all_said (lines c.args.source.now)) c.loop-text.number
+    (so_far c.loop-text.fault (laid c.loop-text.known c.loop-text.items.items))
+    c.loop-text.invariant.layout
 
 pub returns-in-Err-clause-layout : goal.returns-in-Err-clause-layout
 returns-in-Err-clause-layout c =
     let why = c.in-Err.ensures.err in
-    unread (lines c.args.source.now) c.loop-text.text-iterator c.loop-text.number c.loop-text.invariant.read c.in-Some.text.now c.next.new.self c.in-Some.ensures.steps
+    unread (lines c.args.source.now) c.loop-text.text-iterator c.loop-text.number c.loop-text.invariant.read
+    c.in-Some.text.now c.next.new.self c.in-Some.ensures.steps
     why.kind c.in-Err.unread _ why.fails why.at (search rules)
 
 pub loop-text-preserved : goal.loop-text-preserved
@@ -41,19 +49,26 @@ loop-text-preserved c =
       can_next = tt;
       is_finite = tt;
       read = read_more texts rest n so text after cut c.in-Ok.line c.in-Ok.ensures.ok;
-      layout = rw (← laid_out_more texts rest n so text after cut c.in-Ok.line c.in-Ok.ensures.ok) (c.add.ensures (laid_out (all_said texts) n) c.loop-text.invariant.layout);
+      layout = rw (← laid_out_more texts rest n so text after cut c.in-Ok.line c.in-Ok.ensures.ok)
+          (c.add.ensures (laid_out (all_said texts) n) c.loop-text.invariant.layout);
       counted = omega (arith, c.loop-text.invariant.counted, ap length cut);
     }
 
 pub returns-in-None-fault-clause-layout : goal.returns-in-None-fault-clause-layout
 returns-in-None-fault-clause-layout c =
-    rw (read_all (lines c.args.source.now) c.loop-text.text-iterator c.loop-text.number c.loop-text.invariant.read c.in-None.ensures.steps.0) (rw c.in-None-fault.is at c.loop-text.invariant.layout)
+    rw (read_all (lines c.args.source.now) c.loop-text.text-iterator c.loop-text.number
+    c.loop-text.invariant.read c.in-None.ensures.steps.0)
+    (rw c.in-None-fault.is at c.loop-text.invariant.layout)
 
 pub returns-in-None-fault-clause-within : goal.returns-in-None-fault-clause-within
 returns-in-None-fault-clause-within c =
     let whole = rw c.in-None-fault.is at c.loop-text.invariant.layout in
-    below_laid_out (all_said (lines c.args.source.now)) c.loop-text.number (length c.args.source.now) (Ok (laid c.loop-text.known c.loop-text.items.items)) (omega (arith, c.loop-text.invariant.counted)) whole
+    below_laid_out (all_said (lines c.args.source.now)) c.loop-text.number (length c.args.source.now)
+    (Ok (laid c.loop-text.known c.loop-text.items.items))
+    (omega (arith, c.loop-text.invariant.counted)) whole
 
 pub returns-in-Some-fault-clause-layout : goal.returns-in-Some-fault-clause-layout
 returns-in-Some-fault-clause-layout c =
-    rw (read_all (lines c.args.source.now) c.loop-text.text-iterator c.loop-text.number c.loop-text.invariant.read c.in-None.ensures.steps.0) (rw c.in-Some-fault.is at c.loop-text.invariant.layout)
+    rw (read_all (lines c.args.source.now) c.loop-text.text-iterator c.loop-text.number
+    c.loop-text.invariant.read c.in-None.ensures.steps.0)
+    (rw c.in-Some-fault.is at c.loop-text.invariant.layout)

@@ -13,6 +13,7 @@ invariant-loop-text l =
       can_next : (goal.iterator-loop-text).can_next l.text-iterator;
       is_finite : (goal.iterator-loop-text).is_finite l.text-iterator;
       read : SoFar (lines l.source) l.text-iterator l.number;
-      layout : Gives (λ s. s) (so_far l.fault (laid l.known l.items.items)) (laid_out (all_said (lines l.source)) l.number);
+      layout : Gives (λ s. s) (so_far l.fault (laid l.known l.items.items))
+          (laid_out (all_said (lines l.source)) l.number);
       counted : l.number + length l.text-iterator ≤ length l.source;
     }

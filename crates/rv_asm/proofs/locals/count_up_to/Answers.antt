@@ -13,7 +13,8 @@ loop-low-preserved-then-labels-middle c =
       ordered = omega arith;
       within = w;
       before = λ k d p.
-          let r = rises_at c.args.labels.now k (c.loop-low.low + (c.loop-low.high - c.loop-low.low) / 2) d (record { number = 0; line = 0; address = 0 }) c.requires (omega arith) (omega arith) in
+          let r = rises_at c.args.labels.now k (c.loop-low.low + (c.loop-low.high - c.loop-low.low) / 2) d
+          (record { number = 0; line = 0; address = 0 }) c.requires (omega arith) (omega arith) in
           omega (arith, r, t);
       after = i.after;
     }
@@ -30,6 +31,7 @@ loop-low-preserved c =
       within = omega arith;
       before = i.before;
       after = λ k d p q.
-          let r = rises_at c.args.labels.now (c.loop-low.low + (c.loop-low.high - c.loop-low.low) / 2) k (record { number = 0; line = 0; address = 0 }) d c.requires p q in
+          let r = rises_at c.args.labels.now (c.loop-low.low + (c.loop-low.high - c.loop-low.low) / 2) k
+          (record { number = 0; line = 0; address = 0 }) d c.requires p q in
           omega (arith, r, t);
     }

@@ -8,7 +8,8 @@ invariant-loop-low l =
       ordered : l.low ≤ l.high;
       within : l.high ≤ length l.labels;
       before : (k : ℕ) (d : LocalLabel) → k < l.low → (get_or l.labels k d).line ≤ l.line;
-      after : (k : ℕ) (d : LocalLabel) → l.high ≤ k → k < length l.labels → l.line < (get_or l.labels k d).line;
+      after : (k : ℕ) (d : LocalLabel) → l.high ≤ k → k < length l.labels →
+          l.line < (get_or l.labels k d).line;
     }
 
 abbrev pub decreases-loop-low : goal.decreases-loop-low

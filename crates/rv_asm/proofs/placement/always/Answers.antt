@@ -11,5 +11,7 @@ use Rattle.rv_asm.proofs.placement.always.Goals as goal
 pub returns-in-Ok : goal.returns-in-Ok
 returns-in-Ok c =
     let fits : SFits w64 c.args.constant = search rules in
-    let is : instructions (sum_value c.new-none.result c.args.line c.args.here) c.args.here c.args.constant c.args.statement.now ≡ Ok c.in-Ok.instructions = sym (simp to_z-of_z at c.in-Ok.ensures) in
-    always c.new-none.result c.args.line c.args.here c.args.constant c.args.statement.now c.in-Ok.instructions c.only.result c.new-none.ensures is c.only.ensures
+    let is : instructions (sum_value c.new-none.result c.args.line c.args.here) c.args.here c.args.constant
+    c.args.statement.now ≡ Ok c.in-Ok.instructions = sym (simp to_z-of_z at c.in-Ok.ensures) in
+    always c.new-none.result c.args.line c.args.here c.args.constant c.args.statement.now c.in-Ok.instructions
+    c.only.result c.new-none.ensures is c.only.ensures

@@ -4,4 +4,5 @@ use Rattle.rv_isa.proofs.decoding.decode.Goals as goal
 
 pub returns-clause-means : goal.returns-clause-means
 returns-clause-means c =
-    c.one_meaning.ensures c.args.word c.decode_opcode.result (means c.args.word) c.decode_opcode.ensures (means_inverts c.args.word)
+    c.one_meaning.ensures c.args.word c.decode_opcode.result (means c.args.word) c.decode_opcode.ensures
+    (means_inverts c.args.word)

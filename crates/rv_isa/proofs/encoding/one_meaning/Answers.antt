@@ -4,7 +4,8 @@ use Rattle.rv_isa.specs.declared.kind.Kind.{Kind}
 use Rattle.rv_isa.proofs.encoding.one_meaning.Goals as goal
 
 -- where no two kinds have one word, a word has one meaning
-same-meaning : ((a b : Kind) → IsInRange a → IsInRange b → word a ≡ word b → a ≡ b) → (w : ℕ) (a b : Option Kind) → Means w a → Means w b → a ≡ b
+same-meaning : ((a b : Kind) → IsInRange a → IsInRange b → word a ≡ word b → a ≡ b) →
+    (w : ℕ) (a b : Option Kind) → Means w a → Means w b → a ≡ b
 unfolding Means
 same-meaning differ w (Some a) (Some b) p q = ap Some (differ a b p.0 q.0 (p.1 ∙ sym q.1))
 same-meaning differ w (Some a) None p q = absurd (q a p.0 p.1)

@@ -21,7 +21,8 @@ unfolding directive
 returns-in_err-value c =
     let e = err_from_is_err_and c.from_residual.result c.from_residual.ensures.1 in
     let out = c.loop-operand.out.items in
-    rw (e.1, e.2) (not_listed c.in_err-value.field-0.0 values (λ es. s.Data c.args.width es) (operands_of c.args.tokens.now) c.loop-operand.operands c.in-Some.operand.now c.next.new.self out
+    rw (e.1, e.2) (not_listed c.in_err-value.field-0.0 values (λ es. s.Data c.args.width es)
+    (operands_of c.args.tokens.now) c.loop-operand.operands c.in-Some.operand.now c.next.new.self out
     (some_operand c.args.tokens.now c.if-is_empty.ensures) c.loop-operand.invariant c.in-Some.ensures.value
     (value_refused c.in_err-value.field-0.0 out c.in-Some.operand.now c.next.new.self c.in_err-value.ensures))
 
@@ -29,5 +30,7 @@ pub returns : goal.returns
 unfolding directive
 returns c =
     let out = c.loop-operand.out.items in
-    listed values (λ es. s.Data c.args.width es) (operands_of c.args.tokens.now) c.loop-operand.operands out c.new.result
-    (some_operand c.args.tokens.now c.if-is_empty.ensures) c.loop-operand.invariant c.in_default.ensures.value (values_end out) c.new.ensures
+    listed values (λ es. s.Data c.args.width es) (operands_of c.args.tokens.now) c.loop-operand.operands out
+    c.new.result
+    (some_operand c.args.tokens.now c.if-is_empty.ensures) c.loop-operand.invariant c.in_default.ensures.value
+    (values_end out) c.new.ensures

@@ -8,7 +8,8 @@ use Rattle.rv_asm.proofs.emission.Scope.write_values.Goals as goal
 
 pub returns-in_default : goal.returns-in_default
 returns-in_default c =
-    sym c.loop-expression.invariant ∙ data_unknown _ _ _ _ _ c.expression-item.is c.loop-expression-test.true _ _ cc
+    sym c.loop-expression.invariant ∙ data_unknown _ _ _ _ _ c.expression-item.is c.loop-expression-test.true
+    _ _ cc
 
 pub loop-expression-preserved : goal.loop-expression-preserved
 loop-expression-preserved c =
@@ -17,12 +18,15 @@ loop-expression-preserved c =
     elim c.if-fits.branch [
       | then-fits+in_ok-write_value w ↦
           let fitting : fits c.args.width c.in-Some.value ≡ true = search rules in
-          let written : w.write_value.new.out.items ≡ c.loop-expression.out.items ++ value_bytes c.args.width c.in-Some.value = search rules in
-          let step = data_fits value c.args.width _ _ _ c.expression-item.is c.loop-expression-test.true c.loop-expression.in_range c.loop-expression.out.items _ known fitting in
+          let written : w.write_value.new.out.items ≡ c.loop-expression.out.items
+          ++ value_bytes c.args.width c.in-Some.value = search rules in
+          let step = data_fits value c.args.width _ _ _ c.expression-item.is c.loop-expression-test.true
+          c.loop-expression.in_range c.loop-expression.out.items _ known fitting in
           rw (w.out-is, w.in_range-is, written) (sym step ∙ c.loop-expression.invariant)
       | else-fits w ↦
           let past : fits c.args.width c.in-Some.value ≡ false = search rules in
-          let step = data_past value c.args.width _ _ _ c.expression-item.is c.loop-expression-test.true c.loop-expression.in_range c.loop-expression.out.items _ known past in
+          let step = data_past value c.args.width _ _ _ c.expression-item.is c.loop-expression-test.true
+          c.loop-expression.in_range c.loop-expression.out.items _ known past in
           rw (w.out-is, w.in_range-is) (sym step ∙ c.loop-expression.invariant)
     ]
 
@@ -37,4 +41,5 @@ returns-then-in_range c =
 pub returns-else-in_range : goal.returns-else-in_range
 returns-else-in_range c =
     let ended : length c.args.values.now ≤ c.loop-expression.expression-index = omega arith in
-    sym c.loop-expression.invariant ∙ rw c.if-in_range.false (data_out_of_range _ c.args.width _ _ c.loop-expression.out.items ended)
+    sym c.loop-expression.invariant ∙ rw c.if-in_range.false
+    (data_out_of_range _ c.args.width _ _ c.loop-expression.out.items ended)

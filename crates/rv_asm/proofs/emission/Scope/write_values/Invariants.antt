@@ -8,4 +8,5 @@ use Rattle.rv_asm.proofs.emission.Scope.write_values.Given as goal
 abbrev pub invariant-loop-expression : goal.invariant-loop-expression
 invariant-loop-expression l =
     let value = sum_value l.self.symbols.now l.self.line l.self.here in
-    rest_bytes value l.width l.in_range l.out.items (drop l.expression-index l.values) ≡ appended l.fn.out.items (sums_bytes value l.width l.values)
+    rest_bytes value l.width l.in_range l.out.items (drop l.expression-index l.values)
+    ≡ appended l.fn.out.items (sums_bytes value l.width l.values)

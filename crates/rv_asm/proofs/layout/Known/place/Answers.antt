@@ -11,4 +11,7 @@ define-requires-clause-absent c =
     ap (λ (i : Inside). value_of i.symbols.names name) c.self-inside.view_is
     ∙ (ap (λ (known : Known). value_of known.definitions.names name) c.self.view_is
     ∙ (ap (λ (ds : Definitions). value_of ds.names name) (sym c.symbols.ensures)
-    ∙ definition_new c.args.line _ c.args.statement.now c.in_ok-item.item (name, c.in-Some.value) c.in_ok-item.ensures.gives (sym c.in-Some.ensures.value)))
+    ∙ definition_new c.args.line _ c.args.statement.now c.in_ok-item.item (
+      name,
+      c.in-Some.value,
+    ) c.in_ok-item.ensures.gives (sym c.in-Some.ensures.value)))

@@ -12,12 +12,18 @@ loop-term-preserved c =
     let term = c.term-item.result in
     let v = c.in_ok-value.value in
     let i = c.loop-term.term-index in
-    let is : term ≡ get_or c.args.expression.now i term = rw c.terms-term-items.ensures.value at c.term-item.is in
-    let within : i < length c.args.expression.now = rw c.terms-term-items.ensures.value at c.loop-term-test.true in
-    let e : atom_value c.args.self.now c.args.line c.args.here term.atom ≡ Some v = sym c.atom.ensures.value ∙ c.in_ok-value.was in
-    let more = sum_more c.args.self.now c.args.line c.args.here c.args.expression.now i term (to_z w64 c.loop-term.sum-bits) v within c.loop-term.invariant (rw (← is) e) c.in_ok-value.ensures.word in
+    let is : term ≡ get_or c.args.expression.now i term =
+    rw c.terms-term-items.ensures.value at c.term-item.is in
+    let within : i < length c.args.expression.now =
+    rw c.terms-term-items.ensures.value at c.loop-term-test.true in
+    let e : atom_value c.args.self.now c.args.line c.args.here term.atom ≡ Some v =
+    sym c.atom.ensures.value ∙ c.in_ok-value.was in
+    let more = sum_more c.args.self.now c.args.line c.args.here c.args.expression.now i term
+    (to_z w64 c.loop-term.sum-bits) v within c.loop-term.invariant
+    (rw (← is) e) c.in_ok-value.ensures.word in
     let f : SFits w64 v = search rules in
-    let sum_is : c.added-sum.result ≡ added (to_z w64 c.loop-term.sum-bits) term.negative v = simp to_z-of_z at c.added-sum.ensures in
+    let sum_is : c.added-sum.result ≡ added (to_z w64 c.loop-term.sum-bits) term.negative v =
+    simp to_z-of_z at c.added-sum.ensures in
     let fits : SFits w64 c.added-sum.result = search rules in
     let back : to_z w64 (of_z w64 c.added-sum.result) ≡ c.added-sum.result = rw to_z-of_z refl in
     rw (back, sum_is) (rw (← is) at more)
@@ -26,12 +32,18 @@ pub returns-in_err-value : goal.returns-in_err-value
 returns-in_err-value c =
     let term = c.term-item.result in
     let i = c.loop-term.term-index in
-    let is : term ≡ get_or c.args.expression.now i term = rw c.terms-term-items.ensures.value at c.term-item.is in
-    let within : i < length c.args.expression.now = rw c.terms-term-items.ensures.value at c.loop-term-test.true in
-    let e : atom_value c.args.self.now c.args.line c.args.here term.atom ≡ None = sym c.atom.ensures.value ∙ c.in_err-value.was in
-    c.from_residual.ensures ∙ sum_none c.args.self.now c.args.line c.args.here c.args.expression.now i term (to_z w64 c.loop-term.sum-bits) within c.loop-term.invariant (rw (← is) e)
+    let is : term ≡ get_or c.args.expression.now i term =
+    rw c.terms-term-items.ensures.value at c.term-item.is in
+    let within : i < length c.args.expression.now =
+    rw c.terms-term-items.ensures.value at c.loop-term-test.true in
+    let e : atom_value c.args.self.now c.args.line c.args.here term.atom ≡ None =
+    sym c.atom.ensures.value ∙ c.in_err-value.was in
+    c.from_residual.ensures ∙ sum_none c.args.self.now c.args.line c.args.here c.args.expression.now i term
+    (to_z w64 c.loop-term.sum-bits) within c.loop-term.invariant (rw (← is) e)
 
 pub returns : goal.returns
 returns c =
-    let past : length c.args.expression.now ≤ c.loop-term.term-index = rw c.terms-term-items.ensures.value at c.loop-term-test.false in
-    sum_whole c.args.self.now c.args.line c.args.here c.args.expression.now c.loop-term.term-index (to_z w64 c.loop-term.sum-bits) past c.loop-term.invariant
+    let past : length c.args.expression.now ≤ c.loop-term.term-index =
+    rw c.terms-term-items.ensures.value at c.loop-term-test.false in
+    sum_whole c.args.self.now c.args.line c.args.here c.args.expression.now c.loop-term.term-index
+    (to_z w64 c.loop-term.sum-bits) past c.loop-term.invariant

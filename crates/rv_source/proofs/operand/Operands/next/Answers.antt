@@ -7,8 +7,10 @@ pub returns-in-Some-place-clause-value : goal.returns-in-Some-place-clause-value
 returns-in-Some-place-clause-value c =
     rw c.behind.ensures.value (
     sym c.self.view_is ∙ ap left c.in-Some.is
-    ∙ cut_pieces c.in-Some.tokens.now c.in-Some-place.n c.in-Some-place.ensures.value c.in-Some-place.ensures.below
+    ∙ cut_pieces c.in-Some.tokens.now c.in-Some-place.n c.in-Some-place.ensures.value
+    c.in-Some-place.ensures.below
     )
 
 pub returns-in-None-clause-value : goal.returns-in-None-clause-value
-returns-in-None-clause-value c = sym c.self.view_is ∙ ap left c.in-Some.is ∙ one_piece c.in-Some.tokens.now c.in-None.ensures.value
+returns-in-None-clause-value c =
+    sym c.self.view_is ∙ ap left c.in-Some.is ∙ one_piece c.in-Some.tokens.now c.in-None.ensures.value
