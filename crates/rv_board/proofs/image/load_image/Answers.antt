@@ -5,7 +5,9 @@ use Rattle.rv_board.proofs.image.load_image.Goals as goal
 pub loop-i-preserved : goal.loop-i-preserved
 loop-i-preserved g c =
     let within : c.loop-i.i < length c.args.image.now = omega arith in
-    let stored : g.M.ByteMemory.bytes c.write.new.self ≡ set (g.M.ByteMemory.bytes c.loop-i.memory) c.loop-i.i (get_or c.args.image.now c.loop-i.i 0) = search rules in
+    let stored : g.M.ByteMemory.bytes c.write.new.self
+    ≡ set (g.M.ByteMemory.bytes c.loop-i.memory) c.loop-i.i (get_or c.args.image.now c.loop-i.i 0)
+    = search rules in
     record {
       bytes = one_more_byte c.args.image.now (g.M.ByteMemory.bytes c.args.memory.now)
           (g.M.ByteMemory.bytes c.loop-i.memory) (g.M.ByteMemory.bytes c.write.new.self)
