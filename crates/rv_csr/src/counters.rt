@@ -1,6 +1,6 @@
 //! The counters mcycle and minstret. Privileged Architecture 20211203, section 3.1.10.
 ghost use Rattle.std.specs.Prelude.{◌≡◌};
-ghost use Rattle.rv_csr.specs.Registers.{counted, next_count, wrote_cycles, wrote_retired};
+ghost use Rattle.rv_csr.specs.Registers.{counted, wrote_cycles, wrote_retired};
 
 use crate::register;
 
