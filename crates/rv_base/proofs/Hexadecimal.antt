@@ -1,4 +1,4 @@
--- The hexadecimal digits of a number: its last digit stands behind those of a sixteenth of it.
+-- The hexadecimal digits of a number: those of a sixteenth of it, followed by its last digit.
 use Rattle.std.proofs.Common.{◌≡◌, ◌∙◌, ℕ, zero, suc, ◌+◌, ◌/◌, ◌%◌, ◌^◌, ◌<◌, ◌≤◌, cond, List, [], ◌∷◌, ◌++◌, length, refl, sym, ap, ⊎_elim, append_assoc, length-append, eq-eqb, ne_eqb, arith}
 use Rattle.std.specs.Prelude.{false}
 use Rattle.std.specs.Fmt.{digits, digits_onto, digit_glyph}
@@ -22,7 +22,7 @@ spell_next : (k n : ℕ) (acc : List ℕ) → 16 ≤ n → spell (suc k) n acc �
 spell_next k n acc h = ap (λ t. cond t (last_glyph n ∷ acc) (spell k (n / 16) (last_glyph n ∷ acc)))
     (ne_eqb (n / 16) 0 (λ e. omega arith))
 
--- what stands behind the digits
+-- the digits of a number in front of more text
 spell_append : (k n : ℕ) (acc : List ℕ) → spell k n acc ≡ spell k n [] ++ acc
 spell_append zero n acc = refl
 spell_append (suc k) n acc = ⊎_elim
@@ -54,7 +54,7 @@ hex_more n h small =
     (omega arith) ∙ spell_append 64 (n / 16) (last_glyph n ∷ [])
     ∙ ap (λ x. x ++ last_glyph n ∷ []) (sym (whole (n / 16)))
 
--- the same behind a text, one at a time
+-- the same after a text, one digit at a time
 pub more_behind : (text longer : List ℕ) (n : ℕ) → 16 ≤ n → n < 2 ^ 32 →
     longer ≡ text ++ digits 16 false (n / 16) → text ++ digits 16 false n ≡ longer ++ last_glyph n ∷ []
 more_behind text longer n h small is =
