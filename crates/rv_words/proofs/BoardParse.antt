@@ -1,4 +1,4 @@
--- The parse of the program's words, by the command alone.
+-- The matches of the words, by the command alone.
 use Rattle.std.proofs.Common.{◌≡◌, ◌∙◌, ◌<◌, ◌≤◌, ◌^◌, ap, subst, sym, refl, arith, ℕ, true, List, Option, Some, Result, Ok}
 use Rattle.std.specs.Prelude.{codes, pos, option_map}
 use Rattle.std.specs.Option.{option_map_or}
@@ -19,7 +19,7 @@ use Rattle.rv_words.specs.Board.{board_app, number_rule, pages_rule, slots_rule,
 use Rattle.rv_words.specs.Parse.{HasNumber, IsBoardParse}
 use Rattle.rv_words.proofs.Defaults.{HasDefaultAt, IsParseOf, are_simple_free, has_value, reads}
 
--- the command is one of which clap says the matches
+-- clap's meaning says the matches of the command
 pub board_simple : is_simple board_app ≡ true
 unfolding board_app
 board_simple = refl
@@ -117,14 +117,14 @@ board_parse c m words is parsed matches =
       slots = number c m 5 (codes "slots") (codes "1024") 64 4096 p slots_at;
     }
 
--- and of which clap says the errors
+-- and it says the errors of the command
 pub board_free : is_simple_and_free board_app ≡ true
 unfolding board_app
 board_free = refl
 
 -- ---- the fields, by the getters
 
--- what `get_one` gives of such an option: a number in the range, which the option's value says
+-- the result of `get_one` for a number option: a number in the range, which the option's value spells
 pub record IsNumberOf (rows : List Row) (id : Text) (low high : ℕ) (r : Option ℕ) : Type 0 where
   pub value : ℕ
   pub is : r ≡ Some value
@@ -151,7 +151,7 @@ number_got E G bits low high words m id r gives only fits p h =
       said = parsed.1 ∙ sym (ap (λ (o : Option Text). option_map_or (λ t. digits_value 10 (without_leading_plus t)) o 0) text);
     }
 
--- what `get_str` gives
+-- the result of `get_str`: the first value of the argument
 pub text_got : (words : List Text) (m : ArgMatches) (id : Text) (r : Option (Bor Text)) → IsBoardParse words m
     → option_map (λ s. s.now) r ≡ first_value (found_of m) id → first_of id (matches_of board_app words) ≡ option_map (λ s. s.now) r
 text_got words m id r p e = ap (first_of id) (sym p.rows) ∙ (sym (first_value-rows (found_of m) id) ∙ sym e)

@@ -1,4 +1,4 @@
--- A command with a list of arguments added in turn.
+-- A command to which a list of arguments is added, one after another.
 use Rattle.std.proofs.Common.{◌≡◌, ◌∙◌, List, [], ◌∷◌, All, ap, map, sym}
 use Rattle.std.proofs.lemmas.List.Elements.{All-head, All-tail}
 use Rattle.clap.specs.Words.{AddsArg, AddsInTurn, App, Rule, app_of, rule_of, with_rule}
@@ -6,12 +6,12 @@ use Rattle.clap.specs.declared.builder.arg.Arg.{Arg}
 use Rattle.clap.specs.declared.builder.command.Command.{Command}
 use Rattle.rv_words.specs.Chain.{IsLocal}
 
--- an application with each of the rules
+-- an application with each of the rules added
 abbrev pub with_rules : App → List Rule → App
 with_rules app [] = app
 with_rules app (r ∷ rs) = with_rules (with_rule app r) rs
 
--- a command with arguments that are all local has their rules in turn
+-- a command to which local arguments are added has their rules, in their order
 pub has_rules : (old new : Command) (xs : List Arg) → AddsInTurn AddsArg old xs new → All IsLocal xs
     → app_of new ≡ with_rules (app_of old) (map rule_of xs)
 has_rules old new [] same local = ap app_of (sym same)

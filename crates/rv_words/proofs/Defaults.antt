@@ -1,5 +1,5 @@
--- What a parse of a simple command has of an argument with a default value: a value that passed the
--- argument's parser, whatever the words.
+-- An argument with a default value has a value after each parse of a simple command, whatever the words are,
+-- and the value passed the argument's parser.
 use Rattle.std.proofs.Common.{true≢false, ◌≡◌, ◌∙◌, ◌<◌, ◌≤◌, ◌&&◌, ap, subst, sym, refl, ℕ, Bool, true, false, not, cond, zero, suc, List, [], ◌∷◌, length, map, is_some, Option, Some, None, inl, inr, arith}
 use Rattle.std.specs.Prelude.{codes, find, option_map, slice_get}
 use Rattle.std.specs.List.{All, list_all, slice_index_or}
@@ -29,7 +29,7 @@ use Rattle.clap.proofs.CallerLemmas.{default_present, entry_by_id, same_rules_by
 use Rattle.clap.proofs.SimpleLemmas.{is_false, is_nil}
 use Rattle.clap.proofs.WalkLemmas.{both}
 
--- ---- what the rule of an argument says of it
+-- ---- an argument, by its rule
 
 no_option : {X : Type 0} (o : Option X) → not (is_some o) ≡ true → o ≡ None
 no_option None h = refl
@@ -40,7 +40,7 @@ pub record IsSimpleFree (a : Arg) : Type 0 where
   pub ifs : a.default_vals_ifs.items ≡ []
   pub delimiter : a.val_delim ≡ None
 
--- an argument of a simple command with no rule on another excludes nothing
+-- a simple argument without a rule about others excludes no other argument
 simple_free : (a : Arg) → ((rule_of a).is_simple && (rule_of a).is_free) ≡ true → IsSimpleFree a
 simple_free a h =
     let p = both _ _ h in
@@ -65,10 +65,11 @@ all_simple_free (x ∷ xs) h =
     let p = both _ _ h in
     All-cons IsSimpleFree x xs (simple_free x p.0) (all_simple_free xs p.1)
 
--- no rule but the k-th has the id
+-- no rule has the id
 abbrev pub none_has : Text → List Rule → Bool
 none_has id rules = list_all (λ r. not (bytes_eq r.id id)) rules
 
+-- no rule but the k-th has the id
 abbrev pub only_at : Text → ℕ → List Rule → Bool
 only_at id k [] = true
 only_at id zero (r ∷ rs) = none_has id rs
@@ -116,7 +117,7 @@ first_some (x ∷ xs) lt = refl
 
 -- ---- a parse of a simple command
 
--- the rules of the command, and its parse
+-- the matches of a parse of the command with these rules
 pub record IsParseOf (rules : List Rule) (old : Command) (m : ArgMatches) : Type 0 where
   pub rules_are : map rule_of (args_of old) ≡ rules
   pub simple_free : are_simple_free rules ≡ true
@@ -124,7 +125,7 @@ pub record IsParseOf (rules : List Rule) (old : Command) (m : ArgMatches) : Type
   pub globals : (out-Command old).has_globals ≡ false
   pub parsed : IsParsedFrom old m
 
--- the k-th rule is of an option with a default value and no like
+-- the k-th rule is of an option with a default value, and no other rule has its id
 pub record HasDefaultAt (rules : List Rule) (k : ℕ) (r : Rule) : Type 0 where
   pub within : k < length rules
   pub at : slice_index_or rules k r ≡ r
@@ -136,7 +137,7 @@ pub record HasDefaultAt (rules : List Rule) (k : ℕ) (r : Rule) : Type 0 where
   pub no_help : bytes_eq r.id (codes "help") ≡ false
   pub no_version : bytes_eq r.id (codes "version") ≡ false
 
--- what is known of the k-th argument of the command
+-- the facts about the k-th argument of the command
 pub record Argument (old : Command) (k : ℕ) (d : Arg) (id : Text) : Type 0 where
   pub within : k < length (args_of old)
   pub id_is : (slice_index_or (args_of old) k d).id.now ≡ id
@@ -153,7 +154,7 @@ nonempty_texts : (xs : List (Bor Text)) (ts : List Text) → map (λ s. s.now) x
 nonempty_texts [] ts e lt = let bad : 0 < 0 = rw (← e) at lt in absurd (omega arith)
 nonempty_texts (x ∷ xs) ts e lt = omega arith
 
--- ---- what an entry's first value is read as
+-- ---- how the first value of an entry is read
 
 head_passes : (P : Bor (List ℕ) → Type 0) (how : Reading) (vs : List (Bor (List ℕ))) → All P vs
     → is_some (option_map (λ s. s.now) (slice_get vs 0)) ≡ true
@@ -165,7 +166,7 @@ one_text_at_entry : (f : Found) (id : List ℕ) (x : MatchedArg) (how : Reading)
     → option_map (λ s. read_as how s.now) (slice_get x.vals.items 0) ≡ Some t → one_text f id ≡ Some t
 one_text_at_entry f id x how t found is v = rw (found, is) v
 
--- an argument with the id of the caller's argument is read as the caller's parser says
+-- an argument with the id of the caller's argument is read as the caller's parser reads it
 only_reading : (old : Command) (m : ArgMatches) (p : IsParsedFrom old m) (k : ℕ) (d : Arg) → k < length (args_of old)
     → ((j : ℕ) (e : Arg) → j < length (args_of old)
     → bytes_eq (slice_index_or (args_of old) j e).id.now (slice_index_or (args_of old) k d).id.now ≡ true → j ≡ k)
@@ -196,7 +197,7 @@ passes_read old m p k d lt unique own q parser w v key pass =
     subst (λ (u : List ℕ). bytes_eq pass.1.id.now u ≡ true) key pass.4.0 in
     accepts_of _ pass.1 q v.now (same_rules_by_id old m p k d lt unique own pass.0 pass.1 pass.2 pass.3 same) parser pass.4.1
 
--- what one entry gives
+-- an entry has a value that is read so and passed the argument's parser
 read_of : (c : Command) (f : Found) (id : List ℕ) (Q : List ℕ → Type 0) (how : Reading) (x : MatchedArg) (e : Entry)
     → groups_of c ≡ [] → (id ≡ [] → ⊥) → ((r : Reading) → HasReading c id r → r ≡ how)
     → ((v : Bor (List ℕ)) → PassesArg c id v.now → Q v.now)
@@ -224,7 +225,7 @@ read_of c f id Q how x e no_groups named reads read found first same_x key_id pa
         → x.reading ≡ how → (t : List ℕ) × (one_text f id ≡ Some (read_as how t)) × Q t
     finish hd is = (hd.0.now, one_text_at_entry f id x how (read_as how hd.0.now) found is hd.1, read hd.0 hd.2)
 
--- what the entry of an id gives, where it is an argument's with a first value
+-- and so has the entry of an id, if it has a first value
 entry_read : (c : Command) (f : Found) (id : List ℕ) (Q : List ℕ → Type 0) (how : Reading) → ValuesPass c f → groups_of c ≡ [] → (id ≡ [] → ⊥)
     → is_some (first_value f id) ≡ true → ((r : Reading) → HasReading c id r → r ≡ how)
     → ((v : Bor (List ℕ)) → PassesArg c id v.now → Q v.now)
@@ -338,7 +339,7 @@ module _ (rules : List Rule) (old : Command) (m : ArgMatches) (p : IsParseOf rul
                 ]
           ]
 
-  -- and the value passed the parser of the argument, and is read as the parser says
+  -- and the value passed the argument's parser, and is read as the parser reads it
   reads_with : (d : Arg) (q : ValueParser) → r.parser ≡ Some q
       → (t : Text) × (one_text (found_of m) r.id ≡ Some (read_as (reading_of q) t)) × Accepts r.ignore_case q t
   reads_with d q parser =
@@ -364,12 +365,12 @@ some_element : {X : Type 0} (xs : List X) (k : ℕ) → k < length xs → X
 some_element [] k lt = absurd (omega arith)
 some_element (x ∷ xs) k lt = x
 
--- the first value of an argument with a default is there
+-- an argument with a default has a first value
 pub has_value : (rules : List Rule) (old : Command) (m : ArgMatches) → IsParseOf rules old m → (k : ℕ) (r : Rule) → HasDefaultAt rules k r
     → is_some (first_value (found_of m) r.id) ≡ true
 has_value rules old m p k r h = has_value_with rules old m p k r h (some_element (args_of old) k (within_args rules old m p k r h))
 
--- and is read as the argument's parser says, which it passed
+-- which is read as the argument's parser reads it, and passed that parser
 pub reads : (rules : List Rule) (old : Command) (m : ArgMatches) → IsParseOf rules old m → (k : ℕ) (r : Rule) → HasDefaultAt rules k r
     → (q : ValueParser) → r.parser ≡ Some q
     → (t : Text) × (one_text (found_of m) r.id ≡ Some (read_as (reading_of q) t)) × Accepts r.ignore_case q t

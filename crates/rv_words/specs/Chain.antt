@@ -6,16 +6,18 @@ use Rattle.clap.specs.declared.builder.arg.Arg.{Arg}
 use Rattle.clap.specs.declared.builder.value_parser.ValueParser.{ValueParser}
 use Rattle.rv_words.specs.Board.{file_rule, source_rule, input_rule, commands_rule, steps_rule, pages_rule, slots_rule}
 
+-- the rules of the arguments, in their order
 abbrev pub board_rules : List Rule
 board_rules = source_rule ∷ input_rule ∷ commands_rule ∷ steps_rule ∷ pages_rule ∷ slots_rule ∷ []
 
--- an argument that subcommands don't have
+-- an argument that is not handed on to subcommands
 abbrev pub IsLocal : Arg → Type 0
 IsLocal arg = arg.global ≡ false
 
+-- an argument that is local and has the rule
 abbrev pub HasRule : Arg → Rule → Type 0
 HasRule arg rule = (rule_of arg ≡ rule) × IsLocal arg
 
--- an option that takes what a parser lets through, and where it is left out `default`
+-- an option whose values a parser has to accept, with a default
 abbrev pub parsed_rule : Text → Text → ValueParser → Rule
 parsed_rule name default parser = record (file_rule name) { defaults = default ∷ []; parser = Some parser }

@@ -1,4 +1,4 @@
--- What a parse of the command has, whatever the words.
+-- The matches of a parse of the command, whatever the words are.
 -- Not to audit: private contracts alone cite this.
 use Rattle.std.specs.Prelude.{◌≡◌, ℕ, pos, Some, codes, is_some, true, List}
 use Rattle.clap.specs.Lexer.{without_minus}
@@ -7,14 +7,14 @@ use Rattle.clap.specs.Words.{Text, first_value, found_of, matches_of, one_text, 
 use Rattle.clap.specs.declared.parser.matches.ArgMatches.{ArgMatches}
 use Rattle.rv_words.specs.Board.{board_app}
 
--- the value of the option reads as a number from `low` to `high`
+-- an option whose value reads as a number from `low` to `high`
 pub record HasNumber (m : ArgMatches) (id : Text) (low high : ℕ) : Type 0 where
   pub text : Text
   pub one : one_text (found_of m) id ≡ Some (without_minus text)
   pub accepted : IsSignedIn (pos low) (pos high) text
 
--- the rows are those that clap's meaning of the command gives, and the options that have a default
--- have a value
+-- matches whose rows are those of clap's meaning of the command, with a value for each argument that has a
+-- default
 pub record IsBoardParse (words : List Text) (m : ArgMatches) : Type 0 where
   pub rows : rows_of (found_of m) ≡ matches_of board_app words
   pub source : is_some (first_value (found_of m) (codes "source")) ≡ true

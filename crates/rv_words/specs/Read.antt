@@ -1,4 +1,4 @@
--- What the fields of `Words` are, by the matches of the command.
+-- The fields of `Words`, by the matches of the command.
 -- To audit: public contracts cite this.
 use Rattle.std.specs.Prelude.{◌≡◌, ◌≤◌, ℕ, List, Option, Some, codes, option_map}
 use Rattle.std.specs.Option.{option_map_or}
@@ -7,15 +7,15 @@ use Rattle.std.specs.Str.Parse.{digits_value, without_leading_plus}
 use Rattle.clap.specs.Words.{Row, Text, first_of, one_of}
 use Rattle.rv_words.specs.declared.Words.{Words}
 
--- the decimal number that the value of an option says
+-- the number that an option's value spells in decimal
 abbrev pub number_of : Text → List Row → ℕ
 number_of id rows = option_map_or (λ t. digits_value 10 (without_leading_plus t)) (one_of id rows) 0
 
--- the text that a field holds, if it holds one
+-- the text of a field, if it has one
 abbrev pub text_in : Option (Bor Text) → Option Text
 text_in held = option_map (λ t. t.now) held
 
--- the fields say what the words say: a file that no word gives is absent, and the numbers lie in their ranges
+-- fields that hold what the words say: a file that no word names is absent, and each number lies in its range
 pub record IsReadFrom (rows : List Row) (w : Words) : Type 0 where
   pub source : first_of (codes "source") rows ≡ Some w.source.now
   pub input : first_of (codes "input") rows ≡ text_in w.input

@@ -1,4 +1,4 @@
-//! The words of the program, read with `clap`:
+//! The words of the command line, read with `clap`:
 //! `rvboard [SOURCE] [--input F] [--commands F] [--steps N] [--pages P] [--slots S]`.
 #![tactic(auto)]
 
@@ -9,38 +9,41 @@ ghost use Rattle.rv_words.specs.Chain.{HasRule, IsLocal, board_rules, parsed_rul
 ghost use Rattle.rv_words.specs.Parse.{IsBoardParse};
 ghost use Rattle.rv_words.specs.Read.{IsReadFrom};
 
-mod ends;
+mod no_run;
+mod origin;
 
 use clap::builder::ValueParser;
 use clap::error::ErrorKind;
 use clap::{Arg, ArgAction, ArgMatches, Command, Error, value_parser};
-pub use ends::{NoRun, Place};
+pub use no_run::NoRun;
+pub use origin::Origin;
 use std::alloc::{AllocError, Global};
 
-/// How far a board runs, and how large its memory and its cache are.
+/// The limit of a run, and the sizes of its board's memory and decoded cache.
 #[derive(Clone, Copy, Debug, PartialEq, Eq)]
 pub struct Options {
-    /// The most steps: 0 to 1,000,000,000 where words were read.
+    /// The most steps that are taken: `read_words` gives 0 to 1,000,000,000.
     pub steps: u32,
-    /// The pages of RAM, of 4096 bytes each: 1 to 4096 where words were read.
+    /// The pages of RAM, of 4096 bytes each: `read_words` gives 1 to 4096.
     pub pages: u16,
-    /// The slots of the cache of decoded instructions: 64 to 4096 where words were read. A board takes powers of two.
+    /// The slots of the decoded cache: `read_words` gives 64 to 4096, of which a board takes the powers of two.
     pub slots: u16,
 }
 
-/// What the program's words ask for.
+/// The run that the words of the command line ask for.
 #[derive(Clone, Copy)]
 pub struct Words<'a> {
     /// The path of the source, or `-` for the standard input.
     pub source: &'a str,
-    /// The path of the timed serial bytes and interrupt lines, where one is given.
+    /// The path of the timed list, if one is given.
     pub input: Option<&'a str>,
-    /// The path of the monitor's commands, where one is given.
+    /// The path of the monitor's commands, if one is given.
     pub commands: Option<&'a str>,
-    /// The numbers.
+    /// The limit and the sizes.
     pub options: Options,
 }
 
+/// Returns the positional argument SOURCE, whose default is `-`.
 fn source_arg<'a>(alloc: Global) -> Arg<'a>
     ensures { HasRule result source_rule }
 {
@@ -51,7 +54,7 @@ fn source_arg<'a>(alloc: Global) -> Arg<'a>
         .default_value("-")
 }
 
-/// An option that takes a value, which the help calls `value_name`.
+/// Returns the option `--name`, which takes a value that the help calls `value_name`.
 fn option_arg<'a>(alloc: Global, name: &'a str, value_name: &'a str, help: &'a str) -> Arg<'a>
     ensures { HasRule result (file_rule name.entry.now) }
 {
@@ -62,7 +65,7 @@ fn option_arg<'a>(alloc: Global, name: &'a str, value_name: &'a str, help: &'a s
         .action(ArgAction::Set)
 }
 
-/// An option that takes a number, and where it is left out `default`.
+/// Returns the option `--name`, which takes a number in a range and has a default.
 fn number_arg<'a>(
     alloc: Global,
     name: &'a str,
@@ -78,7 +81,7 @@ fn number_arg<'a>(
         .value_parser(range)
 }
 
-/// The arguments of the command, in their order.
+/// Returns the arguments of the command, in their order.
 fn board_args<'a>(alloc: Global) -> Result<Vec<Arg<'a>>, AllocError>
     ensures rules { IfOk result (λ args. map rule_of args.items ≡ board_rules) }
     ensures local { IfOk result (λ args. All IsLocal args.items) }
@@ -91,18 +94,17 @@ fn board_args<'a>(alloc: Global) -> Result<Vec<Arg<'a>>, AllocError>
     let page_counts = value_parser!(u16).range(1..=4096);
     let slots = "the slots of the instruction cache, a power of two from 64 to 4096";
     let slot_counts = value_parser!(u16).range(64..=4096);
-    let args = vec![in alloc;
+    Ok(vec![in alloc;
         source_arg(alloc),
         option_arg(alloc, "input", "F", input),
         option_arg(alloc, "commands", "F", commands),
         number_arg(alloc, "steps", "N", steps, "1000000", most_steps),
         number_arg(alloc, "pages", "P", pages, "256", page_counts),
         number_arg(alloc, "slots", "S", slots, "1024", slot_counts),
-    ]?;
-    Ok(args)
+    ]?)
 }
 
-/// The command that the program's words are read by.
+/// Returns the command that the words are parsed by.
 fn board_command<'a>(alloc: Global) -> Result<Command<'a>, AllocError>
     ensures { IfOk result (λ c. app_of c ≡ board_app) }
 {
@@ -112,7 +114,7 @@ fn board_command<'a>(alloc: Global) -> Result<Command<'a>, AllocError>
         .args(args)
 }
 
-/// The matches of the words.
+/// Parses the words by the command.
 fn parse<'a>(alloc: Global, words: &'a [&'a str]) -> Result<ArgMatches<'a>, Error>
     ensures parsed { IfOk result (IsBoardParse (texts_of words.entry.now)) }
     ensures takes { IfErr result (λ e. takes board_app (texts_of words.entry.now) ≡ true
@@ -123,19 +125,22 @@ fn parse<'a>(alloc: Global, words: &'a [&'a str]) -> Result<ArgMatches<'a>, Erro
     command.try_get_matches_from(words)
 }
 
-/// What the words ask for, of which the first is the program's name.
+/// Reads the words, of which the first is the program's name.
 ///
-/// The words are taken and refused exactly as `clap` does it for the command `board_app` of
-/// `specs/Board.antt`. An error may also be want of memory (`ErrorKind::OutOfMemory`), and is the
-/// help's text where help was asked for (`ErrorKind::DisplayHelp`).
+/// They are taken or refused exactly as `clap` does it for the command `board_app` of
+/// `specs/Board.antt`. Where help was asked for, the error is its text (`ErrorKind::DisplayHelp`).
+///
+/// # Errors
+///
+/// The error that `clap` gives refused words, or `ErrorKind::OutOfMemory`.
 pub fn read_words<'a>(alloc: Global, words: &'a [&'a str]) -> Result<Words<'a>, Error>
     ensures read { IfOk result (IsReadFrom (matches_of board_app (texts_of words.entry.now))) }
 
-    // Where the command takes the words, the only error is want of memory.
+    // Words that the command takes fail only where memory runs out.
     ensures takes { IfErr result (λ e. takes board_app (texts_of words.entry.now) ≡ true
         → kind_of e ≡ ErrorKind.OutOfMemory) }
 
-    // Where it refuses them, the error is of a kind that the command gives them.
+    // The error of words that it refuses is of a kind that the command gives them.
     ensures faults { FailsBy (fault_of board_app (texts_of words.entry.now)) result }
 {
     let matches = parse(alloc, words)?;
