@@ -1,3 +1,4 @@
-pub mod AsmFaults
+pub mod Conversions
+pub mod Digits
 pub mod Obeyed
 pub mod Refusals

@@ -1,4 +1,4 @@
--- Lines of commands, done one after the other.
+-- Command lines, executed one after another.
 use Rattle.std.proofs.Common.{◌≡◌, ◌++◌, ◌∷◌, [], ℕ, List, Option, refl, sym, subst, append_assoc, append-nil}
 use Rattle.rv_commands.specs.declared.command.Command.{Command}
 use Rattle.rv_monitor.specs.Commands.{Leaves, answer, command_in, next_of}
@@ -7,12 +7,13 @@ use Rattle.rv_monitor.specs.declared.command.Next.{Next}
 use Rattle.rv_monitor.specs.declared.command.Next.TheVariants.{More, Quit}
 use Rattle.rv_cli.specs.Output.{DoesThen, IsDone, Obeys}
 
--- what does the lines that are left, from the session as it stands, does them all with this text in front
+-- who executes the lines that are left, from the session as it stands, executes all lines, with this text
+-- before the answers
 abbrev pub Continues : List (List ℕ) → SessionState → List (List ℕ) → SessionState → List ℕ → Type 0
 Continues all first left now text =
     (new : SessionState) (behind : List ℕ) → Obeys left now new behind → Obeys all first new (text ++ behind)
 
--- a command behind which more is done
+-- a command after which others are executed
 does_more : (word : Next) (command : Option Command) (Rest : SessionState → List ℕ → Type 0) (old next new : SessionState) (behind : List ℕ)
     → More ≡ word → Leaves command old next → Rest next behind → DoesThen word command Rest old new (answer command old next ++ behind)
 does_more word command Rest old next new behind goes_on leaves rest =
@@ -21,14 +22,14 @@ does_more word command Rest old next new behind goes_on leaves rest =
     record { next = next; behind = behind; left = leaves; rest = rest; is = refl } in
     subst P goes_on done
 
--- a command behind which nothing is done
+-- a command after which no other is executed
 does_last : (word : Next) (command : Option Command) (Rest : SessionState → List ℕ → Type 0) (old new : SessionState)
     → Quit ≡ word → Leaves command old new → DoesThen word command Rest old new (answer command old new)
 does_last word command Rest old new quits leaves =
     let P : Next → Type 0 = λ w. DoesThen w command Rest old new (answer command old new) in
     subst P quits (record { left = leaves; is = refl })
 
--- the first line
+-- a line, and the lines that follow it
 obeys_more : (line : List ℕ) (more : List (List ℕ)) (now next new : SessionState) (behind : List ℕ)
     → More ≡ next_of (command_in line now) → Leaves (command_in line now) now next → Obeys more next new behind
     → Obeys (line ∷ more) now new (answer (command_in line now) now next ++ behind)
@@ -36,7 +37,7 @@ unfolding Obeys
 obeys_more line more now next new behind goes_on leaves rest =
     does_more (next_of (command_in line now)) (command_in line now) (λ s t. Obeys more s new t) now next new behind goes_on leaves rest
 
--- the last line
+-- a line that quits
 obeys_last : (line : List ℕ) (more : List (List ℕ)) (now next : SessionState)
     → Quit ≡ next_of (command_in line now) → Leaves (command_in line now) now next
     → Obeys (line ∷ more) now next (answer (command_in line now) now next)
@@ -44,16 +45,16 @@ unfolding Obeys
 obeys_last line more now next quits leaves =
     does_last (next_of (command_in line now)) (command_in line now) (λ s t. Obeys more s next t) now next quits leaves
 
--- no line
+-- no line at all
 obeys_none : (now : SessionState) → Obeys [] now now []
 unfolding Obeys
 obeys_none now = (refl, refl)
 
--- before the first
+-- before the first line
 pub none_done : (all : List (List ℕ)) (first : SessionState) → Continues all first all first []
 none_done all first new behind h = h
 
--- after one more
+-- after one more line
 pub one_done : (all left more : List (List ℕ)) (line : List ℕ) (first now next : SessionState) (text : List ℕ)
     → Continues all first left now text → left ≡ line ∷ more → More ≡ next_of (command_in line now)
     → Leaves (command_in line now) now next
@@ -64,13 +65,13 @@ one_done all left more line first now next text so_far cut goes_on leaves new be
     subst (λ (ls : List (List ℕ)). Obeys ls now new (said ++ behind)) (sym cut) (obeys_more line more now next new behind goes_on leaves h) in
     subst (λ (t : List ℕ). Obeys all first new t) (sym (append_assoc text said behind)) (so_far new (said ++ behind) rest)
 
--- after all
+-- after all lines
 pub all_done : (all left : List (List ℕ)) (first now : SessionState) (text : List ℕ) → Continues all first left now text → left ≡ [] → Obeys all first now text
 all_done all left first now text so_far ends =
     let rest : Obeys left now now [] = subst (λ (ls : List (List ℕ)). Obeys ls now now []) (sym ends) (obeys_none now) in
     subst (λ (t : List ℕ). Obeys all first now t) (append-nil text) (so_far now [] rest)
 
--- after one that quits
+-- after a line that quits
 pub quit_done : (all left more : List (List ℕ)) (line : List ℕ) (first now next : SessionState) (text : List ℕ)
     → Continues all first left now text → left ≡ line ∷ more → Quit ≡ next_of (command_in line now)
     → Leaves (command_in line now) now next

@@ -1,15 +1,20 @@
--- Why a run gave no ending, by why its texts were not read or what they mean.
+-- The reasons why a run has no ending, by those why its texts were not read and by what the texts mean.
 use Rattle.std.proofs.Common.{Option, Some, None}
 use Rattle.std.specs.Prelude.{ℕ, List}
 use Rattle.rv_words.specs.declared.Options.{Options}
 use Rattle.rv_texts.specs.Readers.{AllGave, AreInOrder, Gave, GaveIf, IsInOrder, IsInOrderIf, Readers, Side, Texts}
 use Rattle.rv_texts.specs.Unread.{Unread}
-use Rattle.rv_texts.specs.declared.fault.CliFault.{CliFault}
-use Rattle.rv_texts.specs.declared.fault.CliFault.TheVariants.{ReadSource, ReadInput, ReadCommands, Source, Input, BadPages, BadSlots, ImageTooLarge, OutOfMemory, Write}
+use Rattle.rv_texts.specs.declared.fault.ReadFault.{ReadFault}
+use Rattle.rv_texts.specs.declared.fault.ReadFault.TheVariants as read
+use Rattle.rv_texts.specs.declared.fault.TextName.TheVariants as text
+use Rattle.rv_cli.specs.Conversions.{unread_fault}
+use Rattle.rv_cli.specs.declared.fault.CliFault.{CliFault}
+use Rattle.rv_cli.specs.declared.fault.CliFault.TheVariants.{ReadSource, ReadInput, ReadCommands, Source, Input, BadPages, BadSlots, ImageTooLarge, OutOfMemory, Write}
 use Rattle.rv_cli.specs.Meanings.{RefusedBy}
 use Rattle.rv_cli.specs.Output.{IsOutput}
 use Rattle.rv_cli.specs.Run.{Refused}
 
+-- a reader that gave its text is in order
 in_order : (reader : Side) (text : List ℕ) → Gave reader text → IsInOrder reader
 in_order reader text g = record {
   part = record { bytes = text; gave = g.whole.gave; within = g.whole.within };
@@ -21,6 +26,7 @@ in_order_if None text g = tt
 in_order_if (Some reader) (Some text) g = in_order reader text g
 in_order_if (Some reader) None g = absurd g
 
+-- readers that gave their texts are in order
 are_in_order : (r : Readers) (texts : Texts) → AllGave r texts → AreInOrder r
 are_in_order r texts g = record {
   source = in_order r.source texts.source g.source;
@@ -29,19 +35,13 @@ are_in_order r texts g = record {
 }
 
 -- the texts were not read
-pub refused_unread : (r : Readers) (out : Side) (options : Options) (fault : CliFault) → Unread r fault → Refused r out options fault
-refused_unread r out options ReadSource h = h
-refused_unread r out options ReadInput h = h
-refused_unread r out options ReadCommands h = h
-refused_unread r out options OutOfMemory h = h
-refused_unread r out options (Source fault) h = absurd h
-refused_unread r out options (Input n) h = absurd h
-refused_unread r out options BadPages h = absurd h
-refused_unread r out options BadSlots h = absurd h
-refused_unread r out options ImageTooLarge h = absurd h
-refused_unread r out options Write h = absurd h
+pub refused_unread : (r : Readers) (out : Side) (options : Options) (why : ReadFault) → Unread r why → Refused r out options (unread_fault why)
+refused_unread r out options (read.Unreadable text.Source) h = h
+refused_unread r out options (read.Unreadable text.Input) h = h
+refused_unread r out options (read.Unreadable text.Commands) h = h
+refused_unread r out options read.OutOfMemory h = h
 
--- they were read, and are refused by what they mean
+-- the texts were read, and are refused by what they mean
 pub refused_by : (r : Readers) (out : Side) (options : Options) (texts : Texts) (fault : CliFault) → AllGave r texts
     → RefusedBy (IsOutput texts options) fault → Refused r out options fault
 refused_by r out options texts (Source fault) g h = record { texts = texts; gave = g; is = h }

@@ -1,4 +1,4 @@
--- What a run does, by what its readers gave and its writer took.
+-- The outcomes of a run, by what its readers gave and its writer took.
 -- To audit: public contracts cite this.
 use Rattle.std.specs.Prelude.{◌≡◌, ℕ, true, false, List, Ok, Err}
 use Rattle.std.specs.Io.KnownBytes.{Appends}
@@ -6,11 +6,11 @@ use Rattle.rv_words.specs.declared.Options.{Options}
 use Rattle.rv_texts.specs.Readers.{AllGave, AreCommandsUnread, AreInOrder, IsInputUnread, Readers, Side, Texts}
 use Rattle.rv_cli.specs.Output.{IsOutput}
 use Rattle.rv_texts.specs.Texts.{IsUnreadable, WroteBeginning}
-use Rattle.rv_texts.specs.declared.fault.CliFault.{CliFault}
-use Rattle.rv_texts.specs.declared.fault.CliFault.TheVariants.{ReadSource, ReadInput, ReadCommands, Source, Input, BadPages, BadSlots, ImageTooLarge, OutOfMemory, Write}
-use Rattle.rv_texts.specs.declared.fault.Ending.{Ending}
+use Rattle.rv_cli.specs.declared.fault.CliFault.{CliFault}
+use Rattle.rv_cli.specs.declared.fault.CliFault.TheVariants.{ReadSource, ReadInput, ReadCommands, Source, Input, BadPages, BadSlots, ImageTooLarge, OutOfMemory, Write}
+use Rattle.rv_cli.specs.declared.fault.Ending.{Ending}
 
--- what the run of the texts prints was written, and nothing else
+-- the text that the run prints was written, and nothing else
 pub record Ended (r : Readers) (out : Side) (options : Options) (ending : Ending) : Type 0 where
   pub texts : Texts
   pub gave : AllGave r texts
@@ -19,13 +19,13 @@ pub record Ended (r : Readers) (out : Side) (options : Options) (ending : Ending
   pub wrote : Appends out.old out.new printed
   pub sound : out.failed ≡ false
 
--- there is no run of the texts
+-- the texts were read, and have no run
 pub record HasNoRun (r : Readers) (options : Options) (fault : CliFault) : Type 0 where
   pub texts : Texts
   pub gave : AllGave r texts
   pub is : IsOutput texts options (Err fault)
 
--- a beginning of what the run prints was written, and the writer failed
+-- a beginning of the text that the run prints was written, and the writer failed
 pub record CutShort (r : Readers) (out : Side) (options : Options) : Type 0 where
   pub texts : Texts
   pub gave : AllGave r texts
@@ -35,7 +35,7 @@ pub record CutShort (r : Readers) (out : Side) (options : Options) : Type 0 wher
   pub wrote : WroteBeginning out.old out.new printed
   pub failed : out.failed ≡ true
 
--- why a run gave no ending
+-- the reason why a run has no ending
 abbrev pub Refused : Readers → Side → Options → CliFault → Type 0
 Refused r out options ReadSource = IsUnreadable r.source.failed r.source.old r.source.new
 Refused r out options ReadInput = IsInputUnread r

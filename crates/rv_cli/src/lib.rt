@@ -1,13 +1,16 @@
-//! The run from a source text, a timed list and commands to the text that is printed.
+//! The run from a source text, a timed list and commands to the text that is printed: how it ends, the faults for which it
+//! has no ending, the lines that are printed of both, and the exit status.
 #![tactic(auto)]
 
+mod fault;
 mod print;
 mod run;
 mod session;
+mod status;
 
+pub use fault::{CliFault, Ending, exit_status, fault_line, file_or_fault};
 pub use run::run_text;
 pub use rv_texts::{
-    CliFault, Ending, FileIn, FileOut, InFailed, MemoryIn, MemoryOut, OutFailed, TextIn, TextName,
-    TextOut, exit_status, fault_line, opened,
+    FileIn, FileOut, InFailed, MemoryIn, MemoryOut, OutFailed, ReadFault, TextIn, TextName, TextOut,
 };
-pub use rv_words::{NoRun, Options, Place, Words, read_words};
+pub use rv_words::{NoRun, Options, Origin, Words, read_words};

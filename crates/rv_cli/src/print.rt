@@ -1,16 +1,17 @@
-//! What is printed of a board.
+//! The text that is printed of a board after its run.
 ghost use Rattle.std.specs.Prelude.{◌≡◌, ◌++◌, OnOk};
 ghost use Rattle.rv_board.specs.State.{halted_of};
 ghost use Rattle.rv_cli.specs.Output.{ending_of, printed, with_line_end};
 
+use crate::fault::Ending;
+use crate::status::{Status, append_status};
 use rv_base::NoMemory;
 use rv_board::Board;
 use rv_cache::Decoded;
 use rv_ram::ByteMemory;
-use rv_texts::{Ending, Status, status_line};
 
-/// Appends the piece, with a line end unless it is empty or has one at its end.
-fn append_lines(text: &mut Vec<u8>, piece: &[u8]) -> Result<(), NoMemory>
+/// Appends `piece`, and a line end unless it is empty or ends with one.
+fn append_with_line_end(text: &mut Vec<u8>, piece: &[u8]) -> Result<(), NoMemory>
     ensures { OnOk result (text.new.items ≡ text.old.items ++ with_line_end piece.now) }
 {
     text.extend_from_slice(piece)?;
@@ -20,23 +21,23 @@ fn append_lines(text: &mut Vec<u8>, piece: &[u8]) -> Result<(), NoMemory>
     Ok(())
 }
 
-/// Appends the console and the status line.
+/// Appends a board's console and its status line.
 pub(crate) fn print_board<M: ByteMemory, C: Decoded>(
     board: &Board<M, C>,
     text: &mut Vec<u8>,
 ) -> Result<(), NoMemory>
     ensures { OnOk result (text.new.items ≡ text.old.items ++ printed board.now) }
 {
-    append_lines(text, board.console())?;
+    append_with_line_end(text, board.console())?;
     let status = Status {
         halted: board.halted(),
         pc: board.pc(),
         steps: board.steps(),
     };
-    status_line(status, text)
+    append_status(status, text)
 }
 
-/// How the board's run ended.
+/// Returns how a board's run ended.
 pub(crate) fn ending<M: ByteMemory, C: Decoded>(board: &Board<M, C>) -> Ending
     ensures { result ≡ ending_of (halted_of board.now) }
 {

@@ -1,4 +1,4 @@
-//! What a session does: its commands, or all its steps.
+//! The session of a run: its commands, or all its steps.
 ghost use Rattle.std.specs.Prelude.{IfOk, OnOk};
 ghost use Rattle.std.specs.FinSet as set;
 ghost use Rattle.rv_monitor.specs.Commands.{Took};
@@ -12,7 +12,7 @@ use rv_ram::ByteMemory;
 use rv_texts::Texts;
 use std::alloc::Global;
 
-/// Does the lines in order up to one that quits, and answers the texts of their answers.
+/// Executes the command lines in order, up to one that quits, and returns their answers.
 fn obey<M: ByteMemory, C: Decoded>(
     alloc: Global,
     session: &mut Session<M, C>,
@@ -22,27 +22,24 @@ fn obey<M: ByteMemory, C: Decoded>(
 {
     let mut text = Vec::new(alloc);
     for line in cut_lines(commands) {
-        match session.command(line, &mut text) {
-            Ok(Next::More) => (),
-            Ok(Next::Quit) => return Ok(text),
-            Err(NoMemory) => return Err(NoMemory),
+        match session.command(line, &mut text)? {
+            Next::More => (),
+            Next::Quit => return Ok(text),
         }
     }
     Ok(text)
 }
 
-/// Takes all steps that are left, with no breakpoint.
+/// Takes all steps that the session has left, past any breakpoint.
 fn take_all<M: ByteMemory, C: Decoded>(session: &mut Session<M, C>) -> Result<(), NoMemory>
     ensures { OnOk result (Took set.empty session.old.limit session.old session.new) }
 {
     let limit = session.limit();
-    match session.step(limit) {
-        Ok(_) => Ok(()),
-        Err(NoMemory) => Err(NoMemory),
-    }
+    session.step(limit)?;
+    Ok(())
 }
 
-/// Does the commands, or takes all steps where there are none, and answers the texts of the answers.
+/// Executes the commands and returns their answers, or takes all steps if there are no commands.
 pub(crate) fn run_session<M: ByteMemory, C: Decoded>(
     alloc: Global,
     session: &mut Session<M, C>,

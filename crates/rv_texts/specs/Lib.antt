@@ -1,9 +1,5 @@
 pub mod Calls
-pub mod Faults
 pub mod Memory
-pub mod Numbered
 pub mod Readers
-pub mod Shown
-pub mod Status
 pub mod Texts
 pub mod Unread

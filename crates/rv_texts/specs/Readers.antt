@@ -1,4 +1,4 @@
--- The readers of a run's texts and its writer, by what they gave and took.
+-- The readers of a run's texts, and what they gave.
 -- To audit: public contracts cite this.
 use Rattle.std.specs.Prelude.{◌≡◌, ℕ, ⊤, Bool, false, List, Option, Some, None}
 use Rattle.rv_texts.specs.Texts.{GavePart, GaveWhole, IsUnreadable}
@@ -9,16 +9,18 @@ pub record Texts : Type 0 where
   pub inputs : List ℕ
   pub commands : Option (List ℕ)
 
--- a reader or a writer over a call: its known bytes before and after, and whether it has failed
+-- a reader or a writer over a call: its known bytes before and after the call, and whether it has failed
+-- after it
 pub record Side : Type 0 where
   pub old : Option (List ℕ)
   pub new : Option (List ℕ)
   pub failed : Bool
 
+-- a side of these parts
 abbrev pub side : Option (List ℕ) → Option (List ℕ) → Bool → Side
 side old new failed = record { old = old; new = new; failed = failed }
 
--- the side of a reader that may not be there
+-- the side of a reader, if there is one
 abbrev pub side_if : {A : Type 0} → (A → Option (List ℕ)) → (A → Bool) → Option A → Option A → Option Side
 side_if left has_failed (Some old) (Some new) = Some (side (left old) (left new) (has_failed new))
 side_if left has_failed _ _ = None
@@ -29,6 +31,7 @@ pub record Readers : Type 0 where
   pub inputs : Side
   pub commands : Option Side
 
+-- readers of these sides
 abbrev pub readers : Side → Side → Option Side → Readers
 readers source inputs commands = record { source = source; inputs = inputs; commands = commands }
 
@@ -49,18 +52,18 @@ pub record IsInOrder (reader : Side) : Type 0 where
   pub part : GavePart reader.old reader.new
   pub sound : reader.failed ≡ false
 
--- a reader that is there has not failed
+-- a reader, if there is one, has not failed
 abbrev pub IsSoundIf : {A : Type 0} → (A → Bool) → Option A → Type 0
 IsSoundIf has_failed None = ⊤
 IsSoundIf has_failed (Some reader) = has_failed reader ≡ false
 
--- a reader that is there gave a text to its end; where there is none, there is no text
+-- a reader gave a text to its end; where there is no reader, there is no text
 abbrev pub GaveIf : Option Side → Option (List ℕ) → Type 0
 GaveIf None None = ⊤
 GaveIf (Some reader) (Some text) = Gave reader text
 GaveIf _ _ = ⊥
 
--- a reader that is there is in order
+-- a reader, if there is one, is in order
 abbrev pub IsInOrderIf : Option Side → Type 0
 IsInOrderIf None = ⊤
 IsInOrderIf (Some reader) = IsInOrder reader
@@ -79,17 +82,17 @@ pub record AreInOrder (r : Readers) : Type 0 where
   pub inputs : IsInOrder r.inputs
   pub commands : IsInOrderIf r.commands
 
--- the timed list's reader failed or gave too much, behind the source's, which gave its text
+-- the timed list's reader failed or gave too much, after the source's gave its text
 pub record IsInputUnread (r : Readers) : Type 0 where
   pub source : WasRead r.source
   pub inputs : IsUnreadable r.inputs.failed r.inputs.old r.inputs.new
 
--- the commands' reader failed or gave too much
+-- a reader is there, and failed or gave too much
 abbrev pub IsUnreadableIf : Option Side → Type 0
 IsUnreadableIf None = ⊥
 IsUnreadableIf (Some reader) = IsUnreadable reader.failed reader.old reader.new
 
--- behind the others, which gave their texts
+-- the commands' reader failed or gave too much, after the other readers gave their texts
 pub record AreCommandsUnread (r : Readers) : Type 0 where
   pub source : WasRead r.source
   pub inputs : WasRead r.inputs

@@ -1,22 +1,22 @@
-//! Files, and all else that std reads and writes, as texts.
+//! Readers and writers of the standard library, files among them, as texts.
 ghost use Rattle.std.specs.Prelude.{◌≡◌, false};
 
 use crate::text::{InFailed, OutFailed, TextIn, TextOut};
 use std::io::{Error, ErrorKind, Read, Write};
 use std::marker::Model;
 
-/// Whether a call failed only since it was interrupted.
+/// Returns whether a call failed only because it was interrupted.
 fn was_interrupted(error: Error) -> bool {
     error.kind() == ErrorKind::Interrupted
 }
 
-/// A reader of std as a text. A read that was interrupted is tried again.
+/// A reader of the standard library as a text. A read that was interrupted is tried again.
 pub struct FileIn<R: Read> {
     reader: R,
     has_failed: bool,
 }
 
-// Written out, so that to let it go is one call where it is owned, and not one for each of its parts.
+// Hand-written: a derived `Drop` would be proved anew at each exit (docs/PROVING.md).
 impl<R: Read + Drop> Drop for FileIn<R> {
     fn drop(self) {
         let FileIn {
@@ -35,7 +35,7 @@ impl<R: Read> Model for FileIn<R> {
 }
 
 impl<R: Read> FileIn<R> {
-    /// The text that the reader gives from here on.
+    /// Returns the text that `reader` gives from here on.
     pub fn new(reader: R) -> FileIn<R>
         ensures { result ≡ record { bytes = R.remaining reader; has_failed = false } }
     {
@@ -71,9 +71,9 @@ impl<R: Read> TextIn for FileIn<R> {
     }
 }
 
-/// A writer of std as a text. A write that was interrupted is tried again.
+/// A writer of the standard library as a text. A write that was interrupted is tried again.
 ///
-/// What the writer holds back, as a `BufWriter` does, is its owner's to flush.
+/// A writer that keeps bytes back, as a `BufWriter` does, is flushed by its owner.
 #[derive(Drop)]
 pub struct FileOut<W: Write> {
     writer: W,
@@ -89,7 +89,7 @@ impl<W: Write> Model for FileOut<W> {
 }
 
 impl<W: Write> FileOut<W> {
-    /// What the writer takes from here on.
+    /// Returns the text that is written to `writer` from here on.
     pub fn new(writer: W) -> FileOut<W>
         ensures { result ≡ record { bytes = W.contents writer; has_failed = false } }
     {

@@ -1,17 +1,16 @@
-//! Texts in and out: readers and writers, the texts of a run read from their readers, how a board stands behind it or why
-//! it gave no ending, the lines that say so, and the exit status.
+//! Readers and writers of texts, and the texts of a run, read from their readers.
+//!
+//! A text has at most 16,777,216 bytes.
 #![tactic(auto)]
 
 mod fault;
 mod file;
 mod memory;
-mod status;
 mod text;
 mod texts;
 
-pub use fault::{CliFault, Ending, TextName, exit_status, fault_line, opened};
+pub use fault::{ReadFault, TextName};
 pub use file::{FileIn, FileOut};
 pub use memory::{MemoryIn, MemoryOut};
-pub use status::{Status, status_line};
 pub use text::{InFailed, OutFailed, TextIn, TextOut, write_whole};
 pub use texts::{Texts, read_texts};

@@ -1,4 +1,4 @@
-//! Texts in memory, some bytes a call, with a call that fails where that is wanted.
+//! Texts in memory, which are read and written some bytes a call, with a call that fails if one is asked for.
 ghost use Rattle.std.specs.Prelude.{◌≡◌, ◌≤◌, ◌↔◌, ◌==◌, ◌&&◌, ◌||◌, [], IfErr, IfOk, IsErr, None, OnErr, OnOk, Some, false, length, min, nat_lt, true};
 ghost use Rattle.std.specs.Io.KnownBytes.{ReadConsumes, WriteAppends};
 ghost use Rattle.rv_texts.specs.Memory.{after_call};
@@ -7,7 +7,7 @@ use crate::text::{InFailed, OutFailed, TextIn, TextOut};
 use std::alloc::Global;
 use std::marker::Model;
 
-/// Bytes that are read as a text.
+/// A reader of bytes in memory.
 #[derive(Drop)]
 pub struct MemoryIn<'a> {
     bytes: &'a [u8],
@@ -33,7 +33,7 @@ impl<'a> Model for MemoryIn<'a> {
 }
 
 impl<'a> MemoryIn<'a> {
-    /// A reader of these bytes, which gives as many a call as there is room for, and fails at no call.
+    /// Returns a reader of `bytes` that fills the buffer of each call as far as it can, and never fails.
     pub fn new(bytes: &'a [u8]) -> MemoryIn<'a>
         ensures { result ≡ record {
           bytes = bytes.entry.now;
@@ -50,33 +50,26 @@ impl<'a> MemoryIn<'a> {
         }
     }
 
-    /// The same, which gives at most so many bytes a call.
+    /// Returns the same reader, which gives at most `most` bytes a call.
     pub fn with_most(self, most: usize) -> MemoryIn<'a>
         requires { 1 ≤ most }
         ensures { result ≡ record self.entry { most = most } }
     {
-        MemoryIn {
-            bytes: self.bytes,
-            most,
-            good_calls: self.good_calls,
-            has_failed: self.has_failed,
-        }
+        MemoryIn { most, ..self }
     }
 
-    /// The same, of whose calls from now on so many are good and the next one fails.
+    /// Returns the same reader, whose next `calls` calls succeed and the one after them fails.
     pub fn with_failure_after(self, calls: u64) -> MemoryIn<'a>
         ensures { result ≡ record self.entry { good_calls = Some calls } }
     {
         MemoryIn {
-            bytes: self.bytes,
-            most: self.most,
             good_calls: Some(calls),
-            has_failed: self.has_failed,
+            ..self
         }
     }
 }
 
-/// The good calls that are left after a call.
+/// Returns how many good calls are left after a call, before the one that fails.
 fn left_after_call(calls: Option<u64>) -> Option<u64>
     ensures { result ≡ after_call calls }
 {
@@ -97,7 +90,7 @@ impl<'a> TextIn for MemoryIn<'a> {
         ensures ok { OnOk result (self.new.has_failed ≡ self.old.has_failed) }
         ensures err { OnErr result (self.new.has_failed ≡ true) }
 
-        // It fails at that one call alone, and else gives as many bytes as it can.
+        // It fails at the one call that was asked to fail, and at any other gives as many bytes as it can.
         ensures fails { IsErr result ↔ (self.old.good_calls ≡ Some 0) }
         ensures count { IfOk result (λ n.
             n ≡ min (min self.old.most (length self.old.bytes)) (length buffer.new)) }
@@ -122,7 +115,7 @@ impl<'a> TextIn for MemoryIn<'a> {
     }
 }
 
-/// Bytes that were written as a text.
+/// A writer that keeps its bytes in memory.
 #[derive(Drop)]
 pub struct MemoryOut {
     bytes: Vec<u8>,
@@ -145,7 +138,7 @@ impl Model for MemoryOut {
 }
 
 impl MemoryOut {
-    /// A writer that holds nothing, takes all bytes of a call, and fails only for want of memory.
+    /// Returns an empty writer that takes all bytes of each call, and fails only where memory runs out.
     pub fn new(alloc: Global) -> MemoryOut
         ensures { result ≡ record {
           bytes = [];
@@ -162,31 +155,24 @@ impl MemoryOut {
         }
     }
 
-    /// The same, which takes at most so many bytes a call.
+    /// Returns the same writer, which takes at most `most` bytes a call.
     pub fn with_most(self, most: usize) -> MemoryOut
         ensures { result ≡ record self { most = most } }
     {
-        MemoryOut {
-            bytes: self.bytes,
-            most,
-            good_calls: self.good_calls,
-            has_failed: self.has_failed,
-        }
+        MemoryOut { most, ..self }
     }
 
-    /// The same, of whose calls from now on so many are good and the next one fails.
+    /// Returns the same writer, whose next `calls` calls succeed and the one after them fails.
     pub fn with_failure_after(self, calls: u64) -> MemoryOut
         ensures { result ≡ record self { good_calls = Some calls } }
     {
         MemoryOut {
-            bytes: self.bytes,
-            most: self.most,
             good_calls: Some(calls),
-            has_failed: self.has_failed,
+            ..self
         }
     }
 
-    /// The bytes that were taken.
+    /// Returns the bytes that were written.
     pub fn bytes(&self) -> &[u8]
         ensures { result.now ≡ self.now.bytes }
     {
@@ -206,7 +192,8 @@ impl TextOut for MemoryOut {
             ≡ (self.old.has_failed || (n == 0 && nat_lt 0 (length bytes.now)))) }
         ensures err { OnErr result (self.new.has_failed ≡ true) }
 
-        // It fails at that one call, or for want of memory, and else takes as many bytes as it may.
+        // It fails at the call that was asked to fail or where memory runs out, and at any other takes as many bytes as
+        // it may.
         ensures fails { self.old.good_calls ≡ Some 0 → IsErr result }
         ensures count { IfOk result (λ n. n ≡ min self.old.most (length bytes.now)) }
         ensures calls { self.new.good_calls ≡ after_call self.old.good_calls }

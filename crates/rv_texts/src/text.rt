@@ -1,55 +1,61 @@
-//! A text that comes in pieces, and one that goes out in pieces.
+//! Reading a text and writing one, some bytes a call.
 ghost use Rattle.std.specs.Prelude.{◌≡◌, ◌≤◌, ◌<◌, ◌==◌, ◌&&◌, ◌||◌, ℕ, Bool, List, Option, IfErr, IfOk, OnErr, OnOk, false, length, nat_lt, true};
 ghost use Rattle.std.specs.Io.KnownBytes.{Appends, ReadConsumes, WriteAppends};
 ghost use Rattle.rv_texts.specs.Calls.{FailsToRead, WroteNone, WroteUpTo};
 ghost use Rattle.rv_texts.specs.Readers.{Gave, side};
 ghost use Rattle.rv_texts.specs.Texts.{WroteBeginning};
 
-use crate::fault::{CliFault, TextName};
+use crate::fault::{ReadFault, TextName};
+use rv_base::TEXT_LIMIT;
 use std::alloc::Global;
 
-/// A read that gave nothing and failed.
+/// The error of a read that failed: it gave no byte.
 #[derive(Clone, Copy)]
 pub struct InFailed;
 
-/// A write that took nothing and failed.
+/// The error of a write that failed, or that took none of some bytes.
 #[derive(Clone, Copy)]
 pub struct OutFailed;
 
 /// A reader of a text.
 pub trait TextIn {
-    // The bytes that are left, where the type tells them.
+    // The bytes that are left to read, where the type tells them.
     ghost left: { Self → Option (List ℕ) };
 
-    // A read failed.
+    // Whether a read has failed.
     ghost has_failed: { Self → Bool };
 
-    /// Reads bytes into the buffer and says how many. None into a buffer with room is the end.
+    /// Reads bytes into the buffer, and returns their number. 0 for a buffer that is not empty is the end of the text.
     ///
-    /// A read that fails gives no byte, and from then on `failed` is true. Nothing else changes it.
+    /// # Errors
+    ///
+    /// `InFailed` if the read fails: it gives no byte, and `failed` is true from then on.
     fn read(&mut self, buffer: &mut [u8]) -> Result<usize, InFailed>
         ensures within { IfOk result (λ n. n ≤ length buffer.new) }
         ensures bytes { ReadConsumes (left self.old) (left self.new) result buffer.new }
         ensures ok { OnOk result (has_failed self.new ≡ has_failed self.old) }
         ensures err { OnErr result (has_failed self.new ≡ true) };
 
-    /// Whether a read failed.
+    /// Returns whether a read has failed.
     fn failed(&self) -> bool
         ensures { result ≡ has_failed self.now };
 }
 
 /// A writer of a text.
 pub trait TextOut {
-    // The bytes that were taken, where the type tells them.
+    // The bytes that were written, where the type tells them.
     ghost taken: { Self → Option (List ℕ) };
 
-    // A write failed, or took none of some bytes.
+    // Whether a write has failed, or taken none of some bytes.
     ghost has_failed: { Self → Bool };
 
-    /// Takes some of the bytes, from the first on, and says how many.
+    /// Writes some of the bytes, from the first on, and returns their number.
     ///
-    /// A write that fails takes no byte. From then on `failed` is true, as it is after a write that
-    /// took none of some bytes. Nothing else changes it.
+    /// After a write that took none of some bytes, `failed` is true.
+    ///
+    /// # Errors
+    ///
+    /// `OutFailed` if the write fails: it takes no byte, and `failed` is true from then on.
     fn write(&mut self, bytes: &[u8]) -> Result<usize, OutFailed>
         ensures within { IfOk result (λ n. n ≤ length bytes.now) }
         ensures bytes { WriteAppends (taken self.old) (taken self.new) result bytes.now }
@@ -57,21 +63,22 @@ pub trait TextOut {
             ≡ (has_failed self.old || (n == 0 && nat_lt 0 (length bytes.now)))) }
         ensures err { OnErr result (has_failed self.new ≡ true) };
 
-    /// Whether a write failed.
+    /// Returns whether a write has failed, or taken none of some bytes.
     fn failed(&self) -> bool
         ensures { result ≡ has_failed self.now };
 }
 
-/// The most bytes that a text may have.
-const MOST_BYTES: usize = 16_777_216;
-
-/// Reads a text to its end. A reader that gives more than `MOST_BYTES` bytes is left there, and want of memory is
-/// answered only where the reader is in order.
+/// Reads a text to its end.
+///
+/// # Errors
+///
+/// - `Unreadable` if the reader fails or gives more than `TEXT_LIMIT` bytes, after which it is not read again.
+/// - `OutOfMemory` if memory runs out, while the reader is in order.
 pub(crate) fn read_text<R: TextIn>(
     alloc: Global,
     name: TextName,
     reader: &mut R,
-) -> Result<Vec<u8>, CliFault>
+) -> Result<Vec<u8>, ReadFault>
     requires { R.has_failed reader.old ≡ false }
     ensures ok { IfOk result (λ text. Gave
         (side (R.left reader.old) (R.left reader.new) (R.has_failed reader.new)) text.items) }
@@ -81,23 +88,22 @@ pub(crate) fn read_text<R: TextIn>(
     let mut text = Vec::new(alloc);
     let mut buffer = [0u8; 8192];
     loop {
-        let count = match reader.read(&mut buffer) {
-            Ok(count) => count,
-            Err(InFailed) => return Err(name.read_fault()),
+        let Ok(count) = reader.read(&mut buffer) else {
+            return Err(ReadFault::Unreadable(name));
         };
         if count == 0 {
             return Ok(text);
         }
-        if MOST_BYTES - text.len() < count {
-            return Err(name.read_fault());
+        if TEXT_LIMIT - text.len() < count {
+            return Err(ReadFault::Unreadable(name));
         }
         if text.extend_from_slice(&buffer[..count]).is_err() {
-            return Err(CliFault::OutOfMemory);
+            return Err(ReadFault::OutOfMemory);
         }
     }
 }
 
-/// Writes some of the bytes behind the first `done`, and answers how many were written in all.
+/// Writes some of the bytes that follow the first `done`, and returns how many are written in all.
 fn write_more<W: TextOut>(out: &mut W, bytes: &[u8], done: usize) -> Result<usize, OutFailed>
     requires some { done < length bytes.now }
     requires sound { W.has_failed out.old ≡ false }
@@ -106,14 +112,17 @@ fn write_more<W: TextOut>(out: &mut W, bytes: &[u8], done: usize) -> Result<usiz
     ensures err { OnErr result (WroteNone
         (side (W.taken out.old) (W.taken out.new) (W.has_failed out.new))) }
 {
-    match out.write(&bytes[done..]) {
-        Ok(0) => Err(OutFailed),
-        Ok(count) => Ok(done + count),
-        Err(failed) => Err(failed),
+    match out.write(&bytes[done..])? {
+        0 => Err(OutFailed),
+        count => Ok(done + count),
     }
 }
 
-/// Writes all the bytes; or a beginning of them, where a write fails or takes none.
+/// Writes all the bytes.
+///
+/// # Errors
+///
+/// `OutFailed` if a write fails or takes none of some bytes. A beginning of the bytes is written then.
 pub fn write_whole<W: TextOut>(out: &mut W, bytes: &[u8]) -> Result<(), OutFailed>
     requires { W.has_failed out.old ≡ false }
     ensures ok { OnOk result (Appends (W.taken out.old) (W.taken out.new) bytes.now) }

@@ -3,21 +3,22 @@ ghost use Rattle.std.specs.Prelude.{◌≡◌, ◌⊎◌, IfErr, IfOk, false, is
 ghost use Rattle.std.specs.Option.{option_map};
 ghost use Rattle.rv_texts.specs.Unread.{Unread};
 ghost use Rattle.rv_texts.specs.Readers.{AllGave, GaveIf, IsInOrderIf, IsUnreadableIf, readers, side, side_if, IsSoundIf};
-ghost use Rattle.rv_texts.specs.declared.fault.CliFault.TheVariants.{OutOfMemory, ReadCommands, ReadInput, ReadSource};
+ghost use Rattle.rv_texts.specs.declared.fault.ReadFault.TheVariants.{OutOfMemory, Unreadable};
+ghost use Rattle.rv_texts.specs.declared.fault.TextName.TheVariants.{Commands, Input, Source};
 
-use crate::fault::{CliFault, TextName};
+use crate::fault::{ReadFault, TextName};
 use crate::text::{TextIn, read_text};
 use std::alloc::Global;
 use std::marker::Model;
 
-/// The texts of a run: its source, its timed list, and its commands, if it has any; seen as their bytes.
+/// The texts of a run: its source, its timed list, and its commands, if it has any.
 pub struct Texts {
     source: Vec<u8>,
     inputs: Vec<u8>,
     commands: Option<Vec<u8>>,
 }
 
-// Written out, so that to let it go is one call where it is owned, and not one for each of its parts.
+// Hand-written: a derived `Drop` would be proved anew at each exit (docs/PROVING.md).
 impl Drop for Texts {
     fn drop(self) {
         let Texts {
@@ -41,61 +42,61 @@ impl Texts {
     ghost use Rattle.std.specs.Prelude.{◌≡◌};
     ghost use Rattle.std.specs.Option.{option_map};
 
-    /// The bytes of the source.
+    /// Returns the bytes of the source.
     pub fn source(&self) -> &[u8]
         ensures { result.now ≡ self.now.source }
     {
         self.source.as_slice()
     }
 
-    /// The bytes of the timed list: none where there is none.
+    /// Returns the bytes of the timed list, which is empty where the run has none.
     pub fn inputs(&self) -> &[u8]
         ensures { result.now ≡ self.now.inputs }
     {
         self.inputs.as_slice()
     }
 
-    /// The bytes of the commands, if there are any.
+    /// Returns the bytes of the commands, if the run has any.
     pub fn commands(&self) -> Option<&[u8]>
         ensures { option_map (λ text. text.now) result ≡ self.now.commands }
     {
-        match &self.commands {
-            Some(commands) => Some(commands.as_slice()),
-            None => None,
-        }
+        self.commands.as_ref().map(|commands| commands.as_slice())
     }
 }
 
-/// Reads the commands to their end, where they have a reader.
+/// Reads the commands to their end, if they have a reader.
 fn read_commands<C: TextIn>(
     alloc: Global,
     commands: &mut Option<C>,
-) -> Result<Option<Vec<u8>>, CliFault>
+) -> Result<Option<Vec<u8>>, ReadFault>
     requires { IsSoundIf C.has_failed commands.old }
-    ensures ok { IfOk result (λ text. GaveIf (side_if C.left C.has_failed commands.old commands.new) (option_map (λ t. t.items) text)) }
+    ensures ok { IfOk result (λ text.
+        GaveIf (side_if C.left C.has_failed commands.old commands.new) (option_map (λ t. t.items) text)) }
     ensures err { IfErr result (λ fault.
-        ((fault ≡ ReadCommands) × IsUnreadableIf (side_if C.left C.has_failed commands.old commands.new))
+        ((fault ≡ Unreadable Commands) × IsUnreadableIf (side_if C.left C.has_failed commands.old commands.new))
         ⊎ ((fault ≡ OutOfMemory) × IsInOrderIf (side_if C.left C.has_failed commands.old commands.new))) }
     ensures there { is_some commands.new ≡ is_some commands.old }
 {
     let Some(reader) = commands else {
         return Ok(None);
     };
-    match read_text(alloc, TextName::Commands, reader) {
-        Ok(text) => Ok(Some(text)),
-        Err(fault) => Err(fault),
-    }
+    let text = read_text(alloc, TextName::Commands, reader)?;
+    Ok(Some(text))
 }
 
-/// Reads all texts to their ends: the source, the timed list, the commands. A reader that fails, or gives more than
-/// 16,777,216 bytes, is left there, and behind its fault no other reader is touched. Want of memory may stand in place of
-/// the texts, but not of a reader's fault that occurred.
+/// Reads all texts to their ends, in this order: the source, the timed list, the commands.
+///
+/// # Errors
+///
+/// - `Unreadable` with the first text whose reader fails or gives more than 16,777,216 bytes. That reader is not read
+///   again, and the readers that follow are not touched.
+/// - `OutOfMemory` if memory runs out, while the readers are in order.
 pub fn read_texts<S: TextIn, I: TextIn, C: TextIn>(
     alloc: Global,
     source: &mut S,
     inputs: &mut I,
     commands: &mut Option<C>,
-) -> Result<Texts, CliFault>
+) -> Result<Texts, ReadFault>
     requires source { S.has_failed source.old ≡ false }
     requires inputs { I.has_failed inputs.old ≡ false }
     requires commands { IsSoundIf C.has_failed commands.old }
@@ -109,9 +110,10 @@ pub fn read_texts<S: TextIn, I: TextIn, C: TextIn>(
         (side_if C.left C.has_failed commands.old commands.new))) }
     ensures there { is_some commands.new ≡ is_some commands.old }
 
-    // Behind a reader's fault no other is touched.
-    ensures behind_source { IfErr result (λ fault. fault ≡ ReadSource → (inputs.new ≡ inputs.old) × (commands.new ≡ commands.old)) }
-    ensures behind_inputs { IfErr result (λ fault. fault ≡ ReadInput → commands.new ≡ commands.old) }
+    // After a reader's fault no reader that follows is touched.
+    ensures behind_source { IfErr result (λ fault. fault ≡ Unreadable Source → (inputs.new ≡ inputs.old)
+        × (commands.new ≡ commands.old)) }
+    ensures behind_inputs { IfErr result (λ fault. fault ≡ Unreadable Input → commands.new ≡ commands.old) }
 {
     let source = read_text(alloc, TextName::Source, source)?;
     let inputs = read_text(alloc, TextName::Input, inputs)?;

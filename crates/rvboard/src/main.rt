@@ -1,15 +1,15 @@
 //! The program: `rvboard [SOURCE] [--input F] [--commands F] [--steps N] [--pages P] [--slots S]`.
 //!
-//! It reads its words, opens the source, the timed list and the commands in this order, runs them, and exits with the
-//! status of the run. Fault lines go to the standard error.
+//! Reads the words of the command line, opens the source, the timed list and the commands in this order, runs them, and
+//! exits with the status of the run. The lines of faults go to the standard error.
 #![tactic(auto)]
 
 ghost use Rattle.std.specs.Prelude.{◌≡◌, IfOk, false};
 ghost use Rattle.rv_texts.specs.Readers.{IsSoundIf};
 
 use rv_cli::{
-    CliFault, Ending, FileIn, FileOut, MemoryIn, NoRun, Options, Place, TextIn, TextName, Words,
-    exit_status, fault_line, opened, read_words, run_text,
+    CliFault, Ending, FileIn, FileOut, MemoryIn, NoRun, Options, Origin, TextIn, TextName, Words,
+    exit_status, fault_line, file_or_fault, read_words, run_text,
 };
 use std::alloc::AllocError;
 use std::env;
@@ -17,7 +17,7 @@ use std::fs::File;
 use std::io::{self, Write};
 use std::process::ExitCode;
 
-/// Writes the fault's line to the standard error, where there is memory for it.
+/// Writes the line of a fault to the standard error, if there is memory for it.
 fn report(rt: &HostRuntime, fault: &CliFault) {
     let mut line = Vec::new(rt.alloc());
     if fault_line(fault, &mut line).is_ok() {
@@ -25,7 +25,7 @@ fn report(rt: &HostRuntime, fault: &CliFault) {
     }
 }
 
-/// Opens the file of a text, where one is named.
+/// Opens the file of a text, if one is named.
 fn open_named(
     rt: &HostRuntime,
     text: TextName,
@@ -36,12 +36,12 @@ fn open_named(
     let Some(path) = path else {
         return Ok(None);
     };
-    let file = opened(text, File::open(rt, path))?;
+    let file = file_or_fault(text, File::open(rt, path))?;
     Ok(Some(FileIn::new(file)))
 }
 
 /// Runs a source with a timed list and commands, and prints to the standard output.
-fn run_texts<S: TextIn, I: TextIn>(
+fn print_run<S: TextIn, I: TextIn>(
     rt: &HostRuntime,
     source: &mut S,
     inputs: &mut I,
@@ -56,8 +56,8 @@ fn run_texts<S: TextIn, I: TextIn>(
     run_text(rt.alloc(), source, inputs, commands, options, &mut out)
 }
 
-/// Runs a source with the timed list and the commands that the words name, whose files it opens first.
-fn run_source<S: TextIn>(
+/// Opens the files of the timed list and the commands that the words name, and runs the source with them.
+fn open_and_run<S: TextIn>(
     rt: &HostRuntime,
     words: &Words<'_>,
     source: &mut S,
@@ -68,33 +68,33 @@ fn run_source<S: TextIn>(
     let mut commands = open_named(rt, TextName::Commands, words.commands)?;
     let options = words.options;
     match input {
-        Some(mut inputs) => run_texts(rt, source, &mut inputs, &mut commands, options),
-        None => run_texts(rt, source, &mut MemoryIn::new(b""), &mut commands, options),
+        Some(mut inputs) => print_run(rt, source, &mut inputs, &mut commands, options),
+        None => print_run(rt, source, &mut MemoryIn::new(b""), &mut commands, options),
     }
 }
 
-/// Runs what the words name.
+/// Opens the source that the words name, and runs it.
 fn run(rt: &HostRuntime, words: &Words<'_>) -> Result<Ending, CliFault> {
-    match words.source_place() {
-        Place::StandardInput => run_source(rt, words, &mut FileIn::new(rt.stdin())),
-        Place::File(path) => {
-            let file = opened(TextName::Source, File::open(rt, path))?;
-            run_source(rt, words, &mut FileIn::new(file))
+    match words.source_origin() {
+        Origin::StandardInput => open_and_run(rt, words, &mut FileIn::new(rt.stdin())),
+        Origin::File(path) => {
+            let file = file_or_fault(TextName::Source, File::open(rt, path))?;
+            open_and_run(rt, words, &mut FileIn::new(file))
         }
     }
 }
 
-/// Prints the end of the run, if it is a fault, and answers the status.
-fn end(rt: &HostRuntime, outcome: &Result<Ending, CliFault>) -> u8 {
+/// Reports the fault of a run, if it has one, and returns the exit status.
+fn finish(rt: &HostRuntime, outcome: &Result<Ending, CliFault>) -> u8 {
     if let Err(fault) = outcome {
         report(rt, fault);
     }
     exit_status(outcome)
 }
 
-/// Prints the help that was asked for, or why the words are not taken, and answers the status.
+/// Prints the help that was asked for, or why the words are refused, and returns the exit status.
 fn refuse(rt: &HostRuntime, error: &clap::Error) -> u8 {
-    let why = NoRun::of(error);
+    let why = NoRun::from(error);
     match why {
         NoRun::OutOfMemory => report(rt, &CliFault::OutOfMemory),
         NoRun::Help | NoRun::Refused => {
@@ -104,25 +104,25 @@ fn refuse(rt: &HostRuntime, error: &clap::Error) -> u8 {
     why.status()
 }
 
-/// Reads the words and does what they ask for.
+/// Reads the words, makes the run that they ask for, and returns the exit status.
 fn run_words(rt: &HostRuntime, all: &[String]) -> Result<u8, AllocError> {
     let list: Vec<&str> = all.iter().map(|word| word.as_str()).collect(rt.alloc())?;
     Ok(match read_words(rt.alloc(), list.as_slice()) {
-        Ok(words) => end(rt, &run(rt, &words)),
+        Ok(words) => finish(rt, &run(rt, &words)),
         Err(error) => refuse(rt, &error),
     })
 }
 
-/// The program's words.
+/// Returns the words of the command line, the program's name first.
 fn words(rt: &HostRuntime) -> io::Result<Vec<String>> {
     let all = env::args(rt)?.collect(rt.alloc())?;
     Ok(all)
 }
 
-/// Answers the status of words that can't be had: one of them is no UTF-8, or memory ran out.
-fn lack_words(rt: &HostRuntime, error: &io::Error) -> u8 {
+/// Reports why there are no words: one of them is not UTF-8, or memory ran out. Returns the exit status.
+fn refuse_words(rt: &HostRuntime, error: &io::Error) -> u8 {
     if error.kind() == io::ErrorKind::OutOfMemory {
-        return end(rt, &Err(CliFault::OutOfMemory));
+        return finish(rt, &Err(CliFault::OutOfMemory));
     }
     let _ = rt.stderr().write_all(b"error: a word is not UTF-8\n");
     NoRun::Refused.status()
@@ -132,9 +132,9 @@ fn main(rt: HostRuntime) -> ExitCode {
     let status = match words(&rt) {
         Ok(all) => match run_words(&rt, all.as_slice()) {
             Ok(status) => status,
-            Err(AllocError) => end(&rt, &Err(CliFault::OutOfMemory)),
+            Err(AllocError) => finish(&rt, &Err(CliFault::OutOfMemory)),
         },
-        Err(error) => lack_words(&rt, &error),
+        Err(error) => refuse_words(&rt, &error),
     };
     ExitCode::from(status)
 }

@@ -1,6 +1,6 @@
 //! The lines and the statuses of faults, and files that can't be opened.
 use rv_asm::{AsmFault, FaultKind};
-use rv_cli::{CliFault, TextName, exit_status, fault_line, opened};
+use rv_cli::{CliFault, TextName, exit_status, fault_line, file_or_fault};
 use std::alloc::Global;
 use std::io;
 use std::test::Fail;
@@ -57,10 +57,10 @@ fn names_each_fault(rt: HostRuntime) -> Result<(), Fail> {
 #[test]
 fn an_unopened_file_is_its_reader_s_fault(rt: HostRuntime) {
     let refused: io::Result<u8> = Err(io::Error::from(io::ErrorKind::PermissionDenied));
-    assert!(rt; opened(TextName::Source, refused) == Err(CliFault::ReadSource));
+    assert!(rt; file_or_fault(TextName::Source, refused) == Err(CliFault::ReadSource));
     let refused: io::Result<u8> = Err(io::Error::from(io::ErrorKind::NotFound));
-    assert!(rt; opened(TextName::Input, refused) == Err(CliFault::ReadInput));
+    assert!(rt; file_or_fault(TextName::Input, refused) == Err(CliFault::ReadInput));
     let refused: io::Result<u8> = Err(io::Error::from(io::ErrorKind::NotFound));
-    assert!(rt; opened(TextName::Commands, refused) == Err(CliFault::ReadCommands));
-    assert!(rt; opened(TextName::Source, Ok(7u8)) == Ok(7));
+    assert!(rt; file_or_fault(TextName::Commands, refused) == Err(CliFault::ReadCommands));
+    assert!(rt; file_or_fault(TextName::Source, Ok(7u8)) == Ok(7));
 }

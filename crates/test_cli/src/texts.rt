@@ -11,7 +11,7 @@ use std::io::{self, ErrorKind, Read, Write};
 use std::process::Abort;
 
 /// Runs a source with no input and without commands.
-fn run_source<S: TextIn, W: TextOut>(
+fn run_without_commands<S: TextIn, W: TextOut>(
     alloc: Global,
     source: &mut S,
     options: Options,
@@ -29,7 +29,7 @@ fn run_source<S: TextIn, W: TextOut>(
 fn reads_and_writes_a_byte_a_call(rt: HostRuntime) {
     let mut source = MemoryIn::new(HELLO).with_most(1);
     let mut out = MemoryOut::new(rt.alloc()).with_most(1);
-    let outcome = run_source(rt.alloc(), &mut source, DEFAULTS, &mut out);
+    let outcome = run_without_commands(rt.alloc(), &mut source, DEFAULTS, &mut out);
     assert!(rt; outcome == Ok(Ending::Halted(0)));
     assert!(rt; out.bytes() == b"H\nhalted 0 after 7 steps\n".as_slice());
     assert!(rt; !source.failed() && !out.failed());
@@ -39,7 +39,7 @@ fn reads_and_writes_a_byte_a_call(rt: HostRuntime) {
 fn stops_at(rt: &impl Abort, alloc: Global, out: &mut MemoryOut, taken: &str)
     requires { out.old.has_failed ≡ false }
 {
-    let outcome = run_source(alloc, &mut MemoryIn::new(HELLO), DEFAULTS, out);
+    let outcome = run_without_commands(alloc, &mut MemoryIn::new(HELLO), DEFAULTS, out);
     assert!(rt; outcome == Err(CliFault::Write));
     assert!(rt; out.bytes() == taken.as_bytes());
     assert!(rt; out.failed());
@@ -85,7 +85,7 @@ impl TextIn for Endless {
 fn stops_at_a_failed_read(rt: HostRuntime) {
     let mut failing = MemoryIn::new(HELLO).with_most(4).with_failure_after(1);
     let mut out = MemoryOut::new(rt.alloc());
-    let outcome = run_source(rt.alloc(), &mut failing, DEFAULTS, &mut out);
+    let outcome = run_without_commands(rt.alloc(), &mut failing, DEFAULTS, &mut out);
     assert!(rt; outcome == Err(CliFault::ReadSource));
     assert!(rt; failing.failed());
     assert_eq!(rt; exit_status(&outcome), 4);
@@ -95,7 +95,7 @@ fn stops_at_a_failed_read(rt: HostRuntime) {
 #[test]
 fn leaves_a_reader_without_an_end(rt: HostRuntime) {
     let mut out = MemoryOut::new(rt.alloc());
-    let outcome = run_source(rt.alloc(), &mut Endless, DEFAULTS, &mut out);
+    let outcome = run_without_commands(rt.alloc(), &mut Endless, DEFAULTS, &mut out);
     assert!(rt; outcome == Err(CliFault::ReadSource));
     assert!(rt; out.bytes().is_empty());
 }
@@ -188,7 +188,7 @@ const WRITTEN: &[u8] = b"H\nhalted 0 after 7 steps\n";
 fn goes_on_after_an_interrupted_read(rt: HostRuntime) {
     let mut source = FileIn::new(Interrupted::new(HELLO, None));
     let mut out = MemoryOut::new(rt.alloc());
-    let outcome = run_source(rt.alloc(), &mut source, DEFAULTS, &mut out);
+    let outcome = run_without_commands(rt.alloc(), &mut source, DEFAULTS, &mut out);
     assert!(rt; outcome == Ok(Ending::Halted(0)));
     assert!(rt; out.bytes() == WRITTEN);
     assert!(rt; !source.failed());
@@ -197,7 +197,7 @@ fn goes_on_after_an_interrupted_read(rt: HostRuntime) {
 /// Runs a source into a writer of std, and answers with the outcome whether it is told that a write failed.
 fn run_into(alloc: Global, writer: &mut Interrupted<'_>) -> (Result<Ending, CliFault>, bool) {
     let mut out = FileOut::new(writer);
-    let outcome = run_source(alloc, &mut MemoryIn::new(HELLO), DEFAULTS, &mut out);
+    let outcome = run_without_commands(alloc, &mut MemoryIn::new(HELLO), DEFAULTS, &mut out);
     (outcome, out.failed())
 }
 
@@ -215,7 +215,7 @@ fn goes_on_after_an_interrupted_write(rt: HostRuntime) {
 fn stops_at_a_read_of_std_that_fails(rt: HostRuntime) {
     let mut source = FileIn::new(Interrupted::new(HELLO, Some(5)));
     let mut out = MemoryOut::new(rt.alloc());
-    let outcome = run_source(rt.alloc(), &mut source, DEFAULTS, &mut out);
+    let outcome = run_without_commands(rt.alloc(), &mut source, DEFAULTS, &mut out);
     assert!(rt; outcome == Err(CliFault::ReadSource));
     assert!(rt; source.failed());
     assert!(rt; out.bytes().is_empty());
@@ -239,7 +239,7 @@ fn reads_and_writes_by_std(rt: HostRuntime) {
         steps: 0,
         ..DEFAULTS
     };
-    let outcome = run_source(rt.alloc(), &mut source, options, &mut out);
+    let outcome = run_without_commands(rt.alloc(), &mut source, options, &mut out);
     assert!(rt; outcome == Ok(Ending::Running));
     assert!(rt; printed.as_slice() == b"running at 80000000 after 0 steps\n".as_slice());
 }

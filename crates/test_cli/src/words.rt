@@ -1,7 +1,7 @@
 //! Words that are taken, words that are refused, and the help.
 use crate::runs::DEFAULTS;
 use clap::error::ErrorKind;
-use rv_cli::{NoRun, Options, Place, Words, read_words};
+use rv_cli::{NoRun, Options, Origin, Words, read_words};
 use std::alloc::{AllocError, Global};
 use std::process::Abort;
 use std::test::Fail;
@@ -113,7 +113,7 @@ fn refuses(rt: &impl Abort, alloc: Global, line: &str, kind: ErrorKind) -> Resul
     } else {
         NoRun::Refused
     };
-    assert!(rt; read.is_err_and(|e| e.kind() == kind && NoRun::of(&e) == why));
+    assert!(rt; read.is_err_and(|e| e.kind() == kind && NoRun::from(&e) == why));
     Ok(())
 }
 
@@ -172,8 +172,8 @@ fn a_dash_is_the_standard_input(rt: HostRuntime) -> Result<(), Fail> {
         source: "./-",
         ..NO_WORDS
     };
-    assert!(rt; NO_WORDS.source_place() == Place::StandardInput);
-    assert!(rt; file.source_place() == Place::File("./-"));
+    assert!(rt; NO_WORDS.source_origin() == Origin::StandardInput);
+    assert!(rt; file.source_origin() == Origin::File("./-"));
     reads(&rt, rt.alloc(), "rvboard ./-", file)
 }
 

@@ -1,4 +1,5 @@
 use Rattle.std.proofs.lemmas.Result.{err_from_is_err_and}
+use Rattle.rv_cli.proofs.Conversions.{is_input, is_source}
 use Rattle.rv_cli.proofs.Refusals.{refused_by, refused_unread}
 use Rattle.rv_cli.proofs.run.run_text.Goals as goal
 
@@ -6,6 +7,16 @@ pub returns-in_err-texts-clause-refused : goal.returns-in_err-texts-clause-refus
 returns-in_err-texts-clause-refused g c =
     let e = err_from_is_err_and c.from_residual.result c.from_residual.ensures.1 in
     rw (e.1, e.2) (refused_unread _ _ c.args.options c.in_err-texts.field-0.0 c.in_err-texts.ensures.err)
+
+pub returns-in_err-texts-clause-behind_source : goal.returns-in_err-texts-clause-behind_source
+returns-in_err-texts-clause-behind_source g c =
+    let e = err_from_is_err_and c.from_residual.result c.from_residual.ensures.1 in
+    rw (e.1, e.2) (λ is. c.in_err-texts.ensures.behind_source (is_source c.in_err-texts.field-0.0 is))
+
+pub returns-in_err-texts-clause-behind_inputs : goal.returns-in_err-texts-clause-behind_inputs
+returns-in_err-texts-clause-behind_inputs g c =
+    let e = err_from_is_err_and c.from_residual.result c.from_residual.ensures.1 in
+    rw (e.1, e.2) (λ is. c.in_err-texts.ensures.behind_inputs (is_input c.in_err-texts.field-0.0 is))
 
 pub returns-in_err-printed-clause-refused : goal.returns-in_err-printed-clause-refused
 returns-in_err-printed-clause-refused g c =

@@ -1,5 +1,7 @@
-use Rattle.std.proofs.Common.{◌≡◌, ◌∙◌}
+use Rattle.std.proofs.Common.{◌≡◌, ◌∙◌, rules}
 use Rattle.rv_base.specs.Lines.{lines}
+use Rattle.rv_monitor.specs.Commands.{command_in, next_of}
+use Rattle.rv_monitor.specs.declared.command.Next.TheVariants.{More, Quit}
 use Rattle.rv_cli.proofs.Obeyed.{none_done, one_done, all_done, quit_done}
 use Rattle.rv_cli.proofs.session.obey.Goals as goal
 
@@ -13,22 +15,23 @@ loop-line-init g c =
     }
 
 pub loop-line-preserved : goal.loop-line-preserved
-loop-line-preserved g c = record {
-  can_next = tt;
-  is_finite = tt;
-  so_far =
-      rw c.in-Ok-More.ensures.text
-      (one_done (lines c.args.commands.now) c.loop-line.line-iterator c.next.new.self c.in-Some.line.now c.args.session.now c.loop-line.session
-      c.command.new.self c.loop-line.text.items c.loop-line.invariant.so_far c.in-Some.ensures.steps
-      (rw c.in-Ok-More.field-0-is at c.in-Ok-More.ensures.next) c.in-Ok-More.ensures.ok);
-}
+loop-line-preserved g c =
+    let goes_on : More ≡ next_of (command_in c.in-Some.line.now c.loop-line.session) = search rules in
+    record {
+      can_next = tt;
+      is_finite = tt;
+      so_far =
+          rw c.in_ok-command.ensures.text
+          (one_done (lines c.args.commands.now) c.loop-line.line-iterator c.next.new.self c.in-Some.line.now c.args.session.now c.loop-line.session
+          c.command.new.self c.loop-line.text.items c.loop-line.invariant.so_far c.in-Some.ensures.steps goes_on c.in_ok-command.ensures.ok);
+    }
 
-pub returns-in-Ok-Quit : goal.returns-in-Ok-Quit
-returns-in-Ok-Quit g c =
-    rw c.in-Ok-Quit.ensures.text
+pub returns-in-Quit : goal.returns-in-Quit
+returns-in-Quit g c =
+    let quits : Quit ≡ next_of (command_in c.in-Some.line.now c.loop-line.session) = search rules in
+    rw c.in_ok-command.ensures.text
     (quit_done (lines c.args.commands.now) c.loop-line.line-iterator c.next.new.self c.in-Some.line.now c.args.session.now c.loop-line.session
-    c.command.new.self c.loop-line.text.items c.loop-line.invariant.so_far c.in-Some.ensures.steps
-    (rw c.in-Ok-Quit.field-0-is at c.in-Ok-Quit.ensures.next) c.in-Ok-Quit.ensures.ok)
+    c.command.new.self c.loop-line.text.items c.loop-line.invariant.so_far c.in-Some.ensures.steps quits c.in_ok-command.ensures.ok)
 
 pub returns : goal.returns
 returns g c =

@@ -2,15 +2,15 @@ use Rattle.std.proofs.Common.{◌++◌, arith, inl, inr, refl, rules, take, leng
 use Rattle.std.proofs.KnownBytes.{Consumes-kept, Consumes-trans}
 use Rattle.rv_texts.proofs.text.read_text.Goals as goal
 
-pub returns-in-Err-clause-err : goal.returns-in-Err-clause-err
-returns-in-Err-clause-err g c =
+pub returns-in_default-clause-err : goal.returns-in_default-clause-err
+returns-in_default-clause-err g c =
     inl (
       search rules,
       inl (record {
-        is = c.in-Err.ensures.err;
+        is = c.in_default.ensures.err;
         part = record {
           bytes = c.loop-count.text.items;
-          gave = Consumes-kept _ _ _ c.loop-count.text.items c.loop-count.invariant.gave c.in-Err.ensures.bytes;
+          gave = Consumes-kept _ _ _ c.loop-count.text.items c.loop-count.invariant.gave c.in_default.ensures.bytes;
           within = omega (arith, c.loop-count.invariant.within);
         };
       }),

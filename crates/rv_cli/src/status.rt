@@ -1,13 +1,13 @@
-//! The line that says how a board stands after its steps.
+//! The status line: how a board stands after its steps.
 ghost use Rattle.std.specs.Prelude.{◌≡◌, ◌++◌, OnErr, OnOk, Some};
-ghost use Rattle.rv_texts.specs.Faults.{ended};
-ghost use Rattle.rv_texts.specs.Status.{stand_of, status_text};
+ghost use Rattle.rv_cli.specs.Faults.{ended};
+ghost use Rattle.rv_cli.specs.Status.{stand_of, status_text};
 
 use crate::fault::append_line;
 use rv_base::NoMemory;
 use std::fmt;
 
-/// Whether a board has halted, with which code, or where it runs.
+/// Whether a board has halted and with which code, or else the pc at which it runs.
 #[derive(Clone, Copy)]
 struct Stand {
     halted: Option<u16>,
@@ -27,15 +27,15 @@ impl fmt::Display for Stand {
     }
 }
 
-/// How a board stands after its steps. The text of `Display` has no line end.
+/// How a board stands after its steps. `Display` writes the status line without its line end.
 #[derive(Clone, Copy)]
-pub struct Status {
-    /// The code that it halted with, or nothing while it runs.
-    pub halted: Option<u16>,
+pub(crate) struct Status {
+    /// The code that the board halted with, or `None` while it runs.
+    pub(crate) halted: Option<u16>,
     /// The address of the instruction that comes next.
-    pub pc: u32,
-    /// How many steps it has done.
-    pub steps: u64,
+    pub(crate) pc: u32,
+    /// The number of steps that the board has taken.
+    pub(crate) steps: u64,
 }
 
 impl fmt::Display for Status {
@@ -48,9 +48,10 @@ impl fmt::Display for Status {
     }
 }
 
-/// Appends the line of a status, with its line end. Refused, it leaves the text as it was.
-pub fn status_line(status: Status, line: &mut Vec<u8>) -> Result<(), NoMemory>
-    ensures ok { OnOk result (line.new.items ≡ line.old.items ++ ended (status_text status.halted status.pc status.steps)) }
+/// Appends the status line, with its line end, to a text, which is left as it was where memory runs out.
+pub(crate) fn append_status(status: Status, line: &mut Vec<u8>) -> Result<(), NoMemory>
+    ensures ok { OnOk result (line.new.items ≡ line.old.items
+        ++ ended (status_text status.halted status.pc status.steps)) }
     ensures err { OnErr result (line.new.items ≡ line.old.items) }
 {
     append_line(&status, line)

@@ -4,12 +4,12 @@ use Rattle.std.specs.Prelude.{ℕ, List, [], ◌∷◌, ◌++◌, Result, Ok, Er
 use Rattle.std.specs.Fmt.{decimal}
 use Rattle.rv_program.specs.Faults.{name_of, number_of}
 use Rattle.rv_program.specs.declared.fault.AsmFault.{AsmFault}
-use Rattle.rv_texts.specs.declared.fault.CliFault.{CliFault}
-use Rattle.rv_texts.specs.declared.fault.CliFault.TheVariants.{ReadSource, ReadInput, ReadCommands, Source, Input, BadPages, BadSlots, ImageTooLarge, OutOfMemory, Write}
+use Rattle.rv_cli.specs.declared.fault.CliFault.{CliFault}
+use Rattle.rv_cli.specs.declared.fault.CliFault.TheVariants.{ReadSource, ReadInput, ReadCommands, Source, Input, BadPages, BadSlots, ImageTooLarge, OutOfMemory, Write}
 use Rattle.rv_texts.specs.declared.fault.TextName.{TextName}
 use Rattle.rv_texts.specs.declared.fault.TextName.TheVariants as text_name
-use Rattle.rv_texts.specs.declared.fault.Ending.{Ending}
-use Rattle.rv_texts.specs.declared.fault.Ending.TheVariants.{Halted, Running}
+use Rattle.rv_cli.specs.declared.fault.Ending.{Ending}
+use Rattle.rv_cli.specs.declared.fault.Ending.TheVariants.{Halted, Running}
 
 -- the fault of a text's reader
 abbrev pub read_fault_of : TextName → CliFault
@@ -21,15 +21,16 @@ read_fault_of text_name.Commands = ReadCommands
 abbrev pub ended : List ℕ → List ℕ
 ended text = text ++ 10 ∷ []
 
--- as `source line 3: E6 DuplicateSymbol`
+-- the line of a source's fault, as `source line 3: E6 DuplicateSymbol`
 abbrev pub source_line_of : AsmFault → List ℕ
 source_line_of fault = codes "source line " ++ decimal fault.line
     ++ codes ": E" ++ decimal (number_of fault.kind) ++ codes " " ++ name_of fault.kind
 
--- as `input line 3: refused`
+-- the line of a timed list's fault, as `input line 3: refused`
 abbrev pub input_line_of : ℕ → List ℕ
 input_line_of n = codes "input line " ++ decimal n ++ codes ": refused"
 
+-- the line of a fault
 abbrev pub line_of : CliFault → List ℕ
 line_of ReadSource = ended (codes "cannot read source")
 line_of ReadInput = ended (codes "cannot read input")
@@ -42,6 +43,7 @@ line_of ImageTooLarge = ended (codes "image too large")
 line_of OutOfMemory = ended (codes "out of memory")
 line_of Write = ended (codes "cannot write")
 
+-- the exit status of a run
 abbrev pub status_of : Result Ending CliFault → ℕ
 status_of (Ok (Halted zero)) = 0
 status_of (Ok (Halted (suc code))) = 1

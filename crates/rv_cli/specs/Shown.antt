@@ -1,9 +1,9 @@
--- What is shown behind a text.
+-- The text of a value, appended to a line.
 -- Not to audit: private contracts alone cite this.
 use Rattle.std.specs.Prelude.{◌≡◌, ℕ, List, ◌++◌, Option, Some, None, ⊤}
-use Rattle.rv_texts.specs.Faults.{ended}
+use Rattle.rv_cli.specs.Faults.{ended}
 
--- what `Display` gives stands behind a text, with a line end
+-- the text that `Display` writes was appended, with a line end, where it is known
 abbrev pub StandsBehind : Option (List ℕ) → List ℕ → List ℕ → Type 0
 StandsBehind (Some shown) old new = new ≡ old ++ ended shown
 StandsBehind None old new = ⊤

@@ -1,0 +1,257 @@
+//! How a run ends, the faults for which it has no ending, the line of each, and the exit statuses.
+ghost use Rattle.std.specs.Prelude.{◌≡◌, ◌++◌, Err, IfErr, IfOk, Ok, OnErr, OnOk, Some, false};
+ghost use Rattle.rv_cli.specs.Shown.{StandsBehind};
+ghost use Rattle.rv_cli.specs.Faults.{input_line_of, line_of, read_fault_of, source_line_of, status_of};
+ghost use Rattle.rv_cli.specs.Numbered.{has_number};
+
+use rv_base::NoMemory;
+use rv_board::BootFault;
+use rv_lists::TimelineFault;
+use rv_program::{AsmFault, FaultKind};
+use rv_texts::{OutFailed, ReadFault, TextName};
+use std::{fmt, io};
+use thiserror::Error;
+
+/// How a run ended.
+#[derive(Clone, Copy, Debug, PartialEq, Eq)]
+pub enum Ending {
+    /// The program halted the board with this code.
+    Halted(u16),
+    /// All steps were taken, and the board has not halted.
+    Running,
+}
+
+/// The reason why a run has no ending.
+///
+/// `Display` writes the variant's name; `fault_line` appends the line that is printed.
+#[derive(Clone, Copy, Debug, PartialEq, Eq, Error)]
+pub enum CliFault {
+    /// The source's reader failed, or gave more than 16,777,216 bytes.
+    #[error("ReadSource")]
+    ReadSource,
+    /// The reader of the timed list failed, or gave more than 16,777,216 bytes.
+    #[error("ReadInput")]
+    ReadInput,
+    /// The commands' reader failed, or gave more than 16,777,216 bytes.
+    #[error("ReadCommands")]
+    ReadCommands,
+    /// The source is refused.
+    #[error("Source")]
+    Source(AsmFault),
+    /// The timed list is refused: its first refused line, counted from 1.
+    #[error("Input")]
+    Input(usize),
+    /// The number of pages of RAM is not one from 1 to 4096.
+    #[error("BadPages")]
+    BadPages,
+    /// The number of slots of the decoded cache is not a power of two from 64 to 4096.
+    #[error("BadSlots")]
+    BadSlots,
+    /// The image is larger than the RAM.
+    #[error("ImageTooLarge")]
+    ImageTooLarge,
+    /// Memory ran out.
+    #[error("OutOfMemory")]
+    OutOfMemory,
+    /// The writer failed, or took none of some bytes.
+    #[error("Write")]
+    Write,
+}
+
+/// Memory ran out, wherever it did.
+impl From<NoMemory> for CliFault {
+    ghost use Rattle.std.specs.Prelude.{◌≡◌};
+    ghost use Rattle.rv_cli.specs.declared.fault.CliFault.TheVariants.{OutOfMemory};
+
+    ghost from_gives = { λ _ fault. fault ≡ OutOfMemory };
+
+    fn from(_: NoMemory) -> Self {
+        CliFault::OutOfMemory
+    }
+}
+
+/// The fault of texts that were not read.
+impl From<ReadFault> for CliFault {
+    ghost use Rattle.std.specs.Prelude.{◌≡◌};
+    ghost use Rattle.rv_cli.specs.Conversions.{unread_fault};
+
+    ghost from_gives = { λ why fault. fault ≡ unread_fault why };
+
+    fn from(why: ReadFault) -> Self {
+        match why {
+            ReadFault::Unreadable(TextName::Source) => CliFault::ReadSource,
+            ReadFault::Unreadable(TextName::Input) => CliFault::ReadInput,
+            ReadFault::Unreadable(TextName::Commands) => CliFault::ReadCommands,
+            ReadFault::OutOfMemory => CliFault::OutOfMemory,
+        }
+    }
+}
+
+/// The fault of a source that is not assembled.
+impl From<AsmFault> for CliFault {
+    ghost use Rattle.std.specs.Prelude.{◌≡◌};
+    ghost use Rattle.rv_cli.specs.Conversions.{source_fault};
+
+    ghost from_gives = { λ why fault. fault ≡ source_fault why };
+
+    fn from(why: AsmFault) -> Self {
+        match why.kind {
+            FaultKind::OutOfMemory => CliFault::OutOfMemory,
+            _ => CliFault::Source(why),
+        }
+    }
+}
+
+/// The fault of a timed list that can't be read.
+impl From<TimelineFault> for CliFault {
+    ghost use Rattle.std.specs.Prelude.{◌≡◌};
+    ghost use Rattle.rv_cli.specs.Conversions.{list_fault};
+
+    ghost from_gives = { λ why fault. fault ≡ list_fault why };
+
+    fn from(why: TimelineFault) -> Self {
+        match why {
+            TimelineFault::BadLine(number) => CliFault::Input(number),
+            TimelineFault::OutOfMemory => CliFault::OutOfMemory,
+        }
+    }
+}
+
+/// The fault of a board that does not start.
+impl From<BootFault> for CliFault {
+    ghost use Rattle.std.specs.Prelude.{◌≡◌};
+    ghost use Rattle.rv_cli.specs.Conversions.{board_fault};
+
+    ghost from_gives = { λ why fault. fault ≡ board_fault why };
+
+    fn from(why: BootFault) -> Self {
+        match why {
+            BootFault::BadPages => CliFault::BadPages,
+            BootFault::BadSlots => CliFault::BadSlots,
+            BootFault::ImageTooLarge => CliFault::ImageTooLarge,
+            BootFault::OutOfMemory => CliFault::OutOfMemory,
+        }
+    }
+}
+
+/// The fault of a writer.
+impl From<OutFailed> for CliFault {
+    ghost use Rattle.std.specs.Prelude.{◌≡◌};
+    ghost use Rattle.rv_cli.specs.declared.fault.CliFault.TheVariants.{Write};
+
+    ghost from_gives = { λ _ fault. fault ≡ Write };
+
+    fn from(_: OutFailed) -> Self {
+        CliFault::Write
+    }
+}
+
+/// Returns the file of a text, or the fault of the text's reader if the file can't be opened.
+pub fn file_or_fault<F: Drop>(text: TextName, file: io::Result<F>) -> Result<F, CliFault>
+    ensures ok { IfOk file (λ f. result ≡ Ok f) }
+    ensures err { IfErr file (λ _. result ≡ Err (read_fault_of text)) }
+{
+    match file {
+        Ok(file) => Ok(file),
+        Err(_) => Err(CliFault::from(ReadFault::Unreadable(text))),
+    }
+}
+
+/// The line of a source's fault, without its line end.
+#[derive(Clone, Copy)]
+struct SourceLine(AsmFault);
+
+impl fmt::Display for SourceLine {
+    ghost output = { λ s. Some (source_line_of s.0) };
+
+    fn fmt<W: fmt::Write>(&self, f: &mut fmt::Formatter<W>) -> fmt::Result {
+        let AsmFault { line, kind } = self.0;
+        let number = kind.number();
+        let name = kind.name();
+        write!(f, "source line {line}: E{number} {name}")
+    }
+}
+
+/// The line of a timed list's fault, without its line end: the number of the refused line.
+#[derive(Clone, Copy)]
+struct InputLine(usize);
+
+impl fmt::Display for InputLine {
+    ghost output = { λ s. Some (input_line_of s.0) };
+
+    fn fmt<W: fmt::Write>(&self, f: &mut fmt::Formatter<W>) -> fmt::Result {
+        let number = self.0;
+        write!(f, "input line {number}: refused")
+    }
+}
+
+/// Returns the line of a fault, with its line end, where it has no number in it.
+fn plain_line(fault: CliFault) -> &'static str
+    requires { has_number fault ≡ false }
+    ensures { result.now ≡ line_of fault }
+{
+    match fault {
+        CliFault::ReadSource => "cannot read source\n",
+        CliFault::ReadInput => "cannot read input\n",
+        CliFault::ReadCommands => "cannot read commands\n",
+        CliFault::BadPages => "bad pages\n",
+        CliFault::BadSlots => "bad slots\n",
+        CliFault::ImageTooLarge => "image too large\n",
+        CliFault::OutOfMemory => "out of memory\n",
+        CliFault::Write => "cannot write\n",
+        CliFault::Source(_) | CliFault::Input(_) => unreachable!(),
+    }
+}
+
+/// Appends `text` to a line, which is left as it was where memory runs out.
+fn append(text: &str, line: &mut Vec<u8>) -> Result<(), NoMemory>
+    ensures ok { OnOk result (line.new.items ≡ line.old.items ++ text.now) }
+    ensures err { OnErr result (line.new.items ≡ line.old.items) }
+{
+    line.extend_from_slice(text.as_bytes())?;
+    Ok(())
+}
+
+/// Appends the text of a value and a line end to a line, which is left as it was where memory runs out.
+pub(crate) fn append_line<D: fmt::Display>(shown: &D, line: &mut Vec<u8>) -> Result<(), NoMemory>
+    ensures ok { OnOk result (StandsBehind (D.output shown.now) line.old.items line.new.items) }
+    ensures err { OnErr result (line.new.items ≡ line.old.items) }
+{
+    let text = format!(in *line.allocator(); "{shown}\n")?;
+    append(&text, line)
+}
+
+/// Appends the line of a fault, with its line end.
+///
+/// # Errors
+///
+/// `NoMemory` if memory runs out. `line` is left as it was.
+pub fn fault_line(fault: &CliFault, line: &mut Vec<u8>) -> Result<(), NoMemory>
+    ensures ok { OnOk result (line.new.items ≡ line.old.items ++ line_of fault.now) }
+    ensures err { OnErr result (line.new.items ≡ line.old.items) }
+{
+    match *fault {
+        CliFault::Source(fault) => append_line(&SourceLine(fault), line),
+        CliFault::Input(number) => append_line(&InputLine(number), line),
+        other => append(plain_line(other), line),
+    }
+}
+
+/// Returns the program's exit status:
+///
+/// - 0 after a halt with code 0, 1 after a halt with another code, and 2 if the board has not halted;
+/// - 3 if the source, the timed list, the number of pages or slots, or the image is refused;
+/// - 4 if a text can't be read, memory runs out, or the writer fails.
+pub fn exit_status(outcome: &Result<Ending, CliFault>) -> u8
+    ensures { result ≡ status_of outcome.now }
+{
+    match outcome {
+        Ok(Ending::Halted(0)) => 0,
+        Ok(Ending::Halted(_)) => 1,
+        Ok(Ending::Running) => 2,
+        Err(CliFault::Source(_) | CliFault::Input(_)) => 3,
+        Err(CliFault::BadPages | CliFault::BadSlots | CliFault::ImageTooLarge) => 3,
+        Err(CliFault::ReadSource | CliFault::ReadInput | CliFault::ReadCommands) => 4,
+        Err(CliFault::OutOfMemory | CliFault::Write) => 4,
+    }
+}
