@@ -1,5 +1,5 @@
-# A branchy interpreter: a machine of eight registers, whose instructions are four bytes (what to do, and three operands),
-# sums the lengths of the chains n, n / 2 or 3 n + 1, .., 1 for n from 1 to 2999.
+# A branchy interpreter: a machine of eight registers, whose instructions are four bytes (what to do, and
+# three operands), sums the lengths of the chains n, n / 2 or 3 n + 1, .., 1 for n from 1 to 2999.
 
         .equ    TRANSMIT,0x10000000
         .equ    HALT,0x100000

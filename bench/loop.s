@@ -1,4 +1,5 @@
-# A tight arithmetic loop: 4,000,000 turns of a generator of numbers, with a product, shifts and sums; prints what it ends at.
+# A tight arithmetic loop: 4,000,000 turns of a generator of numbers, with a product, shifts and sums;
+# prints what it ends at.
 
         .equ    TRANSMIT,0x10000000
         .equ    HALT,0x100000

@@ -1,4 +1,5 @@
-# A sieve, bound by the memory: counts the primes below 2,000,000 with a byte for each number; run it with 1024 pages.
+# A sieve, bound by the memory: counts the primes below 2,000,000 with a byte for each number; run it with
+# 1024 pages.
 
         .equ    TRANSMIT,0x10000000
         .equ    HALT,0x100000
