@@ -37,11 +37,13 @@ is_input read.OutOfMemory e = cc
 
 -- ---- a source that is not assembled
 
-is_refused : (texts : Texts) (options : Options) (why : AsmFault) → assembled texts.source ≡ Err why → IsOutput texts options (Err (Source why))
+is_refused : (texts : Texts) (options : Options) (why : AsmFault) → assembled texts.source ≡ Err why →
+    IsOutput texts options (Err (Source why))
 unfolding IsOutput
 is_refused texts options why e = rw e refl
 
-source_refused_by : (kind : FaultKind) (texts : Texts) (options : Options) (why : AsmFault) → FailsBy kind why (assembled texts.source)
+source_refused_by : (kind : FaultKind) (texts : Texts) (options : Options) (why : AsmFault) →
+    FailsBy kind why (assembled texts.source)
     → RefusedBy (IsOutput texts options) (source_fault_by kind why)
 source_refused_by kind.OutOfMemory texts options why h = tt
 source_refused_by kind.BadByte texts options why h = is_refused texts options why h
@@ -62,14 +64,17 @@ source_refused texts options why h = source_refused_by why.kind texts options wh
 
 -- ---- a timed list that can't be read
 
-pub list_refused : (texts : Texts) (options : Options) (assembly : Assembly) (why : TimelineFault) → IsRead texts.inputs (Err why)
+pub list_refused : (texts : Texts) (options : Options) (assembly : Assembly) (why : TimelineFault) →
+    IsRead texts.inputs (Err why)
     → RefusedBy (IsOutputByAssembly (Ok assembly) texts options) (list_fault why)
-list_refused texts options assembly (list.BadLine n) h = record { list = Err (list.BadLine n); read = h; is = refl }
+list_refused texts options assembly (list.BadLine n) h =
+    record { list = Err (list.BadLine n); read = h; is = refl }
 list_refused texts options assembly list.OutOfMemory h = tt
 
 -- ---- a board that does not start
 
-pub has_no_board : (why : Option BootFault) (fault : BootFault) → (fault ≢ boot.OutOfMemory → why ≡ Some fault) → HasNoBoard why (board_fault fault)
+pub has_no_board : (why : Option BootFault) (fault : BootFault) →
+    (fault ≢ boot.OutOfMemory → why ≡ Some fault) → HasNoBoard why (board_fault fault)
 has_no_board why boot.BadPages h = rw (h (λ e. cc)) (λ texts options assembly inputs. refl)
 has_no_board why boot.BadSlots h = rw (h (λ e. cc)) (λ texts options assembly inputs. refl)
 has_no_board why boot.ImageTooLarge h = rw (h (λ e. cc)) (λ texts options assembly inputs. refl)

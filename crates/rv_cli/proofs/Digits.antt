@@ -32,7 +32,8 @@ hex_zeros (suc k) =
     ap (λ d. digit (d % 16) ∷ hex k 0) none ∙ ap (λ t. 48 ∷ t) (hex_zeros k)
 
 -- the digits of a number below 16 ^ k, with zeros in front up to k digits
-pub padded : (k n : ℕ) → n < 16 ^ suc k → n < 2 ^ 32 → replicate (suc k - length (digits 16 false n)) 48 ++ digits 16 false n ≡ hex (suc k) n
+pub padded : (k n : ℕ) → n < 16 ^ suc k → n < 2 ^ 32 →
+    replicate (suc k - length (digits 16 false n)) 48 ++ digits 16 false n ≡ hex (suc k) n
 unfolding hex
 padded zero n h small =
     let below : n < 16 = omega arith in
@@ -42,20 +43,27 @@ padded (suc k) n h small = ⊎_elim
     (λ l.
     let none : n / 16 ≡ 0 = omega arith in
     let fewer : suc (suc k) - length (digits 16 false n) ≡ suc k = omega (arith, one_long n l) in
-    ap (λ i. replicate i 48 ++ digits 16 false n) fewer ∙ ap (λ d. replicate (suc k) 48 ++ d) (hex_one n l) ∙ sym (hex_next (suc k) n ∙ ap (λ t. t ++ digit (n % 16) ∷ []) (ap (hex (suc k)) none ∙ hex_zeros (suc k))))
+    ap (λ i. replicate i 48 ++ digits 16 false n) fewer ∙ ap (λ d. replicate (suc k) 48 ++ d) (hex_one n l)
+    ∙ sym (hex_next (suc k) n ∙ ap (λ t. t ++ digit (n % 16) ∷ [])
+    (ap (hex (suc k)) none ∙ hex_zeros (suc k))))
     (λ l.
-    let fewer : suc (suc k) - length (digits 16 false n) ≡ suc k - length (digits 16 false (n / 16)) = omega (arith, one_longer n l small) in
+    let fewer : suc (suc k) - length (digits 16 false n) ≡ suc k - length (digits 16 false (n / 16)) =
+    omega (arith, one_longer n l small) in
     ap (λ i. replicate i 48 ++ digits 16 false n) fewer
     ∙ ap (λ d. replicate (suc k - length (digits 16 false (n / 16))) 48 ++ d) (hex_more n l small)
-    ∙ sym (append_assoc (replicate (suc k - length (digits 16 false (n / 16))) 48) (digits 16 false (n / 16)) (digit (n % 16) ∷ []))
-    ∙ ap (λ t. t ++ digit (n % 16) ∷ []) (padded k (n / 16) (omega arith) (omega arith)) ∙ sym (hex_next (suc k) n))
+    ∙ sym (append_assoc (replicate (suc k - length (digits 16 false (n / 16))) 48) (digits 16 false (n / 16))
+    (digit (n % 16) ∷ []))
+    ∙ ap (λ t. t ++ digit (n % 16) ∷ []) (padded k (n / 16) (omega arith) (omega arith))
+    ∙ sym (hex_next (suc k) n))
     (cases_lt n 16)
 
 -- the padding is of zeros up to eight digits
-eight : (n : ℕ) → padded_integral (format_spec 32 0 4 8 (2 ^ 64 - 1)) false [] (digits 16 false n) ≡ replicate (8 - length (digits 16 false n)) 48 ++ digits 16 false n
+eight : (n : ℕ) → padded_integral (format_spec 32 0 4 8 (2 ^ 64 - 1)) false [] (digits 16 false n)
+    ≡ replicate (8 - length (digits 16 false n)) 48 ++ digits 16 false n
 unfolding padded_integral char_count
 eight n = grind (arith, common_steps)
 
 -- a number in hexadecimal, padded with zeros to eight digits
-pub padded_pc : (n : ℕ) → n < 2 ^ 32 → padded_integral (format_spec 32 0 4 8 (2 ^ 64 - 1)) false [] (digits 16 false n) ≡ hex 8 n
+pub padded_pc : (n : ℕ) → n < 2 ^ 32 → padded_integral (format_spec 32 0 4 8 (2 ^ 64 - 1)) false []
+    (digits 16 false n) ≡ hex 8 n
 padded_pc n small = eight n ∙ padded 7 n (omega arith) small

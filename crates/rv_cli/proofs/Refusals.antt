@@ -35,14 +35,16 @@ are_in_order r texts g = record {
 }
 
 -- the texts were not read
-pub refused_unread : (r : Readers) (out : Side) (options : Options) (why : ReadFault) → Unread r why → Refused r out options (unread_fault why)
+pub refused_unread : (r : Readers) (out : Side) (options : Options) (why : ReadFault) → Unread r why →
+    Refused r out options (unread_fault why)
 refused_unread r out options (read.Unreadable text.Source) h = h
 refused_unread r out options (read.Unreadable text.Input) h = h
 refused_unread r out options (read.Unreadable text.Commands) h = h
 refused_unread r out options read.OutOfMemory h = h
 
 -- the texts were read, and are refused by what they mean
-pub refused_by : (r : Readers) (out : Side) (options : Options) (texts : Texts) (fault : CliFault) → AllGave r texts
+pub refused_by : (r : Readers) (out : Side) (options : Options) (texts : Texts) (fault : CliFault) →
+    AllGave r texts
     → RefusedBy (IsOutput texts options) fault → Refused r out options fault
 refused_by r out options texts (Source fault) g h = record { texts = texts; gave = g; is = h }
 refused_by r out options texts (Input n) g h = record { texts = texts; gave = g; is = h }

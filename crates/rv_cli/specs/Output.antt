@@ -51,10 +51,10 @@ ending_of None = Running
 pub record IsDone (command : Option Command) (Rest : SessionState → List ℕ → Type 0) (old : SessionState)
     (text : List ℕ) : Type 0 where
   pub next : SessionState
-  pub behind : List ℕ
+  pub following : List ℕ
   pub left : Leaves command old next
-  pub rest : Rest next behind
-  pub is : text ≡ answer command old next ++ behind
+  pub rest : Rest next following
+  pub is : text ≡ answer command old next ++ following
 
 -- a command was executed, and no other
 pub record IsLast (command : Option Command) (old new : SessionState) (text : List ℕ) : Type 0 where
@@ -72,7 +72,7 @@ unfoldable pub Obeys : List (List ℕ) → SessionState → SessionState → Lis
 Obeys [] old new text = (new ≡ old) × (text ≡ [])
 Obeys (line ∷ more) old new text =
     DoesThen (next_of (command_in line old)) (command_in line old)
-    (λ next behind. Obeys more next new behind) old new text
+    (λ next following. Obeys more next new following) old new text
 
 -- ---- the run
 
@@ -99,7 +99,8 @@ IsOutputByBoard (Some boot_fault.ImageTooLarge) texts options assembly inputs re
     result ≡ Err ImageTooLarge
 IsOutputByBoard (Some boot_fault.OutOfMemory) texts options assembly inputs result = ⊥
 IsOutputByBoard None texts options assembly inputs result =
-    IsRunOf texts.commands (start (boot.start assembly.bytes options.pages) inputs assembly options.steps) result
+    IsRunOf texts.commands (start (boot.start assembly.bytes options.pages) inputs assembly options.steps)
+    result
 
 -- the first refused line of a timed list, or the run with its inputs
 abbrev pub IsOutputByList : Result (List TimedInput) TimelineFault → Texts → Options → Assembly
@@ -107,7 +108,8 @@ abbrev pub IsOutputByList : Result (List TimedInput) TimelineFault → Texts →
 IsOutputByList (Err (list_fault.BadLine n)) texts options assembly result = result ≡ Err (Input n)
 IsOutputByList (Err list_fault.OutOfMemory) texts options assembly result = ⊥
 IsOutputByList (Ok inputs) texts options assembly result =
-    IsOutputByBoard (boot.boot_fault (length assembly.bytes) options.pages options.slots) texts options assembly inputs result
+    IsOutputByBoard (boot.boot_fault (length assembly.bytes) options.pages options.slots) texts options
+    assembly inputs result
 
 -- the run with the inputs that the timed list says
 pub record IsOutputOf (texts : Texts) (options : Options) (assembly : Assembly)

@@ -10,8 +10,10 @@ one_more_piece : (piece : ℕ → List ℕ) (n : ℕ) → pieces piece (n + 1) �
 unfolding pieces
 one_more_piece piece n = ap (pieces piece) (add-one n)
 
-pub one_more_after : (head : List ℕ) (piece : ℕ → List ℕ) (n : ℕ) → head ++ pieces piece (n + 1) ≡ head ++ pieces piece n ++ piece n
-one_more_after head piece n = ap (λ text. head ++ text) (one_more_piece piece n) ∙ sym (append_assoc head (pieces piece n) (piece n))
+pub one_more_after : (head : List ℕ) (piece : ℕ → List ℕ) (n : ℕ) →
+    head ++ pieces piece (n + 1) ≡ head ++ pieces piece n ++ piece n
+one_more_after head piece n =
+    ap (λ text. head ++ text) (one_more_piece piece n) ∙ sym (append_assoc head (pieces piece n) (piece n))
 
 -- a text of a head and the first n pieces, with the next piece appended, has n + 1 pieces
 pub piece_appended : (head before after : List ℕ) (piece : ℕ → List ℕ) (n : ℕ)

@@ -14,7 +14,9 @@ is_in xs q = list_any (nat_eq q) xs
 -- the members of the set are the elements of the list
 pub has : (xs : List ℕ) (q : ℕ) → contains (from_list {R = nat_cmp} xs) q ≡ is_in xs q
 has [] q = contains-empty nat_cmp q
-has (x ∷ xs) q = contains-insert nat_cmp_total _ x q ∙ (ap (λ b. b || contains (from_list {R = nat_cmp} xs) q) (unsigned_tied q x) ∙ ap (λ b. nat_eq q x || b) (has xs q))
+has (x ∷ xs) q = contains-insert nat_cmp_total _ x q
+    ∙ (ap (λ b. b || contains (from_list {R = nat_cmp} xs) q) (unsigned_tied q x)
+    ∙ ap (λ b. nat_eq q x || b) (has xs q))
 
 or_else : (a b : Bool) → cond a true b ≡ (a || b)
 or_else true b = refl
@@ -25,13 +27,17 @@ and_not true b = refl
 and_not false b = refl
 
 -- a list with one more address is the set with one more
-pub inserted : (xs ys : List ℕ) (x : ℕ) → ((q : ℕ) → is_in ys q ≡ cond (nat_eq x q) true (is_in xs q)) → from_list {R = nat_cmp} ys ≡ insert (from_list xs) x
+pub inserted : (xs ys : List ℕ) (x : ℕ) → ((q : ℕ) → is_in ys q ≡ cond (nat_eq x q) true (is_in xs q)) →
+    from_list {R = nat_cmp} ys ≡ insert (from_list xs) x
 inserted xs ys x each = same_set nat_cmp_total nat_cmp-IsAntisymmetric _ _ (λ q.
     has ys q ∙ (each q ∙ (or_else (nat_eq x q) (is_in xs q)
-    ∙ sym (contains-insert nat_cmp_total (from_list xs) x q ∙ (ap (λ b. b || contains (from_list {R = nat_cmp} xs) q) (unsigned_tied q x ∙ nat_eq_equiv.symm q x) ∙ ap (λ b. nat_eq x q || b) (has xs q))))))
+    ∙ sym (contains-insert nat_cmp_total (from_list xs) x q
+    ∙ (ap (λ b. b || contains (from_list {R = nat_cmp} xs) q) (unsigned_tied q x ∙ nat_eq_equiv.symm q x)
+    ∙ ap (λ b. nat_eq x q || b) (has xs q))))))
 
 -- an address that is there already, inserted again
-with_same : (s : set.FinSet nat_cmp) (x q : ℕ) (b : Bool) → nat_eq x q ≡ b → contains s x ≡ true → (nat_eq x q || contains s q) ≡ contains s q
+with_same : (s : set.FinSet nat_cmp) (x q : ℕ) (b : Bool) → nat_eq x q ≡ b → contains s x ≡ true →
+    (nat_eq x q || contains s q) ≡ contains s q
 with_same s x q true e h =
     let same : q ≡ x = grind (arith, nat_tests) in
     ap (λ b. b || contains s q) e ∙ sym (ap (contains s) same ∙ h)
@@ -40,13 +46,17 @@ with_same s x q false e h = ap (λ b. b || contains s q) e
 -- so inserting it changes nothing
 pub there : (s : set.FinSet nat_cmp) (x : ℕ) → contains s x ≡ true → s ≡ insert s x
 there s x h = same_set nat_cmp_total nat_cmp-IsAntisymmetric _ _ (λ q.
-    sym (contains-insert nat_cmp_total s x q ∙ (ap (λ b. b || contains s q) (unsigned_tied q x ∙ nat_eq_equiv.symm q x) ∙ with_same s x q (nat_eq x q) refl h)))
+    sym (contains-insert nat_cmp_total s x q ∙ (ap (λ b. b || contains s q)
+    (unsigned_tied q x ∙ nat_eq_equiv.symm q x) ∙ with_same s x q (nat_eq x q) refl h)))
 
 -- a list with one address less is the set with one less
-pub removed : (xs ys : List ℕ) (x : ℕ) → ((q : ℕ) → is_in ys q ≡ cond (nat_eq x q) false (is_in xs q)) → from_list {R = nat_cmp} ys ≡ remove (from_list xs) x
+pub removed : (xs ys : List ℕ) (x : ℕ) → ((q : ℕ) → is_in ys q ≡ cond (nat_eq x q) false (is_in xs q)) →
+    from_list {R = nat_cmp} ys ≡ remove (from_list xs) x
 removed xs ys x each = same_set nat_cmp_total nat_cmp-IsAntisymmetric _ _ (λ q.
     has ys q ∙ (each q ∙ (and_not (nat_eq x q) (is_in xs q)
-    ∙ sym (contains-remove nat_cmp_total (from_list xs) x q ∙ (ap (λ b. not b && contains (from_list {R = nat_cmp} xs) q) (unsigned_tied q x ∙ nat_eq_equiv.symm q x) ∙ ap (λ b. not (nat_eq x q) && b) (has xs q))))))
+    ∙ sym (contains-remove nat_cmp_total (from_list xs) x q
+    ∙ (ap (λ b. not b && contains (from_list {R = nat_cmp} xs) q)
+    (unsigned_tied q x ∙ nat_eq_equiv.symm q x) ∙ ap (λ b. not (nat_eq x q) && b) (has xs q))))))
 
 -- the empty list has no member
 pub has_none : (xs : List ℕ) (q : ℕ) → length xs ≡ 0 → contains (from_list {R = nat_cmp} xs) q ≡ false

@@ -34,18 +34,22 @@ input_writes_not b i = no_write b.machine.bus.halt b i
 -- ---- events of more steps
 
 -- the inputs of a later time are among those that are left
-pub inputs_late : (xs : List TimedInput) (t u : ℕ) → t ≤ u → never_falls xs ≡ true → inputs_at (drop (count_before t xs) xs) u ≡ inputs_at xs u
+pub inputs_late : (xs : List TimedInput) (t u : ℕ) → t ≤ u → never_falls xs ≡ true →
+    inputs_at (drop (count_before t xs) xs) u ≡ inputs_at xs u
 unfolding inputs_at
 inputs_late xs t u k h = ap (map (λ x. event_of x.input)) (late_of t u k xs h)
 
-pub events_late : (xs : List TimedInput) (t u count : ℕ) → t ≤ u → never_falls xs ≡ true → events_of (drop (count_before t xs) xs) u count ≡ events_of xs u count
+pub events_late : (xs : List TimedInput) (t u count : ℕ) → t ≤ u → never_falls xs ≡ true →
+    events_of (drop (count_before t xs) xs) u count ≡ events_of xs u count
 unfolding events_of
 events_late xs t u zero k h = refl
 events_late xs t u (suc count) k h =
-    let due : inputs_at (drop (count_before t xs) xs) (u + count) ≡ inputs_at xs (u + count) = inputs_late xs t (u + count) (omega arith) h in
+    let due : inputs_at (drop (count_before t xs) xs) (u + count) ≡ inputs_at xs (u + count) =
+    inputs_late xs t (u + count) (omega arith) h in
     rw (events_late xs t u count k h, due) refl
 
-pub events_join : (xs : List TimedInput) (t k j : ℕ) → events_of xs t (k + j) ≡ events_of xs t k ++ events_of xs (t + k) j
+pub events_join : (xs : List TimedInput) (t k j : ℕ) →
+    events_of xs t (k + j) ≡ events_of xs t k ++ events_of xs (t + k) j
 unfolding events_of
 events_join xs t k zero =
     let e : k + 0 ≡ k = omega arith in
@@ -53,10 +57,15 @@ events_join xs t k zero =
 events_join xs t k (suc j) =
     let e : k + suc j ≡ suc (k + j) = omega arith in
     let f : t + (k + j) ≡ (t + k) + j = omega arith in
-    ap (events_of xs t) e ∙ rw (events_join xs t k j, f) (append_assoc (events_of xs t k) (events_of xs (t + k) j) (inputs_at xs ((t + k) + j) ++ Step ∷ []))
+    ap (events_of xs t) e ∙ rw (
+      events_join xs t k j,
+      f,
+    ) (append_assoc (events_of xs t k) (events_of xs (t + k) j)
+    (inputs_at xs ((t + k) + j) ++ Step ∷ []))
 
 -- the run of a first step's events
-pub run_step : (b : BoardState) (xs : List TimedInput) (t : ℕ) → run b (events_of xs t 1) ≡ moved (run b (inputs_at xs t)) Step
+pub run_step : (b : BoardState) (xs : List TimedInput) (t : ℕ) →
+    run b (events_of xs t 1) ≡ moved (run b (inputs_at xs t)) Step
 unfolding events_of
 run_step b xs t =
     let e : t + 0 ≡ t = omega arith in
@@ -64,43 +73,54 @@ run_step b xs t =
 
 -- steps and then more steps, with the inputs that are left
 pub run_join : (b : BoardState) (xs : List TimedInput) (t k j : ℕ) → never_falls xs ≡ true
-    → run (run b (events_of xs t k)) (events_of (drop (count_before (t + k) xs) xs) (t + k) j) ≡ run b (events_of xs t (k + j))
+    → run (run b (events_of xs t k)) (events_of (drop (count_before (t + k) xs) xs) (t + k) j)
+    ≡ run b (events_of xs t (k + j))
 run_join b xs t k j h =
     ap (run (run b (events_of xs t k))) (events_late xs (t + k) (t + k) j (omega arith) h)
-    ∙ (sym (run_append b (events_of xs t k) (events_of xs (t + k) j)) ∙ ap (run b) (sym (events_join xs t k j)))
+    ∙ (sym (run_append b (events_of xs t k) (events_of xs (t + k) j))
+    ∙ ap (run b) (sym (events_join xs t k j)))
 
 -- steps after inputs that were given ahead of them
-none_due : (xs : List TimedInput) (t : ℕ) → never_falls xs ≡ true → inputs_at (drop (count_before (t + 1) xs) xs) t ≡ []
+none_due : (xs : List TimedInput) (t : ℕ) → never_falls xs ≡ true →
+    inputs_at (drop (count_before (t + 1) xs) xs) t ≡ []
 unfolding inputs_at
-none_due xs t h = ap (map (λ x. event_of x.input)) (none_of t (drop (count_before (t + 1) xs) xs) (late_from (t + 1) xs h))
+none_due xs t h =
+    ap (map (λ x. event_of x.input)) (none_of t (drop (count_before (t + 1) xs) xs) (late_from (t + 1) xs h))
 
 -- a first step and more steps
-run_first : (b : BoardState) (xs : List TimedInput) (t j : ℕ) → run b (events_of xs t (1 + j)) ≡ run (moved (run b (inputs_at xs t)) Step) (events_of xs (t + 1) j)
+run_first : (b : BoardState) (xs : List TimedInput) (t j : ℕ) →
+    run b (events_of xs t (1 + j)) ≡ run (moved (run b (inputs_at xs t)) Step) (events_of xs (t + 1) j)
 run_first b xs t j =
     ap (run b) (events_join xs t 1 j)
-    ∙ (run_append b (events_of xs t 1) (events_of xs (t + 1) j) ∙ ap (λ c. run c (events_of xs (t + 1) j)) (run_step b xs t))
+    ∙ (run_append b (events_of xs t 1) (events_of xs (t + 1) j)
+    ∙ ap (λ c. run c (events_of xs (t + 1) j)) (run_step b xs t))
 
 pub run_due : (b : BoardState) (xs : List TimedInput) (t j : ℕ) → never_falls xs ≡ true
-    → run (run b (inputs_at xs t)) (events_of (drop (count_before (t + 1) xs) xs) t (1 + j)) ≡ run b (events_of xs t (1 + j))
+    → run (run b (inputs_at xs t)) (events_of (drop (count_before (t + 1) xs) xs) t (1 + j))
+    ≡ run b (events_of xs t (1 + j))
 run_due b xs t j h =
     let late = drop (count_before (t + 1) xs) xs in
     run_first (run b (inputs_at xs t)) late t j
-    ∙ (ap (λ es. run (moved (run (run b (inputs_at xs t)) es) Step) (events_of late (t + 1) j)) (none_due xs t h)
+    ∙ (ap (λ es. run (moved (run (run b (inputs_at xs t)) es) Step) (events_of late (t + 1) j))
+    (none_due xs t h)
     ∙ (ap (run (moved (run b (inputs_at xs t)) Step)) (events_late xs (t + 1) (t + 1) j (omega arith) h)
     ∙ sym (run_first b xs t j)))
 
 -- ---- states
 
 same : (b c : BoardState) (xs : List TimedInput) (p q t u : ℕ) → b ≡ c → p ≡ q → t ≡ u
-    → ◌≡◌ {A = TimedState} (record { board = b; inputs = xs; place = p; taken = t }) (record { board = c; inputs = xs; place = q; taken = u })
+    → ◌≡◌ {A = TimedState} (record { board = b; inputs = xs; place = p; taken = t })
+    (record { board = c; inputs = xs; place = q; taken = u })
 same b c xs p q t u e f g = cc
 
 -- the inputs that are left of those that were left
-rest_late : (s : TimedState) (t : ℕ) → drop (s.place + count_before t (rest s)) s.inputs ≡ drop (count_before t (rest s)) (rest s)
+rest_late : (s : TimedState) (t : ℕ) → drop (s.place + count_before t (rest s)) s.inputs
+    ≡ drop (count_before t (rest s)) (rest s)
 rest_late s t = sym (drop-drop (count_before t (rest s)) s.place s.inputs)
 
 place_late : (s : TimedState) (t u : ℕ) → t ≤ u → never_falls s.inputs ≡ true
-    → (s.place + count_before t (rest s)) + count_before u (drop (s.place + count_before t (rest s)) s.inputs) ≡ s.place + count_before u (rest s)
+    → (s.place + count_before t (rest s)) + count_before u (drop (s.place + count_before t (rest s)) s.inputs)
+    ≡ s.place + count_before u (rest s)
 place_late s t u k h =
     ap (λ xs. (s.place + count_before t (rest s)) + count_before u xs) (rest_late s t)
     ∙ (add_assoc s.place (count_before t (rest s)) (count_before u (drop (count_before t (rest s)) (rest s)))
@@ -110,24 +130,30 @@ pub after_none : (s : TimedState) → IsInTime s → after s 0 ≡ s
 unfolding after events_of
 after_none s h =
     let now : s.taken + 0 ≡ s.taken = omega arith in
-    let none : count_before (s.taken + 0) (rest s) ≡ 0 = ap (λ t. count_before t (rest s)) now ∙ none_before s.taken (rest s) h.ahead in
+    let none : count_before (s.taken + 0) (rest s) ≡ 0 =
+    ap (λ t. count_before t (rest s)) now ∙ none_before s.taken (rest s) h.ahead in
     same s.board s.board s.inputs _ _ _ _ refl (omega (arith, none)) now
 
-pub after_more : (s : TimedState) (k j : ℕ) → never_falls s.inputs ≡ true → after (after s k) j ≡ after s (k + j)
+pub after_more : (s : TimedState) (k j : ℕ) → never_falls s.inputs ≡ true →
+    after (after s k) j ≡ after s (k + j)
 unfolding after
 after_more s k j h =
     let sum : (s.taken + k) + j ≡ s.taken + (k + j) = omega arith in
     same _ _ s.inputs _ _ _ _
-    (ap (λ xs. run (run s.board (events_of (rest s) s.taken k)) (events_of xs (s.taken + k) j)) (rest_late s (s.taken + k))
+    (ap (λ xs. run (run s.board (events_of (rest s) s.taken k)) (events_of xs (s.taken + k) j))
+    (rest_late s (s.taken + k))
     ∙ run_join s.board (rest s) s.taken k j (drop_rises s.place s.inputs h))
-    (place_late s (s.taken + k) ((s.taken + k) + j) (omega arith) h ∙ ap (λ t. s.place + count_before t (rest s)) sum)
+    (place_late s (s.taken + k) ((s.taken + k) + j) (omega arith) h
+    ∙ ap (λ t. s.place + count_before t (rest s)) sum)
     sum
 
-pub after_due : (s : TimedState) (j : ℕ) → never_falls s.inputs ≡ true → after (with_due s) (1 + j) ≡ after s (1 + j)
+pub after_due : (s : TimedState) (j : ℕ) → never_falls s.inputs ≡ true →
+    after (with_due s) (1 + j) ≡ after s (1 + j)
 unfolding after with_due
 after_due s j h =
     same _ _ s.inputs _ _ _ _
-    (ap (λ xs. run (run s.board (inputs_at (rest s) s.taken)) (events_of xs s.taken (1 + j))) (rest_late s (s.taken + 1))
+    (ap (λ xs. run (run s.board (inputs_at (rest s) s.taken)) (events_of xs s.taken (1 + j)))
+    (rest_late s (s.taken + 1))
     ∙ run_due s.board (rest s) s.taken j (drop_rises s.place s.inputs h))
     (place_late s (s.taken + 1) (s.taken + (1 + j)) (omega arith) h)
     refl
@@ -137,7 +163,10 @@ unfolding after
 after_rises s k h = h
 
 -- the next step is its inputs and then the step
-pub after_step : (s : TimedState) → after s 1 ≡ record (with_due s) { board = moved (with_due s).board Step; taken = s.taken + 1 }
+pub after_step : (s : TimedState) → after s 1 ≡ record (with_due s) {
+  board = moved (with_due s).board Step;
+  taken = s.taken + 1;
+}
 unfolding after with_due
 after_step s = same _ _ s.inputs _ _ _ _ (run_step s.board (rest s) s.taken) refl refl
 
@@ -150,7 +179,8 @@ pub no_input_due : (b : BoardState) (t : ℕ) → without_inputs b t ≡ with_du
 unfolding with_due inputs_at
 no_input_due b t = refl
 
-pub step_without_inputs : (b new : BoardState) (t : ℕ) → new ≡ moved b Step → without_inputs new (t + 1) ≡ after (without_inputs b t) 1
+pub step_without_inputs : (b new : BoardState) (t : ℕ) → new ≡ moved b Step →
+    without_inputs new (t + 1) ≡ after (without_inputs b t) 1
 unfolding with_due inputs_at
 step_without_inputs b new t h = ap (λ c. without_inputs c (t + 1)) h ∙ sym (after_step (without_inputs b t))
 
@@ -166,15 +196,18 @@ events_quiet xs t (suc n) h =
     rw (none, events_quiet xs t n before) refl
 
 -- such steps with a timed list, by the same steps without one
-pub after_quiet : (s : TimedState) (n : ℕ) → from (s.taken + n) (rest s) ≡ true → after s n ≡ record s { board = (after (without_inputs s.board 0) n).board; taken = s.taken + n }
+pub after_quiet : (s : TimedState) (n : ℕ) → from (s.taken + n) (rest s) ≡ true →
+    after s n ≡ record s { board = (after (without_inputs s.board 0) n).board; taken = s.taken + n }
 unfolding after
 after_quiet s n h =
     let none : count_before (s.taken + n) (rest s) ≡ 0 = none_before (s.taken + n) (rest s) h in
-    same _ _ s.inputs _ _ _ _ (ap (run s.board) (events_quiet (rest s) s.taken n h)) (omega (arith, none)) refl
+    same _ _ s.inputs _ _ _ _ (ap (run s.board) (events_quiet (rest s) s.taken n h))
+    (omega (arith, none)) refl
 
 -- ---- no input halts a board
 
-halted_input : (h : Option ℕ) (b : BoardState) (i : Input) → halted_of b ≡ h → halted_of (happens h b (event_of i)) ≡ h
+halted_input : (h : Option ℕ) (b : BoardState) (i : Input) → halted_of b ≡ h →
+    halted_of (happens h b (event_of i)) ≡ h
 halted_input None b (Rx byte) e = e
 halted_input None b (Line source high) e = e
 halted_input (Some code) b i e = e
@@ -183,7 +216,8 @@ halted_moved : (b : BoardState) (i : Input) → halted_of (moved b (event_of i))
 unfolding moved
 halted_moved b i = halted_input (halted_of b) b i refl
 
-halted_run : (b : BoardState) (is : List TimedInput) → halted_of (run b (map (λ x. event_of x.input) is)) ≡ halted_of b
+halted_run : (b : BoardState) (is : List TimedInput) →
+    halted_of (run b (map (λ x. event_of x.input) is)) ≡ halted_of b
 halted_run b [] = refl
 halted_run b (x ∷ xs) = halted_run (moved b (event_of x.input)) xs ∙ halted_moved b x.input
 
@@ -194,14 +228,16 @@ halted_due s = halted_run s.board (of s.taken (rest s))
 -- ---- a state that is in time stays so
 
 place_within : (s : TimedState) (t : ℕ) → IsInTime s → s.place + count_before t (rest s) ≤ length s.inputs
-place_within s t h = let w : s.place ≤ length s.inputs = h.within in omega (arith, count_most t (rest s), length-drop s.place s.inputs)
+place_within s t h = let w : s.place ≤ length s.inputs = h.within
+    in omega (arith, count_most t (rest s), length-drop s.place s.inputs)
 
 pub in_time_due : (s : TimedState) → IsInTime s → IsInTime (with_due s)
 unfolding with_due
 in_time_due s h = record {
   within = place_within s (s.taken + 1) h;
   rising = h.rising;
-  ahead = ap (from s.taken) (rest_late s (s.taken + 1)) ∙ drop_from s.taken (count_before (s.taken + 1) (rest s)) (rest s) h.ahead;
+  ahead = ap (from s.taken) (rest_late s (s.taken + 1))
+      ∙ drop_from s.taken (count_before (s.taken + 1) (rest s)) (rest s) h.ahead;
 }
 
 pub in_time_after : (s : TimedState) (n : ℕ) → IsInTime s → IsInTime (after s n)
@@ -209,11 +245,13 @@ unfolding after
 in_time_after s n h = record {
   within = place_within s (s.taken + n) h;
   rising = h.rising;
-  ahead = ap (from (s.taken + n)) (rest_late s (s.taken + n)) ∙ late_from (s.taken + n) (rest s) (drop_rises s.place s.inputs h.rising);
+  ahead = ap (from (s.taken + n)) (rest_late s (s.taken + n))
+      ∙ late_from (s.taken + n) (rest s) (drop_rises s.place s.inputs h.rising);
 }
 
 -- a state with no input before a later time, by its fields
-module _ (b : BoardState) (xs : List TimedInput) (place t later : ℕ) (quiet : from later (drop place xs) ≡ true) (before : t < later) where
+module _ (b : BoardState) (xs : List TimedInput) (place t later : ℕ)
+    (quiet : from later (drop place xs) ≡ true) (before : t < later) where
   abbrev quiet_state : TimedState
   quiet_state = record { board = b; inputs = xs; place = place; taken = t }
 
@@ -232,25 +270,31 @@ module _ (b : BoardState) (xs : List TimedInput) (place t later : ℕ) (quiet : 
       (ap (run b) (sym none_now)) (omega (arith, none)) refl
 
 -- a state whose next n inputs were given, by its fields
-module _ (b : BoardState) (xs more : List TimedInput) (place t n : ℕ) (is : more ≡ drop place xs) (count : n ≡ count_before (t + 1) more) where
+module _ (b : BoardState) (xs more : List TimedInput) (place t n : ℕ) (is : more ≡ drop place xs)
+    (count : n ≡ count_before (t + 1) more) where
   abbrev pub old : TimedState
   old = record { board = b; inputs = xs; place = place; taken = t }
 
   number : n ≡ count_before (t + 1) (rest old)
   number = count ∙ ap (count_before (t + 1)) is
 
-  pub given_in_time : (c : BoardState) (p : ℕ) → IsInTime old → p ≡ place + n → IsInTime (record { board = c; inputs = xs; place = p; taken = t })
+  pub given_in_time : (c : BoardState) (p : ℕ) → IsInTime old → p ≡ place + n →
+      IsInTime (record { board = c; inputs = xs; place = p; taken = t })
   unfolding with_due
-  given_in_time c p h at = rw (at, number) (let g = in_time_due old h in record { within = g.within; rising = g.rising; ahead = g.ahead })
+  given_in_time c p h at = rw (at, number) (let g = in_time_due old h
+      in record { within = g.within; rising = g.rising; ahead = g.ahead })
 
   pub given_all : (p : ℕ) → IsInTime old → p ≡ place + n → from (t + 1) (drop p xs) ≡ true
   given_all p h at =
       ap (λ i. from (t + 1) (drop i xs)) (at ∙ ap (λ i. place + i) number)
-      ∙ (ap (from (t + 1)) (rest_late old (t + 1)) ∙ late_from (t + 1) (rest old) (drop_rises place xs h.rising))
+      ∙ (ap (from (t + 1)) (rest_late old (t + 1))
+      ∙ late_from (t + 1) (rest old) (drop_rises place xs h.rising))
 
-  pub given_is_due : (c : BoardState) (p : ℕ) → c ≡ run b (inputs_at more t) → p ≡ place + n → ◌≡◌ {A = TimedState} (record { board = c; inputs = xs; place = p; taken = t }) (with_due old)
+  pub given_is_due : (c : BoardState) (p : ℕ) → c ≡ run b (inputs_at more t) → p ≡ place + n →
+      ◌≡◌ {A = TimedState} (record { board = c; inputs = xs; place = p; taken = t }) (with_due old)
   unfolding with_due
-  given_is_due c p ran at = same _ _ xs _ _ _ _ (ran ∙ ap (λ ys. run b (inputs_at ys t)) is) (at ∙ ap (λ i. place + i) number) refl
+  given_is_due c p ran at =
+      same _ _ xs _ _ _ _ (ran ∙ ap (λ ys. run b (inputs_at ys t)) is) (at ∙ ap (λ i. place + i) number) refl
 
 -- ---- the inputs of a time are given one after another
 
@@ -260,28 +304,34 @@ now t x h k = grind (arith, nat_tests)
 soon : (t : ℕ) (x : TimedInput) → x.step ≤ t → nat_lt x.step (t + 1) ≡ true
 soon t x h = grind (arith, nat_tests)
 
-inputs_more : (xs : List TimedInput) (t i : ℕ) (d : TimedInput) → i < length xs → nat_eq (get_or xs i d).step t ≡ true
+inputs_more : (xs : List TimedInput) (t i : ℕ) (d : TimedInput) → i < length xs →
+    nat_eq (get_or xs i d).step t ≡ true
     → inputs_at (take (i + 1) xs) t ≡ inputs_at (take i xs) t ++ event_of (get_or xs i d).input ∷ []
 unfolding inputs_at
 inputs_more xs t i d lt e = rw (filter_more (λ x. nat_eq x.step t) xs i d lt, e, map-append) refl
 
 -- one more input is given
-pub ran_more : (b s new : BoardState) (xs : List TimedInput) (t i : ℕ) (x d : TimedInput) → from t xs ≡ true → i < length xs
-    → x ≡ get_or xs i d → x.step ≤ t → s ≡ run b (inputs_at (take i xs) t) → new ≡ moved s (event_of x.input) → new ≡ run b (inputs_at (take (i + 1) xs) t)
+pub ran_more : (b s new : BoardState) (xs : List TimedInput) (t i : ℕ) (x d : TimedInput) → from t xs ≡ true →
+    i < length xs
+    → x ≡ get_or xs i d → x.step ≤ t → s ≡ run b (inputs_at (take i xs) t) →
+    new ≡ moved s (event_of x.input) → new ≡ run b (inputs_at (take (i + 1) xs) t)
 ran_more b s new xs t i x d h lt at le was is =
     let here : (get_or xs i d).step ≤ t = rw (← at) le in
     let due = now t (get_or xs i d) (due_step t xs i d h lt) here in
     is ∙ (ap (λ y. moved s (event_of y.input)) at ∙ (ap (λ c. moved c (event_of (get_or xs i d).input)) was
-    ∙ (sym (run_more b (inputs_at (take i xs) t) (event_of (get_or xs i d).input)) ∙ ap (run b) (sym (inputs_more xs t i d lt due)))))
+    ∙ (sym (run_more b (inputs_at (take i xs) t) (event_of (get_or xs i d).input))
+    ∙ ap (run b) (sym (inputs_more xs t i d lt due)))))
 
-pub count_more : (xs : List TimedInput) (t i : ℕ) (x d : TimedInput) → i < length xs → x ≡ get_or xs i d → x.step ≤ t
+pub count_more : (xs : List TimedInput) (t i : ℕ) (x d : TimedInput) → i < length xs → x ≡ get_or xs i d →
+    x.step ≤ t
     → count_before (t + 1) (take i xs) ≡ i → count_before (t + 1) (take (i + 1) xs) ≡ i + 1
 count_more xs t i x d lt at le was =
     let here : (get_or xs i d).step ≤ t = rw (← at) le in
     length-filter_more (λ y. nat_lt y.step (t + 1)) xs i d lt ∙ rw (soon t (get_or xs i d) here, was) refl
 
 -- at an input of a later time all inputs of this time are given
-pub ran_all : (b s : BoardState) (xs : List TimedInput) (t i : ℕ) (x d : TimedInput) → never_falls xs ≡ true → i < length xs
+pub ran_all : (b s : BoardState) (xs : List TimedInput) (t i : ℕ) (x d : TimedInput) → never_falls xs ≡ true →
+    i < length xs
     → x ≡ get_or xs i d → t < x.step → s ≡ run b (inputs_at (take i xs) t) → s ≡ run b (inputs_at xs t)
 unfolding inputs_at
 ran_all b s xs t i x d h lt at later was =

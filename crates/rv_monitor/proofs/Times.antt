@@ -68,7 +68,8 @@ head_least : (x y : TimedInput) (ys : List TimedInput) → never_falls (x ∷ y 
 unfolding never_falls
 head_least x y ys h = le_is x.step y.step (and_left (nat_le x.step y.step) (never_falls (y ∷ ys)) h)
 
-pub all_from : (t : ℕ) (x : TimedInput) (xs : List TimedInput) → never_falls (x ∷ xs) ≡ true → t ≤ x.step → from t (x ∷ xs) ≡ true
+pub all_from : (t : ℕ) (x : TimedInput) (xs : List TimedInput) → never_falls (x ∷ xs) ≡ true → t ≤ x.step →
+    from t (x ∷ xs) ≡ true
 all_from t x [] h k = rw (le t x.step k) refl
 all_from t x (y ∷ ys) h k =
     let m : x.step ≤ y.step = head_least x y ys h in
@@ -80,7 +81,8 @@ drop_rises (suc n) [] h = h
 drop_rises (suc n) (x ∷ xs) h = drop_rises n xs (tail_rises x xs h)
 
 -- the time of the input at an index is the least from there on, and after the last there is none
-pub from_place : (xs : List TimedInput) (n : ℕ) (d : TimedInput) → never_falls xs ≡ true → n < length xs → from (get_or xs n d).step (drop n xs) ≡ true
+pub from_place : (xs : List TimedInput) (n : ℕ) (d : TimedInput) → never_falls xs ≡ true → n < length xs →
+    from (get_or xs n d).step (drop n xs) ≡ true
 from_place [] n d h k = absurd (omega arith)
 from_place (x ∷ xs) zero d h k = all_from x.step x xs h (omega arith)
 from_place (x ∷ xs) (suc n) d h k = from_place xs n d (tail_rises x xs h) (omega arith)
@@ -92,7 +94,8 @@ from_end t zero (x ∷ xs) h = absurd (omega arith)
 from_end t (suc n) (x ∷ xs) h = from_end t n xs (omega arith)
 
 -- a time that all inputs have reached is at most the time of the first
-pub place_from : (xs : List TimedInput) (n : ℕ) (d : TimedInput) (t : ℕ) → n < length xs → from t (drop n xs) ≡ true → t ≤ (get_or xs n d).step
+pub place_from : (xs : List TimedInput) (n : ℕ) (d : TimedInput) (t : ℕ) → n < length xs →
+    from t (drop n xs) ≡ true → t ≤ (get_or xs n d).step
 place_from [] n d t k h = absurd (omega arith)
 place_from (x ∷ xs) zero d t k h = le_is t x.step (and_left (nat_le t x.step) (from t xs) h)
 place_from (x ∷ xs) (suc n) d t k h = place_from xs n d t (omega arith) h
@@ -121,7 +124,8 @@ from_first [] = refl
 from_first (x ∷ xs) = rw (le 0 x.step (omega arith)) (from_first xs)
 
 pub count_most : (t : ℕ) (xs : List TimedInput) → count_before t xs ≤ length xs
-count_most t xs = omega (arith, length-filter (λ x. nat_lt x.step t) xs, count_by-le-length (λ x. nat_lt x.step t) xs)
+count_most t xs =
+    omega (arith, length-filter (λ x. nat_lt x.step t) xs, count_by-le-length (λ x. nat_lt x.step t) xs)
 
 -- the inputs before a time are dropped, and the others stay
 module _ (t : ℕ) where
@@ -129,24 +133,29 @@ module _ (t : ℕ) where
   late xs = drop (count_before t xs) xs
 
   -- an input that is not before t, as those after it are not
-  late_all : (x : TimedInput) (xs : List TimedInput) → never_falls (x ∷ xs) ≡ true → nat_lt x.step t ≡ false → count_before t (x ∷ xs) ≡ 0
+  late_all : (x : TimedInput) (xs : List TimedInput) → never_falls (x ∷ xs) ≡ true → nat_lt x.step t ≡ false →
+      count_before t (x ∷ xs) ≡ 0
   late_all x xs h e = none_before t (x ∷ xs) (all_from t x xs h (not_lt_is x.step t e))
 
   late_rest : (x : TimedInput) (xs : List TimedInput) → nat_lt x.step t ≡ true → late (x ∷ xs) ≡ late xs
   late_rest x xs e = rw e refl
 
-  late_from_by : (x : TimedInput) (xs : List TimedInput) (b : Bool) → nat_lt x.step t ≡ b → never_falls (x ∷ xs) ≡ true → from t (late xs) ≡ true → from t (late (x ∷ xs)) ≡ true
+  late_from_by : (x : TimedInput) (xs : List TimedInput) (b : Bool) → nat_lt x.step t ≡ b →
+      never_falls (x ∷ xs) ≡ true → from t (late xs) ≡ true → from t (late (x ∷ xs)) ≡ true
   late_from_by x xs true e h more = ap (from t) (late_rest x xs e) ∙ more
-  late_from_by x xs false e h more = ap (λ n. from t (drop n (x ∷ xs))) (late_all x xs h e) ∙ all_from t x xs h (not_lt_is x.step t e)
+  late_from_by x xs false e h more =
+      ap (λ n. from t (drop n (x ∷ xs))) (late_all x xs h e) ∙ all_from t x xs h (not_lt_is x.step t e)
 
   pub late_from : (xs : List TimedInput) → never_falls xs ≡ true → from t (late xs) ≡ true
   late_from [] h = refl
   late_from (x ∷ xs) h = late_from_by x xs (nat_lt x.step t) refl h (late_from xs (tail_rises x xs h))
 
   module _ (u : ℕ) (k : t ≤ u) where
-    late_of_by : (x : TimedInput) (xs : List TimedInput) (b : Bool) → nat_lt x.step t ≡ b → never_falls (x ∷ xs) ≡ true → of u (late xs) ≡ of u xs → of u (late (x ∷ xs)) ≡ of u (x ∷ xs)
+    late_of_by : (x : TimedInput) (xs : List TimedInput) (b : Bool) → nat_lt x.step t ≡ b →
+        never_falls (x ∷ xs) ≡ true → of u (late xs) ≡ of u xs → of u (late (x ∷ xs)) ≡ of u (x ∷ xs)
     late_of_by x xs true e h more =
-        let m : nat_eq x.step u ≡ false = let l : x.step < t = lt_is x.step t e in ne x.step u (omega arith) in
+        let m : nat_eq x.step u ≡ false =
+        let l : x.step < t = lt_is x.step t e in ne x.step u (omega arith) in
         ap (of u) (late_rest x xs e) ∙ (more ∙ rw m refl)
     late_of_by x xs false e h more = ap (λ n. of u (drop n (x ∷ xs))) (late_all x xs h e)
 
@@ -154,7 +163,8 @@ module _ (t : ℕ) where
     late_of [] h = refl
     late_of (x ∷ xs) h = late_of_by x xs (nat_lt x.step t) refl h (late_of xs (tail_rises x xs h))
 
-    late_count_by : (x : TimedInput) (xs : List TimedInput) (b : Bool) → nat_lt x.step t ≡ b → never_falls (x ∷ xs) ≡ true → count_before t xs + count_before u (late xs) ≡ count_before u xs
+    late_count_by : (x : TimedInput) (xs : List TimedInput) (b : Bool) → nat_lt x.step t ≡ b →
+        never_falls (x ∷ xs) ≡ true → count_before t xs + count_before u (late xs) ≡ count_before u xs
         → count_before t (x ∷ xs) + count_before u (late (x ∷ xs)) ≡ count_before u (x ∷ xs)
     late_count_by x xs true e h more =
         let m : nat_lt x.step u ≡ true = let l : x.step < t = lt_is x.step t e in lt x.step u (omega arith) in
@@ -163,17 +173,20 @@ module _ (t : ℕ) where
         let n : count_before t (x ∷ xs) ≡ 0 = late_all x xs h e in
         ap (λ i. i + count_before u (drop i (x ∷ xs))) n ∙ zero-add (count_before u (x ∷ xs))
 
-    pub late_count : (xs : List TimedInput) → never_falls xs ≡ true → count_before t xs + count_before u (late xs) ≡ count_before u xs
+    pub late_count : (xs : List TimedInput) → never_falls xs ≡ true →
+        count_before t xs + count_before u (late xs) ≡ count_before u xs
     late_count [] h = refl
     late_count (x ∷ xs) h = late_count_by x xs (nat_lt x.step t) refl h (late_count xs (tail_rises x xs h))
 
 -- ---- the inputs of a time that all have reached, one after another
 
 -- each input has reached that time
-pub due_step : (t : ℕ) (xs : List TimedInput) (i : ℕ) (d : TimedInput) → from t xs ≡ true → i < length xs → t ≤ (get_or xs i d).step
+pub due_step : (t : ℕ) (xs : List TimedInput) (i : ℕ) (d : TimedInput) → from t xs ≡ true → i < length xs →
+    t ≤ (get_or xs i d).step
 due_step t [] i d h k = absurd (omega arith)
 due_step t (x ∷ xs) zero d h k = le_is t x.step (and_left (nat_le t x.step) (from t xs) h)
-due_step t (x ∷ xs) (suc i) d h k = due_step t xs i d (and_right (nat_le t x.step) (from t xs) h) (omega arith)
+due_step t (x ∷ xs) (suc i) d h k =
+    due_step t xs i d (and_right (nat_le t x.step) (from t xs) h) (omega arith)
 
 -- no input after one of a later time is of time t
 module _ (t : ℕ) where
@@ -181,17 +194,31 @@ module _ (t : ℕ) where
   none_of [] h = refl
   none_of (x ∷ xs) h =
       let m : t + 1 ≤ x.step = le_is (t + 1) x.step (and_left (nat_le (t + 1) x.step) (from (t + 1) xs) h) in
-      rw (ne_above x.step t (omega arith)) (none_of xs (and_right (nat_le (t + 1) x.step) (from (t + 1) xs) h))
+      rw (ne_above x.step t (omega arith)) (none_of xs
+      (and_right (nat_le (t + 1) x.step) (from (t + 1) xs) h))
 
-  pub later_of : (xs : List TimedInput) (i : ℕ) (d : TimedInput) → never_falls xs ≡ true → i < length xs → t < (get_or xs i d).step → of t xs ≡ of t (take i xs)
+  pub later_of : (xs : List TimedInput) (i : ℕ) (d : TimedInput) → never_falls xs ≡ true → i < length xs →
+      t < (get_or xs i d).step → of t xs ≡ of t (take i xs)
   later_of [] i d h k l = absurd (omega arith)
   later_of (x ∷ xs) zero d h k l = none_of (x ∷ xs) (all_from (t + 1) x xs h (omega arith))
-  later_of (x ∷ xs) (suc i) d h k l = ap (λ ys. cond (nat_eq x.step t) (x ∷ ys) ys) (later_of xs i d (tail_rises x xs h) (omega arith) l)
+  later_of (x ∷ xs) (suc i) d h k l =
+      ap (λ ys. cond (nat_eq x.step t) (x ∷ ys) ys) (later_of xs i d (tail_rises x xs h) (omega arith) l)
 
-  more_count : (x : TimedInput) (xs ys : List TimedInput) → count_before (t + 1) xs ≡ count_before (t + 1) ys → count_before (t + 1) (x ∷ xs) ≡ count_before (t + 1) (x ∷ ys)
-  more_count x xs ys e = elim (nat_lt x.step (t + 1)) as (λ b. length (cond b (x ∷ filter (λ y. nat_lt y.step (t + 1)) xs) (filter (λ y. nat_lt y.step (t + 1)) xs)) ≡ length (cond b (x ∷ filter (λ y. nat_lt y.step (t + 1)) ys) (filter (λ y. nat_lt y.step (t + 1)) ys))) [ true ↦ ap suc e | false ↦ e ]
+  more_count : (x : TimedInput) (xs ys : List TimedInput) →
+      count_before (t + 1) xs ≡ count_before (t + 1) ys →
+      count_before (t + 1) (x ∷ xs) ≡ count_before (t + 1) (x ∷ ys)
+  more_count x xs ys e = elim (nat_lt x.step (t + 1)) as
+      (λ b. length (cond b (x ∷ filter (λ y. nat_lt y.step (t + 1)) xs)
+      (filter (λ y. nat_lt y.step (t + 1)) xs)) ≡ length
+      (cond b (x ∷ filter (λ y. nat_lt y.step (t + 1)) ys) (filter (λ y. nat_lt y.step (t + 1)) ys))) [
+        | true ↦
+            ap suc e
+        | false ↦ e
+      ]
 
-  pub later_count : (xs : List TimedInput) (i : ℕ) (d : TimedInput) → never_falls xs ≡ true → i < length xs → t < (get_or xs i d).step → count_before (t + 1) xs ≡ count_before (t + 1) (take i xs)
+  pub later_count : (xs : List TimedInput) (i : ℕ) (d : TimedInput) → never_falls xs ≡ true → i < length xs →
+      t < (get_or xs i d).step → count_before (t + 1) xs ≡ count_before (t + 1) (take i xs)
   later_count [] i d h k l = absurd (omega arith)
   later_count (x ∷ xs) zero d h k l = none_before (t + 1) (x ∷ xs) (all_from (t + 1) x xs h (omega arith))
-  later_count (x ∷ xs) (suc i) d h k l = more_count x xs (take i xs) (later_count xs i d (tail_rises x xs h) (omega arith) l)
+  later_count (x ∷ xs) (suc i) d h k l =
+      more_count x xs (take i xs) (later_count xs i d (tail_rises x xs h) (omega arith) l)

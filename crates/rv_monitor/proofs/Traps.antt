@@ -10,11 +10,13 @@ none : (ts : List TrapRecord) → flat_map trap_text (take 0 ts) ≡ []
 none [] = refl
 none (t ∷ ts) = refl
 
-more : (ts : List TrapRecord) (i : ℕ) (t : TrapRecord) → Some t ≡ slice_get ts i → flat_map trap_text (take (suc i) ts) ≡ flat_map trap_text (take i ts) ++ trap_text t
+more : (ts : List TrapRecord) (i : ℕ) (t : TrapRecord) → Some t ≡ slice_get ts i →
+    flat_map trap_text (take (suc i) ts) ≡ flat_map trap_text (take i ts) ++ trap_text t
 more [] zero t e = absurd cc
 more [] (suc i) t e = absurd cc
 more (x ∷ xs) zero t e = let same : t ≡ x = cc in rw same (append-nil (trap_text x))
-more (x ∷ xs) (suc i) t e = ap (λ text. trap_text x ++ text) (more xs i t e) ∙ sym (append_assoc (trap_text x) (flat_map trap_text (take i xs)) (trap_text t))
+more (x ∷ xs) (suc i) t e = ap (λ text. trap_text x ++ text) (more xs i t e)
+    ∙ sym (append_assoc (trap_text x) (flat_map trap_text (take i xs)) (trap_text t))
 
 -- no line after a text
 pub no_trap : (text : List ℕ) (ts : List TrapRecord) → text ++ flat_map trap_text (take 0 ts) ≡ text
@@ -28,12 +30,15 @@ one_more_trap text ts i t e =
     ∙ sym (append_assoc text (flat_map trap_text (take i ts)) (trap_text t))
 
 -- all lines
-pub all_traps : (text : List ℕ) (ts : List TrapRecord) (n : ℕ) → length ts ≤ n → text ++ flat_map trap_text (take n ts) ≡ text ++ flat_map trap_text ts
+pub all_traps : (text : List ℕ) (ts : List TrapRecord) (n : ℕ) → length ts ≤ n →
+    text ++ flat_map trap_text (take n ts) ≡ text ++ flat_map trap_text ts
 all_traps text ts n h = ap (λ lines. text ++ flat_map trap_text lines) (take_all n ts h)
 
 -- a text with the lines of the first i traps, with the next line appended, has those of i + 1
-pub trap_appended : (text before after : List ℕ) (ts : List TrapRecord) (i : ℕ) (t : TrapRecord) → Some t ≡ slice_get ts i
-    → before ≡ text ++ flat_map trap_text (take i ts) → after ≡ before ++ trap_text t → after ≡ text ++ flat_map trap_text (take (i + 1) ts)
+pub trap_appended : (text before after : List ℕ) (ts : List TrapRecord) (i : ℕ) (t : TrapRecord) →
+    Some t ≡ slice_get ts i
+    → before ≡ text ++ flat_map trap_text (take i ts) → after ≡ before ++ trap_text t →
+    after ≡ text ++ flat_map trap_text (take (i + 1) ts)
 trap_appended text before after ts i t here stands appended =
     appended ∙ ap (λ head. head ++ trap_text t) stands ∙ sym (one_more_trap text ts i t here)
 
@@ -43,5 +48,6 @@ some_trap (t ∷ ts) zero h = search rules
 some_trap (t ∷ ts) (suc i) h = some_trap ts i (omega (arith, h))
 
 -- there is a trap at each index below the count
-pub has_trap : (ts : List TrapRecord) (i : ℕ) (answered : Option TrapRecord) → answered ≡ slice_get ts i → i < length ts → IsSome answered
+pub has_trap : (ts : List TrapRecord) (i : ℕ) (answered : Option TrapRecord) → answered ≡ slice_get ts i →
+    i < length ts → IsSome answered
 has_trap ts i answered e h = rw e (some_trap ts i h)

@@ -4,7 +4,7 @@ use Rattle.std.specs.Prelude.{◌≡◌, ℕ, ◌/◌, ◌%◌, Bool, true, fals
 use Rattle.std.specs.List.{slice_index_or, list_any}
 use Rattle.rv_monitor.specs.declared.filter.BreakpointFilter.{BreakpointFilter}
 
--- whether an address's flag is on, which is told by the low six bits of the number of its word
+-- whether an address's flag is on: the low six bits of its word's number choose the flag
 abbrev pub may_contain : BreakpointFilter → ℕ → Bool
 may_contain filter address = slice_index_or filter.flags (address / 4 % 64) false
 

@@ -12,7 +12,8 @@ use Rattle.rv_monitor.specs.State.{TimedState, count_before, after, with_due}
 abbrev pub RunsJoin : Type 0
 RunsJoin =
     (b : BoardState) (timed : List TimedInput) (k j : ℕ) → never_falls timed ≡ true
-    → run (run b (events_of timed 0 k)) (events_of (drop (count_before k timed) timed) k j) ≡ run b (events_of timed 0 (k + j))
+    → run (run b (events_of timed 0 k)) (events_of (drop (count_before k timed) timed) k j)
+    ≡ run b (events_of timed 0 (k + j))
 
 -- so steps may be taken in any number of calls, and no step is no change; after memory ran out at a step the
 -- next call goes on with that step, and gives no input again

@@ -45,7 +45,13 @@ pub record IsInTime (s : TimedState) : Type 0 where
 -- a session before its first step
 abbrev pub start : BoardState → List TimedInput → Assembly → ℕ → SessionState
 start board inputs program limit =
-    record { timed = record { board = board; inputs = inputs; place = 0; taken = 0 }; program = program; limit = limit; breakpoints = set.empty; room = 0 }
+    record {
+      timed = record { board = board; inputs = inputs; place = 0; taken = 0 };
+      program = program;
+      limit = limit;
+      breakpoints = set.empty;
+      room = 0;
+    }
 
 -- the largest number of steps that a call for n may take
 abbrev pub most_of : SessionState → ℕ → ℕ
@@ -62,7 +68,11 @@ room_behind breakpoints room address =
 -- a session with one breakpoint more
 abbrev pub with_break : SessionState → ℕ → SessionState
 with_break s address =
-    record s { breakpoints = set.insert s.breakpoints address; room = room_behind s.breakpoints s.room address }
+    record s {
+      breakpoints =
+          set.insert s.breakpoints address;
+      room = room_behind s.breakpoints s.room address;
+    }
 
 -- a session with one breakpoint less, which gives no room back
 abbrev pub without_break : SessionState → ℕ → SessionState

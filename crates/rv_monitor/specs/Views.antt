@@ -125,7 +125,8 @@ traps_text b = flat_map trap_text b.traps
 -- `e`: how many edges of a source are pending
 unfoldable pub edges_text : BoardState → ℕ → List ℕ
 edges_text b source =
-    line (codes "source " ++ decimal source ++ codes " edges=" ++ decimal (edges_of (plic_of b).gateways.edges source))
+    line (codes "source " ++ decimal source ++ codes " edges="
+    ++ decimal (edges_of (plic_of b).gateways.edges source))
 
 -- ---- stops
 

@@ -88,7 +88,8 @@ slots_at = record {
   no_version = refl;
 }
 
-parse_of : (c : Command) (m : ArgMatches) → app_of c ≡ board_app → IsParsedFrom c m → IsParseOf board_app.top.rules c m
+parse_of : (c : Command) (m : ArgMatches) → app_of c ≡ board_app → IsParsedFrom c m →
+    IsParseOf board_app.top.rules c m
 parse_of c m is parsed =
     let fields = plain_fields c (ap (λ (a : App). a.top.is_plain) is ∙ board_plain) in
     record {
@@ -99,13 +100,16 @@ parse_of c m is parsed =
       parsed = parsed;
     }
 
-number : (c : Command) (m : ArgMatches) (k : ℕ) (name default : Text) (low high : ℕ) → IsParseOf board_app.top.rules c m
+number : (c : Command) (m : ArgMatches) (k : ℕ) (name default : Text) (low high : ℕ) →
+    IsParseOf board_app.top.rules c m
     → HasDefaultAt board_app.top.rules k (number_rule name default low high) → HasNumber m name low high
 number c m k name default low high p at =
-    let got = reads board_app.top.rules c m p k (number_rule name default low high) at (Signed (pos low) (pos high)) refl in
+    let got = reads board_app.top.rules c m p k (number_rule name default low high) at
+    (Signed (pos low) (pos high)) refl in
     record { text = got.0; one = got.1; accepted = got.2 }
 
-pub board_parse : (c : Command) (m : ArgMatches) (words : List Text) → app_of c ≡ board_app → IsParsedFrom c m → HasMatchesOf (app_of c) words m
+pub board_parse : (c : Command) (m : ArgMatches) (words : List Text) → app_of c ≡ board_app →
+    IsParsedFrom c m → HasMatchesOf (app_of c) words m
     → IsBoardParse words m
 board_parse c m words is parsed matches =
     let p = parse_of c m is parsed in
@@ -132,14 +136,16 @@ pub record IsNumberOf (rows : List Row) (id : Text) (low high : ℕ) (r : Option
   pub most : value ≤ high
   pub said : value ≡ number_of id rows
 
-pub number_got : (E : Type 0) (G : List ℕ → Result ℕ E → Type 0) (bits low high : ℕ) (words : List Text) (m : ArgMatches) (id : Text) (r : Option ℕ)
+pub number_got : (E : Type 0) (G : List ℕ → Result ℕ E →
+    Type 0) (bits low high : ℕ) (words : List Text) (m : ArgMatches) (id : Text) (r : Option ℕ)
     → ((t : List ℕ) → one_text (found_of m) id ≡ Some t → ReadsOne G t r)
     → ((u : List ℕ) (x : Result ℕ E) → G u x → ParsesUnsigned bits 10 u x) → high < 2 ^ bits
     → IsBoardParse words m → HasNumber m id low high → IsNumberOf (matches_of board_app words) id low high r
 number_got E G bits low high words m id r gives only fits p h =
     let one = gives (without_minus h.text) h.one in
     let got = signed_reads E G bits low high h.text r one only fits h.accepted in
-    let read : ReadsOne G (without_minus h.text) (Some got.0) = subst (λ (o : Option ℕ). ReadsOne G (without_minus h.text) o) got.1 one in
+    let read : ReadsOne G (without_minus h.text) (Some got.0) =
+    subst (λ (o : Option ℕ). ReadsOne G (without_minus h.text) o) got.1 one in
     let parsed = only (without_minus h.text) (Ok got.0) read in
     let text : one_of id (matches_of board_app words) ≡ Some (without_minus h.text) =
     ap (one_of id) (sym p.rows) ∙ (sym (one_text-rows (found_of m) id) ∙ h.one) in
@@ -148,10 +154,12 @@ number_got E G bits low high words m id r gives only fits p h =
       is = got.1;
       least = got.2;
       most = got.3;
-      said = parsed.1 ∙ sym (ap (λ (o : Option Text). option_map_or (λ t. digits_value 10 (without_leading_plus t)) o 0) text);
+      said = parsed.1 ∙ sym (ap (λ (o : Option Text).
+          option_map_or (λ t. digits_value 10 (without_leading_plus t)) o 0) text);
     }
 
 -- the result of `get_str`: the first value of the argument
 pub text_got : (words : List Text) (m : ArgMatches) (id : Text) (r : Option (Bor Text)) → IsBoardParse words m
-    → option_map (λ s. s.now) r ≡ first_value (found_of m) id → first_of id (matches_of board_app words) ≡ option_map (λ s. s.now) r
+    → option_map (λ s. s.now) r ≡ first_value (found_of m) id →
+    first_of id (matches_of board_app words) ≡ option_map (λ s. s.now) r
 text_got words m id r p e = ap (first_of id) (sym p.rows) ∙ (sym (first_value-rows (found_of m) id) ∙ sym e)

@@ -75,16 +75,19 @@ only_at id k [] = true
 only_at id zero (r ∷ rs) = none_has id rs
 only_at id (suc k) (r ∷ rs) = not (bytes_eq r.id id) && only_at id k rs
 
-none_there : (xs : List Arg) (id : Text) (j : ℕ) (e : Arg) → none_has id (map rule_of xs) ≡ true → j < length xs
+none_there : (xs : List Arg) (id : Text) (j : ℕ) (e : Arg) → none_has id (map rule_of xs) ≡ true →
+    j < length xs
     → bytes_eq (slice_index_or xs j e).id.now id ≡ true → ⊥
 none_there [] id j e h lt same = absurd (omega arith)
 none_there (x ∷ xs) id zero e h lt same =
     let p = both (not (bytes_eq x.id.now id)) (none_has id (map rule_of xs)) h in
     let no = is_false (bytes_eq x.id.now id) p.0 in
     cc
-none_there (x ∷ xs) id (suc j) e h lt same = none_there xs id j e (both (not (bytes_eq x.id.now id)) (none_has id (map rule_of xs)) h).1 (omega arith) same
+none_there (x ∷ xs) id (suc j) e h lt same = none_there xs id j e
+    (both (not (bytes_eq x.id.now id)) (none_has id (map rule_of xs)) h).1 (omega arith) same
 
-only_there : (xs : List Arg) (id : Text) (k j : ℕ) (e : Arg) → only_at id k (map rule_of xs) ≡ true → j < length xs
+only_there : (xs : List Arg) (id : Text) (k j : ℕ) (e : Arg) → only_at id k (map rule_of xs) ≡ true →
+    j < length xs
     → bytes_eq (slice_index_or xs j e).id.now id ≡ true → j ≡ k
 only_there [] id k j e h lt same = absurd (omega arith)
 only_there (x ∷ xs) id zero zero e h lt same = refl
@@ -93,25 +96,30 @@ only_there (x ∷ xs) id (suc k) zero e h lt same =
     let p = both (not (bytes_eq x.id.now id)) (only_at id k (map rule_of xs)) h in
     let no = is_false (bytes_eq x.id.now id) p.0 in
     cc
-only_there (x ∷ xs) id (suc k) (suc j) e h lt same = ap suc (only_there xs id k j e (both (not (bytes_eq x.id.now id)) (only_at id k (map rule_of xs)) h).1 (omega arith) same)
+only_there (x ∷ xs) id (suc k) (suc j) e h lt same =
+    ap suc (only_there xs id k j e (both (not (bytes_eq x.id.now id)) (only_at id k (map rule_of xs)) h).1
+    (omega arith) same)
 
 -- ---- the entry of an argument with a default
 
-found_in : (xs : List Entry) (id : Text) (i : ℕ) → i < length xs → ((d : Entry) → bytes_eq (slice_index_or xs i d).0.now id ≡ true)
+found_in : (xs : List Entry) (id : Text) (i : ℕ) → i < length xs →
+    ((d : Entry) → bytes_eq (slice_index_or xs i d).0.now id ≡ true)
     → is_some (option_map (λ e. e.1) (find (λ e. bytes_eq e.0.now id) xs)) ≡ true
 found_in [] id i lt h = absurd (omega arith)
 found_in (x ∷ xs) id zero lt h = rw (h x) refl
 found_in (x ∷ xs) id (suc i) lt h = go (bytes_eq x.0.now id) (found_in xs id i (omega arith) h)
   where
     go : (b : Bool) → is_some (option_map (λ (e : Entry). e.1) (find (λ e. bytes_eq e.0.now id) xs)) ≡ true
-        → is_some (option_map (λ (e : Entry). e.1) (cond b (Some x) (find (λ e. bytes_eq e.0.now id) xs))) ≡ true
+        → is_some (option_map (λ (e : Entry). e.1) (cond b (Some x) (find (λ e. bytes_eq e.0.now id) xs)))
+        ≡ true
     go true e = refl
     go false e = e
 
 has_entry : (f : Found) (id : Text) → HasId f id → is_some (matched_of f id) ≡ true
 has_entry f id h = found_in f.entries.items id h.0 h.1 h.2
 
-first_some : (xs : List (Bor Text)) → 0 < length xs → is_some (option_map (λ s. s.now) (slice_get xs 0)) ≡ true
+first_some : (xs : List (Bor Text)) → 0 < length xs →
+    is_some (option_map (λ s. s.now) (slice_get xs 0)) ≡ true
 first_some [] lt = absurd (omega arith)
 first_some (x ∷ xs) lt = refl
 
@@ -146,11 +154,13 @@ pub record Argument (old : Command) (k : ℕ) (d : Arg) (id : Text) : Type 0 whe
   pub least : 1 ≤ least_values (slice_index_or (args_of old) k d)
   pub wants : WantsDefault (slice_index_or (args_of old) k d)
   pub only : (j : ℕ) (e : Arg) → j < length (args_of old)
-      → bytes_eq (slice_index_or (args_of old) j e).id.now (slice_index_or (args_of old) k d).id.now ≡ true → j ≡ k
+      → bytes_eq (slice_index_or (args_of old) j e).id.now (slice_index_or (args_of old) k d).id.now ≡ true →
+      j ≡ k
   pub named : (slice_index_or (args_of old) k d).id.now ≡ [] → ⊥
   pub own : IsAuto (slice_index_or (args_of old) k d) → ⊥
 
-nonempty_texts : (xs : List (Bor Text)) (ts : List Text) → map (λ s. s.now) xs ≡ ts → 0 < length ts → 0 < length xs
+nonempty_texts : (xs : List (Bor Text)) (ts : List Text) → map (λ s. s.now) xs ≡ ts → 0 < length ts →
+    0 < length xs
 nonempty_texts [] ts e lt = let bad : 0 < 0 = rw (← e) at lt in absurd (omega arith)
 nonempty_texts (x ∷ xs) ts e lt = omega arith
 
@@ -158,18 +168,22 @@ nonempty_texts (x ∷ xs) ts e lt = omega arith
 
 head_passes : (P : Bor (List ℕ) → Type 0) (how : Reading) (vs : List (Bor (List ℕ))) → All P vs
     → is_some (option_map (λ s. s.now) (slice_get vs 0)) ≡ true
-    → (v : Bor (List ℕ)) × (option_map (λ s. read_as how s.now) (slice_get vs 0) ≡ Some (read_as how v.now)) × P v
+    → (v : Bor (List ℕ)) × (option_map (λ s. read_as how s.now) (slice_get vs 0) ≡ Some (read_as how v.now))
+    × P v
 head_passes P how [] h some = cc
 head_passes P how (v ∷ vs) h some = (v, refl, All-get_or P (v ∷ vs) 0 v (omega arith) h)
 
-one_text_at_entry : (f : Found) (id : List ℕ) (x : MatchedArg) (how : Reading) (t : List ℕ) → matched_of f id ≡ Some x → x.reading ≡ how
+one_text_at_entry : (f : Found) (id : List ℕ) (x : MatchedArg) (how : Reading) (t : List ℕ) →
+    matched_of f id ≡ Some x → x.reading ≡ how
     → option_map (λ s. read_as how s.now) (slice_get x.vals.items 0) ≡ Some t → one_text f id ≡ Some t
 one_text_at_entry f id x how t found is v = rw (found, is) v
 
 -- an argument with the id of the caller's argument is read as the caller's parser reads it
-only_reading : (old : Command) (m : ArgMatches) (p : IsParsedFrom old m) (k : ℕ) (d : Arg) → k < length (args_of old)
+only_reading : (old : Command) (m : ArgMatches) (p : IsParsedFrom old m) (k : ℕ) (d : Arg) →
+    k < length (args_of old)
     → ((j : ℕ) (e : Arg) → j < length (args_of old)
-    → bytes_eq (slice_index_or (args_of old) j e).id.now (slice_index_or (args_of old) k d).id.now ≡ true → j ≡ k)
+    → bytes_eq (slice_index_or (args_of old) j e).id.now (slice_index_or (args_of old) k d).id.now ≡ true →
+    j ≡ k)
     → (IsAuto (slice_index_or (args_of old) k d) → ⊥)
     → (q : ValueParser) → (slice_index_or (args_of old) k d).value_parser ≡ Some q
     → (r : Reading) → HasReading p.built (slice_index_or (args_of old) k d).id.now r → r ≡ reading_of q
@@ -185,20 +199,25 @@ accepts_of a y q t s parser read =
     let as_q : Accepts y.ignore_case q t = subst (λ (w : ValueParser). Accepts y.ignore_case w t) is_q read in
     subst (λ (b : Bool). Accepts b q t) s.ignore_case as_q
 
-passes_read : (old : Command) (m : ArgMatches) (p : IsParsedFrom old m) (k : ℕ) (d : Arg) → k < length (args_of old)
+passes_read : (old : Command) (m : ArgMatches) (p : IsParsedFrom old m) (k : ℕ) (d : Arg) →
+    k < length (args_of old)
     → ((j : ℕ) (e : Arg) → j < length (args_of old)
-    → bytes_eq (slice_index_or (args_of old) j e).id.now (slice_index_or (args_of old) k d).id.now ≡ true → j ≡ k)
+    → bytes_eq (slice_index_or (args_of old) j e).id.now (slice_index_or (args_of old) k d).id.now ≡ true →
+    j ≡ k)
     → (IsAuto (slice_index_or (args_of old) k d) → ⊥)
     → (q : ValueParser) → (slice_index_or (args_of old) k d).value_parser ≡ Some q
-    → (w : List ℕ) (v : Bor (List ℕ)) → w ≡ (slice_index_or (args_of old) k d).id.now → PassesArg p.built w v.now
+    → (w : List ℕ) (v : Bor (List ℕ)) → w ≡ (slice_index_or (args_of old) k d).id.now →
+    PassesArg p.built w v.now
     → Accepts (slice_index_or (args_of old) k d).ignore_case q v.now
 passes_read old m p k d lt unique own q parser w v key pass =
     let same : bytes_eq pass.1.id.now (slice_index_or (args_of old) k d).id.now ≡ true =
     subst (λ (u : List ℕ). bytes_eq pass.1.id.now u ≡ true) key pass.4.0 in
-    accepts_of _ pass.1 q v.now (same_rules_by_id old m p k d lt unique own pass.0 pass.1 pass.2 pass.3 same) parser pass.4.1
+    accepts_of _ pass.1 q v.now (same_rules_by_id old m p k d lt unique own pass.0 pass.1 pass.2 pass.3 same)
+    parser pass.4.1
 
 -- an entry has a value that is read so and passed the argument's parser
-read_of : (c : Command) (f : Found) (id : List ℕ) (Q : List ℕ → Type 0) (how : Reading) (x : MatchedArg) (e : Entry)
+read_of : (c : Command) (f : Found) (id : List ℕ) (Q : List ℕ →
+    Type 0) (how : Reading) (x : MatchedArg) (e : Entry)
     → groups_of c ≡ [] → (id ≡ [] → ⊥) → ((r : Reading) → HasReading c id r → r ≡ how)
     → ((v : Bor (List ℕ)) → PassesArg c id v.now → Q v.now)
     → matched_of f id ≡ Some x → is_some (option_map (λ s. s.now) (slice_get x.vals.items 0)) ≡ true
@@ -213,38 +232,47 @@ read_of c f id Q how x e no_groups named reads read found first same_x key_id pa
     ] in
     let all : All (λ v. PassesArg c id v.now) x.vals.items = elim pass.0 [
       | inl g ↦ absurd (no_group g)
-      | inr vals ↦ subst (λ (w : List ℕ). All (λ v. PassesArg c w v.now) x.vals.items) key_id (rw same_x at vals)
+      | inr vals ↦
+          subst (λ (w : List ℕ). All (λ v. PassesArg c w v.now) x.vals.items) key_id (rw same_x at vals)
     ] in
     let is : e.1.reading ≡ how = elim pass.4 [
       | inl g ↦ absurd (no_group g)
       | inr h ↦ reads e.1.reading (subst (λ (w : List ℕ). HasReading c w e.1.reading) key_id h)
     ] in
-    finish (head_passes (λ v. PassesArg c id v.now) how x.vals.items all first) (ap (λ (y : MatchedArg). y.reading) (sym same_x) ∙ is)
+    finish (head_passes (λ v. PassesArg c id v.now) how x.vals.items all first)
+    (ap (λ (y : MatchedArg). y.reading) (sym same_x) ∙ is)
   where
-    finish : ((v : Bor (List ℕ)) × (option_map (λ s. read_as how s.now) (slice_get x.vals.items 0) ≡ Some (read_as how v.now)) × PassesArg c id v.now)
+    finish : ((v : Bor (List ℕ)) × (option_map (λ s. read_as how s.now) (slice_get x.vals.items 0)
+        ≡ Some (read_as how v.now)) × PassesArg c id v.now)
         → x.reading ≡ how → (t : List ℕ) × (one_text f id ≡ Some (read_as how t)) × Q t
-    finish hd is = (hd.0.now, one_text_at_entry f id x how (read_as how hd.0.now) found is hd.1, read hd.0 hd.2)
+    finish hd is =
+        (hd.0.now, one_text_at_entry f id x how (read_as how hd.0.now) found is hd.1, read hd.0 hd.2)
 
 -- and so has the entry of an id, if it has a first value
-entry_read : (c : Command) (f : Found) (id : List ℕ) (Q : List ℕ → Type 0) (how : Reading) → ValuesPass c f → groups_of c ≡ [] → (id ≡ [] → ⊥)
+entry_read : (c : Command) (f : Found) (id : List ℕ) (Q : List ℕ → Type 0) (how : Reading) → ValuesPass c f →
+    groups_of c ≡ [] → (id ≡ [] → ⊥)
     → is_some (first_value f id) ≡ true → ((r : Reading) → HasReading c id r → r ≡ how)
     → ((v : Bor (List ℕ)) → PassesArg c id v.now → Q v.now)
     → (t : List ℕ) × (one_text f id ≡ Some (read_as how t)) × Q t
 entry_read c f id Q how values no_groups named has reads read = go (matched_of f id) refl has
   where
-    step : (x : MatchedArg) → matched_of f id ≡ Some x → is_some (option_map (λ s. s.now) (slice_get x.vals.items 0)) ≡ true
+    step : (x : MatchedArg) → matched_of f id ≡ Some x →
+        is_some (option_map (λ s. s.now) (slice_get x.vals.items 0)) ≡ true
         → ((e : Entry) × (e.1 ≡ x) × (bytes_eq e.0.now id ≡ true) × EntryPasses c e)
         → (t : List ℕ) × (one_text f id ≡ Some (read_as how t)) × Q t
     step x found first got =
-        read_of c f id Q how x got.0 no_groups named reads read found first got.1 ((bytes_eq-Decides got.0.0.now id).0 got.2) got.3
+        read_of c f id Q how x got.0 no_groups named reads read found first got.1
+        ((bytes_eq-Decides got.0.0.now id).0 got.2) got.3
 
-    go : (o : Option MatchedArg) → matched_of f id ≡ o → is_some (first_value f id) ≡ true → (t : List ℕ) × (one_text f id ≡ Some (read_as how t)) × Q t
+    go : (o : Option MatchedArg) → matched_of f id ≡ o → is_some (first_value f id) ≡ true →
+        (t : List ℕ) × (one_text f id ≡ Some (read_as how t)) × Q t
     go None e h =
         let bad : false ≡ true = rw e at h in
         cc
     go (Some x) e h = step x e (rw e at h) (entry_by_id (EntryPasses c) f.entries.items id x values e)
 
-module _ (rules : List Rule) (old : Command) (m : ArgMatches) (p : IsParseOf rules old m) (k : ℕ) (r : Rule) (h : HasDefaultAt rules k r) where
+module _ (rules : List Rule) (old : Command) (m : ArgMatches) (p : IsParseOf rules old m) (k : ℕ) (r : Rule)
+    (h : HasDefaultAt rules k r) where
   length_is : length (args_of old) ≡ length rules
   length_is = sym (length-map (args_of old) rule_of) ∙ ap length p.rules_are
 
@@ -256,7 +284,8 @@ module _ (rules : List Rule) (old : Command) (m : ArgMatches) (p : IsParseOf rul
   rule_is d =
       let from : k < length (map rule_of (args_of old)) = rw (← p.rules_are) at h.within in
       sym (get_or-map rule_of (args_of old) k d)
-      ∙ (get_or_default (map rule_of (args_of old)) k (rule_of d) r from ∙ (ap (λ l. slice_index_or l k r) p.rules_are ∙ h.at))
+      ∙ (get_or_default (map rule_of (args_of old)) k (rule_of d) r from
+      ∙ (ap (λ l. slice_index_or l k r) p.rules_are ∙ h.at))
 
   argument_facts : (d : Arg) → Argument old k d r.id
   argument_facts d =
@@ -273,18 +302,22 @@ module _ (rules : List Rule) (old : Command) (m : ArgMatches) (p : IsParseOf rul
         id_is = id_is;
         facts = facts;
         action = ap (λ (x : Rule). x.action) is ∙ h.action;
-        least = subst (λ (o : Option ValueRange). 1 ≤ (unwrap_or_range o).start_inclusive) (sym range) (omega arith);
+        least = subst (λ (o : Option ValueRange). 1 ≤ (unwrap_or_range o).start_inclusive) (sym range)
+            (omega arith);
         wants = (facts.ifs, filled);
-        only = λ j e lt same. only_there (args_of old) r.id k j e (rw p.rules_are h.only) lt (rw id_is at same);
+        only = λ j e lt same. only_there (args_of old) r.id k j e (rw p.rules_are h.only) lt
+            (rw id_is at same);
         named = λ e.
             let empty : is_empty r.id ≡ true = ap (λ (t : Text). is_empty t) (sym id_is ∙ e) in
             absurd (true≢false (sym empty ∙ h.named));
         own = λ auto. elim auto [
           | inl e ↦
-              let help : bytes_eq r.id (codes "help") ≡ true = ap (λ t. bytes_eq t (codes "help")) (sym id_is ∙ e) in
+              let help : bytes_eq r.id (codes "help") ≡ true =
+              ap (λ t. bytes_eq t (codes "help")) (sym id_is ∙ e) in
               absurd (true≢false (sym help ∙ h.no_help))
           | inr e ↦
-              let version : bytes_eq r.id (codes "version") ≡ true = ap (λ t. bytes_eq t (codes "version")) (sym id_is ∙ e) in
+              let version : bytes_eq r.id (codes "version") ≡ true =
+              ap (λ t. bytes_eq t (codes "version")) (sym id_is ∙ e) in
               absurd (true≢false (sym version ∙ h.no_version))
         ];
       }
@@ -299,8 +332,11 @@ module _ (rules : List Rule) (old : Command) (m : ArgMatches) (p : IsParseOf rul
   has_value_with : (d : Arg) → is_some (first_value (found_of m) r.id) ≡ true
   has_value_with d =
       let a = argument_facts d in
-      let entry = has_entry (found_of m) _ (default_present old m p.parsed p.globals k d within_args a.wants) in
-      subst (λ (t : Text). is_some (first_value (found_of m) t) ≡ true) a.id_is (go (matched_of (found_of m) (slice_index_or (args_of old) k d).id.now) refl entry (p.parsed.parsed (p.parsed.from.globals ∙ p.globals)))
+      let entry =
+      has_entry (found_of m) _ (default_present old m p.parsed p.globals k d within_args a.wants) in
+      subst (λ (t : Text). is_some (first_value (found_of m) t) ≡ true) a.id_is
+      (go (matched_of (found_of m) (slice_index_or (args_of old) k d).id.now) refl entry
+      (p.parsed.parsed (p.parsed.from.globals ∙ p.globals)))
     where
       go : (o : Option MatchedArg) → matched_of (found_of m) (slice_index_or (args_of old) k d).id.now ≡ o
           → is_some (matched_of (found_of m) (slice_index_or (args_of old) k d).id.now) ≡ true
@@ -309,9 +345,11 @@ module _ (rules : List Rule) (old : Command) (m : ArgMatches) (p : IsParseOf rul
       go None e some parsed = cc
       go (Some x) e some parsed =
           let a = argument_facts d in
-          let got = entry_by_id (EntryPasses p.parsed.built) (found_of m).entries.items (slice_index_or (args_of old) k d).id.now x parsed.values e in
+          let got = entry_by_id (EntryPasses p.parsed.built) (found_of m).entries.items
+          (slice_index_or (args_of old) k d).id.now x parsed.values e in
           let same_x : got.0.1 ≡ x = got.1 in
-          let key_id : got.0.0.now ≡ (slice_index_or (args_of old) k d).id.now = (bytes_eq-Decides _ _).0 got.2 in
+          let key_id : got.0.0.now ≡ (slice_index_or (args_of old) k d).id.now =
+          (bytes_eq-Decides _ _).0 got.2 in
           let no_groups : groups_of p.parsed.built ≡ [] = (p.parsed.from.plain plain).1 in
           elim got.3.1 [
             | inl h ↦ elim h.1 [
@@ -323,12 +361,14 @@ module _ (rules : List Rule) (old : Command) (m : ArgMatches) (p : IsParseOf rul
             | inr (inl v) ↦ rw e (first_some x.vals.items (rw same_x at v))
             | inr (inr (inl h)) ↦
                 let any = h.1 in
-                let s = same_rules_by_id old m p.parsed k d within_args a.only a.own any.0 any.1 any.2 any.3 (rw key_id at any.4.0) in
+                let s = same_rules_by_id old m p.parsed k d within_args a.only a.own any.0 any.1 any.2 any.3
+                (rw key_id at any.4.0) in
                 let is_set : any.1.action ≡ Some Set = s.action Set a.action in
                 let bad : Set ≡ Count = rw is_set at any.4.1 in
                 cc
             | inr (inr (inr h)) ↦
-                let s = same_rules_by_id old m p.parsed k d within_args a.only a.own h.0 h.1 h.2 h.3 (rw key_id at h.4.0) in
+                let s = same_rules_by_id old m p.parsed k d within_args a.only a.own h.0 h.1 h.2 h.3
+                (rw key_id at h.4.0) in
                 elim h.4.1 [
                   | inl none ↦
                       let one = s.least a.action a.least in
@@ -341,7 +381,8 @@ module _ (rules : List Rule) (old : Command) (m : ArgMatches) (p : IsParseOf rul
 
   -- and the value passed the argument's parser, and is read as the parser reads it
   reads_with : (d : Arg) (q : ValueParser) → r.parser ≡ Some q
-      → (t : Text) × (one_text (found_of m) r.id ≡ Some (read_as (reading_of q) t)) × Accepts r.ignore_case q t
+      → (t : Text) × (one_text (found_of m) r.id ≡ Some (read_as (reading_of q) t))
+      × Accepts r.ignore_case q t
   reads_with d q parser =
       let a = argument_facts d in
       let x = slice_index_or (args_of old) k d in
@@ -366,12 +407,16 @@ some_element [] k lt = absurd (omega arith)
 some_element (x ∷ xs) k lt = x
 
 -- an argument with a default has a first value
-pub has_value : (rules : List Rule) (old : Command) (m : ArgMatches) → IsParseOf rules old m → (k : ℕ) (r : Rule) → HasDefaultAt rules k r
+pub has_value : (rules : List Rule) (old : Command) (m : ArgMatches) → IsParseOf rules old m →
+    (k : ℕ) (r : Rule) → HasDefaultAt rules k r
     → is_some (first_value (found_of m) r.id) ≡ true
-has_value rules old m p k r h = has_value_with rules old m p k r h (some_element (args_of old) k (within_args rules old m p k r h))
+has_value rules old m p k r h =
+    has_value_with rules old m p k r h (some_element (args_of old) k (within_args rules old m p k r h))
 
 -- which is read as the argument's parser reads it, and passed that parser
-pub reads : (rules : List Rule) (old : Command) (m : ArgMatches) → IsParseOf rules old m → (k : ℕ) (r : Rule) → HasDefaultAt rules k r
+pub reads : (rules : List Rule) (old : Command) (m : ArgMatches) → IsParseOf rules old m →
+    (k : ℕ) (r : Rule) → HasDefaultAt rules k r
     → (q : ValueParser) → r.parser ≡ Some q
     → (t : Text) × (one_text (found_of m) r.id ≡ Some (read_as (reading_of q) t)) × Accepts r.ignore_case q t
-reads rules old m p k r h = reads_with rules old m p k r h (some_element (args_of old) k (within_args rules old m p k r h))
+reads rules old m p k r h =
+    reads_with rules old m p k r h (some_element (args_of old) k (within_args rules old m p k r h))

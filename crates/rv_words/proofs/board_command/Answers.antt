@@ -11,5 +11,7 @@ unfolding board_app
 returns c =
     let empty : app_of c.about.result ≡ new_app (codes "rvboard") = search rules in
     let given = c.in_ok-args in
-    IfOk-weaker c.args-2.result _ _ (λ d added. has_rules c.about.result d given.args.items added given.ensures.local
-    ∙ ap (with_rules (app_of c.about.result)) given.ensures.rules ∙ ap (λ a. with_rules a board_rules) empty) c.args-2.ensures
+    IfOk-weaker c.args-2.result _ _ (λ d added. has_rules c.about.result d given.args.items added
+    given.ensures.local
+    ∙ ap (with_rules (app_of c.about.result)) given.ensures.rules
+    ∙ ap (λ a. with_rules a board_rules) empty) c.args-2.ensures

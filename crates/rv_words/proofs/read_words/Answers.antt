@@ -9,21 +9,27 @@ use Rattle.rv_words.proofs.read_words.Goals as goal
 pub unwrap-steps-requires : goal.unwrap-steps-requires
 unwrap-steps-requires c =
     let p = c.in_ok-matches.ensures.parsed in
-    let n = number_got _ (λ bs r. ParsesUnsigned 32 10 bs r × ExplainsUnsignedError 10 bs r × HasUnsignedDigitsIfOk bs r) 32 0 1000000000 (texts_of c.args.words.now) c.in_ok-matches.matches (codes "steps") c.get_one.result
+    let n = number_got _ (λ bs r. ParsesUnsigned 32 10 bs r × ExplainsUnsignedError 10 bs r
+    × HasUnsignedDigitsIfOk bs r) 32 0 1000000000 (texts_of c.args.words.now) c.in_ok-matches.matches
+    (codes "steps") c.get_one.result
     c.get_one.ensures.value (λ u x g. g.0) (omega arith) p p.steps in
     rw n.is refl
 
 pub unwrap-pages-requires : goal.unwrap-pages-requires
 unwrap-pages-requires c =
     let p = c.in_ok-matches.ensures.parsed in
-    let n = number_got _ (λ bs r. ParsesUnsigned 16 10 bs r × ExplainsUnsignedError 10 bs r × HasUnsignedDigitsIfOk bs r) 16 1 4096 (texts_of c.args.words.now) c.in_ok-matches.matches (codes "pages") c.get_one-2.result
+    let n = number_got _ (λ bs r. ParsesUnsigned 16 10 bs r × ExplainsUnsignedError 10 bs r
+    × HasUnsignedDigitsIfOk bs r) 16 1 4096 (texts_of c.args.words.now) c.in_ok-matches.matches
+    (codes "pages") c.get_one-2.result
     c.get_one-2.ensures.value (λ u x g. g.0) (omega arith) p p.pages in
     rw n.is refl
 
 pub unwrap-slots-requires : goal.unwrap-slots-requires
 unwrap-slots-requires c =
     let p = c.in_ok-matches.ensures.parsed in
-    let n = number_got _ (λ bs r. ParsesUnsigned 16 10 bs r × ExplainsUnsignedError 10 bs r × HasUnsignedDigitsIfOk bs r) 16 64 4096 (texts_of c.args.words.now) c.in_ok-matches.matches (codes "slots") c.get_one-3.result
+    let n = number_got _ (λ bs r. ParsesUnsigned 16 10 bs r × ExplainsUnsignedError 10 bs r
+    × HasUnsignedDigitsIfOk bs r) 16 64 4096 (texts_of c.args.words.now) c.in_ok-matches.matches
+    (codes "slots") c.get_one-3.result
     c.get_one-3.ensures.value (λ u x g. g.0) (omega arith) p p.slots in
     rw n.is refl
 
@@ -32,19 +38,24 @@ returns-clause-read c =
     let m = c.in_ok-matches.matches in
     let words = texts_of c.args.words.now in
     let p = c.in_ok-matches.ensures.parsed in
-    let n = number_got _ (λ bs r. ParsesUnsigned 32 10 bs r × ExplainsUnsignedError 10 bs r × HasUnsignedDigitsIfOk bs r) 32 0 1000000000 words m (codes "steps") c.get_one.result
+    let n = number_got _ (λ bs r. ParsesUnsigned 32 10 bs r × ExplainsUnsignedError 10 bs r
+    × HasUnsignedDigitsIfOk bs r) 32 0 1000000000 words m (codes "steps") c.get_one.result
     c.get_one.ensures.value (λ u x g. g.0) (omega arith) p p.steps in
-    let k = number_got _ (λ bs r. ParsesUnsigned 16 10 bs r × ExplainsUnsignedError 10 bs r × HasUnsignedDigitsIfOk bs r) 16 1 4096 words m (codes "pages") c.get_one-2.result
+    let k = number_got _ (λ bs r. ParsesUnsigned 16 10 bs r × ExplainsUnsignedError 10 bs r
+    × HasUnsignedDigitsIfOk bs r) 16 1 4096 words m (codes "pages") c.get_one-2.result
     c.get_one-2.ensures.value (λ u x g. g.0) (omega arith) p p.pages in
-    let j = number_got _ (λ bs r. ParsesUnsigned 16 10 bs r × ExplainsUnsignedError 10 bs r × HasUnsignedDigitsIfOk bs r) 16 64 4096 words m (codes "slots") c.get_one-3.result
+    let j = number_got _ (λ bs r. ParsesUnsigned 16 10 bs r × ExplainsUnsignedError 10 bs r
+    × HasUnsignedDigitsIfOk bs r) 16 64 4096 words m (codes "slots") c.get_one-3.result
     c.get_one-3.ensures.value (λ u x g. g.0) (omega arith) p p.slots in
     let found : c.get_str.result ≡ Some c.unwrap-source.result = search rules in
     let steps : c.unwrap-steps.result ≡ n.value = cc in
     let pages : c.unwrap-pages.result ≡ k.value = cc in
     let slots : c.unwrap-slots.result ≡ j.value = cc in
-    let source = text_got words m (codes "source") c.get_str.result p c.get_str.ensures ∙ ap (option_map (λ (s : Bor (List ℕ)). s.now)) found in
+    let source = text_got words m (codes "source") c.get_str.result p c.get_str.ensures
+    ∙ ap (option_map (λ (s : Bor (List ℕ)). s.now)) found in
     let input = text_got words m (codes "input") c.get_str-input.result p c.get_str-input.ensures in
-    let commands = text_got words m (codes "commands") c.get_str-commands.result p c.get_str-commands.ensures in
+    let commands =
+    text_got words m (codes "commands") c.get_str-commands.result p c.get_str-commands.ensures in
     let steps_said = steps ∙ n.said in
     let pages_said = pages ∙ k.said in
     let slots_said = slots ∙ j.said in

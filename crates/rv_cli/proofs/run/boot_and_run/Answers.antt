@@ -8,5 +8,6 @@ returns-in_err-board-clause-err c =
 
 pub returns-in_err-printed-clause-err : goal.returns-in_err-printed-clause-err
 returns-in_err-printed-clause-err c =
-    let e = err_from_is_err_and c.from_residual-in_err-printed.result c.from_residual-in_err-printed.ensures.1 in
+    let e = err_from_is_err_and c.from_residual-in_err-printed.result c.from_residual-in_err-printed.ensures.1
+    in
     rw (e.1, e.2) tt

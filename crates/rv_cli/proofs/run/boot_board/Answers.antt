@@ -12,5 +12,6 @@ returns-in_err-board-clause-err c =
     let pages : c.from-pages.result ≡ c.args.options.pages = search rules in
     let slots : c.from-slots.result ≡ c.args.options.slots = search rules in
     let why = c.in_err-board.field-0.0 in
-    let is : why ≢ OutOfMemory → boot_fault (length c.args.program.now.bytes) c.from-pages.result c.from-slots.result ≡ Some why = c.in_err-board.ensures.err in
+    let is : why ≢ OutOfMemory → boot_fault (length c.args.program.now.bytes) c.from-pages.result
+    c.from-slots.result ≡ Some why = c.in_err-board.ensures.err in
     rw (e.1, e.2) (has_no_board _ why (rw (pages, slots) at is))

@@ -20,5 +20,7 @@ returns-in_err-texts-clause-behind_inputs g c =
 
 pub returns-in_err-printed-clause-refused : goal.returns-in_err-printed-clause-refused
 returns-in_err-printed-clause-refused g c =
-    let e = err_from_is_err_and c.from_residual-in_err-printed.result c.from_residual-in_err-printed.ensures.1 in
-    rw (e.1, e.2) (refused_by _ _ c.args.options c.in_ok-texts.texts c.in_err-printed.field-0.0 c.in_ok-texts.ensures.ok c.in_err-printed.ensures.err)
+    let e = err_from_is_err_and c.from_residual-in_err-printed.result c.from_residual-in_err-printed.ensures.1
+    in
+    rw (e.1, e.2) (refused_by _ _ c.args.options c.in_ok-texts.texts c.in_err-printed.field-0.0
+    c.in_ok-texts.ensures.ok c.in_err-printed.ensures.err)

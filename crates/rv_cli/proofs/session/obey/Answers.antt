@@ -7,7 +7,8 @@ use Rattle.rv_cli.proofs.session.obey.Goals as goal
 
 pub loop-line-init : goal.loop-line-init
 loop-line-init g c =
-    let all : c.into_iter-line-iterator.result ≡ lines c.args.commands.now = c.into_iter-line-iterator.ensures.into_iter_gives ∙ c.cut_lines-line-items.ensures.cut in
+    let all : c.into_iter-line-iterator.result ≡ lines c.args.commands.now =
+    c.into_iter-line-iterator.ensures.into_iter_gives ∙ c.cut_lines-line-items.ensures.cut in
     record {
       can_next = tt;
       is_finite = tt;
@@ -22,18 +23,23 @@ loop-line-preserved g c =
       is_finite = tt;
       so_far =
           rw c.in_ok-command.ensures.text
-          (one_done (lines c.args.commands.now) c.loop-line.line-iterator c.next.new.self c.in-Some.line.now c.args.session.now c.loop-line.session
-          c.command.new.self c.loop-line.text.items c.loop-line.invariant.so_far c.in-Some.ensures.steps goes_on c.in_ok-command.ensures.ok);
+          (one_done (lines c.args.commands.now) c.loop-line.line-iterator c.next.new.self c.in-Some.line.now
+          c.args.session.now c.loop-line.session
+          c.command.new.self c.loop-line.text.items c.loop-line.invariant.so_far c.in-Some.ensures.steps
+          goes_on c.in_ok-command.ensures.ok);
     }
 
 pub returns-in-Quit : goal.returns-in-Quit
 returns-in-Quit g c =
     let quits : Quit ≡ next_of (command_in c.in-Some.line.now c.loop-line.session) = search rules in
     rw c.in_ok-command.ensures.text
-    (quit_done (lines c.args.commands.now) c.loop-line.line-iterator c.next.new.self c.in-Some.line.now c.args.session.now c.loop-line.session
-    c.command.new.self c.loop-line.text.items c.loop-line.invariant.so_far c.in-Some.ensures.steps quits c.in_ok-command.ensures.ok)
+    (quit_done (lines c.args.commands.now) c.loop-line.line-iterator c.next.new.self c.in-Some.line.now
+    c.args.session.now c.loop-line.session
+    c.command.new.self c.loop-line.text.items c.loop-line.invariant.so_far c.in-Some.ensures.steps quits
+    c.in_ok-command.ensures.ok)
 
 pub returns : goal.returns
 returns g c =
-    all_done (lines c.args.commands.now) c.loop-line.line-iterator c.args.session.now c.loop-line.session c.loop-line.text.items
+    all_done (lines c.args.commands.now) c.loop-line.line-iterator c.args.session.now c.loop-line.session
+    c.loop-line.text.items
     c.loop-line.invariant.so_far c.in-None.ensures.steps.0

@@ -10,7 +10,8 @@ returns-in_default-clause-err g c =
         is = c.in_default.ensures.err;
         part = record {
           bytes = c.loop-count.text.items;
-          gave = Consumes-kept _ _ _ c.loop-count.text.items c.loop-count.invariant.gave c.in_default.ensures.bytes;
+          gave = Consumes-kept _ _ _ c.loop-count.text.items c.loop-count.invariant.gave
+              c.in_default.ensures.bytes;
           within = omega (arith, c.loop-count.invariant.within);
         };
       }),
@@ -24,9 +25,22 @@ returns-then-len-count-clause-err g c =
       search rules,
       inr (record {
         bytes = c.loop-count.text.items ++ more;
-        gave = Consumes-trans _ _ _ c.loop-count.text.items more c.loop-count.invariant.gave c.in-Ok.ensures.bytes.0;
-        more = omega (arith, length-append c.loop-count.text.items more, length-take c.in-Ok.count c.read.new.buffer, c.if-len-count.true, c.len.ensures);
-        left = omega (arith, length-append c.loop-count.text.items more, length-take c.in-Ok.count c.read.new.buffer, c.loop-count.invariant.within, c.loop-count.invariant.room);
+        gave = Consumes-trans _ _ _ c.loop-count.text.items more c.loop-count.invariant.gave
+            c.in-Ok.ensures.bytes.0;
+        more = omega (
+          arith,
+          length-append c.loop-count.text.items more,
+          length-take c.in-Ok.count c.read.new.buffer,
+          c.if-len-count.true,
+          c.len.ensures,
+        );
+        left = omega (
+          arith,
+          length-append c.loop-count.text.items more,
+          length-take c.in-Ok.count c.read.new.buffer,
+          c.loop-count.invariant.within,
+          c.loop-count.invariant.room,
+        );
       }),
     )
 
@@ -39,8 +53,16 @@ returns-then-is_err-clause-err g c =
       record {
         part = record {
           bytes = c.loop-count.text.items ++ more;
-          gave = Consumes-trans _ _ _ c.loop-count.text.items more c.loop-count.invariant.gave c.in-Ok.ensures.bytes.0;
-          within = omega (arith, length-append c.loop-count.text.items more, length-take c.in-Ok.count c.read.new.buffer, c.if-len-count.false, c.len.ensures, c.loop-count.invariant.within);
+          gave = Consumes-trans _ _ _ c.loop-count.text.items more c.loop-count.invariant.gave
+              c.in-Ok.ensures.bytes.0;
+          within = omega (
+            arith,
+            length-append c.loop-count.text.items more,
+            length-take c.in-Ok.count c.read.new.buffer,
+            c.if-len-count.false,
+            c.len.ensures,
+            c.loop-count.invariant.within,
+          );
         };
         sound = search rules;
       },

@@ -16,7 +16,8 @@ loop-done-preserved g c =
     let after = c.in_ok-done.ensures.ok.more in
     let within = c.in_ok-done.ensures.ok.within in
     let sound = c.in_ok-done.ensures.ok.sound in
-    let took = Appends-trans _ _ _ (take d bytes) (take (n - d) (drop d bytes)) c.loop-done.invariant.took c.in_ok-done.ensures.ok.took in
+    let took = Appends-trans _ _ _ (take d bytes) (take (n - d) (drop d bytes)) c.loop-done.invariant.took
+    c.in_ok-done.ensures.ok.took in
     record {
       took = rw (two_pieces d n bytes after) at took;
       within = within;

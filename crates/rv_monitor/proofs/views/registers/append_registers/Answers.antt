@@ -7,8 +7,10 @@ pub loop-number-preserved : goal.loop-number-preserved
 unfolding register_in_line register_text
 loop-number-preserved g c =
     let grown = c.append_register.ensures in
-    let appended : c.append_register.new.text.items ≡ c.loop-number.text.items ++ register_in_line c.args.board.now c.loop-number.number = search rules in (
-      piece_appended c.args.text.now.items c.loop-number.text.items c.append_register.new.text.items (register_in_line c.args.board.now) c.loop-number.number
+    let appended : c.append_register.new.text.items ≡ c.loop-number.text.items
+    ++ register_in_line c.args.board.now c.loop-number.number = search rules in (
+      piece_appended c.args.text.now.items c.loop-number.text.items c.append_register.new.text.items
+          (register_in_line c.args.board.now) c.loop-number.number
           c.loop-number.invariant.0 appended,
       omega (arith, c.loop-number.invariant.1, grown.1),
       omega (arith, c.loop-number.invariant.2, grown.2),

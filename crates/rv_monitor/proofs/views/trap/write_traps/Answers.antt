@@ -4,20 +4,25 @@ use Rattle.rv_monitor.proofs.Traps.{has_trap, trap_appended, all_traps}
 use Rattle.rv_monitor.proofs.views.trap.write_traps.Goals as goal
 
 pub unwrap-trap-requires : goal.unwrap-trap-requires
-unwrap-trap-requires g c = has_trap c.args.board.now.traps _ _ c.trap.ensures (omega (arith, c.trap_count-index-end.ensures.count))
+unwrap-trap-requires g c =
+    has_trap c.args.board.now.traps _ _ c.trap.ensures (omega (arith, c.trap_count-index-end.ensures.count))
 
 pub append_trap-requires : goal.append_trap-requires
 append_trap-requires g c =
-    let before : c.loop-index.index < length c.args.board.now.traps = omega (arith, c.loop-index-test.true, c.trap_count-index-end.ensures.count) in
+    let before : c.loop-index.index < length c.args.board.now.traps =
+    omega (arith, c.loop-index-test.true, c.trap_count-index-end.ensures.count) in
     omega (arith, c.loop-index.invariant.1, before)
 
 pub loop-index-preserved : goal.loop-index-preserved
 loop-index-preserved g c =
-    let here : Some c.unwrap-trap.result ≡ slice_get c.args.board.now.traps c.loop-index.index = search rules in (
-      trap_appended c.args.text.now.items c.loop-index.text.items c.append_trap.new.text.items c.args.board.now.traps c.loop-index.index c.unwrap-trap.result
+    let here : Some c.unwrap-trap.result ≡ slice_get c.args.board.now.traps c.loop-index.index =
+    search rules in (
+      trap_appended c.args.text.now.items c.loop-index.text.items c.append_trap.new.text.items
+          c.args.board.now.traps c.loop-index.index c.unwrap-trap.result
           here c.loop-index.invariant.0 c.append_trap.ensures.0,
       omega (arith, c.loop-index.invariant.1, c.append_trap.ensures.1, c.append_trap.ensures.2),
     )
 
 pub returns-clause-ok : goal.returns-clause-ok
-returns-clause-ok g c = c.loop-index.invariant.0 ∙ all_traps c.args.text.now.items c.args.board.now.traps c.loop-index.index (omega arith)
+returns-clause-ok g c = c.loop-index.invariant.0 ∙ all_traps c.args.text.now.items c.args.board.now.traps
+    c.loop-index.index (omega arith)
