@@ -1,33 +1,31 @@
-//! Whether two boards are the same in all that they can be read by, whatever memories and caches they have. The programs
-//! and tests that try boards compare them by this.
+//! Compares two boards in all that they can be read by, whatever memories and caches they have. Each test that compares
+//! boards does it by these functions.
 #![tactic(auto)]
 
 use rv_board::Board;
 use rv_cache::Decoded;
 use rv_isa::Reg;
-use rv_ram::ByteMemory;
+use rv_mmio::{Serial, Timer};
+use rv_plic::{Plic, Source};
+use rv_ram::{ByteMemory, PAGE_BYTES};
 
-/// The control registers that hold something.
-const CSRS: [u16; 32] = [
-    0x300, 0x304, 0x305, 0x340, 0x341, 0x342, 0x343, 0x344, 0x3a0, 0x3a1, 0x3a2, 0x3a3, 0x3b0,
-    0x3b1, 0x3b2, 0x3b3, 0x3b4, 0x3b5, 0x3b6, 0x3b7, 0x3b8, 0x3b9, 0x3ba, 0x3bb, 0x3bc, 0x3bd,
-    0x3be, 0x3bf, 0xb00, 0xb02, 0xb80, 0xb82,
-];
+/// The number of addresses of control registers. Each is asked for: where a board has no register, it says so.
+const CSR_ADDRESSES: u16 = 4096;
 
-/// Registers of the interrupt controller that a look doesn't change: what is pending, and what a claim would get.
+/// The offsets of the interrupt controller's registers after the priorities. A peek at `CLAIM` claims nothing.
 const PENDING: u32 = 0x1000;
+
+const ENABLES: u32 = 0x2000;
+
+const THRESHOLD: u32 = 0x20_0000;
 
 const CLAIM: u32 = 0x20_0004;
 
-/// The timer's low words of the time and of what it is compared with.
-const TIME: u32 = 0xbff8;
+/// The offsets of the timer's registers: msip, and both halves of mtimecmp and mtime.
+const TIMER_OFFSETS: [u32; 5] = [0, 0x4000, 0x4004, 0xbff8, 0xbffc];
 
-const COMPARED: u32 = 0x4000;
-
-/// The first byte of the memory, and how many a page has.
-const MEMORY: u32 = 0x8000_0000;
-
-const PAGE_BYTES: u32 = 4096;
+/// The address of the first byte of the memory.
+const RAM_BASE: u32 = 0x8000_0000;
 
 fn same_registers<M: ByteMemory, C: Decoded, N: ByteMemory, D: Decoded>(
     one: &Board<M, C>,
@@ -40,12 +38,19 @@ fn same_registers<M: ByteMemory, C: Decoded, N: ByteMemory, D: Decoded>(
             return false;
         }
     }
-    for csr in CSRS {
-        if one.csr(csr) != other.csr(csr) {
+    one.pc() == other.pc() && one.mode() == other.mode()
+}
+
+fn same_csrs<M: ByteMemory, C: Decoded, N: ByteMemory, D: Decoded>(
+    one: &Board<M, C>,
+    other: &Board<N, D>,
+) -> bool {
+    for addr in 0..CSR_ADDRESSES {
+        if one.csr(addr) != other.csr(addr) {
             return false;
         }
     }
-    one.pc() == other.pc() && one.mode() == other.mode()
+    true
 }
 
 fn same_memory<M: ByteMemory, C: Decoded, N: ByteMemory, D: Decoded>(
@@ -53,7 +58,7 @@ fn same_memory<M: ByteMemory, C: Decoded, N: ByteMemory, D: Decoded>(
     other: &Board<N, D>,
 ) -> bool {
     for offset in 0..PAGE_BYTES {
-        if one.ram(MEMORY + offset) != other.ram(MEMORY + offset) {
+        if one.ram(RAM_BASE + offset) != other.ram(RAM_BASE + offset) {
             return false;
         }
     }
@@ -72,32 +77,61 @@ fn same_traps<M: ByteMemory, C: Decoded, N: ByteMemory, D: Decoded>(
     one.trap_count() == other.trap_count()
 }
 
-fn same_devices<M: ByteMemory, C: Decoded, N: ByteMemory, D: Decoded>(
-    one: &Board<M, C>,
-    other: &Board<N, D>,
-) -> bool {
-    one.plic().peek(PENDING) == other.plic().peek(PENDING)
-        && one.plic().peek(CLAIM) == other.plic().peek(CLAIM)
-        && one.timer().load(TIME) == other.timer().load(TIME)
-        && one.timer().load(COMPARED) == other.timer().load(COMPARED)
-        && one.serial().waiting() == other.serial().waiting()
-        && one.serial().overrun() == other.serial().overrun()
+/// Compares the pending edges and the priority of each source.
+fn same_sources(one: &Plic, other: &Plic) -> bool {
+    for number in 1..32u8 {
+        if let Some(source) = Source::new(number)
+            && one.edges(source) != other.edges(source)
+        {
+            return false;
+        }
+        let priority = 4 * number as u32;
+        if one.peek(priority) != other.peek(priority) {
+            return false;
+        }
+    }
+    true
+}
+
+fn same_plic(one: &Plic, other: &Plic) -> bool {
+    same_sources(one, other)
+        && one.peek(PENDING) == other.peek(PENDING)
+        && one.peek(ENABLES) == other.peek(ENABLES)
+        && one.peek(THRESHOLD) == other.peek(THRESHOLD)
+        && one.peek(CLAIM) == other.peek(CLAIM)
+}
+
+fn same_timer(one: &Timer, other: &Timer) -> bool {
+    for off in TIMER_OFFSETS {
+        if one.load(off) != other.load(off) {
+            return false;
+        }
+    }
+    true
+}
+
+fn same_serial(one: &Serial, other: &Serial) -> bool {
+    one.waiting() == other.waiting()
+        && one.overrun() == other.overrun()
         && one.console() == other.console()
 }
 
-/// Whether two boards are the same in all that they can be read by but the bytes of their memory.
+/// Whether two boards are the same in all that they can be read by except the bytes of their memory.
 pub fn same_but_for_memory<M: ByteMemory, C: Decoded, N: ByteMemory, D: Decoded>(
     one: &Board<M, C>,
     other: &Board<N, D>,
 ) -> bool {
     same_registers(one, other)
+        && same_csrs(one, other)
         && same_traps(one, other)
-        && same_devices(one, other)
+        && same_plic(one.plic(), other.plic())
+        && same_timer(one.timer(), other.timer())
+        && same_serial(one.serial(), other.serial())
         && one.steps() == other.steps()
         && one.halted() == other.halted()
 }
 
-/// Whether two boards of a page are the same in all that they can be read by.
+/// Whether two boards of one page are the same in all that they can be read by.
 pub fn same_everywhere<M: ByteMemory, C: Decoded, N: ByteMemory, D: Decoded>(
     one: &Board<M, C>,
     other: &Board<N, D>,

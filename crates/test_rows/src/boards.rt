@@ -1,26 +1,85 @@
-//! A row's boards: over flat memory without a cache, and over pages with caches of several sizes.
-use crate::look::{append_all, append_devices};
-use crate::row::{Row, behind_mark, number};
+//! The boards of a row: one over flat memory without a cache, and three over pages with caches of several sizes.
+use crate::devices::append_devices;
+use crate::row::{Row, argument, number};
 use rv_asm::{Program, assemble};
 use rv_base::{NoMemory, cut_lines};
 use rv_board::{Board, BootedBoard};
-use rv_cache::{Decoded, NoCache};
+use rv_cache::{DecodeCache, Decoded, NoCache};
+use rv_isa::NoMemory;
 use rv_lists::Timeline;
 use rv_monitor::{Next, Session};
-use rv_ram::{ByteMemory, FlatMemory};
+use rv_ram::{ByteMemory, FlatMemory, PagedRam};
+use rv_tokens::cut_lines;
 use std::alloc::Global;
+use test_compare::same_everywhere;
 
-/// How many steps the row's boards may take.
+const NO_MEMORY: &str = "out of memory\n";
+
+const NO_BOARD: &str = "the board doesn't boot\n";
+
+/// Returns the program of the row's source.
+pub fn program(alloc: Global, row: Row<'_>) -> Result<Program, &'static str> {
+    let source = row.lines_of(alloc, b' ').ok().ok_or(NO_MEMORY)?;
+    let program = assemble(alloc, source.as_slice());
+    program.ok().ok_or("the source is refused\n")
+}
+
+/// Returns the row's timed list.
+fn timeline(alloc: Global, row: Row<'_>) -> Result<Timeline, &'static str> {
+    let timed = row.lines_of(alloc, b'@').ok().ok_or(NO_MEMORY)?;
+    let timeline = Timeline::read(alloc, timed.as_slice());
+    timeline.ok().ok_or("the timed list is refused\n")
+}
+
+/// Returns how many steps the row's boards may take.
 fn limit(row: Row<'_>) -> u64 {
     for line in cut_lines(row.text) {
         if line.first() == Some(&b'=') {
-            return number(behind_mark(line));
+            return number(argument(line));
         }
     }
     0
 }
 
-/// Appends a line, and the answer to what it asks.
+// A function that owns a board drops it at each `?`, which costs proof: so each of these has few of them.
+
+/// Returns a board over a page of flat memory, without a cache.
+fn flat_board(
+    alloc: Global,
+    program: &Program,
+) -> Result<Board<FlatMemory, NoCache>, &'static str> {
+    let memory = FlatMemory::new(alloc, 1).ok().ok_or(NO_MEMORY)?;
+    let board = Board::with_parts(alloc, program, memory, NoCache);
+    board.ok().ok_or(NO_BOARD)
+}
+
+/// Returns a board over a page of paged memory, with a cache of `slots` slots.
+fn paged_board(alloc: Global, program: &Program, slots: u32) -> Result<BootedBoard, &'static str> {
+    let board = BootedBoard::boot(alloc, program, 1, slots);
+    board.ok().ok_or(NO_BOARD)
+}
+
+/// Returns a session of the row over flat memory.
+fn flat_session(alloc: Global, row: Row<'_>) -> Result<Session<FlatMemory, NoCache>, &'static str> {
+    let program = program(alloc, row)?;
+    let timeline = timeline(alloc, row)?;
+    let board = flat_board(alloc, &program)?;
+    Ok(Session::new(alloc, board, timeline, program, limit(row)))
+}
+
+/// Returns a session of the row over pages, with a cache of `slots` slots.
+fn paged_session(
+    alloc: Global,
+    row: Row<'_>,
+    slots: u32,
+) -> Result<Session<PagedRam, DecodeCache>, &'static str> {
+    let program = program(alloc, row)?;
+    let timeline = timeline(alloc, row)?;
+    let board = paged_board(alloc, &program, slots)?;
+    Ok(Session::new(alloc, board, timeline, program, limit(row)))
+}
+
+/// Appends a line of a row with the answer to it, or nothing where the line is an answer itself.
 fn answer_line<M: ByteMemory, C: Decoded>(
     session: &mut Session<M, C>,
     line: &[u8],
@@ -36,7 +95,7 @@ fn answer_line<M: ByteMemory, C: Decoded>(
     text.extend_from_slice(b"\n")?;
     match mark {
         b'>' => {
-            let next = session.command(behind_mark(line), text)?;
+            let next = session.command(argument(line), text)?;
             if next == Next::Quit {
                 text.extend_from_slice(b"no more commands\n")?;
             }
@@ -47,122 +106,71 @@ fn answer_line<M: ByteMemory, C: Decoded>(
     }
 }
 
-/// Appends the row with the answers of a session, and to another text all that its board is read by at the end.
-fn answer_lines<M: ByteMemory, C: Decoded>(
-    session: &mut Session<M, C>,
-    row: Row<'_>,
-    text: &mut Vec<u8>,
-    end: &mut Vec<u8>,
-) -> Result<(), NoMemory> {
-    for line in cut_lines(row.text) {
-        answer_line(session, line, text)?;
-    }
-    append_all(session.board(), end)
-}
-
-/// The program of the row's source.
-pub fn program(alloc: Global, row: Row<'_>) -> Result<Program, &'static str> {
-    let source = row.part(alloc, b' ').ok().ok_or(NO_MEMORY)?;
-    assemble(alloc, source.as_slice())
-        .ok()
-        .ok_or("the source is refused\n")
-}
-
-/// The row's timed list.
-fn timeline(alloc: Global, row: Row<'_>) -> Result<Timeline, &'static str> {
-    let timed = row.part(alloc, b'@').ok().ok_or(NO_MEMORY)?;
-    Timeline::read(alloc, timed.as_slice())
-        .ok()
-        .ok_or("the timed list is refused\n")
-}
-
-const NO_MEMORY: &str = "out of memory\n";
-
-/// What a row's boards answer, and all that they are read by at the end.
-#[derive(Drop)]
-struct Answered {
-    text: Vec<u8>,
-    end: Vec<u8>,
-}
-
-/// The answers of a session.
+/// Returns the row with the answers of a session.
 fn answers<M: ByteMemory, C: Decoded>(
     alloc: Global,
     session: &mut Session<M, C>,
     row: Row<'_>,
-) -> Result<Answered, &'static str> {
+) -> Result<Vec<u8>, NoMemory> {
     let mut text = Vec::new(alloc);
-    let mut end = Vec::new(alloc);
-    answer_lines(session, row, &mut text, &mut end)
-        .ok()
-        .ok_or(NO_MEMORY)?;
-    Ok(Answered { text, end })
+    for line in cut_lines(row.text) {
+        answer_line(session, line, &mut text)?;
+    }
+    Ok(text)
 }
 
-// A function that owns a board lets it go at each `?`, which costs proof: so each of these has few of them.
-
-/// A board over a page of flat memory, without a cache.
-fn flat_board(
-    alloc: Global,
-    program: &Program,
-) -> Result<Board<FlatMemory, NoCache>, &'static str> {
-    let memory = FlatMemory::new(alloc, 1).ok().ok_or(NO_MEMORY)?;
-    let board = Board::with_parts(alloc, program, memory, NoCache);
-    board.ok().ok_or("the board doesn't boot\n")
-}
-
-/// A board over a page of paged memory, with a cache of so many slots.
-fn paged_board(alloc: Global, program: &Program, slots: u32) -> Result<BootedBoard, &'static str> {
-    let board = BootedBoard::boot(alloc, program, 1, slots);
-    board.ok().ok_or("the board doesn't boot\n")
-}
-
-/// The answers of a board in a session with these inputs.
-fn answers_of<M: ByteMemory, C: Decoded>(
+/// Checks that a session gives these answers, and that its board is the same as another at the end.
+fn agrees<M: ByteMemory, C: Decoded, N: ByteMemory, D: Decoded>(
     alloc: Global,
     row: Row<'_>,
-    program: Program,
-    timeline: Timeline,
-    board: Board<M, C>,
-) -> Result<Answered, &'static str> {
-    let mut session = Session::new(alloc, board, timeline, program, limit(row));
-    answers(alloc, &mut session, row)
-}
-
-/// The answers over a page of flat memory, without a cache.
-fn over_flat(alloc: Global, row: Row<'_>) -> Result<Answered, &'static str> {
-    let program = program(alloc, row)?;
-    let timeline = timeline(alloc, row)?;
-    let board = flat_board(alloc, &program)?;
-    answers_of(alloc, row, program, timeline, board)
-}
-
-/// The answers over a page of paged memory, with a cache of so many slots.
-fn over_pages(alloc: Global, row: Row<'_>, slots: u32) -> Result<Answered, &'static str> {
-    let program = program(alloc, row)?;
-    let timeline = timeline(alloc, row)?;
-    let board = paged_board(alloc, &program, slots)?;
-    answers_of(alloc, row, program, timeline, board)
-}
-
-/// What a row's boards answer, or why they don't: they are refused, or are not the same.
-fn agreed(alloc: Global, row: Row<'_>) -> Result<Vec<u8>, &'static str> {
-    let flat = over_flat(alloc, row)?;
-    for slots in [64, 1024, 4096] {
-        let paged = over_pages(alloc, row, slots)?;
-        if paged.text.as_slice() != flat.text.as_slice() {
-            return Err("the boards answer differently\n");
-        }
-        if paged.end.as_slice() != flat.end.as_slice() {
-            return Err("the boards are different at the end\n");
-        }
+    session: &mut Session<M, C>,
+    text: &[u8],
+    board: &Board<N, D>,
+) -> Result<(), &'static str> {
+    let other = answers(alloc, session, row).ok().ok_or(NO_MEMORY)?;
+    if other.as_slice() != text {
+        return Err("the boards answer differently\n");
     }
-    Ok(flat.text)
+    if !same_everywhere(session.board(), board) {
+        return Err("the boards are different at the end\n");
+    }
+    Ok(())
+}
+
+/// Checks the same of a session over pages, with a cache of `slots` slots.
+fn pages_agree(
+    alloc: Global,
+    row: Row<'_>,
+    slots: u32,
+    text: &[u8],
+    board: &Board<FlatMemory, NoCache>,
+) -> Result<(), &'static str> {
+    let mut session = paged_session(alloc, row, slots)?;
+    agrees(alloc, row, &mut session, text, board)
+}
+
+/// Returns the row with the answers of a session over flat memory, where those over pages are the same.
+fn common_answers(
+    alloc: Global,
+    row: Row<'_>,
+    session: &mut Session<FlatMemory, NoCache>,
+) -> Result<Vec<u8>, &'static str> {
+    let text = answers(alloc, session, row).ok().ok_or(NO_MEMORY)?;
+    for slots in [64, 1024, 4096] {
+        pages_agree(alloc, row, slots, text.as_slice(), session.board())?;
+    }
+    Ok(text)
+}
+
+/// Returns the row with the answers of its boards, or why there are none.
+fn answered(alloc: Global, row: Row<'_>) -> Result<Vec<u8>, &'static str> {
+    let mut session = flat_session(alloc, row)?;
+    common_answers(alloc, row, &mut session)
 }
 
 /// Appends the row with the answers of its boards, or why there are none.
 pub fn answer(alloc: Global, row: Row<'_>, text: &mut Vec<u8>) -> Result<(), NoMemory> {
-    match agreed(alloc, row) {
+    match answered(alloc, row) {
         Ok(answers) => text.extend_from_slice(answers.as_slice())?,
         Err(why) => text.extend_from_slice(why.as_bytes())?,
     }

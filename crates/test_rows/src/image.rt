@@ -1,54 +1,60 @@
-//! A row's image and names.
+//! The image of a row, and its names.
 use crate::boards::program;
-use crate::row::{Row, behind_mark, number};
+use crate::row::{Row, argument, number};
 use rv_asm::Program;
-use rv_base::{NoMemory, byte_digits, cut_lines, word_digits};
+use rv_base::{NoMemory, cut_lines};
+use rv_monitor::{eight_digits, two_digits};
 use std::alloc::Global;
 
-/// The address of an image's first byte.
-const IMAGE: u32 = 0x8000_0000;
+/// The address of the first byte of an image.
+const RAM_BASE: u32 = 0x8000_0000;
 
-/// Appends some bytes as one number, low byte first.
+/// Appends bytes as one number, of which the first byte is the lowest.
 fn append_group(group: &[u8], text: &mut Vec<u8>) -> Result<(), NoMemory> {
     text.extend_from_slice(b" ")?;
     for byte in group.iter().rev() {
-        text.extend_from_slice(&byte_digits(*byte))?;
+        text.extend_from_slice(&two_digits(*byte))?;
     }
     Ok(())
 }
 
-/// Appends a line of bytes, so many as one number.
-fn append_line(address: u32, bytes: &[u8], by: usize, text: &mut Vec<u8>) -> Result<(), NoMemory> {
-    text.extend_from_slice(&word_digits(address))?;
+/// Appends a line of bytes with their address, `size` of them as one number.
+fn append_line(
+    address: u32,
+    bytes: &[u8],
+    size: usize,
+    text: &mut Vec<u8>,
+) -> Result<(), NoMemory> {
+    text.extend_from_slice(&eight_digits(address))?;
     text.extend_from_slice(b":")?;
-    for group in bytes.chunks(by.max(1)) {
+    for group in bytes.chunks(size.max(1)) {
         append_group(group, text)?;
     }
     text.extend_from_slice(b"\n")?;
     Ok(())
 }
 
-/// Appends how many bytes an image has, and then all of them, so many as one number, if they are to be shown.
+/// Appends the size of an image, and then all its bytes, `size` of them as one number; none where `size` is 0.
 fn append_image(
     alloc: Global,
     bytes: &[u8],
-    by: usize,
+    size: usize,
     text: &mut Vec<u8>,
 ) -> Result<(), NoMemory> {
-    let size = format!(in alloc; "{} bytes\n", bytes.len())?;
-    text.extend_from_slice(size.as_bytes())?;
-    if by == 0 {
+    let total = format!(in alloc; "{} bytes\n", bytes.len())?;
+    text.extend_from_slice(total.as_bytes())?;
+    if size == 0 {
         return Ok(());
     }
-    let mut address = IMAGE;
+    let mut address = RAM_BASE;
     for line in bytes.chunks(16) {
-        append_line(address, line, by, text)?;
+        append_line(address, line, size, text)?;
         address = address.wrapping_add(16);
     }
     Ok(())
 }
 
-/// Appends what a name stands for.
+/// Appends the value of a name, or that there is no such name.
 fn append_value(alloc: Global, value: Option<i64>, text: &mut Vec<u8>) -> Result<(), NoMemory> {
     match value {
         Some(value) => {
@@ -60,7 +66,7 @@ fn append_value(alloc: Global, value: Option<i64>, text: &mut Vec<u8>) -> Result
     Ok(())
 }
 
-/// Appends a line, and the answer to what it asks.
+/// Appends a line of a row with the answer to it, or nothing where the line is an answer itself.
 fn answer_line(
     alloc: Global,
     program: &Program,
@@ -77,15 +83,15 @@ fn answer_line(
     text.extend_from_slice(b"\n")?;
     match mark {
         b'%' => {
-            let by = usize::try_from(number(behind_mark(line))).unwrap_or(0);
-            append_image(alloc, program.bytes(), by, text)
+            let size = usize::try_from(number(argument(line))).unwrap_or(0);
+            append_image(alloc, program.bytes(), size, text)
         }
-        b'&' => append_value(alloc, program.symbol(behind_mark(line)), text),
+        b'&' => append_value(alloc, program.symbol(argument(line)), text),
         _ => Ok(()),
     }
 }
 
-/// Appends the row with the answers of its program, or why there is none.
+/// Appends the row with the answers of its program, or why there is no program.
 pub fn answer(alloc: Global, row: Row<'_>, text: &mut Vec<u8>) -> Result<(), NoMemory> {
     let program = match program(alloc, row) {
         Ok(program) => program,

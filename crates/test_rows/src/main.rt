@@ -1,71 +1,70 @@
-//! Rows of a text: small programs with timed inputs and commands, and what their boards and whole runs answer.
+//! Rows: small sources with timed inputs and commands, and what boards and whole runs have to answer to them.
 //!
-//! Standard input has the rows, and standard output has them again, each line that asks for something with its answer
-//! behind it. What stands between the lines that ask is left out, so the file `stdout` serves as the input too: it is
-//! the rows with the answers that they must have. What begins a line says what it is:
+//! Each argument names a file of rows; those in `data/` hold them by topic. The program answers each row anew and
+//! compares: it prints the first line of each row that is answered differently, and counts the rows.
 //!
-//! - `# `: a row, and its title
-//! - two blanks: a line of its source
-//! - `@ `: a line of its timed list
-//! - `: `: a line of the commands of its whole run
-//! - `= N`: its boards may take N steps, in all
-//! - `> `: a command to its boards, which are the same over flat memory without a cache and over pages with 64, 1024 and
-//!   4096 slots: whatever they are asked and read by
-//! - `! devices`: what its boards' devices hold
-//! - `% N`: how many bytes its image has, and all of them, N as one number, or none where N is 0
-//! - `& NAME`: what the name stands for
-//! - `$ STEPS PAGES SLOTS`: a whole run with these options, which is answered with what it prints, its fault's line and
-//!   its status
+//! A blank line separates two rows. The first byte of a line says what it is:
+//!
+//! - `# `: the title, with which a row begins
+//! - two blanks: a line of the source
+//! - `@ `: a line of the timed list
+//! - `: `: a line of the commands of a whole run
+//! - `= N`: the boards may take N steps in all
+//! - `> `: a command to the boards: one over flat memory without a cache, and three over pages with 64, 1024 and 4096
+//!   slots. They have to answer the same, and to be the same at the end
+//! - `! devices`: asks what the devices of the boards hold
+//! - `% N`: asks for the size of the image, and for its bytes as numbers of N bytes each; N is 0 for the size alone
+//! - `& NAME`: asks for the value of a name
+//! - `$ STEPS PAGES SLOTS`: asks for a whole run with these options: what it prints, the line of its fault, its status
+//!
+//! The answer follows the line that asks.
 #![tactic(auto)]
 
 mod boards;
+mod check;
+mod devices;
 mod image;
-mod look;
+mod report;
 mod row;
-mod whole;
+mod runs;
 
-use crate::row::Row;
-use rv_base::NoMemory;
-use std::alloc::Global;
-use std::io::{Read, Write};
+use crate::check::check_rows;
+use crate::report::{Count, append_count, append_unread};
+use std::alloc::AllocError;
+use std::io::{self, Write};
 use std::process::ExitCode;
+use std::{env, fs};
 
-/// The rows again, with their answers.
-fn all_answers(alloc: Global, rows: &[u8]) -> Result<Vec<u8>, NoMemory> {
-    let mut text = Vec::new(alloc);
-    let mut rest = rows;
-    for _ in 0..rows.len() {
-        let Some((row, behind)) = row::first_row(rest) else {
-            return Ok(text);
-        };
-        answer(alloc, Row { text: row }, &mut text)?;
-        text.extend_from_slice(b"\n")?;
-        rest = behind;
-    }
-    Ok(text)
+/// Checks the rows of a file, and appends those that are answered differently and a count.
+fn check_file(rt: &HostRuntime, name: &str, report: &mut Vec<u8>) -> io::Result<Count> {
+    let Ok(text) = fs::read(rt, name) else {
+        append_unread(name, report)?;
+        return Ok(Count::UNREAD);
+    };
+    let count = check_rows(rt.alloc(), name, text.as_slice(), report);
+    let count = count.map_err(|_| AllocError)?;
+    append_count(rt.alloc(), name, count, report)?;
+    Ok(count)
 }
 
-/// Appends a row with its answers.
-fn answer(alloc: Global, row: Row<'_>, text: &mut Vec<u8>) -> Result<(), NoMemory> {
-    if row.has(b'=') {
-        boards::answer(alloc, row, text)
-    } else if row.has(b'%') {
-        image::answer(alloc, row, text)
-    } else {
-        whole::answer(alloc, row, text)
+/// Checks the files that the arguments name, and prints the report. Returns whether each row is answered as it says.
+fn check_files(rt: &HostRuntime) -> io::Result<bool> {
+    let words: Vec<String> = env::args(rt)?.collect(rt.alloc())?;
+    let mut report = Vec::new(rt.alloc());
+    let mut all = Count::NONE;
+    for name in words.iter().skip(1) {
+        let count = check_file(rt, name.as_str(), &mut report)?;
+        all = all.plus(count);
     }
+    append_count(rt.alloc(), "all", all, &mut report)?;
+    rt.stdout().write_all(report.as_slice())?;
+    Ok(all.differing == 0)
 }
 
 fn main(rt: HostRuntime) -> ExitCode {
-    let mut rows = Vec::new(rt.alloc());
-    if rt.stdin().read_to_end(&mut rows).is_err() {
-        return ExitCode::from(2);
+    match check_files(&rt) {
+        Ok(true) => ExitCode::SUCCESS,
+        Ok(false) => ExitCode::from(1),
+        Err(_) => ExitCode::from(2),
     }
-    let Ok(text) = all_answers(rt.alloc(), rows.as_slice()) else {
-        return ExitCode::from(3);
-    };
-    if rt.stdout().write_all(text.as_slice()).is_err() {
-        return ExitCode::from(4);
-    }
-    ExitCode::SUCCESS
 }

@@ -2,32 +2,29 @@
 use rv_base::{NoMemory, cut_lines};
 use std::alloc::Global;
 
-/// The text of a row.
+/// The text of a row: its title, what it asks, and the answers.
 #[derive(Clone, Copy)]
 pub struct Row<'a> {
     pub text: &'a [u8],
 }
 
-/// The first row of a text and what is behind it, where there is a row.
-pub fn first_row(text: &[u8]) -> Option<(&[u8], &[u8])> {
-    let (_, rest) = text.split_first()?;
-    let more = rest.windows(2).position(|pair| pair == b"\n#".as_slice());
-    let end = match more {
-        Some(before) => before.saturating_add(2).min(text.len()),
-        None => text.len(),
-    };
-    Some(text.split_at(end))
+/// Returns the first row of a text and what follows the blank line after it, or none of an empty text.
+pub fn first_row(text: &[u8]) -> Option<(Row<'_>, &[u8])> {
+    text.first()?;
+    let border = text
+        .windows(4)
+        .position(|bytes| bytes == b"\n\n# ".as_slice());
+    let end = border.map_or(text.len(), |before| before.saturating_add(1));
+    let (row, following) = text.split_at(end.min(text.len()));
+    Some((Row { text: row }, following.get(1..).unwrap_or(b"")))
 }
 
-/// What stands behind a line's mark and the blank behind that.
-pub fn behind_mark(line: &[u8]) -> &[u8] {
-    match line {
-        [_, _, rest @ ..] => rest,
-        _ => b"",
-    }
+/// Returns what stands in a line after its first byte and the blank that follows it.
+pub fn argument(line: &[u8]) -> &[u8] {
+    line.get(2..).unwrap_or(b"")
 }
 
-/// A decimal number.
+/// Returns the value of decimal digits, modulo 2^64. Other bytes count for nothing.
 pub fn number(digits: &[u8]) -> u64 {
     let mut value: u64 = 0;
     for digit in digits {
@@ -39,22 +36,17 @@ pub fn number(digits: &[u8]) -> u64 {
 }
 
 impl<'a> Row<'a> {
-    /// Whether a line of the row has this mark.
+    /// Whether a line of the row begins with this byte.
     pub fn has(self, mark: u8) -> bool {
-        for line in cut_lines(self.text) {
-            if line.first() == Some(&mark) {
-                return true;
-            }
-        }
-        false
+        cut_lines(self.text).any(|line| line.first() == Some(&mark))
     }
 
-    /// The lines with this mark, without it.
-    pub fn part(self, alloc: Global, mark: u8) -> Result<Vec<u8>, NoMemory> {
+    /// Returns the arguments of the lines that begin with this byte, a line each.
+    pub fn lines_of(self, alloc: Global, mark: u8) -> Result<Vec<u8>, NoMemory> {
         let mut part = Vec::new(alloc);
         for line in cut_lines(self.text) {
             if line.first() == Some(&mark) {
-                part.extend_from_slice(behind_mark(line))?;
+                part.extend_from_slice(argument(line))?;
                 part.extend_from_slice(b"\n")?;
             }
         }

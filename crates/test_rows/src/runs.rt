@@ -1,14 +1,13 @@
-//! Whole runs of a row's texts, as the program `rvboard` does them.
+//! Whole runs of the texts of a row, as the program `rvboard` does them.
 ghost use Rattle.rv_texts.specs.Readers.{IsSoundIf};
 
-use crate::row::{Row, behind_mark, number};
-use rv_base::{NoMemory, cut_lines};
+use crate::row::{Row, argument, number};
 use rv_cli::{
     CliFault, Ending, MemoryIn, MemoryOut, Options, TextOut, exit_status, fault_line, run_text,
 };
 use std::alloc::Global;
 
-/// The options of three numbers: the most steps, the pages of memory and the slots of the cache.
+/// Returns the options of three numbers: the most steps, the pages of memory and the slots of the cache.
 fn options(numbers: &[u8]) -> Options {
     let mut all = numbers.split(|byte| *byte == b' ').map(number);
     Options {
@@ -18,17 +17,14 @@ fn options(numbers: &[u8]) -> Options {
     }
 }
 
-/// A reader of commands over memory, where there are any.
+/// Returns a reader of the commands, where there are any.
 fn commands_in(commands: Option<&[u8]>) -> Option<MemoryIn<'_>>
     ensures { IsSoundIf (λ m. m.has_failed) result }
 {
-    match commands {
-        Some(text) => Some(MemoryIn::new(text)),
-        None => None,
-    }
+    commands.map(MemoryIn::new)
 }
 
-/// What a run of texts ended with and wrote.
+/// Runs texts, and returns how the run ended and what it wrote.
 fn run_texts(
     alloc: Global,
     source: &[u8],
@@ -51,21 +47,17 @@ fn run_texts(
     (outcome, out)
 }
 
-/// Appends what a run of the row's texts prints, its fault's line and its status.
+/// Appends what a run of the row's texts prints, the line of its fault, and its status.
 fn append_run(
     alloc: Global,
     row: Row<'_>,
     options: Options,
     text: &mut Vec<u8>,
 ) -> Result<(), NoMemory> {
-    let source = row.part(alloc, b' ')?;
-    let inputs = row.part(alloc, b'@')?;
-    let commands = row.part(alloc, b':')?;
-    let given = if row.has(b':') {
-        Some(commands.as_slice())
-    } else {
-        None
-    };
+    let source = row.lines_of(alloc, b' ')?;
+    let inputs = row.lines_of(alloc, b'@')?;
+    let commands = row.lines_of(alloc, b':')?;
+    let given = row.has(b':').then_some(commands.as_slice());
     let (outcome, out) = run_texts(alloc, source.as_slice(), inputs.as_slice(), given, options);
     text.extend_from_slice(out.bytes())?;
     if let Err(fault) = &outcome {
@@ -76,7 +68,7 @@ fn append_run(
     Ok(())
 }
 
-/// Appends a line, and the answer to what it asks.
+/// Appends a line of a row with the answer to it, or nothing where the line is an answer itself.
 fn answer_line(
     alloc: Global,
     row: Row<'_>,
@@ -94,7 +86,7 @@ fn answer_line(
     if mark != b'$' {
         return Ok(());
     }
-    append_run(alloc, row, options(behind_mark(line)), text)
+    append_run(alloc, row, options(argument(line)), text)
 }
 
 /// Appends the row with the answers of its whole runs.

@@ -1,0 +1,58 @@
+//! Rows and the answers that they must have.
+use crate::report::{Count, append_difference};
+use crate::row::{Row, first_row};
+use crate::{boards, image, runs};
+use rv_isa::NoMemory;
+use std::alloc::Global;
+
+/// Appends a row with its answers, or why there are none.
+fn answer(alloc: Global, row: Row<'_>, text: &mut Vec<u8>) -> Result<(), NoMemory> {
+    if row.has(b'=') {
+        boards::answer(alloc, row, text)
+    } else if row.has(b'%') {
+        image::answer(alloc, row, text)
+    } else if row.has(b'$') {
+        runs::answer(alloc, row, text)
+    } else {
+        text.extend_from_slice(b"the row asks nothing\n")?;
+        Ok(())
+    }
+}
+
+/// Answers a row, and appends the first difference where it has to be answered otherwise.
+fn check_row(
+    alloc: Global,
+    name: &str,
+    row: Row<'_>,
+    report: &mut Vec<u8>,
+) -> Result<Count, NoMemory> {
+    let mut text = Vec::new(alloc);
+    answer(alloc, row, &mut text)?;
+    let differs = text.as_slice() != row.text;
+    if differs {
+        append_difference(name, row, text.as_slice(), report)?;
+    }
+    Ok(Count {
+        rows: 1,
+        differing: differs as usize,
+    })
+}
+
+/// Answers each row of a file, appends those that have to be answered otherwise, and returns how many there are.
+pub fn check_rows(
+    alloc: Global,
+    name: &str,
+    text: &[u8],
+    report: &mut Vec<u8>,
+) -> Result<Count, NoMemory> {
+    let mut count = Count::NONE;
+    let mut rest = text;
+    for _ in 0..text.len() {
+        let Some((row, following)) = first_row(rest) else {
+            return Ok(count);
+        };
+        count = count.plus(check_row(alloc, name, row, report)?);
+        rest = following;
+    }
+    Ok(count)
+}

@@ -1,0 +1,49 @@
+//! What the devices of a board hold, as a line of text.
+use rv_board::Board;
+use rv_cache::Decoded;
+use rv_isa::NoMemory;
+use rv_monitor::{eight_digits, two_digits};
+use rv_ram::ByteMemory;
+
+/// The offsets of two registers of the interrupt controller, at which a peek changes nothing: the pending sources, and
+/// the source that a claim would get.
+const PENDING: u32 = 0x1000;
+
+const CLAIM: u32 = 0x20_0004;
+
+/// The offsets of the low words of the timer's mtime and mtimecmp.
+const MTIME: u32 = 0xbff8;
+
+const MTIMECMP: u32 = 0x4000;
+
+/// Appends a name and a number.
+fn append_number(name: &[u8], number: u32, text: &mut Vec<u8>) -> Result<(), NoMemory> {
+    text.extend_from_slice(name)?;
+    text.extend_from_slice(b"=")?;
+    text.extend_from_slice(&eight_digits(number))?;
+    Ok(())
+}
+
+/// Appends a line of what the devices hold: how many received bytes are in the queue, whether one was lost, the pending
+/// sources, the source that a claim would get, the time, the time that it is compared with, and the bytes that were sent.
+pub fn append_devices<M: ByteMemory, C: Decoded>(
+    board: &Board<M, C>,
+    text: &mut Vec<u8>,
+) -> Result<(), NoMemory> {
+    append_number(b"waiting", board.serial().waiting() as u32, text)?;
+    append_number(b" lost", board.serial().overrun() as u32, text)?;
+    append_number(b" pending", board.plic().peek(PENDING), text)?;
+    append_number(b" claim", board.plic().peek(CLAIM), text)?;
+    append_number(b" time", board.timer().load(MTIME).unwrap_or(0), text)?;
+    append_number(
+        b" compared",
+        board.timer().load(MTIMECMP).unwrap_or(0),
+        text,
+    )?;
+    text.extend_from_slice(b" sent=")?;
+    for byte in board.console() {
+        text.extend_from_slice(&two_digits(*byte))?;
+    }
+    text.extend_from_slice(b"\n")?;
+    Ok(())
+}
