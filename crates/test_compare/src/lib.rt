@@ -2,6 +2,7 @@
 //! boards does it by these functions.
 #![tactic(auto)]
 
+use rv_base::RAM_BASE;
 use rv_board::Board;
 use rv_cache::Decoded;
 use rv_isa::Reg;
@@ -23,9 +24,6 @@ const CLAIM: u32 = 0x20_0004;
 
 /// The offsets of the timer's registers: msip, and both halves of mtimecmp and mtime.
 const TIMER_OFFSETS: [u32; 5] = [0, 0x4000, 0x4004, 0xbff8, 0xbffc];
-
-/// The address of the first byte of the memory.
-const RAM_BASE: u32 = 0x8000_0000;
 
 fn same_registers<M: ByteMemory, C: Decoded, N: ByteMemory, D: Decoded>(
     one: &Board<M, C>,

@@ -1,8 +1,8 @@
 //! What the devices of a board hold, as a line of text.
+use rv_base::{byte_digits, word_digits};
 use rv_board::Board;
 use rv_cache::Decoded;
 use rv_isa::NoMemory;
-use rv_monitor::{eight_digits, two_digits};
 use rv_ram::ByteMemory;
 
 /// The offsets of two registers of the interrupt controller, at which a peek changes nothing: the pending sources, and
@@ -20,7 +20,7 @@ const MTIMECMP: u32 = 0x4000;
 fn append_number(name: &[u8], number: u32, text: &mut Vec<u8>) -> Result<(), NoMemory> {
     text.extend_from_slice(name)?;
     text.extend_from_slice(b"=")?;
-    text.extend_from_slice(&eight_digits(number))?;
+    text.extend_from_slice(&word_digits(number))?;
     Ok(())
 }
 
@@ -42,7 +42,7 @@ pub fn append_devices<M: ByteMemory, C: Decoded>(
     )?;
     text.extend_from_slice(b" sent=")?;
     for byte in board.console() {
-        text.extend_from_slice(&two_digits(*byte))?;
+        text.extend_from_slice(&byte_digits(*byte))?;
     }
     text.extend_from_slice(b"\n")?;
     Ok(())

@@ -2,18 +2,16 @@
 use crate::boards::program;
 use crate::row::{Row, argument, number};
 use rv_asm::Program;
-use rv_base::{NoMemory, cut_lines};
-use rv_monitor::{eight_digits, two_digits};
+use rv_base::{RAM_BASE, byte_digits, word_digits};
+use rv_isa::NoMemory;
+use rv_tokens::cut_lines;
 use std::alloc::Global;
-
-/// The address of the first byte of an image.
-const RAM_BASE: u32 = 0x8000_0000;
 
 /// Appends bytes as one number, of which the first byte is the lowest.
 fn append_group(group: &[u8], text: &mut Vec<u8>) -> Result<(), NoMemory> {
     text.extend_from_slice(b" ")?;
     for byte in group.iter().rev() {
-        text.extend_from_slice(&two_digits(*byte))?;
+        text.extend_from_slice(&byte_digits(*byte))?;
     }
     Ok(())
 }
@@ -25,7 +23,7 @@ fn append_line(
     size: usize,
     text: &mut Vec<u8>,
 ) -> Result<(), NoMemory> {
-    text.extend_from_slice(&eight_digits(address))?;
+    text.extend_from_slice(&word_digits(address))?;
     text.extend_from_slice(b":")?;
     for group in bytes.chunks(size.max(1)) {
         append_group(group, text)?;

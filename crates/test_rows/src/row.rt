@@ -1,5 +1,7 @@
 //! Rows and their lines.
-use rv_base::{NoMemory, cut_lines};
+use rv_base::decimal;
+use rv_isa::NoMemory;
+use rv_tokens::cut_lines;
 use std::alloc::Global;
 
 /// The text of a row: its title, what it asks, and the answers.
@@ -24,15 +26,9 @@ pub fn argument(line: &[u8]) -> &[u8] {
     line.get(2..).unwrap_or(b"")
 }
 
-/// Returns the value of decimal digits, modulo 2^64. Other bytes count for nothing.
+/// Returns the value of up to ten decimal digits, or 0 for any other text.
 pub fn number(digits: &[u8]) -> u64 {
-    let mut value: u64 = 0;
-    for digit in digits {
-        if digit.is_ascii_digit() {
-            value = value.wrapping_mul(10).wrapping_add((*digit & 15) as u64);
-        }
-    }
-    value
+    decimal(9_999_999_999, digits).unwrap_or(0)
 }
 
 impl<'a> Row<'a> {
