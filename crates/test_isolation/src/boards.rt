@@ -1,71 +1,64 @@
-//! Boards with user code.
+//! Boards with user code, and checks of them.
 use rv_asm::assemble;
-use rv_board::{BootedBoard, Event};
+use rv_board::{BootedBoard, Event, TrapRecord};
 use rv_plic::Source;
 use rv_pmp::Mode;
 use std::alloc::Global;
 
-/// What a board is compared by where it is wrong, or why there is none.
+/// A value, or what was wrong.
 pub type Checked<T> = Result<T, &'static str>;
 
-/// A board of one page, which holds this source's image.
-pub fn booted(alloc: Global, source: &[u8]) -> Checked<BootedBoard> {
+/// Boots a board of one page with the image of a source.
+pub fn boot(alloc: Global, source: &[u8]) -> Checked<BootedBoard> {
     let program = assemble(alloc, source).ok().ok_or("the source is refused")?;
     let board = BootedBoard::boot(alloc, &program, 1, 1024);
     board.ok().ok_or("the board doesn't boot")
 }
 
-/// Events, none of which is refused.
+/// Runs events, none of which may be refused.
 pub fn run(board: &mut BootedBoard, events: &[Event]) -> Checked<()> {
     board.run(events).ok().ok_or("memory is refused")
 }
 
-/// How many of user code's events were done, none of which is refused.
+/// Runs events while user code runs, none of which may be refused, and returns how many were done.
 pub fn run_user(board: &mut BootedBoard, events: &[Event]) -> Checked<usize> {
     board.run_user(events).ok().ok_or("memory is refused")
 }
 
-/// The board of a source in the first step of its user code.
-pub fn in_user_mode(alloc: Global, source: &[u8]) -> Checked<BootedBoard> {
-    let mut board = booted(alloc, source)?;
+/// Boots a board with the image of a source, and runs it up to the first step of user code.
+pub fn boot_to_user_code(alloc: Global, source: &[u8]) -> Checked<BootedBoard> {
+    let mut board = boot(alloc, source)?;
     for _ in 0..64 {
         if board.mode() == Mode::User {
             return Ok(board);
         }
         run(&mut board, &[Event::Step])?;
     }
-    Err("no user code")
+    Err("no user code is reached")
 }
 
-/// The line of a source rises or falls.
-pub fn line(number: u8, high: bool) -> Checked<Event> {
-    let source = Source::new(number).ok_or("no source")?;
+/// Returns the event that the line of a source rises or falls.
+pub fn line_event(number: u8, high: bool) -> Checked<Event> {
+    let source = Source::new(number).ok_or("there is no such source")?;
     Ok(Event::Line { source, high })
 }
 
-/// What has to hold.
-pub fn holds(is: bool, what: &'static str) -> Checked<()> {
-    if is { Ok(()) } else { Err(what) }
+/// Checks that something holds; `what` names it where it doesn't.
+pub fn check(holds: bool, what: &'static str) -> Checked<()> {
+    if holds { Ok(()) } else { Err(what) }
 }
 
-/// Whether the last trap is this one.
+/// Returns the last trap.
+fn last_trap(board: &BootedBoard) -> Option<TrapRecord> {
+    board.trap(board.trap_count().checked_sub(1)?)
+}
+
+/// Whether the last trap has this cause, address and value.
 pub fn last_trap_is(board: &BootedBoard, cause: u32, epc: u32, tval: u32) -> bool {
-    let Some(last) = board.trap_count().checked_sub(1) else {
-        return false;
-    };
-    match board.trap(last) {
-        Some(trap) => trap.cause == cause && trap.epc == epc && trap.tval == tval,
-        None => false,
-    }
+    last_trap(board) == Some(TrapRecord { cause, epc, tval })
 }
 
 /// Whether the last trap has this cause.
 pub fn last_cause_is(board: &BootedBoard, cause: u32) -> bool {
-    let Some(last) = board.trap_count().checked_sub(1) else {
-        return false;
-    };
-    match board.trap(last) {
-        Some(trap) => trap.cause == cause,
-        None => false,
-    }
+    last_trap(board).is_some_and(|trap| trap.cause == cause)
 }

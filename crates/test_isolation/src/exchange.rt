@@ -1,46 +1,46 @@
-//! Outside events that change places, and two that may not.
-use crate::boards::{Checked, booted, holds, line, run};
+//! Outside events in both orders: some may be exchanged, and levels of one source may not.
+use crate::boards::{Checked, boot, check, line_event, run};
 use rv_board::{BootedBoard, Event};
 use std::alloc::Global;
 use test_compare::same_everywhere;
 
-/// The interrupt controller's pending sources.
+/// The offset of the pending sources in the interrupt controller.
 const PENDING: u32 = 0x1000;
 
-/// The board of a loop after these two events and a step.
-fn after(alloc: Global, first: Event, second: Event) -> Checked<BootedBoard> {
-    let mut board = booted(alloc, b"j .")?;
+/// Boots a loop, and runs two events and a step.
+fn board_after(alloc: Global, first: Event, second: Event) -> Checked<BootedBoard> {
+    let mut board = boot(alloc, b"j .")?;
     run(&mut board, &[first, second, Event::Step])?;
     Ok(board)
 }
 
-/// These events leave the same board as this one.
-fn leave(alloc: Global, first: Event, second: Event, one: &BootedBoard) -> Checked<()> {
-    let other = after(alloc, first, second)?;
-    holds(same_everywhere(one, &other), "a line and a byte")
+/// Checks that two events leave the same board as this one.
+fn check_order(alloc: Global, first: Event, second: Event, one: &BootedBoard) -> Checked<()> {
+    let other = board_after(alloc, first, second)?;
+    check(same_everywhere(one, &other), "a line and a byte")
 }
 
-/// A board whose line rose before its byte came is that of the other order.
-fn is_as_in_the_other_order(alloc: Global, one: &BootedBoard) -> Checked<()> {
-    holds(one.plic().peek(PENDING) == 0x10, "a line and a byte")?;
-    leave(alloc, Event::Rx(65), line(4, true)?, one)
+/// Checks that a board whose line rose before its byte came is the same in the other order.
+fn check_other_order(alloc: Global, one: &BootedBoard) -> Checked<()> {
+    check(one.plic().peek(PENDING) == 0x10, "a line and a byte")?;
+    check_order(alloc, Event::Rx(65), line_event(4, true)?, one)
 }
 
-/// A line and a byte come in either order.
-pub fn a_line_and_a_byte_change_places(alloc: Global) -> Checked<()> {
-    let one = after(alloc, line(4, true)?, Event::Rx(65))?;
-    is_as_in_the_other_order(alloc, &one)
+/// Checks that a line and a byte may come in either order.
+pub fn check_line_and_byte(alloc: Global) -> Checked<()> {
+    let one = board_after(alloc, line_event(4, true)?, Event::Rx(65))?;
+    check_other_order(alloc, &one)
 }
 
-/// Behind these levels of a line and a step these sources are pending.
-fn levels_leave(alloc: Global, first: bool, second: bool, sources: u32) -> Checked<()> {
-    let (first, second) = (line(4, first)?, line(4, second)?);
-    let board = after(alloc, first, second)?;
-    holds(board.plic().peek(PENDING) == sources, "levels of one line")
+/// Checks that these sources are pending after two levels of a line and a step.
+fn check_levels(alloc: Global, first: bool, second: bool, sources: u32) -> Checked<()> {
+    let (first, second) = (line_event(4, first)?, line_event(4, second)?);
+    let board = board_after(alloc, first, second)?;
+    check(board.plic().peek(PENDING) == sources, "levels of one line")
 }
 
-/// The last level of a line stays.
-pub fn levels_of_one_source_do_not(alloc: Global) -> Checked<()> {
-    levels_leave(alloc, true, false, 0)?;
-    levels_leave(alloc, false, true, 0x10)
+/// Checks that the last of two levels of a line stays.
+pub fn check_levels_of_one_source(alloc: Global) -> Checked<()> {
+    check_levels(alloc, true, false, 0)?;
+    check_levels(alloc, false, true, 0x10)
 }

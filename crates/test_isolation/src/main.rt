@@ -1,6 +1,7 @@
-//! User code: what it runs, what it can't change, what it can't learn; and outside events that change places.
+//! Runs user code and outside events, and checks by example what docs/ISOLATION.md promises: what user code can't change
+//! and can't learn, and which outside events may be exchanged.
 //!
-//! It prints what is not as it has to be, or that all is as defined.
+//! The program prints the first check that fails, or that all is as defined.
 #![tactic(auto)]
 
 mod boards;
@@ -13,25 +14,25 @@ use std::alloc::Global;
 use std::io::Write;
 use std::process::ExitCode;
 
-/// All that is tried.
-fn all(alloc: Global) -> Checked<()> {
-    runs::a_trap_ends_it(alloc)?;
-    runs::outside_events_are_counted(alloc)?;
-    runs::nothing_is_done(alloc)?;
-    secrets::a_secret_word_is_not_loaded(alloc)?;
-    secrets::without_an_entry_nothing_is_run(alloc)?;
-    secrets::borders_tell_nothing(alloc)?;
-    exchange::a_line_and_a_byte_change_places(alloc)?;
-    exchange::levels_of_one_source_do_not(alloc)
+/// Does all checks.
+fn check_all(alloc: Global) -> Checked<()> {
+    runs::check_trap_ends_run(alloc)?;
+    runs::check_outside_events_count(alloc)?;
+    runs::check_nothing_is_done(alloc)?;
+    secrets::check_secret_word(alloc)?;
+    secrets::check_no_entry(alloc)?;
+    secrets::check_borders(alloc)?;
+    exchange::check_line_and_byte(alloc)?;
+    exchange::check_levels_of_one_source(alloc)
 }
 
 fn main(rt: HostRuntime) -> ExitCode {
-    let line = match all(rt.alloc()) {
+    let result = match check_all(rt.alloc()) {
         Ok(()) => "as defined",
         Err(what) => what,
     };
     let mut out = rt.stdout();
-    let _ = out.write_all(line.as_bytes());
+    let _ = out.write_all(result.as_bytes());
     let _ = out.write_all(b"\n");
     ExitCode::SUCCESS
 }
