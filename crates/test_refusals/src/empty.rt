@@ -3,18 +3,18 @@ use rv_asm::{FaultKind, Program, assemble};
 use rv_board::{BootFault, BootedBoard};
 use std::alloc::Global;
 
-/// Whether the last byte of 4096 pages reads 0, and behind it there is no memory.
-fn ends_right(alloc: Global, program: &Program) -> bool {
+/// Whether the last byte of 4096 pages reads 0 and no memory follows it, or memory ran out.
+fn boots_right(alloc: Global, program: &Program) -> bool {
     match BootedBoard::boot(alloc, program, 4096, 64) {
         Ok(board) => board.ram(0x80ff_ffff) == Some(0) && board.ram(0x8100_0000).is_none(),
         Err(fault) => fault == BootFault::OutOfMemory,
     }
 }
 
-/// Whether the source is assembled and boots, or wants memory.
+/// Whether the source is assembled and boots, or memory ran out.
 pub fn answers_right(alloc: Global) -> bool {
     match assemble(alloc, b"") {
-        Ok(program) => ends_right(alloc, &program),
+        Ok(program) => boots_right(alloc, &program),
         Err(fault) => fault.line == 0 && fault.kind == FaultKind::OutOfMemory,
     }
 }

@@ -4,17 +4,19 @@ use rv_board::{BootFault, BootedBoard, Event, TrapRecord};
 use std::alloc::Global;
 use test_compare::same_everywhere;
 
+/// A source whose user code stores one byte where it may, and one where it may not.
 const GUARDED: &[u8] =
     b"li t0,0x20000041\ncsrw pmpaddr0,t0\nli t0,-1\ncsrw pmpaddr1,t0\nli t0,0x1D1B\ncsrw pmpcfg0,t0\nla t0,user\ncsrw mepc,t0\nli t1,0x8000010F\nmret\nuser: sb t0,0(t1)\nsb t0,1(t1)\n";
 
+/// The trap of its second store.
 const STOPPED: TrapRecord = TrapRecord {
     cause: 7,
     epc: 0x8000_003c,
     tval: 0x8000_0110,
 };
 
-/// Whether the board stands where it has to after 16 steps.
-fn stands_right(board: &BootedBoard) -> bool {
+/// Whether the board is as it has to be after 16 steps.
+fn is_right_at_end(board: &BootedBoard) -> bool {
     board.steps() == 16
         && board.ram(0x8000_010f) == Some(0x38)
         && board.ram(0x8000_0110) == Some(0)
@@ -22,16 +24,16 @@ fn stands_right(board: &BootedBoard) -> bool {
         && board.trap_count() == 1
 }
 
-/// Whether a board that was refused its next step stands as one that did so many and was never asked for more.
-fn stands_behind(alloc: Global, program: &Program, board: &BootedBoard, steps: &[Event]) -> bool {
+/// Whether a board whose next step was refused is the same as one that did these steps, and no step was refused.
+fn is_as_after(alloc: Global, program: &Program, board: &BootedBoard, steps: &[Event]) -> bool {
     match BootedBoard::boot(alloc, program, 1, 64) {
         Ok(mut other) => other.run(steps).is_ok() && same_everywhere(board, &other),
         Err(_) => false,
     }
 }
 
-/// Whether the board runs its 16 steps: where it wants memory, it is in all that it can be read by as before the refused
-/// step, and those that are left are asked again.
+/// Whether the board runs its 16 steps. Where one is refused, the board has to be as before that step in all that it can
+/// be read by, and to do the steps that are left when they are asked again.
 fn runs_right(alloc: Global, program: &Program) -> bool {
     let mut board = match BootedBoard::boot(alloc, program, 1, 64) {
         Ok(board) => board,
@@ -43,14 +45,14 @@ fn runs_right(alloc: Global, program: &Program) -> bool {
         let (Some(done), Some(rest)) = (done, rest) else {
             return false;
         };
-        if !stands_behind(alloc, program, &board, done) || board.run(rest).is_err() {
+        if !is_as_after(alloc, program, &board, done) || board.run(rest).is_err() {
             return false;
         }
     }
-    stands_right(&board)
+    is_right_at_end(&board)
 }
 
-/// Whether the program is assembled and runs, or wants memory.
+/// Whether the source is assembled and runs, or memory ran out.
 pub fn answers_right(alloc: Global) -> bool {
     match assemble(alloc, GUARDED) {
         Ok(program) => runs_right(alloc, &program),

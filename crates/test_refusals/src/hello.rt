@@ -1,24 +1,25 @@
-//! A whole run, from its texts to what is printed.
+//! A whole run, from its texts to its output.
 use rv_cli::{
     CliFault, Ending, MemoryIn, MemoryOut, Options, TextIn, TextOut, exit_status, run_text,
 };
 use std::alloc::Global;
 
-/// Sends `H` and halts.
+/// A source that sends `H` and halts.
 const HELLO: &[u8] =
     b"lui t0,0x10000\nli a0,72\nsw a0,0(t0)\nlui t1,0x100\nli t2,0x5555\nsw t2,0(t1)\n";
 
-/// A byte that comes in and that nobody takes.
+/// A timed list of one byte, which the source never reads.
 const INPUTS: &[u8] = b"1 rx 5a\n";
 
-/// A breakpoint, steps up to it, and the rest of the steps.
+/// Commands: a breakpoint, the steps up to it, and the rest of the steps.
 const COMMANDS: &[u8] = b"b 0x8000000c\nc\nc\nq\n";
 
+/// The output of the run.
 const WRITTEN: &[u8] =
     b"break 8000000c\nstop break pc=8000000c mode=M steps=3\nstop halted pc=8000001c mode=M steps=7\nH\nhalted 0 after 7 steps\n";
 
-/// Whether the run prints all, or nothing and wants memory, or its writer, which wants memory too,
-/// takes a beginning.
+/// Whether the run writes its output; or memory ran out, and it writes nothing; or memory ran out in its writer, which
+/// has then taken a beginning of the output.
 pub fn answers_right(alloc: Global) -> bool {
     let options = Options {
         steps: 10,

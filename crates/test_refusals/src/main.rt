@@ -1,8 +1,8 @@
-//! Runs of which each answer is the full one, or want of memory exactly as it is defined.
+//! Does runs in which one allocation is refused: each answer has to be the full one, or out of memory as it is defined.
 //!
-//! `.ci/run` has one allocation of this program refused, by its number, and gives it on standard
-//! input as many bytes as it is to allocate before its runs: so each allocation of the runs is the
-//! refused one in turn. What it prints is the same whichever it is, unless an answer is wrong.
+//! `.ci/run` has the allocation of one number refused, and gives this program on standard input as many bytes as it has
+//! to make allocations before its runs. So each allocation of the runs is the refused one in turn. The program prints the
+//! same whichever it is, unless an answer is wrong.
 #![tactic(auto)]
 
 mod empty;
@@ -14,14 +14,14 @@ use std::alloc::Global;
 use std::io::{Read, Write};
 use std::process::ExitCode;
 
-/// How many bytes there are on standard input, up to 4096.
-fn given(rt: &HostRuntime) -> usize {
+/// Returns how many bytes there are on standard input, up to 4096.
+fn input_length(rt: &HostRuntime) -> usize {
     let mut buffer = [0u8; 4096];
     rt.stdin().read(&mut buffer).unwrap_or(0)
 }
 
-/// So many allocations, which are kept, or those up to the refused one.
-fn allocations(alloc: Global, count: usize) -> Vec<Vec<u8>> {
+/// Makes `count` allocations, or those before the refused one, and returns them.
+fn allocate(alloc: Global, count: usize) -> Vec<Vec<u8>> {
     let mut kept = Vec::new(alloc);
     if kept.reserve(count).is_err() {
         return kept;
@@ -38,7 +38,7 @@ fn allocations(alloc: Global, count: usize) -> Vec<Vec<u8>> {
 }
 
 fn main(rt: HostRuntime) -> ExitCode {
-    let kept = allocations(rt.alloc(), given(&rt));
+    let kept = allocate(rt.alloc(), input_length(&rt));
     let line = if !hello::answers_right(rt.alloc()) {
         b"a wrong answer of the run of a text\n".as_slice()
     } else if !guarded::answers_right(rt.alloc()) {

@@ -10,13 +10,15 @@ use std::alloc::Global;
 
 type BootedSession = Session<PagedRam, DecodeCache>;
 
-/// Why there is no session: memory was wanted, or something was answered that may not be.
+/// Why there is no session.
 pub enum NoSession {
+    /// Memory ran out.
     Refused,
+    /// An answer is wrong.
     Wrong,
 }
 
-/// A session of so many steps over a source with a timed list.
+/// Returns a session of up to `limit` steps over a source with a timed list.
 fn session(
     alloc: Global,
     source: &[u8],
@@ -37,7 +39,7 @@ fn session(
     Ok(Session::new(alloc, board, timeline, program, limit))
 }
 
-/// A source that is assembled, or memory is wanted, at no line.
+/// Assembles a source. Where memory runs out, the fault has to name no line.
 fn program(alloc: Global, source: &[u8]) -> Result<Program, NoSession> {
     match assemble(alloc, source) {
         Ok(program) => Ok(program),
@@ -48,35 +50,35 @@ fn program(alloc: Global, source: &[u8]) -> Result<Program, NoSession> {
     }
 }
 
-/// Sends a byte that comes in.
+/// A source that sends a received byte.
 const ECHO: &[u8] = b"lui t0,0x10000\nlw a0,4(t0)\nsw a0,0(t0)\n";
 
-/// Whether a refused send leaves the steps and inputs before it, and is asked again with no input given twice.
+/// Whether a refused send leaves the board after the steps and inputs before it, and the next call gives no input again.
 fn sends_right(session: &mut BootedSession) -> bool {
     match session.step(3) {
-        Ok(stop) => stop == Stop::Limit && sent_right(session),
+        Ok(stop) => stop == Stop::Limit && has_sent(session),
         Err(NoMemory) => {
             let board = session.board();
             board.steps() == 2
                 && board.serial().waiting() == 1
                 && board.console().is_empty()
                 && session.step(1) == Ok(Stop::Limit)
-                && sent_right(session)
+                && has_sent(session)
         }
     }
 }
 
-/// Whether the byte was sent, and the next one waits.
-fn sent_right(session: &BootedSession) -> bool {
+/// Whether the byte was sent, and the next one is in the queue.
+fn has_sent(session: &BootedSession) -> bool {
     let board = session.board();
     board.steps() == 3 && board.serial().waiting() == 1 && board.console() == b"Z".as_slice()
 }
 
-/// A timer interrupt comes into a loop, whose handler writes to a page of its own.
+/// A source whose loop is interrupted by the timer; the handler stores to a page that has only zeros.
 const TIMER: &[u8] =
     b"la t0,handler\ncsrw mtvec,t0\nlui t1,0x2004\nli t2,14\nsw t2,0(t1)\nsw zero,4(t1)\nli t0,128\ncsrw mie,t0\ncsrwi mstatus,8\nloop: addi s0,s0,1\nj loop\nhandler: lui s1,0x80001\nsw s1,0(s1)\nj .\n";
 
-/// Whether a refused breakpoint leaves none, and is set when it is asked for again.
+/// Whether a refused breakpoint is not set, and is set when it is asked for again.
 fn sets_right(session: &mut BootedSession, address: u32) -> bool {
     if let Err(NoMemory) = session.set_break(address) {
         if session.has_break(address) || session.set_break(address).is_err() {
@@ -86,7 +88,7 @@ fn sets_right(session: &mut BootedSession, address: u32) -> bool {
     session.has_break(address)
 }
 
-/// Whether a call goes on with a refused step, up to a breakpoint.
+/// Whether the call after a refused step goes on with that step, up to a breakpoint.
 fn goes_right(session: &mut BootedSession) -> bool {
     let stop = match session.go(100) {
         Ok(stop) => stop,
@@ -105,7 +107,7 @@ fn goes_right(session: &mut BootedSession) -> bool {
         && session.board().ram(0x8000_1003) == Some(0x80)
 }
 
-/// Commands of each kind, with their answers behind `goes_right`.
+/// Commands of each kind, with their answers after `goes_right`.
 const COMMANDS: [(&[u8], &[u8]); 9] = [
     (b"b 0x1", b"break 00000001\n"),
     (b"d 0x1", b"clear 00000001\n"),
@@ -118,7 +120,8 @@ const COMMANDS: [(&[u8], &[u8]); 9] = [
     (b"c", b"stop break pc=80000038 mode=M steps=19\n"),
 ];
 
-/// Whether a refused command leaves the text, the board and the breakpoints, and is done when it is asked again.
+/// Whether a refused command leaves the text, the board and the breakpoints as they were, and is done when it is asked
+/// again.
 fn obeys_right(
     session: &mut BootedSession,
     command: &[u8],
@@ -137,7 +140,7 @@ fn obeys_right(
     text.as_slice().ends_with(answer)
 }
 
-/// Whether the session stops at its breakpoint and does its commands.
+/// Whether the session stops at its breakpoint and then answers its commands.
 fn stops_right(alloc: Global, session: &mut BootedSession) -> bool {
     let mut text = Vec::new(alloc);
     sets_right(session, 0x8000_0038)
@@ -145,7 +148,7 @@ fn stops_right(alloc: Global, session: &mut BootedSession) -> bool {
         && COMMANDS.iter().all(|(command, answer)| obeys_right(session, command, answer, &mut text))
 }
 
-/// Whether a session that sends its byte ends where it has to.
+/// Whether the session of `ECHO` answers right, or memory ran out before it.
 fn echo_answers_right(alloc: Global) -> bool {
     match session(alloc, ECHO, b"0 rx 5a\n2 rx 41\n", 9) {
         Ok(mut session) => sends_right(&mut session),
@@ -154,7 +157,7 @@ fn echo_answers_right(alloc: Global) -> bool {
     }
 }
 
-/// Whether a session that a timer interrupts ends where it has to.
+/// Whether the session of `TIMER` answers right, or memory ran out before it.
 fn timer_answers_right(alloc: Global) -> bool {
     match session(alloc, TIMER, b"0 rx 00\n1 line 3 1\n", 100) {
         Ok(mut session) => stops_right(alloc, &mut session),
@@ -163,7 +166,7 @@ fn timer_answers_right(alloc: Global) -> bool {
     }
 }
 
-/// Whether both sessions end where they have to.
+/// Whether both sessions answer right.
 pub fn answers_right(alloc: Global) -> bool {
     let sends = echo_answers_right(alloc);
     let stops = timer_answers_right(alloc);
