@@ -1,10 +1,10 @@
-//! What may be answered to a source, a timed list and commands, whatever they say.
+//! The answers that a source, a timed list and commands may get, whatever they say.
 use crate::texts::SENDER;
 use rv_asm::FaultKind;
 use rv_cli::{CliFault, Ending, MemoryIn, MemoryOut, Options, run_text};
 use std::alloc::Global;
 
-/// A text that is changed, and the others that go with it.
+/// The kind of a text.
 #[derive(Clone, Copy, PartialEq, Eq)]
 pub enum Text {
     Source,
@@ -12,14 +12,14 @@ pub enum Text {
     Commands,
 }
 
-/// A run of a thousand steps.
+/// The options of a run of up to a thousand steps.
 const OPTIONS: Options = Options {
     steps: 1000,
     pages: 64,
     slots: 64,
 };
 
-/// What a run of these texts prints and how it ends.
+/// Runs texts, and returns how the run ended and what it wrote.
 fn run(
     alloc: Global,
     source: &[u8],
@@ -44,7 +44,7 @@ fn run(
     (outcome, out)
 }
 
-/// Whether a text has a line of this number, from 1.
+/// Whether a text has a line of this number; the first is line 1.
 fn has_line(text: &[u8], line: usize) -> bool {
     let mut lines = 1usize;
     for byte in text.iter() {
@@ -55,7 +55,7 @@ fn has_line(text: &[u8], line: usize) -> bool {
     1 <= line && line <= lines
 }
 
-/// Whether a text of this kind may be refused for this.
+/// Whether a text of this kind may have this fault.
 fn may_be_refused(kind: Text, text: &[u8], fault: CliFault) -> bool {
     match fault {
         CliFault::Source(fault) => {
@@ -69,7 +69,7 @@ fn may_be_refused(kind: Text, text: &[u8], fault: CliFault) -> bool {
     }
 }
 
-/// Whether the answer to a text is a whole run, or a fault that a text of this kind may have.
+/// Whether a text is answered by a whole run, or by a fault that a text of its kind may have.
 pub fn is_answered(alloc: Global, kind: Text, text: &[u8]) -> bool {
     let (outcome, out) = match kind {
         Text::Source => run(alloc, text, b"", None),

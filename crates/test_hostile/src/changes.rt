@@ -1,20 +1,20 @@
-//! Changes of a text by a fixed generator.
+//! Changes of a text, drawn by a fixed generator.
 use rv_base::NoMemory;
 use std::alloc::Global;
 
-/// A fixed sequence of numbers that look as if they were drawn.
+/// A fixed sequence of numbers that look drawn by chance.
 #[derive(Clone, Copy)]
 pub struct Dice {
     state: u32,
 }
 
 impl Dice {
-    /// The sequence from its start.
+    /// Returns the sequence from its start.
     pub fn new() -> Dice {
         Dice { state: 0x2545_f491 }
     }
 
-    /// The next number below `sides`, or 0 where there is none.
+    /// Returns the next number below `sides`, or 0 where `sides` is 0.
     fn roll(&mut self, sides: usize) -> usize {
         self.state = self
             .state
@@ -27,17 +27,17 @@ impl Dice {
 /// The bits of a byte.
 const BITS: [u8; 8] = [1, 2, 4, 8, 16, 32, 64, 128];
 
-/// The bytes from one place up to another, or none where there are not so many.
+/// Returns the bytes from one index up to another, or none where the text is shorter.
 fn piece(text: &[u8], from: usize, to: usize) -> &[u8] {
     text.get(from..to).unwrap_or(&[])
 }
 
-/// Where the line at a place begins, and where the next one does.
-fn line_at(text: &[u8], place: usize) -> (usize, usize) {
+/// Returns where the line of the byte at `index` begins, and where the next line does.
+fn line_bounds(text: &[u8], index: usize) -> (usize, usize) {
     let mut from = 0;
     for (at, byte) in text.iter().enumerate() {
         if *byte == b'\n' {
-            if at >= place {
+            if at >= index {
                 return (from, at.saturating_add(1));
             }
             from = at.saturating_add(1);
@@ -46,19 +46,19 @@ fn line_at(text: &[u8], place: usize) -> (usize, usize) {
     (from, text.len())
 }
 
-/// With a bit of a byte turned.
-fn flipped(alloc: Global, text: &[u8], dice: &mut Dice) -> Result<Vec<u8>, NoMemory> {
+/// Returns the text with one bit of a byte flipped.
+fn with_flipped_bit(alloc: Global, text: &[u8], dice: &mut Dice) -> Result<Vec<u8>, NoMemory> {
     let mut changed = Vec::from_slice(alloc, text)?;
-    let place = dice.roll(text.len());
+    let index = dice.roll(text.len());
     let bit = BITS.get(dice.roll(8)).copied().unwrap_or(1);
-    if let Some(byte) = changed.get_mut(place) {
+    if let Some(byte) = changed.get_mut(index) {
         *byte ^= bit;
     }
     Ok(changed)
 }
 
-/// Without up to forty bytes.
-fn cut(alloc: Global, text: &[u8], dice: &mut Dice) -> Result<Vec<u8>, NoMemory> {
+/// Returns the text without up to forty bytes.
+fn without_bytes(alloc: Global, text: &[u8], dice: &mut Dice) -> Result<Vec<u8>, NoMemory> {
     let from = dice.roll(text.len());
     let to = from.saturating_add(dice.roll(40)).min(text.len());
     let mut changed = Vec::from_slice(alloc, piece(text, 0, from))?;
@@ -66,20 +66,20 @@ fn cut(alloc: Global, text: &[u8], dice: &mut Dice) -> Result<Vec<u8>, NoMemory>
     Ok(changed)
 }
 
-/// With a line twice.
-fn doubled(alloc: Global, text: &[u8], dice: &mut Dice) -> Result<Vec<u8>, NoMemory> {
-    let (from, to) = line_at(text, dice.roll(text.len()));
+/// Returns the text with one line twice.
+fn with_line_twice(alloc: Global, text: &[u8], dice: &mut Dice) -> Result<Vec<u8>, NoMemory> {
+    let (from, to) = line_bounds(text, dice.roll(text.len()));
     let mut changed = Vec::from_slice(alloc, piece(text, 0, to))?;
     changed.extend_from_slice(piece(text, from, text.len()))?;
     Ok(changed)
 }
 
-/// With two lines in each other's place.
-fn swapped(alloc: Global, text: &[u8], dice: &mut Dice) -> Result<Vec<u8>, NoMemory> {
+/// Returns the text with two lines exchanged.
+fn with_lines_exchanged(alloc: Global, text: &[u8], dice: &mut Dice) -> Result<Vec<u8>, NoMemory> {
     let one = dice.roll(text.len());
     let other = dice.roll(text.len());
-    let (from, to) = line_at(text, one.min(other));
-    let (next, end) = line_at(text, one.max(other));
+    let (from, to) = line_bounds(text, one.min(other));
+    let (next, end) = line_bounds(text, one.max(other));
     let mut changed = Vec::from_slice(alloc, piece(text, 0, from))?;
     changed.extend_from_slice(piece(text, next, end))?;
     changed.extend_from_slice(piece(text, to, next))?;
@@ -88,12 +88,12 @@ fn swapped(alloc: Global, text: &[u8], dice: &mut Dice) -> Result<Vec<u8>, NoMem
     Ok(changed)
 }
 
-/// A text with one change.
-pub fn changed(alloc: Global, text: &[u8], dice: &mut Dice) -> Result<Vec<u8>, NoMemory> {
+/// Returns the text with one change.
+pub fn change(alloc: Global, text: &[u8], dice: &mut Dice) -> Result<Vec<u8>, NoMemory> {
     match dice.roll(4) {
-        0 => flipped(alloc, text, dice),
-        1 => cut(alloc, text, dice),
-        2 => doubled(alloc, text, dice),
-        _ => swapped(alloc, text, dice),
+        0 => with_flipped_bit(alloc, text, dice),
+        1 => without_bytes(alloc, text, dice),
+        2 => with_line_twice(alloc, text, dice),
+        _ => with_lines_exchanged(alloc, text, dice),
     }
 }

@@ -1,8 +1,8 @@
-//! Texts that nobody meant: each beginning of a source, a timed list and commands, and a thousand changes of each. And
-//! readers and writers of which each call fails in turn.
+//! Runs texts that nobody meant: each beginning of a source, a timed list and commands, and a thousand changes of each.
+//! And readers and writers that fail at each of their calls in turn.
 //!
-//! Each text has to give a run of up to a thousand steps, or a fault that its kind may have. What is printed otherwise is
-//! the first text whose answer is wrong.
+//! Each text has to give a run of up to a thousand steps, or a fault that its kind may have. The program prints a line for
+//! each kind, with the first text that is answered wrongly.
 #![tactic(auto)]
 
 mod answers;
@@ -11,7 +11,7 @@ mod streams;
 mod texts;
 
 use answers::{Text, is_answered};
-use changes::{Dice, changed};
+use changes::{Dice, change};
 use rv_base::NoMemory;
 use std::alloc::Global;
 use std::io::Write;
@@ -19,10 +19,10 @@ use std::process::ExitCode;
 use streams::are_answered;
 use texts::{COMMANDS, INPUTS, SOURCE, TIMER};
 
-/// How many changes of each text are tried.
+/// The number of changes of each text.
 const CHANGES: usize = 1000;
 
-/// The first beginning of a text that is answered wrongly.
+/// Returns the first beginning of a text that is answered wrongly.
 fn wrong_beginning(alloc: Global, kind: Text, text: &[u8]) -> Result<Option<Vec<u8>>, NoMemory> {
     for count in 0..text.len() {
         let Some(beginning) = text.get(..count) else {
@@ -35,19 +35,19 @@ fn wrong_beginning(alloc: Global, kind: Text, text: &[u8]) -> Result<Option<Vec<
     Ok(None)
 }
 
-/// The first of a thousand changes of a text that is answered wrongly.
+/// Returns the first change of a text that is answered wrongly.
 fn wrong_change(alloc: Global, kind: Text, text: &[u8]) -> Result<Option<Vec<u8>>, NoMemory> {
     let mut dice = Dice::new();
     for _ in 0..CHANGES {
-        let change = changed(alloc, text, &mut dice)?;
-        if !is_answered(alloc, kind, change.as_slice()) {
-            return Ok(Some(change));
+        let changed = change(alloc, text, &mut dice)?;
+        if !is_answered(alloc, kind, changed.as_slice()) {
+            return Ok(Some(changed));
         }
     }
     Ok(None)
 }
 
-/// The first text of this kind that is answered wrongly.
+/// Returns the first beginning or change of a text that is answered wrongly.
 fn wrong_text(alloc: Global, kind: Text, text: &[u8]) -> Result<Option<Vec<u8>>, NoMemory> {
     if let Some(wrong) = wrong_beginning(alloc, kind, text)? {
         return Ok(Some(wrong));
@@ -55,7 +55,7 @@ fn wrong_text(alloc: Global, kind: Text, text: &[u8]) -> Result<Option<Vec<u8>>,
     wrong_change(alloc, kind, text)
 }
 
-/// The line that says how the texts of a kind were answered, with the first text that was answered wrongly.
+/// Prints how the texts of a kind were answered, with the first one that was answered wrongly.
 fn print(rt: &HostRuntime, name: &[u8], wrong: Result<Option<Vec<u8>>, NoMemory>) {
     let _ = rt.stdout().write_all(name);
     match wrong {

@@ -1,16 +1,19 @@
-//! Readers and writers that give and take little, and fail at each of their calls in turn.
+//! Readers and writers that move few bytes a call, or fail at each of their calls in turn.
 ghost use Rattle.std.specs.Prelude.{◌≡◌, ◌≤◌, false};
 
-use rv_cli::{CliFault, Ending, MemoryIn, MemoryOut, Options, TextIn, TextOut, run_text};
+use rv_cli::{CliFault, Ending, MemoryIn, MemoryOut, Options, TextIn, TextName, TextOut, run_text};
 use std::alloc::Global;
 
-/// Takes a byte in and sends it.
+/// A source that receives a byte and sends it.
 const ECHO: &[u8] = b"lui t0,0x10000\nlw a0,4(t0)\nsw a0,0(t0)\n";
 
+/// Its timed list.
 const INPUTS: &[u8] = b"0 rx 5a\n2 rx 41\n";
 
+/// Its commands.
 const COMMANDS: &[u8] = b"s\nm 0x10000004 1\nb 0x8000000c\nc\n";
 
+/// The output of the run.
 const WRITTEN: &[u8] =
     b"stop limit pc=80000004 mode=M steps=1\n10000004: --\nbreak 8000000c\nstop break pc=8000000c mode=M steps=3\nZ\nrunning at 8000000c after 3 steps\n";
 
@@ -20,7 +23,7 @@ const OPTIONS: Options = Options {
     slots: 64,
 };
 
-/// Which reader or writer fails, and behind how many good calls.
+/// Which readers and writers fail, and after how many good calls.
 #[derive(Clone, Copy)]
 pub struct Failure {
     source: Option<u64>,
@@ -29,7 +32,7 @@ pub struct Failure {
     out: Option<u64>,
 }
 
-/// None fails.
+/// No failure.
 const NONE: Failure = Failure {
     source: None,
     inputs: None,
@@ -37,7 +40,7 @@ const NONE: Failure = Failure {
     out: None,
 };
 
-/// A reader that gives so many bytes a call at most, and fails behind so many, if it is to.
+/// Returns a reader that gives up to `most` bytes a call, and fails after `good` calls, if that is a number.
 fn reader(text: &[u8], most: usize, good: Option<u64>) -> MemoryIn<'_>
     requires { 1 ≤ most }
     ensures { result.has_failed ≡ false }
@@ -49,7 +52,7 @@ fn reader(text: &[u8], most: usize, good: Option<u64>) -> MemoryIn<'_>
     }
 }
 
-/// A writer that takes so many bytes a call at most, and fails behind so many, if it is to.
+/// Returns a writer that takes up to `most` bytes a call, and fails after `good` calls, if that is a number.
 fn writer(alloc: Global, most: usize, good: Option<u64>) -> MemoryOut
     ensures { result.has_failed ≡ false }
 {
@@ -60,8 +63,8 @@ fn writer(alloc: Global, most: usize, good: Option<u64>) -> MemoryOut
     }
 }
 
-/// What a run ends with whose readers and writer move so many bytes a call at most, which of these failed, and what was
-/// written.
+/// Does a run whose readers and writer move up to `most` bytes a call, and returns how it ended, which of them failed, and
+/// what was written.
 fn run(
     alloc: Global,
     most: usize,
@@ -94,7 +97,7 @@ fn run(
     (outcome, failed, out)
 }
 
-/// Whether a run is whole that moves so many bytes a call at most.
+/// Whether a run that moves up to `most` bytes a call writes its whole output.
 fn is_whole(alloc: Global, most: usize) -> bool
     requires { 1 ≤ most }
 {
@@ -102,14 +105,14 @@ fn is_whole(alloc: Global, most: usize) -> bool
     outcome == Ok(Ending::Running) && failed == [false; 4] && out.bytes() == WRITTEN
 }
 
-/// Whether a run ends with a reader's fault, where that one failed and no other, and writes nothing.
-fn is_unread(alloc: Global, fails: Failure, fault: CliFault, failed: [bool; 4]) -> bool {
+/// Whether a run ends with the fault of the one reader that failed, and writes nothing.
+fn stops_at_reader(alloc: Global, fails: Failure, fault: CliFault, failed: [bool; 4]) -> bool {
     let (outcome, did, out) = run(alloc, 3, fails);
     outcome == Err(fault) && did == failed && out.bytes().is_empty()
 }
 
-/// Whether a run whose writer fails behind so many calls of three bytes has written these.
-fn is_cut_short(alloc: Global, good: u64) -> bool {
+/// Whether a run whose writer fails after `good` calls of three bytes has written just these bytes.
+fn stops_at_writer(alloc: Global, good: u64) -> bool {
     let fails = Failure {
         out: Some(good),
         ..NONE
@@ -121,12 +124,12 @@ fn is_cut_short(alloc: Global, good: u64) -> bool {
     outcome == Err(CliFault::Write) && did == [false, false, false, true] && out.bytes() == written
 }
 
-/// How many calls of three bytes move a text.
+/// Returns how many calls of three bytes move a text.
 fn calls(text: &[u8]) -> u64 {
     text.len().div_ceil(3) as u64
 }
 
-/// Whether each short run is whole.
+/// Whether runs of each small number of bytes a call write their whole output.
 fn are_whole(alloc: Global) -> bool {
     for most in 1..20 {
         if !is_whole(alloc, most) {
@@ -136,64 +139,67 @@ fn are_whole(alloc: Global) -> bool {
     true
 }
 
-/// Whether each failed read of each text, up to that of its end, is its reader's fault.
-fn are_unread(alloc: Global) -> bool {
-    for good in 0..calls(ECHO).saturating_add(1) {
-        let source = Failure {
-            source: Some(good),
-            ..NONE
-        };
-        if !is_unread(
-            alloc,
-            source,
-            CliFault::ReadSource,
-            [true, false, false, false],
-        ) {
-            return false;
-        }
+/// Returns the failure of one reader after `good` calls.
+fn failure(text: TextName, good: u64) -> Failure {
+    let mut failure = NONE;
+    match text {
+        TextName::Source => failure.source = Some(good),
+        TextName::Input => failure.inputs = Some(good),
+        TextName::Commands => failure.commands = Some(good),
     }
-    for good in 0..calls(INPUTS).saturating_add(1) {
-        let inputs = Failure {
-            inputs: Some(good),
-            ..NONE
-        };
-        if !is_unread(
-            alloc,
-            inputs,
-            CliFault::ReadInput,
-            [false, true, false, false],
-        ) {
-            return false;
-        }
-    }
-    for good in 0..calls(COMMANDS).saturating_add(1) {
-        let commands = Failure {
-            commands: Some(good),
-            ..NONE
-        };
-        if !is_unread(
-            alloc,
-            commands,
-            CliFault::ReadCommands,
-            [false, false, true, false],
-        ) {
+    failure
+}
+
+/// Whether each read of a text that fails, up to the read of its end, is the fault of its reader.
+fn stops_at_reads(
+    alloc: Global,
+    name: TextName,
+    text: &[u8],
+    fault: CliFault,
+    failed: [bool; 4],
+) -> bool {
+    for good in 0..calls(text).saturating_add(1) {
+        if !stops_at_reader(alloc, failure(name, good), fault, failed) {
             return false;
         }
     }
     true
 }
 
-/// Whether each failed write leaves a beginning.
-fn are_cut_short(alloc: Global) -> bool {
+/// Whether the failures of each reader are answered as defined.
+fn stop_at_readers(alloc: Global) -> bool {
+    stops_at_reads(
+        alloc,
+        TextName::Source,
+        ECHO,
+        CliFault::ReadSource,
+        [true, false, false, false],
+    ) && stops_at_reads(
+        alloc,
+        TextName::Input,
+        INPUTS,
+        CliFault::ReadInput,
+        [false, true, false, false],
+    ) && stops_at_reads(
+        alloc,
+        TextName::Commands,
+        COMMANDS,
+        CliFault::ReadCommands,
+        [false, false, true, false],
+    )
+}
+
+/// Whether each write that fails leaves a beginning of the output.
+fn stop_at_writers(alloc: Global) -> bool {
     for good in 0..calls(WRITTEN) {
-        if !is_cut_short(alloc, good) {
+        if !stops_at_writer(alloc, good) {
             return false;
         }
     }
     true
 }
 
-/// Whether all short and failed reads and writes are answered as defined.
+/// Whether all short and all failed reads and writes are answered as defined.
 pub fn are_answered(alloc: Global) -> bool {
-    are_whole(alloc) && are_unread(alloc) && are_cut_short(alloc)
+    are_whole(alloc) && stop_at_readers(alloc) && stop_at_writers(alloc)
 }

@@ -1,6 +1,6 @@
-//! The texts that are cut and changed. Each is taken as it stands.
+//! The texts that are cut and changed. Each is accepted as it is.
 
-/// A source that uses each form of the language, and halts nowhere.
+/// A source that uses each form of the language, and never halts.
 pub const SOURCE: &[u8] = b"\
 # each form once
         .text
@@ -119,7 +119,7 @@ data:   .word 0x80000001, -1, data
 end:    .size start, .-start
 ";
 
-/// A source whose loop a timer interrupts.
+/// A source whose loop is interrupted by the timer.
 pub const TIMER: &[u8] = b"\
 la t0,handler
 csrw mtvec,t0
@@ -136,7 +136,7 @@ handler: addi s1,s1,1
 j .
 ";
 
-/// A short source that goes with the timed list and the commands.
+/// A short source, with which the timed list and the commands are run.
 pub const SENDER: &[u8] = b"\
         la t0, handler
         csrw mtvec, t0
@@ -149,7 +149,7 @@ data:   .word 1, data
 end:
 ";
 
-/// A timed list with each of its forms.
+/// A timed list that has each form of a line.
 pub const INPUTS: &[u8] = b"\
 # bytes, and levels of interrupt sources
 0 rx 5a
@@ -162,7 +162,7 @@ pub const INPUTS: &[u8] = b"\
 9999999999 line 1 1
 ";
 
-/// Each command.
+/// Each command of the monitor.
 pub const COMMANDS: &[u8] = b"\
 s
 s 3
