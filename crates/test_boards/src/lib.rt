@@ -1,5 +1,5 @@
-//! Tests that cross crates: boards and sessions over memories that refuse and over a cache that counts, boot faults and
-//! runs of events; and sources that can't be rows of a text.
+//! Tests that cross crates: boards and sessions over a memory that refuses writes and over a cache that counts its calls,
+//! boot faults, runs of events, and sources that can't be rows of test_rows.
 #![tactic(auto)]
 
 #[cfg(test)]
@@ -7,9 +7,9 @@ mod board;
 #[cfg(test)]
 mod cache;
 #[cfg(test)]
-mod machine;
-#[cfg(test)]
 mod memory;
+#[cfg(test)]
+mod programs;
 #[cfg(test)]
 mod sessions;
 mod slot;

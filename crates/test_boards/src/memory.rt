@@ -6,15 +6,18 @@ use rv_base::NoMemory;
 use rv_isa::Width;
 use rv_ram::{ByteMemory, FlatMemory, PAGE_BYTES};
 
-/// A memory of whose writes behind so many good ones the next that need a page are refused, so many times.
+/// A memory that refuses some writes: after `good` writes, the next `refusals` of those that need a page.
 #[derive(Drop)]
-pub struct Stubborn {
+pub struct RefusingMemory {
+    /// The memory that the writes change.
     pub memory: FlatMemory,
+    /// How many writes are still done whatever they need.
     pub good: u32,
+    /// How many writes are refused after these.
     pub refusals: u32,
 }
 
-impl ByteMemory for Stubborn {
+impl ByteMemory for RefusingMemory {
     ghost bytes = { λ s. s.memory };
 
     fn size(&self) -> u32 {
@@ -46,7 +49,7 @@ fn is_blank(memory: &FlatMemory, off: u32) -> bool
     requires { off < length memory.now }
     ensures { IsTrue result → is_blank memory.now off ≡ true }
 {
-    // There are whole pages.
+    // `size()` is called for its postcondition: whole pages.
     let _size = memory.size();
     let first = off / PAGE_BYTES * PAGE_BYTES;
     for count in 0..PAGE_BYTES {

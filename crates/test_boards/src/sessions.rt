@@ -1,6 +1,6 @@
-//! Sessions whose steps are refused for want of memory, and what sessions are read by.
-use crate::machine::program;
-use crate::memory::Stubborn;
+//! Sessions whose steps are refused because memory ran out, and the readers of a session.
+use crate::memory::RefusingMemory;
+use crate::programs::program;
 use rv_asm::Program;
 use rv_base::NoMemory;
 use rv_board::Board;
@@ -12,13 +12,13 @@ use std::alloc::Global;
 use std::process::Abort;
 use std::test::Fail;
 
-/// A board over a memory of which so many writes behind the image's are refused.
-fn board(
+/// Boots a board whose memory refuses `refusals` writes after those of the image.
+fn boot(
     alloc: Global,
     program: &Program,
     refusals: u32,
-) -> Result<Board<Stubborn, NoCache>, Fail> {
-    let memory = Stubborn {
+) -> Result<Board<RefusingMemory, NoCache>, Fail> {
+    let memory = RefusingMemory {
         memory: FlatMemory::new(alloc, 2)?,
         good: 12,
         refusals,
@@ -27,28 +27,34 @@ fn board(
     Ok(board.ok().ok_or("the board doesn't boot")?)
 }
 
+/// Reads a timed list that has no fault.
 fn timeline(alloc: Global, timed: &[u8]) -> Result<Timeline, &'static str> {
     let timeline = Timeline::read(alloc, timed);
     timeline.ok().ok_or("the timed list is refused")
 }
 
-/// A store into the second page and then a jump to itself, over a memory that refuses so many writes behind the image's.
-fn session(alloc: Global, timed: &[u8], refusals: u32) -> Result<Session<Stubborn, NoCache>, Fail> {
+/// Returns a session over a store to the second page and then a jump to itself. Its memory refuses `refusals` writes after
+/// those of the image.
+fn session(
+    alloc: Global,
+    timed: &[u8],
+    refusals: u32,
+) -> Result<Session<RefusingMemory, NoCache>, Fail> {
     let program = program(alloc, b"lui t0,0x80001\nsw t0,0(t0)\nj .")?;
     let timeline = timeline(alloc, timed)?;
-    let board = board(alloc, &program, refusals)?;
+    let board = boot(alloc, &program, refusals)?;
     Ok(Session::new(alloc, board, timeline, program, 3))
 }
 
 const TIMED: &[u8] = b"0 rx 40\n1 rx 41\n1 rx 42\n2 rx 43";
 
-/// The highest byte of the word that is stored.
-fn stored<M: ByteMemory, C: Decoded>(rt: &impl Abort, session: &Session<M, C>, byte: u8) {
+/// Checks the highest byte of the word that is stored.
+fn check_stored<M: ByteMemory, C: Decoded>(rt: &impl Abort, session: &Session<M, C>, byte: u8) {
     assert_eq!(rt; session.board().ram(0x8000_1003), Some(byte));
 }
 
-/// A call of `go` ends so, and then so many steps were taken in all.
-fn go<M: ByteMemory, C: Decoded>(
+/// Checks the answer to a call of `go`, and how many steps were taken in all.
+fn check_go<M: ByteMemory, C: Decoded>(
     rt: &impl Abort,
     session: &mut Session<M, C>,
     n: u64,
@@ -60,8 +66,8 @@ fn go<M: ByteMemory, C: Decoded>(
     assert_eq!(rt; session.taken(), taken);
 }
 
-/// A call of `step` ends so, and then so many steps were taken in all.
-fn step<M: ByteMemory, C: Decoded>(
+/// Checks the answer to a call of `step`, and how many steps were taken in all.
+fn check_step<M: ByteMemory, C: Decoded>(
     rt: &impl Abort,
     session: &mut Session<M, C>,
     n: u64,
@@ -73,8 +79,8 @@ fn step<M: ByteMemory, C: Decoded>(
     assert_eq!(rt; session.taken(), taken);
 }
 
-/// A call of `go` is refused, and then so many steps were taken in all.
-fn go_refused<M: ByteMemory, C: Decoded>(
+/// Checks that a call of `go` is refused, and how many steps were taken in all.
+fn check_go_refused<M: ByteMemory, C: Decoded>(
     rt: &impl Abort,
     session: &mut Session<M, C>,
     n: u64,
@@ -85,15 +91,19 @@ fn go_refused<M: ByteMemory, C: Decoded>(
     assert_eq!(rt; session.taken(), taken);
 }
 
-/// A breakpoint is set.
-fn set<M: ByteMemory, C: Decoded>(rt: &impl Abort, session: &mut Session<M, C>, address: u32) {
+/// Sets a breakpoint, and checks that it is set.
+fn check_set<M: ByteMemory, C: Decoded>(
+    rt: &impl Abort,
+    session: &mut Session<M, C>,
+    address: u32,
+) {
     let answer = session.set_break(address);
     assert_eq!(rt; answer, Ok(()));
     assert!(rt; session.has_break(address));
 }
 
-/// A breakpoint is cleared, with this answer.
-fn clear<M: ByteMemory, C: Decoded>(
+/// Clears a breakpoint, and checks whether there was one.
+fn check_clear<M: ByteMemory, C: Decoded>(
     rt: &impl Abort,
     session: &mut Session<M, C>,
     address: u32,
@@ -104,8 +114,8 @@ fn clear<M: ByteMemory, C: Decoded>(
     assert!(rt; !session.has_break(address));
 }
 
-/// The board's pc, how many received bytes wait, and how many steps it did.
-fn stands<M: ByteMemory, C: Decoded>(
+/// Checks the pc of the board, how many received bytes are in the queue, and how many steps were done.
+fn check_board<M: ByteMemory, C: Decoded>(
     rt: &impl Abort,
     session: &Session<M, C>,
     pc: u32,
@@ -118,8 +128,8 @@ fn stands<M: ByteMemory, C: Decoded>(
     assert_eq!(rt; board.steps(), steps);
 }
 
-/// A command is answered so, and more may follow.
-fn says<M: ByteMemory, C: Decoded>(
+/// Checks the answer to a command, after which more may follow.
+fn check_command<M: ByteMemory, C: Decoded>(
     rt: &impl Abort,
     session: &mut Session<M, C>,
     line: &[u8],
@@ -132,8 +142,8 @@ fn says<M: ByteMemory, C: Decoded>(
     assert_eq!(rt; next, Ok(Next::More));
 }
 
-/// A command is refused, and nothing is answered.
-fn refuses<M: ByteMemory, C: Decoded>(
+/// Checks that a command is refused, and that nothing is answered.
+fn check_command_refused<M: ByteMemory, C: Decoded>(
     rt: &impl Abort,
     session: &mut Session<M, C>,
     line: &[u8],
@@ -148,40 +158,40 @@ fn refuses<M: ByteMemory, C: Decoded>(
 #[test]
 fn the_next_call_goes_on_with_the_refused_step(rt: HostRuntime) -> Result<(), Fail> {
     let mut session = session(rt.alloc(), TIMED, 1)?;
-    go_refused(&rt, &mut session, 9, 1);
-    // The inputs before the refused step were given, and none behind it.
-    stands(&rt, &session, 0x8000_0004, 3, 1);
-    stored(&rt, &session, 0);
-    step(&rt, &mut session, 1, Stop::Limit, 2);
+    check_go_refused(&rt, &mut session, 9, 1);
+    // The inputs before the refused step were given, and none after it.
+    check_board(&rt, &session, 0x8000_0004, 3, 1);
+    check_stored(&rt, &session, 0);
+    check_step(&rt, &mut session, 1, Stop::Limit, 2);
     // No input was given again.
-    stands(&rt, &session, 0x8000_0008, 3, 2);
-    stored(&rt, &session, 0x80);
-    go(&rt, &mut session, 9, Stop::Limit, 3);
-    stands(&rt, &session, 0x8000_0008, 4, 3);
+    check_board(&rt, &session, 0x8000_0008, 3, 2);
+    check_stored(&rt, &session, 0x80);
+    check_go(&rt, &mut session, 9, Stop::Limit, 3);
+    check_board(&rt, &session, 0x8000_0008, 4, 3);
     Ok(())
 }
 
 #[test]
 fn a_step_may_be_refused_again(rt: HostRuntime) -> Result<(), Fail> {
     let mut session = session(rt.alloc(), TIMED, 2)?;
-    set(&rt, &mut session, 0x8000_0004);
-    go(&rt, &mut session, 9, Stop::Breakpoint, 1);
-    stands(&rt, &session, 0x8000_0004, 1, 1);
-    go_refused(&rt, &mut session, 9, 1);
-    go(&rt, &mut session, 0, Stop::Limit, 1);
-    go_refused(&rt, &mut session, 1, 1);
-    stands(&rt, &session, 0x8000_0004, 3, 1);
-    go(&rt, &mut session, 1, Stop::Limit, 2);
-    stands(&rt, &session, 0x8000_0008, 3, 2);
+    check_set(&rt, &mut session, 0x8000_0004);
+    check_go(&rt, &mut session, 9, Stop::Breakpoint, 1);
+    check_board(&rt, &session, 0x8000_0004, 1, 1);
+    check_go_refused(&rt, &mut session, 9, 1);
+    check_go(&rt, &mut session, 0, Stop::Limit, 1);
+    check_go_refused(&rt, &mut session, 1, 1);
+    check_board(&rt, &session, 0x8000_0004, 3, 1);
+    check_go(&rt, &mut session, 1, Stop::Limit, 2);
+    check_board(&rt, &session, 0x8000_0008, 3, 2);
     Ok(())
 }
 
 #[test]
 fn a_refused_command_answers_nothing(rt: HostRuntime) -> Result<(), Fail> {
     let mut session = session(rt.alloc(), TIMED, 1)?;
-    refuses(&rt, &mut session, b"s 3", rt.alloc());
-    stands(&rt, &session, 0x8000_0004, 3, 1);
-    says(
+    check_command_refused(&rt, &mut session, b"s 3", rt.alloc());
+    check_board(&rt, &session, 0x8000_0004, 3, 1);
+    check_command(
         &rt,
         &mut session,
         b"s 3",
@@ -196,11 +206,11 @@ fn a_session_has_a_limit_a_program_and_breakpoints(rt: HostRuntime) -> Result<()
     let mut session = session(rt.alloc(), b"", 0)?;
     assert_eq!(&rt; session.limit(), 3);
     assert_eq!(&rt; session.program().bytes().len(), 12);
-    clear(&rt, &mut session, 0x8000_0008, false);
-    set(&rt, &mut session, 0x8000_0008);
-    set(&rt, &mut session, 0xffff_ffff);
-    go(&rt, &mut session, 9, Stop::Breakpoint, 2);
-    clear(&rt, &mut session, 0x8000_0008, true);
-    go(&rt, &mut session, 9, Stop::Limit, 3);
+    check_clear(&rt, &mut session, 0x8000_0008, false);
+    check_set(&rt, &mut session, 0x8000_0008);
+    check_set(&rt, &mut session, 0xffff_ffff);
+    check_go(&rt, &mut session, 9, Stop::Breakpoint, 2);
+    check_clear(&rt, &mut session, 0x8000_0008, true);
+    check_go(&rt, &mut session, 9, Stop::Limit, 3);
     Ok(())
 }

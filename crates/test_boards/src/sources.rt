@@ -1,25 +1,25 @@
-//! Sources that can't be rows of test_rows: their line ends, bytes that no text has, and many labels. The image of each word,
-//! each directive and each fault is a row there.
-use crate::machine::{assembled, program};
+//! Sources that can't be rows of test_rows, for their line ends, their bytes or their size. Rows there have the image of
+//! each mnemonic and directive, and each fault.
+use crate::programs::{assemble_source, program};
 use rv_asm::{AsmFault, FaultKind, Program};
 use std::alloc::Global;
 use std::process::Abort;
 use std::test::Fail;
 
-/// The source has this image.
+/// Checks that the source has this image.
 fn check(rt: &impl Abort, alloc: Global, source: &[u8], image: &[u8]) -> Result<(), Fail> {
     let program = program(alloc, source)?;
     assert_eq!(rt; program.bytes(), image);
     Ok(())
 }
 
-/// The one line of the source has this fault.
-fn refuse(rt: &impl Abort, alloc: Global, source: &[u8], kind: FaultKind) {
-    let fault = assembled(alloc, source).err();
+/// Checks that the one line of the source has this fault.
+fn check_fault(rt: &impl Abort, alloc: Global, source: &[u8], kind: FaultKind) {
+    let fault = assemble_source(alloc, source).err();
     assert_eq!(rt; fault, Some(AsmFault { line: 1, kind }));
 }
 
-// Blanks, comments, CR LF, a label alone, a last line without LF; numbers in each base.
+// Blanks, comments, CR LF, a label alone, a last line without LF, and numbers in each base.
 #[test]
 fn lines_end_in_several_ways(rt: HostRuntime) -> Result<(), Fail> {
     check(
@@ -36,13 +36,13 @@ fn a_line_has_up_to_1024_bytes(rt: HostRuntime) -> Result<(), Fail> {
     let mut longest = Vec::from_slice(alloc, &[b'#'; 1024])?;
     longest.extend_from_slice(b"\r\n")?;
     check(&rt, alloc, longest.as_slice(), b"")?;
-    refuse(&rt, alloc, &[b'#'; 1025], FaultKind::LineTooLong);
-    refuse(&rt, alloc, b"\xff", FaultKind::BadByte);
+    check_fault(&rt, alloc, &[b'#'; 1025], FaultKind::LineTooLong);
+    check_fault(&rt, alloc, b"\xff", FaultKind::BadByte);
     Ok(())
 }
 
-/// So many lines, each with a label, and a jump to the first.
-fn labels(alloc: Global, count: u32) -> Result<String, Fail> {
+/// Returns a source of `count` lines, each with a label, and a jump to the first.
+fn source_of_labels(alloc: Global, count: u32) -> Result<String, Fail> {
     let mut source = String::new(alloc);
     for n in 0..count {
         source.push_str(&format!(in alloc; "x{n}: nop\n")?)?;
@@ -51,14 +51,14 @@ fn labels(alloc: Global, count: u32) -> Result<String, Fail> {
     Ok(source)
 }
 
-/// A program of so many labels.
-fn labelled(alloc: Global, count: u32) -> Result<Program, Fail> {
-    let source = labels(alloc, count)?;
+/// Returns a program of `count` labels.
+fn program_of_labels(alloc: Global, count: u32) -> Result<Program, Fail> {
+    let source = source_of_labels(alloc, count)?;
     Ok(program(alloc, source.as_bytes())?)
 }
 
-/// The first and the last of 20,000 labels have their addresses, and there is none behind them.
-fn has_labels(rt: &impl Abort, program: &Program) {
+/// Checks that the first and the last of 20,000 labels have their addresses, and that there is no other label.
+fn check_labels(rt: &impl Abort, program: &Program) {
     assert_eq!(rt; program.symbols().len(), 20_000);
     assert_eq!(rt; program.symbol(b"x0"), Some(0x8000_0000));
     assert_eq!(rt; program.symbol(b"x19999"), Some(0x8001_387c));
@@ -67,7 +67,7 @@ fn has_labels(rt: &impl Abort, program: &Program) {
 
 #[test]
 fn twenty_thousand_labels(rt: HostRuntime) -> Result<(), Fail> {
-    let program = labelled(rt.alloc(), 20_000)?;
-    has_labels(&rt, &program);
+    let program = program_of_labels(rt.alloc(), 20_000)?;
+    check_labels(&rt, &program);
     Ok(())
 }
