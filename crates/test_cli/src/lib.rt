@@ -1,8 +1,8 @@
-//! Tests of the command line: words, texts in and out, readers that fail, and the lines and statuses of faults.
+//! Tests of the command line: its words, texts in and out, readers that fail, and the lines and statuses of faults.
 #![tactic(auto)]
 
 #[cfg(test)]
-mod ends;
+mod faults;
 #[cfg(test)]
 mod readers;
 #[cfg(test)]

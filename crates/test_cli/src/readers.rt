@@ -1,11 +1,11 @@
-//! The readers of the source, the timed list and the commands, which fail.
+//! Readers of the source, the timed list and the commands that fail.
 ghost use Rattle.std.specs.Prelude.{◌≡◌, false};
 
 use crate::runs::{DEFAULTS, HELLO};
 use rv_cli::{CliFault, Ending, MemoryIn, MemoryOut, TextOut, run_text};
 use std::alloc::Global;
 
-/// A reader over memory, whose first call fails if it is to.
+/// Returns a reader over memory, whose first call fails where `fails` says so.
 fn reader(text: &[u8], fails: bool) -> MemoryIn<'_>
     ensures { result.has_failed ≡ false }
 {
@@ -16,8 +16,8 @@ fn reader(text: &[u8], fails: bool) -> MemoryIn<'_>
     }
 }
 
-/// What a run ends with, of a source, an input and commands of whose readers these fail.
-fn ends_with(
+/// Does a run in which the readers of the source, the timed list and the commands fail as `fails` says, in this order.
+fn run(
     alloc: Global,
     source: &[u8],
     fails: (bool, bool, bool),
@@ -37,7 +37,7 @@ fn ends_with(
     (outcome, out)
 }
 
-// The texts are read in order, and all of them before the first is judged.
+// The texts are read in order, and all of them before the first one is judged.
 #[test]
 fn stops_at_the_first_reader_that_fails(rt: HostRuntime) {
     let rows: [(&[u8], (bool, bool, bool), CliFault); 5] = [
@@ -48,7 +48,7 @@ fn stops_at_the_first_reader_that_fails(rt: HostRuntime) {
         (HELLO, (false, false, false), CliFault::Input(1)),
     ];
     for (source, fails, fault) in rows {
-        let (outcome, out) = ends_with(rt.alloc(), source, fails);
+        let (outcome, out) = run(rt.alloc(), source, fails);
         assert!(rt; outcome == Err(fault));
         assert!(rt; out.bytes().is_empty());
     }

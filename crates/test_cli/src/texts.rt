@@ -1,4 +1,4 @@
-//! Readers and writers that give little, fail, or are interrupted.
+//! Readers and writers that move few bytes a call, fail, or are interrupted.
 ghost use Rattle.std.specs.Prelude.{◌≡◌, false};
 
 use crate::runs::{DEFAULTS, HELLO};
@@ -10,7 +10,7 @@ use std::alloc::Global;
 use std::io::{self, ErrorKind, Read, Write};
 use std::process::Abort;
 
-/// Runs a source with no input and without commands.
+/// Runs a source without a timed list and commands.
 fn run_without_commands<S: TextIn, W: TextOut>(
     alloc: Global,
     source: &mut S,
@@ -35,13 +35,13 @@ fn reads_and_writes_a_byte_a_call(rt: HostRuntime) {
     assert!(rt; !source.failed() && !out.failed());
 }
 
-/// Holds that a run stops at this writer, which takes so much of what it prints.
-fn stops_at(rt: &impl Abort, alloc: Global, out: &mut MemoryOut, taken: &str)
+/// Checks that a run stops at a writer that fails, after it has written `written`.
+fn check_write_fault(rt: &impl Abort, alloc: Global, out: &mut MemoryOut, written: &str)
     requires { out.old.has_failed ≡ false }
 {
     let outcome = run_without_commands(alloc, &mut MemoryIn::new(HELLO), DEFAULTS, out);
     assert!(rt; outcome == Err(CliFault::Write));
-    assert!(rt; out.bytes() == taken.as_bytes());
+    assert!(rt; out.bytes() == written.as_bytes());
     assert!(rt; out.failed());
     assert_eq!(rt; exit_status(&outcome), 4);
 }
@@ -50,14 +50,14 @@ fn stops_at(rt: &impl Abort, alloc: Global, out: &mut MemoryOut, taken: &str)
 fn stops_at_a_failed_write(rt: HostRuntime) {
     let alloc = rt.alloc();
     let mut failing = MemoryOut::new(alloc).with_most(3).with_failure_after(1);
-    stops_at(&rt, alloc, &mut failing, "H\nh");
+    check_write_fault(&rt, alloc, &mut failing, "H\nh");
 }
 
 #[test]
-fn stops_at_a_write_that_takes_nothing(rt: HostRuntime) {
+fn stops_at_a_write_of_no_byte(rt: HostRuntime) {
     let alloc = rt.alloc();
-    let mut taking_none = MemoryOut::new(alloc).with_most(0);
-    stops_at(&rt, alloc, &mut taking_none, "");
+    let mut full = MemoryOut::new(alloc).with_most(0);
+    check_write_fault(&rt, alloc, &mut full, "");
 }
 
 /// A reader without an end.
@@ -93,7 +93,7 @@ fn stops_at_a_failed_read(rt: HostRuntime) {
 }
 
 #[test]
-fn leaves_a_reader_without_an_end(rt: HostRuntime) {
+fn stops_at_a_source_without_an_end(rt: HostRuntime) {
     let mut out = MemoryOut::new(rt.alloc());
     let outcome = run_without_commands(rt.alloc(), &mut Endless, DEFAULTS, &mut out);
     assert!(rt; outcome == Err(CliFault::ReadSource));
@@ -101,7 +101,7 @@ fn leaves_a_reader_without_an_end(rt: HostRuntime) {
 }
 
 #[test]
-fn leaves_commands_without_an_end(rt: HostRuntime) {
+fn stops_at_commands_without_an_end(rt: HostRuntime) {
     let mut source = MemoryIn::new(HELLO);
     let mut inputs = MemoryIn::new(b"");
     let mut commands = Some(Endless);
@@ -118,30 +118,33 @@ fn leaves_commands_without_an_end(rt: HostRuntime) {
     assert!(rt; out.bytes().is_empty());
 }
 
-/// A reader and writer of std of whose calls each odd one is interrupted, and which moves a byte at
-/// the others, up to the call that fails if there is one.
+/// A reader and writer of std. Each odd call is interrupted, and each even one moves a byte, up to a call that fails, if
+/// there is one.
 #[derive(Drop)]
 struct Interrupted<'a> {
+    /// The bytes that are left to read.
     left: &'a [u8],
-    taken: [u8; 64],
+    /// The bytes that were written, and how many there are.
+    written: [u8; 64],
     count: usize,
+    /// The calls so far, and the number of the one that fails.
     calls: u32,
     failing: Option<u32>,
 }
 
 impl<'a> Interrupted<'a> {
-    /// With these bytes to read, and a call that fails if one is named.
+    /// Returns a reader of these bytes and a writer of none so far.
     fn new(left: &'a [u8], failing: Option<u32>) -> Interrupted<'a> {
         Interrupted {
             left,
-            taken: [0; 64],
+            written: [0; 64],
             count: 0,
             calls: 0,
             failing,
         }
     }
 
-    /// Whether this call moves a byte.
+    /// Counts a call, and returns its error where it moves no byte.
     fn call(&mut self) -> io::Result<()> {
         self.calls = self.calls.saturating_add(1);
         if self.failing == Some(self.calls) {
@@ -169,10 +172,10 @@ impl Read for Interrupted<'_> {
 impl Write for Interrupted<'_> {
     fn write(&mut self, bytes: &[u8]) -> io::Result<usize> {
         self.call()?;
-        if bytes.is_empty() || self.count >= self.taken.len() {
+        if bytes.is_empty() || self.count >= self.written.len() {
             return Ok(0);
         }
-        self.taken[self.count] = bytes[0];
+        self.written[self.count] = bytes[0];
         self.count += 1;
         Ok(1)
     }
@@ -182,6 +185,7 @@ impl Write for Interrupted<'_> {
     }
 }
 
+/// The output of `HELLO`.
 const WRITTEN: &[u8] = b"H\nhalted 0 after 7 steps\n";
 
 #[test]
@@ -194,7 +198,7 @@ fn goes_on_after_an_interrupted_read(rt: HostRuntime) {
     assert!(rt; !source.failed());
 }
 
-/// Runs a source into a writer of std, and answers with the outcome whether it is told that a write failed.
+/// Runs a source into a writer of std. Returns how the run ended, and whether a write failed.
 fn run_into(alloc: Global, writer: &mut Interrupted<'_>) -> (Result<Ending, CliFault>, bool) {
     let mut out = FileOut::new(writer);
     let outcome = run_without_commands(alloc, &mut MemoryIn::new(HELLO), DEFAULTS, &mut out);
@@ -207,12 +211,12 @@ fn goes_on_after_an_interrupted_write(rt: HostRuntime) {
     let (outcome, has_failed) = run_into(rt.alloc(), &mut writer);
     assert!(rt; outcome == Ok(Ending::Halted(0)));
     assert!(rt; !has_failed);
-    assert!(rt; writer.taken.starts_with(WRITTEN));
+    assert!(rt; writer.written.starts_with(WRITTEN));
     assert_eq!(rt; writer.count, WRITTEN.len());
 }
 
 #[test]
-fn stops_at_a_read_of_std_that_fails(rt: HostRuntime) {
+fn stops_at_a_failed_read_of_std(rt: HostRuntime) {
     let mut source = FileIn::new(Interrupted::new(HELLO, Some(5)));
     let mut out = MemoryOut::new(rt.alloc());
     let outcome = run_without_commands(rt.alloc(), &mut source, DEFAULTS, &mut out);
@@ -222,7 +226,7 @@ fn stops_at_a_read_of_std_that_fails(rt: HostRuntime) {
 }
 
 #[test]
-fn stops_at_a_write_of_std_that_fails(rt: HostRuntime) {
+fn stops_at_a_failed_write_of_std(rt: HostRuntime) {
     let mut writer = Interrupted::new(b"", Some(5));
     let (outcome, has_failed) = run_into(rt.alloc(), &mut writer);
     assert!(rt; outcome == Err(CliFault::Write));

@@ -1,4 +1,4 @@
-//! Words that are taken, words that are refused, and the help.
+//! The words of the command line: those that are accepted, those that are refused, and the help.
 use crate::runs::DEFAULTS;
 use clap::error::ErrorKind;
 use rv_cli::{NoRun, Options, Origin, Words, read_words};
@@ -6,12 +6,12 @@ use std::alloc::{AllocError, Global};
 use std::process::Abort;
 use std::test::Fail;
 
-/// The words of a line, with a space between two.
+/// Returns the words of a line, in which a blank separates two.
 fn words_of<'a>(alloc: Global, line: &'a str) -> Result<Vec<&'a str>, AllocError> {
     line.split(' ').collect(alloc)
 }
 
-/// What is read where the line has no word behind the program's.
+/// What is read where no word follows the name of the program.
 const NO_WORDS: Words<'static> = Words {
     source: "-",
     input: None,
@@ -19,8 +19,8 @@ const NO_WORDS: Words<'static> = Words {
     options: DEFAULTS,
 };
 
-/// Holds what is read of a line's words to what is wanted.
-fn reads(rt: &impl Abort, alloc: Global, line: &str, wanted: Words<'_>) -> Result<(), Fail> {
+/// Checks what is read of the words of a line.
+fn check_words(rt: &impl Abort, alloc: Global, line: &str, wanted: Words<'_>) -> Result<(), Fail> {
     let words = words_of(alloc, line)?;
     let read = read_words(alloc, words.as_slice())?;
     assert!(rt; read.source == wanted.source);
@@ -30,8 +30,8 @@ fn reads(rt: &impl Abort, alloc: Global, line: &str, wanted: Words<'_>) -> Resul
     Ok(())
 }
 
-/// Holds the source and the options that a line's words name to what is wanted.
-fn reads_options(
+/// Checks the source and the options that the words of a line name.
+fn check_options(
     rt: &impl Abort,
     alloc: Global,
     line: &str,
@@ -49,24 +49,24 @@ fn reads_options(
         options,
         ..NO_WORDS
     };
-    reads(rt, alloc, line, wanted)
+    check_words(rt, alloc, line, wanted)
 }
 
 #[test]
 fn reads_the_words(rt: HostRuntime) -> Result<(), Fail> {
     let alloc = rt.alloc();
-    reads(&rt, alloc, "rvboard", NO_WORDS)?;
+    check_words(&rt, alloc, "rvboard", NO_WORDS)?;
     let most = (1_000_000_000, 4096, 4096);
     let line = "rvboard a.s --steps 2 --pages=1 --slots 64";
-    reads_options(&rt, alloc, line, "a.s", (2, 1, 64))?;
+    check_options(&rt, alloc, line, "a.s", (2, 1, 64))?;
     let line = "rvboard --steps +0005 -- --x";
-    reads_options(&rt, alloc, line, "--x", (5, 256, 1024))?;
+    check_options(&rt, alloc, line, "--x", (5, 256, 1024))?;
     let line = "rvboard --slots=4096 --pages=4096 --steps=1000000000 -";
-    reads_options(&rt, alloc, line, "-", most)
+    check_options(&rt, alloc, line, "-", most)
 }
 
-/// Holds the files that a line's words name to what is wanted.
-fn names<'a>(
+/// Checks the files that the words of a line name.
+fn check_files<'a>(
     rt: &impl Abort,
     alloc: Global,
     line: &str,
@@ -78,7 +78,7 @@ fn names<'a>(
         commands,
         ..NO_WORDS
     };
-    reads(rt, alloc, line, wanted)
+    check_words(rt, alloc, line, wanted)
 }
 
 #[test]
@@ -90,22 +90,22 @@ fn reads_the_files(rt: HostRuntime) -> Result<(), Fail> {
         commands: Some("c.txt"),
         ..NO_WORDS
     };
-    reads(
+    check_words(
         &rt,
         alloc,
         "rvboard --commands=c.txt a.s --input i.txt",
         both,
     )?;
-    names(&rt, alloc, "rvboard --input i.txt", Some("i.txt"), None)?;
-    names(&rt, alloc, "rvboard --commands -", None, Some("-"))?;
-    names(&rt, alloc, "rvboard --input=-x", Some("-x"), None)?;
-    names(&rt, alloc, "rvboard --input=", Some(""), None)?;
+    check_files(&rt, alloc, "rvboard --input i.txt", Some("i.txt"), None)?;
+    check_files(&rt, alloc, "rvboard --commands -", None, Some("-"))?;
+    check_files(&rt, alloc, "rvboard --input=-x", Some("-x"), None)?;
+    check_files(&rt, alloc, "rvboard --input=", Some(""), None)?;
     // The last word is empty.
-    names(&rt, alloc, "rvboard --commands ", None, Some(""))
+    check_files(&rt, alloc, "rvboard --commands ", None, Some(""))
 }
 
-/// Holds that a line's words are refused with an error of this kind, and that its run is told so.
-fn refuses(rt: &impl Abort, alloc: Global, line: &str, kind: ErrorKind) -> Result<(), Fail> {
+/// Checks that the words of a line are refused with an error of this kind, and why there is no run then.
+fn check_refusal(rt: &impl Abort, alloc: Global, line: &str, kind: ErrorKind) -> Result<(), Fail> {
     let words = words_of(alloc, line)?;
     let read = read_words(alloc, words.as_slice());
     let why = if kind == ErrorKind::DisplayHelp {
@@ -132,7 +132,7 @@ fn refuses_files_by_kind(rt: HostRuntime) -> Result<(), Fail> {
         ("rvboard --commands -x", ErrorKind::UnknownArgument),
     ];
     for (line, kind) in lines {
-        refuses(&rt, rt.alloc(), line, kind)?;
+        check_refusal(&rt, rt.alloc(), line, kind)?;
     }
     Ok(())
 }
@@ -154,7 +154,7 @@ fn refuses_by_kind(rt: HostRuntime) -> Result<(), Fail> {
         ("rvboard -V", ErrorKind::UnknownArgument),
     ];
     for (line, kind) in lines {
-        refuses(&rt, rt.alloc(), line, kind)?;
+        check_refusal(&rt, rt.alloc(), line, kind)?;
     }
     Ok(())
 }
@@ -174,7 +174,7 @@ fn a_dash_is_the_standard_input(rt: HostRuntime) -> Result<(), Fail> {
     };
     assert!(rt; NO_WORDS.source_origin() == Origin::StandardInput);
     assert!(rt; file.source_origin() == Origin::File("./-"));
-    reads(&rt, rt.alloc(), "rvboard ./-", file)
+    check_words(&rt, rt.alloc(), "rvboard ./-", file)
 }
 
 #[test]

@@ -1,11 +1,11 @@
-//! The lines and the statuses of faults, and files that can't be opened.
+//! The lines and the exit statuses of faults, and files that can't be opened.
 use rv_asm::{AsmFault, FaultKind};
 use rv_cli::{CliFault, TextName, exit_status, fault_line, file_or_fault};
 use std::alloc::Global;
 use std::io;
 use std::test::Fail;
 
-/// The line of the fault.
+/// Returns the line of a fault.
 fn line_of(alloc: Global, fault: &CliFault) -> Result<Vec<u8>, Fail> {
     let mut line = Vec::new(alloc);
     fault_line(fault, &mut line)?;
