@@ -2,6 +2,6 @@
 #![tactic(auto)]
 
 #[cfg(test)]
-mod lists;
+mod inputs;
 #[cfg(test)]
 mod refusals;

@@ -1,11 +1,11 @@
-//! Timed lists that are taken.
+//! Timed lists that are read.
 use rv_lists::{Input, TimedInput, Timeline};
 use rv_plic::Source;
 use std::alloc::Global;
 use std::process::Abort;
 use std::test::Fail;
 
-/// A received byte.
+/// Returns a received byte with its step.
 fn rx(step: u64, byte: u8) -> TimedInput {
     TimedInput {
         step,
@@ -13,7 +13,7 @@ fn rx(step: u64, byte: u8) -> TimedInput {
     }
 }
 
-/// A level of a source.
+/// Returns a level of an interrupt line with its step.
 fn line(step: u64, number: u8, high: bool) -> Result<TimedInput, &'static str> {
     let source = Source::new(number).ok_or("there is no such source")?;
     Ok(TimedInput {
@@ -22,7 +22,7 @@ fn line(step: u64, number: u8, high: bool) -> Result<TimedInput, &'static str> {
     })
 }
 
-/// The text has these inputs.
+/// Checks that the text has these inputs.
 fn check(rt: &impl Abort, text: &[u8], inputs: &[TimedInput], alloc: Global) -> Result<(), Fail> {
     let timeline = Timeline::read(alloc, text)
         .ok()
