@@ -11,15 +11,15 @@ use std::alloc::Global;
 use std::process::Abort;
 use std::test::Fail;
 
-/// A bus over one page.
+/// Returns a bus over one page.
 fn bus(alloc: Global) -> Result<Bus<FlatMemory>, Fail> {
     Ok(Bus::new(FlatMemory::new(alloc, 1)?, Serial::new(alloc)?))
 }
 
-// Each of these says nothing of the bus that it leaves, so that a test's proof carries no state from call to call.
+// The helpers have no contracts about the bus, so that the proof of a test carries no state from call to call.
 
-/// A load answers so.
-fn loads(
+/// Checks the answer to a load.
+fn check_load(
     rt: &impl Abort,
     bus: &mut Bus<FlatMemory>,
     addr: u32,
@@ -31,8 +31,8 @@ fn loads(
     assert_eq!(rt; bus.load(addr, width), answer);
 }
 
-/// A store answers so.
-fn stores(
+/// Checks the answer to a store.
+fn check_store(
     rt: &impl Abort,
     bus: &mut Bus<FlatMemory>,
     addr: u32,
@@ -45,19 +45,19 @@ fn stores(
     assert_eq!(rt; bus.store(addr, width, value), answer);
 }
 
-/// A fetch answers so.
-fn fetches(rt: &impl Abort, bus: &Bus<FlatMemory>, addr: u32, answer: Result<u32, BusFault>)
+/// Checks the answer to a fetch.
+fn check_fetch(rt: &impl Abort, bus: &Bus<FlatMemory>, addr: u32, answer: Result<u32, BusFault>)
     requires { addr % 4 ≡ 0 }
 {
     assert_eq!(rt; bus.fetch(addr), answer);
 }
 
-/// A look at a byte of the memory answers so.
-fn peeks(rt: &impl Abort, bus: &Bus<FlatMemory>, addr: u32, answer: Option<u8>) {
+/// Checks the answer to a peek at a byte of the memory.
+fn check_peek(rt: &impl Abort, bus: &Bus<FlatMemory>, addr: u32, answer: Option<u8>) {
     assert_eq!(rt; bus.peek(addr), answer);
 }
 
-/// A tick.
+/// Lets the time grow by one.
 fn tick(bus: &mut Bus<FlatMemory>) {
     bus.tick();
 }
@@ -67,7 +67,7 @@ fn each_word_of_64_pages(rt: HostRuntime) -> Result<(), Fail> {
     let memory = FlatMemory::new(rt.alloc(), 64)?;
     let mut bus = Bus::new(memory, Serial::new(rt.alloc())?);
     for word in 0..65536u32 {
-        stores(
+        check_store(
             &rt,
             &mut bus,
             0x8000_0000 + 4 * word,
@@ -77,60 +77,60 @@ fn each_word_of_64_pages(rt: HostRuntime) -> Result<(), Fail> {
         );
     }
     for word in 0..65536u32 {
-        fetches(&rt, &bus, 0x8000_0000 + 4 * word, Ok(word));
+        check_fetch(&rt, &bus, 0x8000_0000 + 4 * word, Ok(word));
     }
     Ok(())
 }
 
 #[test]
-fn memory_is_bytes_low_one_first(rt: HostRuntime) -> Result<(), Fail> {
+fn the_first_byte_of_a_word_is_the_lowest(rt: HostRuntime) -> Result<(), Fail> {
     let mut bus = bus(rt.alloc())?;
-    stores(&rt, &mut bus, 0x8000_0ffc, Width::Four, 0x0403_0201, Ok(()));
-    loads(&rt, &mut bus, 0x8000_0ffe, Width::Two, Ok(0x0403));
-    loads(&rt, &mut bus, 0x8000_0ffc, Width::One, Ok(1));
-    fetches(&rt, &bus, 0x8000_0ffc, Ok(0x0403_0201));
-    fetches(&rt, &bus, 0x8000_1000, Err(BusFault));
-    peeks(&rt, &bus, 0x8000_0fff, Some(4));
-    peeks(&rt, &bus, 0x8000_1000, None);
+    check_store(&rt, &mut bus, 0x8000_0ffc, Width::Four, 0x0403_0201, Ok(()));
+    check_load(&rt, &mut bus, 0x8000_0ffe, Width::Two, Ok(0x0403));
+    check_load(&rt, &mut bus, 0x8000_0ffc, Width::One, Ok(1));
+    check_fetch(&rt, &bus, 0x8000_0ffc, Ok(0x0403_0201));
+    check_fetch(&rt, &bus, 0x8000_1000, Err(BusFault));
+    check_peek(&rt, &bus, 0x8000_0fff, Some(4));
+    check_peek(&rt, &bus, 0x8000_1000, None);
     Ok(())
 }
 
 #[test]
-fn what_is_not_in_the_table_is_a_fault(rt: HostRuntime) -> Result<(), Fail> {
+fn an_address_outside_the_table_is_a_fault(rt: HostRuntime) -> Result<(), Fail> {
     let mut bus = bus(rt.alloc())?;
     let refused = Err(StoreRefusal::Fault);
-    loads(&rt, &mut bus, 0x1000_0008, Width::One, Ok(2));
-    loads(&rt, &mut bus, 0x1000_0009, Width::One, Err(BusFault));
-    stores(&rt, &mut bus, 0x0200_0000, Width::Two, 1, refused);
-    stores(&rt, &mut bus, 0x0200_0004, Width::Four, 1, refused);
-    fetches(&rt, &bus, 0x1000_0000, Err(BusFault));
-    peeks(&rt, &bus, 0x1000_0004, None);
+    check_load(&rt, &mut bus, 0x1000_0008, Width::One, Ok(2));
+    check_load(&rt, &mut bus, 0x1000_0009, Width::One, Err(BusFault));
+    check_store(&rt, &mut bus, 0x0200_0000, Width::Two, 1, refused);
+    check_store(&rt, &mut bus, 0x0200_0004, Width::Four, 1, refused);
+    check_fetch(&rt, &bus, 0x1000_0000, Err(BusFault));
+    check_peek(&rt, &bus, 0x1000_0004, None);
     Ok(())
 }
 
-/// A received byte waits, and is taken by a load of its whole word alone.
-fn serial_answers(rt: &impl Abort, bus: &mut Bus<FlatMemory>) {
+/// Checks that only a load of the whole word takes a received byte, and that a store sends one.
+fn check_serial(rt: &impl Abort, bus: &mut Bus<FlatMemory>) {
     bus.receive(0x5a);
-    loads(rt, bus, 0x1000_0008, Width::Two, Ok(3));
-    loads(rt, bus, 0x1000_0004, Width::Four, Ok(0x5a));
+    check_load(rt, bus, 0x1000_0008, Width::Two, Ok(3));
+    check_load(rt, bus, 0x1000_0004, Width::Four, Ok(0x5a));
     assert_eq!(rt; bus.serial().waiting(), 0);
-    loads(rt, bus, 0x1000_0004, Width::Two, Ok(0));
-    stores(rt, bus, 0x1000_0000, Width::One, 0x48, Ok(()));
+    check_load(rt, bus, 0x1000_0004, Width::Two, Ok(0));
+    check_store(rt, bus, 0x1000_0000, Width::One, 0x48, Ok(()));
     assert_eq!(rt; bus.serial().console(), b"H".as_slice());
 }
 
 #[test]
 fn devices_answer_at_their_addresses(rt: HostRuntime) -> Result<(), Fail> {
     let mut bus = bus(rt.alloc())?;
-    serial_answers(&rt, &mut bus);
-    stores(&rt, &mut bus, 0x0200_0000, Width::Four, 3, Ok(()));
+    check_serial(&rt, &mut bus);
+    check_store(&rt, &mut bus, 0x0200_0000, Width::Four, 3, Ok(()));
     let lines = InterruptLines {
         software: true,
         timer: false,
         external: false,
     };
     assert_eq!(rt; bus.lines(), lines);
-    stores(&rt, &mut bus, 0x0010_0000, Width::Four, 0x0007_3333, Ok(()));
+    check_store(&rt, &mut bus, 0x0010_0000, Width::Four, 0x0007_3333, Ok(()));
     assert_eq!(rt; bus.halted(), Some(7));
     Ok(())
 }
@@ -143,16 +143,16 @@ fn a_snapshot_undoes_a_tick(rt: HostRuntime) -> Result<(), Fail> {
     tick(&mut bus);
     assert_eq!(rt; bus.timer().load(0xbff8), Some(2));
     bus.undo_tick(snapshot);
-    loads(&rt, &mut bus, 0x0200_bff8, Width::Four, Ok(1));
+    check_load(&rt, &mut bus, 0x0200_bff8, Width::Four, Ok(1));
     Ok(())
 }
 
-/// A bus whose source 3 may interrupt, and asks for it from the next tick on.
-fn with_request(rt: &impl Abort, bus: &mut Bus<FlatMemory>) -> Result<(), Fail> {
-    let source = Source::new(3).ok_or("no source")?;
-    loads(rt, bus, 0x0c00_1000, Width::One, Err(BusFault));
-    stores(rt, bus, 0x0c00_000c, Width::Four, 1, Ok(()));
-    stores(rt, bus, 0x0c00_2000, Width::Four, 8, Ok(()));
+/// Enables source 3 and sets its line high, so that its request is forwarded at the next tick.
+fn request(rt: &impl Abort, bus: &mut Bus<FlatMemory>) -> Result<(), Fail> {
+    let source = Source::new(3).ok_or("there is no such source")?;
+    check_load(rt, bus, 0x0c00_1000, Width::One, Err(BusFault));
+    check_store(rt, bus, 0x0c00_000c, Width::Four, 1, Ok(()));
+    check_store(rt, bus, 0x0c00_2000, Width::Four, 8, Ok(()));
     bus.set_line(source, true);
     Ok(())
 }
@@ -160,23 +160,23 @@ fn with_request(rt: &impl Abort, bus: &mut Bus<FlatMemory>) -> Result<(), Fail> 
 #[test]
 fn the_interrupt_controller_takes_words(rt: HostRuntime) -> Result<(), Fail> {
     let mut bus = bus(rt.alloc())?;
-    with_request(&rt, &mut bus)?;
+    request(&rt, &mut bus)?;
     let snapshot = bus.snapshot();
     tick(&mut bus);
-    loads(&rt, &mut bus, 0x0c00_1000, Width::Four, Ok(8));
+    check_load(&rt, &mut bus, 0x0c00_1000, Width::Four, Ok(8));
     assert!(rt; bus.lines().external);
     bus.undo_tick(snapshot);
-    loads(&rt, &mut bus, 0x0c00_1000, Width::Four, Ok(0));
+    check_load(&rt, &mut bus, 0x0c00_1000, Width::Four, Ok(0));
     assert_eq!(rt; bus.timer().load(0xbff8), Some(0));
     tick(&mut bus);
     assert_eq!(rt; bus.plic().peek(0x20_0004), 3);
-    loads(&rt, &mut bus, 0x0c20_0004, Width::Four, Ok(3));
+    check_load(&rt, &mut bus, 0x0c20_0004, Width::Four, Ok(3));
     assert!(rt; !bus.lines().external);
     Ok(())
 }
 
-/// A byte is sent, where memory was refused by asking again.
-fn sends(rt: &impl Abort, bus: &mut Bus<FlatMemory>) {
+/// Sends a byte. Where memory ran out, checks that nothing was sent, and sends it again.
+fn check_send(rt: &impl Abort, bus: &mut Bus<FlatMemory>) {
     if bus.store(0x1000_0000, Width::Four, 0x48) == Err(StoreRefusal::NoMemory) {
         assert_eq!(rt; bus.serial().console(), b"".as_slice());
         assert_eq!(rt; bus.store(0x1000_0000, Width::Four, 0x48), Ok(()));
@@ -184,7 +184,7 @@ fn sends(rt: &impl Abort, bus: &mut Bus<FlatMemory>) {
     assert_eq!(rt; bus.serial().console(), b"H".as_slice());
 }
 
-/// With any one allocation refused, the store that needed it leaves the console, and the same store then succeeds.
+// With any one allocation refused, the store that needs it leaves the console as it was, and then succeeds.
 #[test]
 fn a_refused_store_can_be_asked_again(rt: HostRuntime) -> Result<(), Fail> {
     let serial = match Serial::new(rt.alloc()) {
@@ -196,6 +196,6 @@ fn a_refused_store_can_be_asked_again(rt: HostRuntime) -> Result<(), Fail> {
         Err(_) => FlatMemory::new(rt.alloc(), 1)?,
     };
     let mut bus = Bus::new(memory, serial);
-    sends(&rt, &mut bus);
+    check_send(&rt, &mut bus);
     Ok(())
 }

@@ -1,4 +1,4 @@
-//! Tests of public calls of the devices, the memory, the cache and the bus.
+//! Tests of the public calls of the devices, the memory, the cache and the bus.
 #![tactic(auto)]
 
 #[cfg(test)]

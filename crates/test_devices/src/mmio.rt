@@ -1,4 +1,4 @@
-//! Timer, serial port and halt register.
+//! The timer, the serial port and the halt register.
 use rv_base::NoMemory;
 use rv_mmio::{Halt, Serial, SerialReg, Timer};
 use std::process::Abort;
@@ -14,19 +14,19 @@ const MTIME_LOW: u32 = 0xBFF8;
 
 const MTIME_HIGH: u32 = 0xBFFC;
 
-// Each of these says nothing of the port that it leaves, so that a test's proof carries no state from call to call.
+// The helpers have no contracts about the port, so that the proof of a test carries no state from call to call.
 
-/// A load answers so.
-fn loads(rt: &impl Abort, serial: &mut Serial, register: SerialReg, word: u32) {
+/// Checks the answer to a load.
+fn check_load(rt: &impl Abort, serial: &mut Serial, register: SerialReg, word: u32) {
     assert_eq!(rt; serial.load(register), word);
 }
 
-/// A byte is received.
+/// Receives a byte.
 fn receive(serial: &mut Serial, byte: u8) {
     serial.receive(byte);
 }
 
-/// A store.
+/// Stores a word.
 fn store(serial: &mut Serial, register: SerialReg, word: u32) -> Result<(), NoMemory> {
     serial.store(register, word)
 }
@@ -39,14 +39,14 @@ fn queue_of_sixteen(rt: HostRuntime) -> Result<(), Fail> {
     }
     assert_eq!(rt; serial.waiting(), 16);
     assert!(rt; serial.overrun());
-    loads(&rt, &mut serial, SerialReg::Status, 7);
+    check_load(&rt, &mut serial, SerialReg::Status, 7);
     assert!(rt; !serial.overrun());
-    loads(&rt, &mut serial, SerialReg::Status, 3);
+    check_load(&rt, &mut serial, SerialReg::Status, 3);
     for byte in 0x41..0x51u32 {
-        loads(&rt, &mut serial, SerialReg::Rx, byte);
+        check_load(&rt, &mut serial, SerialReg::Rx, byte);
     }
-    loads(&rt, &mut serial, SerialReg::Rx, 0x8000_0000);
-    loads(&rt, &mut serial, SerialReg::Status, 2);
+    check_load(&rt, &mut serial, SerialReg::Rx, 0x8000_0000);
+    check_load(&rt, &mut serial, SerialReg::Status, 2);
     Ok(())
 }
 
@@ -58,7 +58,7 @@ fn console(rt: HostRuntime) -> Result<(), Fail> {
     store(&mut serial, SerialReg::Status, 0x58)?;
     store(&mut serial, SerialReg::Tx, 0x69)?;
     assert_eq!(rt; serial.console(), b"Hi".as_slice());
-    loads(&rt, &mut serial, SerialReg::Tx, 0);
+    check_load(&rt, &mut serial, SerialReg::Tx, 0);
     Ok(())
 }
 
@@ -75,40 +75,40 @@ fn console_of_100_000_bytes(rt: HostRuntime) -> Result<(), Fail> {
     Ok(())
 }
 
-/// A byte is sent behind those that were; where memory was refused nothing is, and the same store then succeeds.
-fn sends(rt: &impl Abort, serial: &mut Serial, byte: u8, sent: &[u8]) {
+/// Sends a byte after those of `sent`. Where memory ran out, checks that nothing was sent, and sends it again.
+fn check_send(rt: &impl Abort, serial: &mut Serial, byte: u8, sent: &[u8]) {
     if serial.store(SerialReg::Tx, byte as u32) == Err(NoMemory) {
         assert_eq!(rt; serial.console(), sent);
         assert_eq!(rt; serial.store(SerialReg::Tx, byte as u32), Ok(()));
     }
 }
 
-/// With any one allocation refused, the store that needed it leaves the console, and the same store then succeeds.
+// With any one allocation refused, the store that needs it leaves the console as it was, and then succeeds.
 #[test]
-fn refused_once(rt: HostRuntime) -> Result<(), Fail> {
+fn a_refused_store_can_be_asked_again(rt: HostRuntime) -> Result<(), Fail> {
     let mut serial = match Serial::new(rt.alloc()) {
         Ok(serial) => serial,
         Err(NoMemory) => Serial::new(rt.alloc())?,
     };
     let text = b"a console that grows more than once";
     for sent in 0..text.len() {
-        sends(&rt, &mut serial, text[sent], &text[..sent]);
+        check_send(&rt, &mut serial, text[sent], &text[..sent]);
     }
     assert_eq!(rt; serial.console(), text.as_slice());
     Ok(())
 }
 
-/// A store at an offset of the timer answers so.
-fn timer_stores(rt: &impl Abort, timer: &mut Timer, off: u32, word: u32, answer: Option<()>) {
+/// Checks the answer to a store at an offset of the timer.
+fn check_timer_store(rt: &impl Abort, timer: &mut Timer, off: u32, word: u32, answer: Option<()>) {
     assert_eq!(rt; timer.store(off, word), answer);
 }
 
-/// A load at an offset of the timer answers so.
-fn timer_loads(rt: &impl Abort, timer: &Timer, off: u32, answer: Option<u32>) {
+/// Checks the answer to a load at an offset of the timer.
+fn check_timer_load(rt: &impl Abort, timer: &Timer, off: u32, answer: Option<u32>) {
     assert_eq!(rt; timer.load(off), answer);
 }
 
-/// A tick.
+/// Lets the time grow by one.
 fn tick(timer: &mut Timer) {
     timer.tick();
 }
@@ -116,46 +116,46 @@ fn tick(timer: &mut Timer) {
 #[test]
 fn due_from_the_fifth_tick(rt: HostRuntime) {
     let mut timer = Timer::new();
-    timer_loads(&rt, &timer, MTIMECMP_LOW, Some(0xFFFF_FFFF));
-    timer_loads(&rt, &timer, MTIMECMP_HIGH, Some(0xFFFF_FFFF));
-    timer_stores(&rt, &mut timer, MTIMECMP_LOW, 5, Some(()));
-    timer_stores(&rt, &mut timer, MTIMECMP_HIGH, 0, Some(()));
+    check_timer_load(&rt, &timer, MTIMECMP_LOW, Some(0xFFFF_FFFF));
+    check_timer_load(&rt, &timer, MTIMECMP_HIGH, Some(0xFFFF_FFFF));
+    check_timer_store(&rt, &mut timer, MTIMECMP_LOW, 5, Some(()));
+    check_timer_store(&rt, &mut timer, MTIMECMP_HIGH, 0, Some(()));
     for _ in 0..4 {
         tick(&mut timer);
     }
     assert!(rt; !timer.due());
     tick(&mut timer);
     assert!(rt; timer.due());
-    timer_loads(&rt, &timer, MTIME_LOW, Some(5));
+    check_timer_load(&rt, &timer, MTIME_LOW, Some(5));
 }
 
-/// The time goes from 0xffffffff with this high word to these.
-fn time_goes(rt: &impl Abort, high: u32, after_low: u32, after_high: u32) {
+/// Checks the words of the time one tick after 0xffffffff with this high word.
+fn check_carry(rt: &impl Abort, high: u32, after_low: u32, after_high: u32) {
     let mut timer = Timer::new();
-    timer_stores(rt, &mut timer, MTIME_LOW, 0xFFFF_FFFF, Some(()));
-    timer_stores(rt, &mut timer, MTIME_HIGH, high, Some(()));
+    check_timer_store(rt, &mut timer, MTIME_LOW, 0xFFFF_FFFF, Some(()));
+    check_timer_store(rt, &mut timer, MTIME_HIGH, high, Some(()));
     tick(&mut timer);
-    timer_loads(rt, &timer, MTIME_LOW, Some(after_low));
-    timer_loads(rt, &timer, MTIME_HIGH, Some(after_high));
+    check_timer_load(rt, &timer, MTIME_LOW, Some(after_low));
+    check_timer_load(rt, &timer, MTIME_HIGH, Some(after_high));
 }
 
 #[test]
 fn time_carries_and_wraps(rt: HostRuntime) {
-    time_goes(&rt, 0, 0, 1);
-    time_goes(&rt, 0xFFFF_FFFF, 0, 0);
+    check_carry(&rt, 0, 0, 1);
+    check_carry(&rt, 0xFFFF_FFFF, 0, 0);
 }
 
 #[test]
 fn timer_registers(rt: HostRuntime) {
     let mut timer = Timer::new();
-    timer_stores(&rt, &mut timer, MSIP, 0xFFFF_FFFF, Some(()));
+    check_timer_store(&rt, &mut timer, MSIP, 0xFFFF_FFFF, Some(()));
     assert!(rt; timer.software());
-    timer_loads(&rt, &timer, MSIP, Some(1));
+    check_timer_load(&rt, &timer, MSIP, Some(1));
     let before = timer;
-    timer_stores(&rt, &mut timer, MTIME_LOW + 2, 1, None);
+    check_timer_store(&rt, &mut timer, MTIME_LOW + 2, 1, None);
     assert_eq!(rt; timer, before);
-    timer_loads(&rt, &timer, 4, None);
-    timer_stores(&rt, &mut timer, MSIP, 2, Some(()));
+    check_timer_load(&rt, &timer, 4, None);
+    check_timer_store(&rt, &mut timer, MSIP, 2, Some(()));
     assert!(rt; !timer.software());
 }
 

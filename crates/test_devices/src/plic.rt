@@ -13,57 +13,58 @@ const THRESHOLD: u32 = 0x20_0000;
 
 pub const CLAIM: u32 = 0x20_0004;
 
+/// Returns the source of a number.
 pub fn source(number: u8) -> Result<Source, &'static str> {
-    Source::new(number).ok_or("no such source")
+    Source::new(number).ok_or("there is no such source")
 }
 
-// Each of these says nothing of the controller that it leaves, so that a test's proof carries no state from call to call.
+// The helpers have no contracts about the controller, so that the proof of a test carries no state from call to call.
 
-/// A store.
-pub fn stores(plic: &mut Plic, off: u32, word: u32)
+/// Stores a word.
+pub fn store(plic: &mut Plic, off: u32, word: u32)
     requires aligned { off % 4 ≡ 0 }
     requires within { off < 0x4000000 }
 {
     plic.store(off, word);
 }
 
-/// The level of a source's line.
-pub fn sets(plic: &mut Plic, number: u8, high: bool) -> Result<(), &'static str> {
+/// Sets the level of the line of a source.
+pub fn set_line(plic: &mut Plic, number: u8, high: bool) -> Result<(), &'static str> {
     plic.set_line(source(number)?, high);
     Ok(())
 }
 
-/// Requests are forwarded.
+/// Forwards the requests.
 pub fn forward(plic: &mut Plic) {
     plic.forward();
 }
 
-/// A claim gets this source, as a look at it said before.
-pub fn claims(rt: &impl Abort, plic: &mut Plic, number: u32) {
+/// Checks which source a claim gets, and that a peek gives it before.
+pub fn check_claim(rt: &impl Abort, plic: &mut Plic, number: u32) {
     assert_eq!(rt; plic.peek(CLAIM), number);
     assert_eq!(rt; plic.load(CLAIM), number);
 }
 
-/// A load and a look give these pending sources.
-fn are_pending(rt: &impl Abort, plic: &mut Plic, sources: u32) {
+/// Checks which sources are pending, by a peek and by a load.
+fn check_pending(rt: &impl Abort, plic: &mut Plic, sources: u32) {
     assert_eq!(rt; plic.peek(PENDING), sources);
     assert_eq!(rt; plic.load(PENDING), sources);
 }
 
-/// Whether the hart is notified.
-fn notifies(rt: &impl Abort, plic: &Plic, external: bool) {
+/// Checks whether the hart is notified.
+fn check_external(rt: &impl Abort, plic: &Plic, external: bool) {
     assert_eq!(rt; plic.external(), external);
 }
 
-/// Two sources with these priorities are enabled, their lines are high, and their requests are forwarded.
+/// Returns a controller in which the sources 4 and 9 have these priorities, are enabled, and have been forwarded.
 fn with_4_and_9(priority_4: u32, priority_9: u32, threshold: u32) -> Result<Plic, &'static str> {
     let mut plic = Plic::new();
-    stores(&mut plic, 4 * 4, priority_4);
-    stores(&mut plic, 4 * 9, priority_9);
-    stores(&mut plic, ENABLES, 0x210);
-    stores(&mut plic, THRESHOLD, threshold);
-    sets(&mut plic, 4, true)?;
-    sets(&mut plic, 9, true)?;
+    store(&mut plic, 4 * 4, priority_4);
+    store(&mut plic, 4 * 9, priority_9);
+    store(&mut plic, ENABLES, 0x210);
+    store(&mut plic, THRESHOLD, threshold);
+    set_line(&mut plic, 4, true)?;
+    set_line(&mut plic, 9, true)?;
     forward(&mut plic);
     Ok(plic)
 }
@@ -71,69 +72,70 @@ fn with_4_and_9(priority_4: u32, priority_9: u32, threshold: u32) -> Result<Plic
 #[test]
 fn claims_ignore_the_threshold(rt: HostRuntime) -> Result<(), Fail> {
     let mut plic = with_4_and_9(1, 1, 7)?;
-    are_pending(&rt, &mut plic, 0x210);
-    notifies(&rt, &plic, false);
-    claims(&rt, &mut plic, 4);
-    claims(&rt, &mut plic, 9);
-    claims(&rt, &mut plic, 0);
+    check_pending(&rt, &mut plic, 0x210);
+    check_external(&rt, &plic, false);
+    check_claim(&rt, &mut plic, 4);
+    check_claim(&rt, &mut plic, 9);
+    check_claim(&rt, &mut plic, 0);
     Ok(())
 }
 
 #[test]
 fn highest_priority_first(rt: HostRuntime) -> Result<(), Fail> {
     let mut plic = with_4_and_9(2, 3, 2)?;
-    notifies(&rt, &plic, true);
-    are_pending(&rt, &mut plic, 0x210);
-    claims(&rt, &mut plic, 9);
-    notifies(&rt, &plic, false);
-    claims(&rt, &mut plic, 4);
+    check_external(&rt, &plic, true);
+    check_pending(&rt, &mut plic, 0x210);
+    check_claim(&rt, &mut plic, 9);
+    check_external(&rt, &plic, false);
+    check_claim(&rt, &mut plic, 4);
     Ok(())
 }
 
-/// A claimed source 5 is completed by this word under these enables, and then these sources are pending.
-fn completes(rt: &impl Abort, plic: &mut Plic, enables: u32, word: u32, sources: u32) {
-    stores(plic, ENABLES, enables);
-    stores(plic, CLAIM, word);
+/// Completes source 5 by `word` under these enables, and checks which sources are then pending.
+fn check_completion(rt: &impl Abort, plic: &mut Plic, enables: u32, word: u32, sources: u32) {
+    store(plic, ENABLES, enables);
+    store(plic, CLAIM, word);
     forward(plic);
-    are_pending(rt, plic, sources);
+    check_pending(rt, plic, sources);
 }
 
 #[test]
 fn completion_frees_an_enabled_source(rt: HostRuntime) -> Result<(), Fail> {
     let mut plic = Plic::new();
-    stores(&mut plic, 4 * 5, 1);
-    stores(&mut plic, ENABLES, 0x20);
-    sets(&mut plic, 5, true)?;
+    store(&mut plic, 4 * 5, 1);
+    store(&mut plic, ENABLES, 0x20);
+    set_line(&mut plic, 5, true)?;
     forward(&mut plic);
-    claims(&rt, &mut plic, 5);
-    completes(&rt, &mut plic, 0, 5, 0);
-    completes(&rt, &mut plic, 0x20, 32 + 5, 0);
-    completes(&rt, &mut plic, 0x20, 5, 0x20);
+    check_claim(&rt, &mut plic, 5);
+    check_completion(&rt, &mut plic, 0, 5, 0);
+    check_completion(&rt, &mut plic, 0x20, 32 + 5, 0);
+    check_completion(&rt, &mut plic, 0x20, 5, 0x20);
     // Completed before its claim, the pending source is forwarded again only after the claim.
-    stores(&mut plic, CLAIM, 5);
+    store(&mut plic, CLAIM, 5);
     forward(&mut plic);
-    claims(&rt, &mut plic, 5);
-    claims(&rt, &mut plic, 0);
+    check_claim(&rt, &mut plic, 5);
+    check_claim(&rt, &mut plic, 0);
     forward(&mut plic);
-    are_pending(&rt, &mut plic, 0x20);
+    check_pending(&rt, &mut plic, 0x20);
     Ok(())
 }
 
 #[test]
 fn requests_outlast_their_line(rt: HostRuntime) -> Result<(), Fail> {
     let mut plic = Plic::new();
-    sets(&mut plic, 4, true)?;
-    sets(&mut plic, 4, false)?;
+    set_line(&mut plic, 4, true)?;
+    set_line(&mut plic, 4, false)?;
     forward(&mut plic);
-    are_pending(&rt, &mut plic, 0);
-    sets(&mut plic, 4, true)?;
+    check_pending(&rt, &mut plic, 0);
+    set_line(&mut plic, 4, true)?;
     forward(&mut plic);
-    sets(&mut plic, 4, false)?;
+    set_line(&mut plic, 4, false)?;
     forward(&mut plic);
-    are_pending(&rt, &mut plic, 0x10);
+    check_pending(&rt, &mut plic, 0x10);
     Ok(())
 }
 
+/// Checks what a register keeps of a word after reset.
 fn check_kept(rt: &impl Abort, off: u32, word: u32, kept: u32)
     requires aligned { off % 4 ≡ 0 }
     requires within { off < 0x4000000 }
