@@ -1,4 +1,4 @@
-//! Tests of memories and of caches of decoded instructions, through their public calls.
+//! Tests of the memories and of the caches of decoded instructions, by the calls of their traits.
 #![tactic(auto)]
 
 #[cfg(test)]

@@ -1,4 +1,4 @@
-//! Both memories through their trait.
+//! Both memories, by the calls of their trait.
 ghost use Rattle.std.specs.Prelude.{◌≡◌, ◌+◌, ◌%◌, ◌≤◌, length};
 
 use rv_base::NoMemory;
@@ -7,7 +7,7 @@ use rv_ram::{ByteMemory, FlatMemory, PagedRam};
 use std::process::Abort;
 use std::test::Fail;
 
-/// A write at an offset that is asked to be in range and aligned.
+/// Writes a value, after a check that the offset is in range and aligned.
 fn put<M: ByteMemory>(
     rt: &impl Abort,
     memory: &mut M,
@@ -29,21 +29,21 @@ fn put<M: ByteMemory>(
     }
 }
 
-/// The byte at an offset that is asked to be in range.
+/// Returns a byte, after a check that the offset is in range.
 fn byte<M: ByteMemory>(rt: &impl Abort, memory: &M, off: u32) -> u8 {
     assert!(rt; off < memory.size());
     memory.read(off)
 }
 
-/// The word at an offset that is asked to be in range and aligned.
+/// Returns a word, after a check that the offset is in range and aligned.
 fn word<M: ByteMemory>(rt: &impl Abort, memory: &M, off: u32) -> u32 {
     assert!(rt; off < memory.size());
     assert_eq!(rt; off % 4, 0);
     memory.read_word(off)
 }
 
-/// A new memory of 4096 pages has 16 MB, and its last byte is 0.
-fn ends_with_zero<M: ByteMemory>(rt: &impl Abort, memory: &M) {
+/// Checks that a new memory of 4096 pages has 16 MiB, and that its last byte is 0.
+fn check_last_byte<M: ByteMemory>(rt: &impl Abort, memory: &M) {
     assert_eq!(rt; memory.size(), 16_777_216);
     assert_eq!(rt; byte(rt, memory, 16_777_215), 0);
     assert_eq!(rt; word(rt, memory, 16_777_212), 0);
@@ -51,19 +51,16 @@ fn ends_with_zero<M: ByteMemory>(rt: &impl Abort, memory: &M) {
 
 #[test]
 fn the_last_of_4096_pages(rt: HostRuntime) -> Result<(), Fail> {
-    ends_with_zero(&rt, &FlatMemory::new(rt.alloc(), 4096)?);
+    check_last_byte(&rt, &FlatMemory::new(rt.alloc(), 4096)?);
     let mut paged = PagedRam::new(rt.alloc(), 4096)?;
-    ends_with_zero(&rt, &paged);
+    check_last_byte(&rt, &paged);
     put(&rt, &mut paged, 16_777_215, Width::One, 0x7f)?;
     assert_eq!(rt; word(&rt, &paged, 16_777_212), 0x7f00_0000);
     Ok(())
 }
 
-/// Bytes on either side of a page's end stand where they were written, and nowhere else.
-fn keeps_both_sides_of_an_end<M: ByteMemory>(
-    rt: &impl Abort,
-    memory: &mut M,
-) -> Result<(), NoMemory> {
+/// Writes a byte on each side of the end of a page, and checks that no byte near it changes.
+fn check_page_end<M: ByteMemory>(rt: &impl Abort, memory: &mut M) -> Result<(), NoMemory> {
     put(rt, memory, 4095, Width::One, 0xab)?;
     put(rt, memory, 4096, Width::One, 0xcd)?;
     assert_eq!(rt; byte(rt, memory, 4094), 0);
@@ -77,12 +74,12 @@ fn keeps_both_sides_of_an_end<M: ByteMemory>(
 
 #[test]
 fn both_sides_of_a_page_end(rt: HostRuntime) -> Result<(), Fail> {
-    keeps_both_sides_of_an_end(&rt, &mut FlatMemory::new(rt.alloc(), 2)?)?;
-    keeps_both_sides_of_an_end(&rt, &mut PagedRam::new(rt.alloc(), 2)?)?;
+    check_page_end(&rt, &mut FlatMemory::new(rt.alloc(), 2)?)?;
+    check_page_end(&rt, &mut PagedRam::new(rt.alloc(), 2)?)?;
     Ok(())
 }
 
-/// Writes of each width, at the ends and in the middle of pages, zeros among them.
+/// Writes values of each width at the ends and in the middle of pages, some of them zeros.
 fn write_each_width<M: ByteMemory>(rt: &impl Abort, memory: &mut M) -> Result<(), NoMemory> {
     put(rt, memory, 4092, Width::Four, 0x0403_0201)?;
     put(rt, memory, 4090, Width::Two, 0xffff_6655)?;
@@ -112,7 +109,7 @@ fn paged_memory_is_flat_memory(rt: HostRuntime) -> Result<(), Fail> {
     Ok(())
 }
 
-/// A store to each word, which finds memory each time, and what stands there afterwards.
+/// Writes each word, and checks what the memory holds afterwards.
 fn fill<M: ByteMemory>(rt: &impl Abort, memory: &mut M) -> Result<(), NoMemory> {
     for k in 0..65_536u32 {
         put(rt, memory, 4 * k, Width::Four, 0xffff_ffff - k)?;
@@ -130,7 +127,7 @@ fn each_word_of_64_pages_is_stored(rt: HostRuntime) -> Result<(), Fail> {
     Ok(())
 }
 
-/// A word of zeros is put without memory, wherever it goes: that this is proved says so.
+/// Writes a word of zeros, which never needs a page: the contract of `write` proves that the other arm is unreachable.
 fn put_zero(memory: &mut PagedRam, off: u32)
     requires in_range { off + 4 ≤ length memory.old.bytes }
     requires aligned { off % 4 ≡ 0 }
