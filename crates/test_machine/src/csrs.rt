@@ -1,10 +1,11 @@
-//! The control registers, each time after a reset.
+//! The control registers, each time after reset.
 use rv_csr::Csrs;
 use rv_isa::{InterruptLines, Width};
 use rv_pmp::{Access, Mode};
 use std::process::Abort;
 use std::test::Fail;
 
+/// The addresses of control registers.
 const MSTATUS: u16 = 0x300;
 
 const MISA: u16 = 0x301;
@@ -15,19 +16,21 @@ const MTVEC: u16 = 0x305;
 
 const MEPC: u16 = 0x341;
 
+/// No interrupt line high.
 const LOW: InterruptLines = InterruptLines {
     software: false,
     timer: false,
     external: false,
 };
 
+/// All interrupt lines high.
 const HIGH: InterruptLines = InterruptLines {
     software: true,
     timer: true,
     external: true,
 };
 
-/// Registers after a reset and these writes of machine mode.
+/// Returns the registers after reset and these writes of machine mode.
 fn after(rt: &impl Abort, writes: &[(u16, u32)]) -> Csrs {
     let mut csrs = Csrs::new();
     for &(addr, value) in writes {
@@ -36,7 +39,7 @@ fn after(rt: &impl Abort, writes: &[(u16, u32)]) -> Csrs {
     csrs
 }
 
-/// What machine mode reads while no line is high.
+/// Returns what machine mode reads while no interrupt line is high.
 fn read(csrs: &Csrs, addr: u16) -> Option<u32> {
     csrs.read(addr, Mode::Machine, LOW)
 }

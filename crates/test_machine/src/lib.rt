@@ -1,9 +1,7 @@
-//! Tests of protection and of the control registers at their public calls.
+//! Tests of protection and of the control registers, by their public calls.
 #![tactic(auto)]
 
 #[cfg(test)]
 mod csrs;
 #[cfg(test)]
 mod pmp;
-#[cfg(test)]
-mod sixteen;
