@@ -1,4 +1,4 @@
-//! Tests of the lines of a source, their tokens, and what they say.
+//! Tests of the lines of a source, their tokens, and their statements.
 #![tactic(auto)]
 
 #[cfg(test)]

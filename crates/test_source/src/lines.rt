@@ -1,11 +1,11 @@
-//! Tests of the cut into lines.
+//! How a source is cut into lines.
 ghost use Rattle.std.specs.Prelude.{◌≡◌, length};
 ghost use Rattle.rv_base.specs.Lines.{lines};
 
 use rv_base::cut_lines;
 use std::process::Abort;
 
-/// How many lines a source has, by a loop over them.
+/// Counts the lines of a source by a loop over them.
 fn count_lines(source: &[u8]) -> usize
     ensures { result ≡ length (lines source.now) }
 {
@@ -16,7 +16,7 @@ fn count_lines(source: &[u8]) -> usize
     n
 }
 
-/// The source has these lines.
+/// Checks that the source has these lines, and no more however often it is asked.
 fn check(rt: &impl Abort, source: &[u8], lines: &[&[u8]]) {
     let mut left = cut_lines(source);
     for line in lines {

@@ -1,32 +1,34 @@
-//! Lines and what they say, as docs/ASSEMBLER.md has them. What each word assembles to is a row of test_rows.
+//! The labels and statements of lines, and their faults, as docs/ASSEMBLER.md has them. What each mnemonic is assembled to
+//! is a row of test_rows.
 use rv_base::cut_lines;
 use rv_source::{Label, Line, LineFault, Statement, read_line};
 use std::alloc::{AllocError, Global};
 use std::process::Abort;
 use std::test::Fail;
 
-/// What a line says, of which nothing is said: so the proofs of tests don't carry what `read_line` says.
+/// Reads a line. It has no contract, so that the proofs of tests don't carry that of `read_line`.
 fn read<'a>(alloc: Global, text: &'a [u8]) -> Result<Line<'a>, LineFault> {
     read_line(alloc, text)
 }
 
+/// Reads a line that has no fault.
 fn line<'a>(alloc: Global, text: &'a [u8]) -> Result<Line<'a>, &'static str> {
     read(alloc, text).ok().ok_or("the line is refused")
 }
 
-/// A line has this fault.
-fn refuse(rt: &impl Abort, alloc: Global, line: &[u8], fault: LineFault) {
+/// Checks the fault of a line.
+fn check_fault(rt: &impl Abort, alloc: Global, line: &[u8], fault: LineFault) {
     assert_eq!(rt; read(alloc, line).err(), Some(fault));
 }
 
-/// Each line of the text has this fault.
-fn refuse_each(rt: &impl Abort, alloc: Global, text: &[u8], fault: LineFault) {
+/// Checks that each line of the text has this fault.
+fn check_each_fault(rt: &impl Abort, alloc: Global, text: &[u8], fault: LineFault) {
     for line in cut_lines(text) {
-        refuse(rt, alloc, line, fault);
+        check_fault(rt, alloc, line, fault);
     }
 }
 
-/// A label in its letters or digits.
+/// Appends a label as it is spelled.
 fn push_label(alloc: Global, out: &mut Vec<u8>, label: &Label) -> Result<(), AllocError> {
     match label {
         Label::Name(name) => out.extend_from_slice(name.bytes()),
@@ -34,7 +36,7 @@ fn push_label(alloc: Global, out: &mut Vec<u8>, label: &Label) -> Result<(), All
     }
 }
 
-/// A line's labels, each with a blank before it.
+/// Returns the labels of a line, each with a blank before it.
 fn labels_of(alloc: Global, line: &Line<'_>) -> Result<Vec<u8>, AllocError> {
     let mut out = Vec::new(alloc);
     for label in line.labels() {
@@ -44,8 +46,8 @@ fn labels_of(alloc: Global, line: &Line<'_>) -> Result<Vec<u8>, AllocError> {
     Ok(out)
 }
 
-/// What kind of statement a line says.
-fn statement_of(line: &Line<'_>) -> &'static str {
+/// Returns the kind of statement of a line.
+fn statement_kind(line: &Line<'_>) -> &'static str {
     match line.statement() {
         Some(Statement::Instruction(_)) => "an instruction",
         Some(_) => "something else",
@@ -53,8 +55,8 @@ fn statement_of(line: &Line<'_>) -> &'static str {
     }
 }
 
-/// The line has these labels and says a statement of this kind.
-fn says(
+/// Checks the labels of a line and the kind of its statement.
+fn check_line(
     rt: &impl Abort,
     alloc: Global,
     line: &Line<'_>,
@@ -63,11 +65,13 @@ fn says(
 ) -> Result<(), Fail> {
     let seen = labels_of(alloc, line)?;
     assert_eq!(rt; seen.as_slice(), labels);
-    assert_eq!(rt; statement_of(line), kind);
+    assert_eq!(rt; statement_kind(line), kind);
     Ok(())
 }
 
-// Letting a line go costs proof at each place where it may be: so one function owns lines, and lends them.
+// A function that owns a line drops it at each `?`, which costs proof: so one function owns lines, and lends them.
+
+/// Reads a line that has no fault, and checks its labels and the kind of its statement.
 fn check(
     rt: &impl Abort,
     alloc: Global,
@@ -76,7 +80,7 @@ fn check(
     kind: &str,
 ) -> Result<(), Fail> {
     let read = line(alloc, text)?;
-    says(rt, alloc, &read, labels, kind)
+    check_line(rt, alloc, &read, labels, kind)
 }
 
 #[test]
@@ -162,8 +166,8 @@ foo \x01
 #[test]
 fn faults(rt: HostRuntime) {
     let alloc = rt.alloc();
-    refuse_each(&rt, alloc, SYNTAX, LineFault::Syntax);
-    refuse_each(&rt, alloc, UNKNOWN_WORDS, LineFault::UnknownWord);
-    refuse_each(&rt, alloc, BAD_OPERANDS, LineFault::BadOperands);
-    refuse_each(&rt, alloc, BAD_BYTES, LineFault::BadByte);
+    check_each_fault(&rt, alloc, SYNTAX, LineFault::Syntax);
+    check_each_fault(&rt, alloc, UNKNOWN_WORDS, LineFault::UnknownWord);
+    check_each_fault(&rt, alloc, BAD_OPERANDS, LineFault::BadOperands);
+    check_each_fault(&rt, alloc, BAD_BYTES, LineFault::BadByte);
 }

@@ -1,12 +1,12 @@
-//! Tests of the cut into tokens.
+//! How a line is cut into tokens.
 use rv_base::cut_lines;
 use rv_tokens::{Direction, LineFault, Token, cut_line};
 use std::alloc::{AllocError, Global};
 use std::process::Abort;
 use std::test::Fail;
 
-/// A token in few letters: a name and a sign as they are spelled, `5`, `#16` for another number, `5b`, `'65` for a
-/// character, and a string with its bytes behind a quote.
+/// Appends a token in few letters: a name or a sign as it is spelled, `5` for decimal digits, `#16` for another number,
+/// `5b` for a local reference, `'65` for a character, and a quote with the bytes of a string.
 fn push_token(alloc: Global, out: &mut Vec<u8>, token: &Token) -> Result<(), AllocError> {
     match token {
         Token::Name(name) => out.extend_from_slice(name.bytes()),
@@ -36,12 +36,12 @@ fn push_token(alloc: Global, out: &mut Vec<u8>, token: &Token) -> Result<(), All
     }
 }
 
-/// A line's tokens, of which nothing is said: so the proofs of tests don't carry what `cut_line` says.
+/// Returns the tokens of a line. It has no contract, so that the proofs of tests don't carry that of `cut_line`.
 fn tokens(alloc: Global, line: &[u8]) -> Result<Vec<Token>, LineFault> {
     cut_line(alloc, line)
 }
 
-/// The line has these tokens, each with a blank before it.
+/// Checks the tokens of a line, each with a blank before it.
 fn check(rt: &impl Abort, alloc: Global, line: &[u8], expected: &[u8]) -> Result<(), Fail> {
     let tokens = tokens(alloc, line).ok().ok_or("a line is refused")?;
     let mut seen = Vec::new(alloc);
@@ -53,12 +53,12 @@ fn check(rt: &impl Abort, alloc: Global, line: &[u8], expected: &[u8]) -> Result
     Ok(())
 }
 
-/// The line has this fault.
-fn refuse(rt: &impl Abort, alloc: Global, line: &[u8], fault: LineFault) {
+/// Checks the fault of a line.
+fn check_fault(rt: &impl Abort, alloc: Global, line: &[u8], fault: LineFault) {
     assert_eq!(rt; tokens(alloc, line).err(), Some(fault));
 }
 
-/// Each other line of the text has the tokens of the line behind it.
+/// Checks each pair of lines of the text: the second has the tokens of the first.
 fn check_each(rt: &impl Abort, alloc: Global, text: &[u8]) -> Result<(), Fail> {
     let mut lines = cut_lines(text);
     for _ in 0..text.len() {
@@ -71,10 +71,10 @@ fn check_each(rt: &impl Abort, alloc: Global, text: &[u8]) -> Result<(), Fail> {
     Ok(())
 }
 
-/// Each line of the text has this fault.
-fn refuse_each(rt: &impl Abort, alloc: Global, text: &[u8], fault: LineFault) {
+/// Checks that each line of the text has this fault.
+fn check_each_fault(rt: &impl Abort, alloc: Global, text: &[u8], fault: LineFault) {
     for line in cut_lines(text) {
-        refuse(rt, alloc, line, fault);
+        check_fault(rt, alloc, line, fault);
     }
 }
 
@@ -120,7 +120,7 @@ const NO_HALVES: &[u8] = b"\
 
 #[test]
 fn halves(rt: HostRuntime) -> Result<(), Fail> {
-    refuse_each(&rt, rt.alloc(), NO_HALVES, LineFault::Syntax);
+    check_each_fault(&rt, rt.alloc(), NO_HALVES, LineFault::Syntax);
     check_each(&rt, rt.alloc(), HALVES)
 }
 
@@ -157,7 +157,7 @@ const NO_NUMBERS: &[u8] = b"\
 
 #[test]
 fn numbers(rt: HostRuntime) -> Result<(), Fail> {
-    refuse_each(&rt, rt.alloc(), NO_NUMBERS, LineFault::Syntax);
+    check_each_fault(&rt, rt.alloc(), NO_NUMBERS, LineFault::Syntax);
     check_each(&rt, rt.alloc(), NUMBERS)
 }
 
@@ -181,7 +181,7 @@ const NO_LOCAL_REFERENCES: &[u8] = b"\
 
 #[test]
 fn local_references(rt: HostRuntime) -> Result<(), Fail> {
-    refuse_each(&rt, rt.alloc(), NO_LOCAL_REFERENCES, LineFault::Syntax);
+    check_each_fault(&rt, rt.alloc(), NO_LOCAL_REFERENCES, LineFault::Syntax);
     check_each(&rt, rt.alloc(), LOCAL_REFERENCES)
 }
 
@@ -215,7 +215,7 @@ const NO_CHARACTERS: &[u8] = b"\
 
 #[test]
 fn characters(rt: HostRuntime) -> Result<(), Fail> {
-    refuse_each(&rt, rt.alloc(), NO_CHARACTERS, LineFault::Syntax);
+    check_each_fault(&rt, rt.alloc(), NO_CHARACTERS, LineFault::Syntax);
     check_each(&rt, rt.alloc(), CHARACTERS)
 }
 
@@ -250,7 +250,7 @@ const NO_STRINGS: &[u8] = b"\
 #[test]
 fn strings(rt: HostRuntime) -> Result<(), Fail> {
     let alloc = rt.alloc();
-    refuse_each(&rt, alloc, NO_STRINGS, LineFault::Syntax);
+    check_each_fault(&rt, alloc, NO_STRINGS, LineFault::Syntax);
     check(&rt, alloc, br#""\n\t\\\"\'""#, b" \"\n\t\\\"'")?;
     check_each(&rt, alloc, STRINGS)
 }
@@ -272,7 +272,7 @@ a /
 #[test]
 fn comments(rt: HostRuntime) -> Result<(), Fail> {
     let alloc = rt.alloc();
-    refuse_each(&rt, alloc, NO_COMMENTS, LineFault::Syntax);
+    check_each_fault(&rt, alloc, NO_COMMENTS, LineFault::Syntax);
     check(&rt, alloc, b"# all \x80\x00\r", b"")?;
     check_each(&rt, alloc, COMMENTS)
 }
@@ -295,12 +295,12 @@ foo ! \x80
 
 #[test]
 fn bytes_that_no_token_has(rt: HostRuntime) {
-    refuse_each(&rt, rt.alloc(), BAD_BYTES, LineFault::BadByte);
-    refuse(&rt, rt.alloc(), b"nop \r", LineFault::BadByte);
-    refuse_each(&rt, rt.alloc(), OTHER_BYTES, LineFault::Syntax);
+    check_each_fault(&rt, rt.alloc(), BAD_BYTES, LineFault::BadByte);
+    check_fault(&rt, rt.alloc(), b"nop \r", LineFault::BadByte);
+    check_each_fault(&rt, rt.alloc(), OTHER_BYTES, LineFault::Syntax);
 }
 
-/// A line of so many bytes.
+/// Returns a line that has the same byte `length` times.
 fn long_line(alloc: Global, byte: u8, length: usize) -> Result<Vec<u8>, AllocError> {
     let mut line = Vec::new(alloc);
     for _ in 0..length {
@@ -309,10 +309,10 @@ fn long_line(alloc: Global, byte: u8, length: usize) -> Result<Vec<u8>, AllocErr
     Ok(line)
 }
 
-/// A line of 1025 such bytes is refused unseen.
-fn refuse_long(rt: &impl Abort, alloc: Global, byte: u8) -> Result<(), Fail> {
+/// Checks that a line of 1025 such bytes is refused, whatever byte it is.
+fn check_too_long(rt: &impl Abort, alloc: Global, byte: u8) -> Result<(), Fail> {
     let line = long_line(alloc, byte, 1025)?;
-    refuse(rt, alloc, line.as_slice(), LineFault::LineTooLong);
+    check_fault(rt, alloc, line.as_slice(), LineFault::LineTooLong);
     Ok(())
 }
 
@@ -320,9 +320,9 @@ fn refuse_long(rt: &impl Abort, alloc: Global, byte: u8) -> Result<(), Fail> {
 fn a_line_has_at_most_1024_bytes(rt: HostRuntime) -> Result<(), Fail> {
     let alloc = rt.alloc();
     check(&rt, alloc, long_line(alloc, b'#', 1024)?.as_slice(), b"")?;
-    refuse_long(&rt, alloc, b' ')?;
-    refuse_long(&rt, alloc, b'#')?;
-    refuse_long(&rt, alloc, 0x80)
+    check_too_long(&rt, alloc, b' ')?;
+    check_too_long(&rt, alloc, b'#')?;
+    check_too_long(&rt, alloc, 0x80)
 }
 
 #[test]
