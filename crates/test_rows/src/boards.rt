@@ -5,11 +5,9 @@ use rv_asm::{Program, assemble};
 use rv_base::{NoMemory, cut_lines};
 use rv_board::{Board, BootedBoard};
 use rv_cache::{DecodeCache, Decoded, NoCache};
-use rv_isa::NoMemory;
 use rv_lists::Timeline;
 use rv_monitor::{Next, Session};
 use rv_ram::{ByteMemory, FlatMemory, PagedRam};
-use rv_tokens::cut_lines;
 use std::alloc::Global;
 use test_compare::same_everywhere;
 

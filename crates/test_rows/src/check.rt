@@ -1,8 +1,8 @@
 //! Rows and the answers that they must have.
-use crate::report::{Count, append_difference};
+use crate::report::{Count, Report};
 use crate::row::{Row, first_row};
 use crate::{boards, image, runs};
-use rv_isa::NoMemory;
+use rv_base::NoMemory;
 use std::alloc::Global;
 
 /// Appends a row with its answers, or why there are none.
@@ -19,18 +19,19 @@ fn answer(alloc: Global, row: Row<'_>, text: &mut Vec<u8>) -> Result<(), NoMemor
     }
 }
 
-/// Answers a row, and appends the first difference where it has to be answered otherwise.
+/// Answers a row, appends it with its answers, and reports the first line where the row has others.
 fn check_row(
     alloc: Global,
     name: &str,
     row: Row<'_>,
-    report: &mut Vec<u8>,
+    report: &mut Report,
 ) -> Result<Count, NoMemory> {
     let mut text = Vec::new(alloc);
     answer(alloc, row, &mut text)?;
+    report.append_answers(text.as_slice())?;
     let differs = text.as_slice() != row.text;
     if differs {
-        append_difference(name, row, text.as_slice(), report)?;
+        report.append_difference(name, row, text.as_slice())?;
     }
     Ok(Count {
         rows: 1,
@@ -38,12 +39,12 @@ fn check_row(
     })
 }
 
-/// Answers each row of a file, appends those that have to be answered otherwise, and returns how many there are.
+/// Answers each row of a file, reports those that have other answers, and counts them.
 pub fn check_rows(
     alloc: Global,
     name: &str,
     text: &[u8],
-    report: &mut Vec<u8>,
+    report: &mut Report,
 ) -> Result<Count, NoMemory> {
     let mut count = Count::NONE;
     let mut rest = text;

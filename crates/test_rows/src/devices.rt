@@ -1,8 +1,7 @@
 //! What the devices of a board hold, as a line of text.
-use rv_base::{byte_digits, word_digits};
+use rv_base::{NoMemory, byte_digits, word_digits};
 use rv_board::Board;
 use rv_cache::Decoded;
-use rv_isa::NoMemory;
 use rv_ram::ByteMemory;
 
 /// The offsets of two registers of the interrupt controller, at which a peek changes nothing: the pending sources, and

@@ -2,9 +2,7 @@
 use crate::boards::program;
 use crate::row::{Row, argument, number};
 use rv_asm::Program;
-use rv_base::{RAM_BASE, byte_digits, word_digits};
-use rv_isa::NoMemory;
-use rv_tokens::cut_lines;
+use rv_base::{NoMemory, RAM_BASE, byte_digits, cut_lines, word_digits};
 use std::alloc::Global;
 
 /// Appends bytes as one number, of which the first byte is the lowest.

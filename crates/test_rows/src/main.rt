@@ -1,7 +1,8 @@
 //! Rows: small sources with timed inputs and commands, and what boards and whole runs have to answer to them.
 //!
 //! Each argument names a file of rows; those in `data/` hold them by topic. The program answers each row anew and
-//! compares: it prints the first line of each row that is answered differently, and counts the rows.
+//! compares: it prints the first line of each row that gets another answer, and counts the rows. After the argument
+//! `--answers` it prints the rows with the answers that they get instead.
 //!
 //! A blank line separates two rows. The first byte of a line says what it is:
 //!
@@ -29,40 +30,55 @@ mod row;
 mod runs;
 
 use crate::check::check_rows;
-use crate::report::{Count, append_count, append_unread};
+use crate::report::{Count, Report};
 use std::alloc::AllocError;
 use std::io::{self, Write};
 use std::process::ExitCode;
 use std::{env, fs};
 
-/// Checks the rows of a file, and appends those that are answered differently and a count.
-fn check_file(rt: &HostRuntime, name: &str, report: &mut Vec<u8>) -> io::Result<Count> {
+/// Checks the rows of a file, and counts them.
+fn check_file(rt: &HostRuntime, name: &str, report: &mut Report) -> io::Result<Count> {
     let Ok(text) = fs::read(rt, name) else {
-        append_unread(name, report)?;
+        report.append_unread(name)?;
         return Ok(Count::UNREAD);
     };
     let count = check_rows(rt.alloc(), name, text.as_slice(), report);
     let count = count.map_err(|_| AllocError)?;
-    append_count(rt.alloc(), name, count, report)?;
+    report.append_count(rt.alloc(), name, count)?;
     Ok(count)
 }
 
-/// Checks the files that the arguments name, and prints the report. Returns whether each row is answered as it says.
-fn check_files(rt: &HostRuntime) -> io::Result<bool> {
-    let words: Vec<String> = env::args(rt)?.collect(rt.alloc())?;
-    let mut report = Vec::new(rt.alloc());
+/// Checks the rows of all files, and counts them.
+fn check_files(rt: &HostRuntime, names: &[String], report: &mut Report) -> io::Result<Count> {
     let mut all = Count::NONE;
-    for name in words.iter().skip(1) {
-        let count = check_file(rt, name.as_str(), &mut report)?;
-        all = all.plus(count);
+    for name in names {
+        all = all.plus(check_file(rt, name.as_str(), report)?);
     }
-    append_count(rt.alloc(), "all", all, &mut report)?;
-    rt.stdout().write_all(report.as_slice())?;
+    report.append_count(rt.alloc(), "all", all)?;
+    Ok(all)
+}
+
+/// Does what the arguments say. Returns whether each row has the answers that it got.
+fn run(rt: &HostRuntime) -> io::Result<bool> {
+    let words: Vec<String> = env::args(rt)?.collect(rt.alloc())?;
+    let mut report = Report::new(rt.alloc());
+    let (names, prints_answers) = match words.as_slice() {
+        [_, first, names @ ..] if first.as_str() == "--answers" => (names, true),
+        [_, names @ ..] => (names, false),
+        [] => (words.as_slice(), false),
+    };
+    let all = check_files(rt, names, &mut report)?;
+    let text = if prints_answers {
+        &report.answers
+    } else {
+        &report.differences
+    };
+    rt.stdout().write_all(text.as_slice())?;
     Ok(all.differing == 0)
 }
 
 fn main(rt: HostRuntime) -> ExitCode {
-    match check_files(&rt) {
+    match run(&rt) {
         Ok(true) => ExitCode::SUCCESS,
         Ok(false) => ExitCode::from(1),
         Err(_) => ExitCode::from(2),

@@ -33,59 +33,94 @@ impl Count {
     }
 }
 
-/// Appends that a file can't be read.
-pub fn append_unread(name: &str, report: &mut Vec<u8>) -> Result<(), AllocError> {
-    report.extend_from_slice(name.as_bytes())?;
-    report.extend_from_slice(b": cannot be read\n")
+/// What may be printed of rows.
+#[derive(Drop)]
+pub struct Report {
+    /// The rows with the answers that they got, a blank line between two.
+    pub answers: Vec<u8>,
+    /// A few lines for each row that has other answers, and the counts.
+    pub differences: Vec<u8>,
 }
 
-/// Appends how many rows a file has, and how many of them differ.
-pub fn append_count(
-    alloc: Global,
-    name: &str,
-    count: Count,
-    report: &mut Vec<u8>,
-) -> Result<(), AllocError> {
-    let Count { rows, differing } = count;
-    let line = format!(in alloc; "{name}: {rows} rows, {differing} differ\n")?;
-    report.extend_from_slice(line.as_bytes())
+/// Appends a word and a part of a text on a line of their own.
+fn append_line(word: &[u8], part: &[u8], text: &mut Vec<u8>) -> Result<(), AllocError> {
+    text.extend_from_slice(word)?;
+    text.extend_from_slice(part)?;
+    text.extend_from_slice(b"\n")
 }
 
-/// Appends a part of the report with a word before it, on a line of its own.
-fn append_line(word: &[u8], part: &[u8], report: &mut Vec<u8>) -> Result<(), AllocError> {
-    report.extend_from_slice(word)?;
-    report.extend_from_slice(part)?;
-    report.extend_from_slice(b"\n")
+/// Returns the line of a text that has the byte at `index`.
+fn line_at(text: &[u8], index: usize) -> &[u8] {
+    let (before, following) = text.split_at(index.min(text.len()));
+    let front = before
+        .rsplit(|byte| *byte == b'\n')
+        .next()
+        .unwrap_or(b"")
+        .len();
+    let back = following
+        .split(|byte| *byte == b'\n')
+        .next()
+        .unwrap_or(b"")
+        .len();
+    let start = before.len().saturating_sub(front);
+    let end = before.len().saturating_add(back);
+    text.get(start..end).unwrap_or(b"")
 }
 
-/// Returns the line of a text that has the byte at `at`, from its beginning to the line end.
-fn line_at(text: &[u8], at: usize) -> &[u8] {
-    let (before, _) = text.split_at(at.min(text.len()));
-    let start = before.len()
-        - before
-            .rsplit(|byte| *byte == b'\n')
-            .next()
-            .unwrap_or(b"")
-            .len();
-    let following = text.get(start..).unwrap_or(b"");
-    following.split(|byte| *byte == b'\n').next().unwrap_or(b"")
-}
-
-/// Appends the title of a row with the first line that differs: as the row has it, and as it is answered.
-pub fn append_difference(
-    name: &str,
-    row: Row<'_>,
-    got: &[u8],
-    report: &mut Vec<u8>,
-) -> Result<(), AllocError> {
-    let wanted = row.text;
-    let same = wanted
-        .iter()
-        .zip(got)
+/// Returns how many bytes two texts have in common from their beginning.
+fn common_length(one: &[u8], other: &[u8]) -> usize {
+    one.iter()
+        .zip(other)
         .take_while(|(one, other)| one == other)
-        .count();
-    report.extend_from_slice(name.as_bytes())?;
-    append_line(b": ", line_at(wanted, 0), report)?;
-    append_line(b"  wanted: ", line_at(wanted, same), report)?;
-    append_line(b"  got:    ", line_at(got, same), report)
+        .count()
+}
+
+impl Report {
+    /// Returns an empty report.
+    pub fn new(alloc: Global) -> Report {
+        Report {
+            answers: Vec::new(alloc),
+            differences: Vec::new(alloc),
+        }
+    }
+
+    /// Appends a row with the answers that it got.
+    pub fn append_answers(&mut self, row: &[u8]) -> Result<(), AllocError> {
+        if !self.answers.is_empty() {
+            self.answers.extend_from_slice(b"\n")?;
+        }
+        self.answers.extend_from_slice(row)
+    }
+
+    /// Appends that a file can't be read.
+    pub fn append_unread(&mut self, name: &str) -> Result<(), AllocError> {
+        append_line(name.as_bytes(), b": cannot be read", &mut self.differences)
+    }
+
+    /// Appends how many rows a file has, and how many of them differ.
+    pub fn append_count(
+        &mut self,
+        alloc: Global,
+        name: &str,
+        count: Count,
+    ) -> Result<(), AllocError> {
+        let Count { rows, differing } = count;
+        let line = format!(in alloc; "{name}: {rows} rows, {differing} differ\n")?;
+        self.differences.extend_from_slice(line.as_bytes())
+    }
+
+    /// Appends the title of a row with the first line that differs: as the row has it, and as it was answered.
+    pub fn append_difference(
+        &mut self,
+        name: &str,
+        row: Row<'_>,
+        got: &[u8],
+    ) -> Result<(), AllocError> {
+        let wanted = row.text;
+        let index = common_length(wanted, got);
+        self.differences.extend_from_slice(name.as_bytes())?;
+        append_line(b": ", line_at(wanted, 0), &mut self.differences)?;
+        append_line(b"  wanted: ", line_at(wanted, index), &mut self.differences)?;
+        append_line(b"  got:    ", line_at(got, index), &mut self.differences)
+    }
 }

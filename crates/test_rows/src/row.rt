@@ -1,7 +1,5 @@
 //! Rows and their lines.
-use rv_base::decimal;
-use rv_isa::NoMemory;
-use rv_tokens::cut_lines;
+use rv_base::{NoMemory, cut_lines, decimal};
 use std::alloc::Global;
 
 /// The text of a row: its title, what it asks, and the answers.

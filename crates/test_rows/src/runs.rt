@@ -2,6 +2,7 @@
 ghost use Rattle.rv_texts.specs.Readers.{IsSoundIf};
 
 use crate::row::{Row, argument, number};
+use rv_base::{NoMemory, cut_lines};
 use rv_cli::{
     CliFault, Ending, MemoryIn, MemoryOut, Options, TextOut, exit_status, fault_line, run_text,
 };
