@@ -54,7 +54,7 @@ fn stops_at_a_failed_write(rt: HostRuntime) {
 }
 
 #[test]
-fn stops_at_a_write_of_no_byte(rt: HostRuntime) {
+fn stops_at_a_write_that_takes_nothing(rt: HostRuntime) {
     let alloc = rt.alloc();
     let mut full = MemoryOut::new(alloc).with_most(0);
     check_write_fault(&rt, alloc, &mut full, "");
