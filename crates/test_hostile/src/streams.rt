@@ -140,7 +140,7 @@ fn are_whole(alloc: Global) -> bool {
 }
 
 /// Returns the failure of one reader after `good` calls.
-fn failure(text: TextName, good: u64) -> Failure {
+fn failure_of(text: TextName, good: u64) -> Failure {
     let mut failure = NONE;
     match text {
         TextName::Source => failure.source = Some(good),
@@ -159,7 +159,7 @@ fn stops_at_reads(
     failed: [bool; 4],
 ) -> bool {
     for good in 0..calls(text).saturating_add(1) {
-        if !stops_at_reader(alloc, failure(name, good), fault, failed) {
+        if !stops_at_reader(alloc, failure_of(name, good), fault, failed) {
             return false;
         }
     }
