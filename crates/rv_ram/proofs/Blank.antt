@@ -5,7 +5,7 @@ use Rattle.std.specs.List.{list_all}
 use Rattle.std.proofs.lemmas.List.{take_at, length-drop, get_or-drop}
 use Rattle.std.proofs.lemmas.List.Folds.{list_all_more}
 use Rattle.rv_ram.specs.Bytes.{zeros}
-use Rattle.rv_ram.specs.Pages.{is_blank}
+use Rattle.rv_ram.specs.Pages.{is_zero_page}
 use Rattle.rv_ram.specs.Table.{PageState, all_bytes, HasWholePages}
 
 drop_front : (xs ys : List ℕ) (k j : ℕ) → j ≡ length xs + k → drop j (xs ++ ys) ≡ drop k ys
@@ -28,8 +28,8 @@ all_zeros zero = refl
 all_zeros (suc n) = all_zeros n
 
 pub blank_page : (ps : List PageState) (off : ℕ) (d : PageState) → HasWholePages ps → off / 4096 < length ps
-    → (get_or ps (off / 4096) d).bytes ≡ zeros 4096 → is_blank (all_bytes ps) off ≡ true
-unfolding is_blank
+    → (get_or ps (off / 4096) d).bytes ≡ zeros 4096 → is_zero_page (all_bytes ps) off ≡ true
+unfolding is_zero_page
 blank_page ps off d w l e =
     ap (list_all (λ byte. byte == 0)) (page_of_all ps d (off / 4096) w l ∙ e) ∙ all_zeros 4096
 
@@ -46,9 +46,9 @@ one_more_zero bs first count l z e =
     ∙ ap (λ byte. byte == 0) (get_or-drop first bs count 0 ∙ e))
 
 -- a page is blank where each of its bytes is zero
-pub is_blank_page : (bs : List ℕ) (off first : ℕ) → first ≡ off / 4096 * 4096
-    → has_zeros bs first 4096 ≡ true → is_blank bs off ≡ true
-unfolding is_blank
-is_blank_page bs off first e z =
+pub zero_page : (bs : List ℕ) (off first : ℕ) → first ≡ off / 4096 * 4096
+    → has_zeros bs first 4096 ≡ true → is_zero_page bs off ≡ true
+unfolding is_zero_page
+zero_page bs off first e z =
     let k : 4096 * (off / 4096) ≡ first = omega arith in
     ap (λ i. has_zeros bs i 4096) k ∙ z

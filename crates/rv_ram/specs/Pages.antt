@@ -25,12 +25,12 @@ is_zero Two v = v % 65536 == 0
 is_zero Four v = v == 0
 
 -- whether all bytes of the page at an offset are zero
-unfoldable pub is_blank : List ℕ → ℕ → Bool
-is_blank bs off = list_all (λ byte. byte == 0) (take 4096 (drop (4096 * (off / 4096)) bs))
+unfoldable pub is_zero_page : List ℕ → ℕ → Bool
+is_zero_page bs off = list_all (λ byte. byte == 0) (take 4096 (drop (4096 * (off / 4096)) bs))
 
 -- whether a write may have to make room: it stores something other than zeros in a page that has only zeros
 abbrev pub wants_page : List ℕ → ℕ → Width → ℕ → Bool
-wants_page bs off w v = not (is_zero w v) && is_blank bs off
+wants_page bs off w v = not (is_zero w v) && is_zero_page bs off
 
 -- whether a write makes its page: it is the first to store something other than zeros there
 abbrev pub makes_page : List Bool → ℕ → Width → ℕ → Bool

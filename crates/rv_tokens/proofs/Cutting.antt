@@ -6,7 +6,7 @@ use Rattle.rv_tokens.specs.declared.fault.LineFault.{LineFault}
 use Rattle.rv_tokens.specs.declared.fault.LineFault.TheVariants.{BadByte, LineTooLong, Syntax, UnknownWord, BadOperands, OutOfMemory}
 use Rattle.rv_tokens.specs.Faults.{Fails}
 use Rattle.rv_base.specs.Words.{is_blank}
-use Rattle.rv_tokens.specs.Tokens.{cut, with_tokens, begins_comment, front, fault_at}
+use Rattle.rv_tokens.specs.Tokens.{cut, with_tokens, is_comment, front, fault_at}
 
 pub cut_drop : (line : List ℕ) (n : ℕ) → cut line n ≡ cut (drop n line) 0
 unfolding cut
@@ -22,13 +22,13 @@ cut_blank [] h e = absurd (omega arith)
 cut_blank (b ∷ bs) h e = rw e refl
 
 pub cut_comment : (line : List ℕ) → 0 < length line → is_blank (get_or line 0 0) ≡ false
-    → begins_comment line ≡ true → cut line 0 ≡ Ok []
+    → is_comment line ≡ true → cut line 0 ≡ Ok []
 unfolding cut
 cut_comment [] h e f = absurd (omega arith)
 cut_comment (b ∷ bs) h e f = rw (e, f) refl
 
 pub cut_token : (line : List ℕ) (t : Token) (n : ℕ) → 0 < length line → is_blank (get_or line 0 0) ≡ false
-    → begins_comment line ≡ false → front line ≡ Some (t, n) → 0 < n
+    → is_comment line ≡ false → front line ≡ Some (t, n) → 0 < n
     → cut line 0 ≡ with_tokens (t ∷ []) (cut (drop n line) 0)
 unfolding cut
 cut_token [] t n h e f g i = absurd (omega arith)
@@ -36,7 +36,7 @@ cut_token (b ∷ bs) t zero h e f g i = absurd (omega arith)
 cut_token (b ∷ bs) t (suc n) h e f g i = rw (e, f, g) (ap (with_tokens (t ∷ [])) (cut_drop bs n))
 
 pub cut_none : (line : List ℕ) → 0 < length line → is_blank (get_or line 0 0) ≡ false
-    → begins_comment line ≡ false → front line ≡ None → cut line 0 ≡ Err (fault_at (get_or line 0 0))
+    → is_comment line ≡ false → front line ≡ None → cut line 0 ≡ Err (fault_at (get_or line 0 0))
 unfolding cut
 cut_none [] h e f g = absurd (omega arith)
 cut_none (b ∷ bs) h e f g = rw (e, f, g) refl

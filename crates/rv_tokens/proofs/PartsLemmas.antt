@@ -13,7 +13,7 @@ use Rattle.rv_tokens.specs.declared.token.Token.{Token}
 use Rattle.rv_tokens.specs.declared.fault.LineFault.{LineFault}
 use Rattle.rv_tokens.specs.declared.fault.LineFault.TheVariants.{BadByte, LineTooLong, Syntax, UnknownWord, BadOperands, OutOfMemory}
 use Rattle.rv_base.specs.Words.{is_blank}
-use Rattle.rv_tokens.specs.Tokens.{token_of, token_in, may_precede, front, begins_comment, fault_at, with_tokens, cut, tokens}
+use Rattle.rv_tokens.specs.Tokens.{token_of, token_in, may_precede, front, is_comment, fault_at, with_tokens, cut, tokens}
 use Rattle.rv_tokens.specs.Parts.{Spells, IsLongest, BeginsWith, IsOver, IsStuck, IsTokensThen, IsCutInto}
 use Rattle.rv_tokens.proofs.Bools.{list_all_split}
 use Rattle.rv_tokens.proofs.Longest.{longest_is, longest_found, longest_none, longest_missing}
@@ -132,11 +132,11 @@ and_last : (a b : Bool) → (a && (false && b)) ≡ false
 and_last true b = refl
 and_last false b = refl
 
-comment_not : (b : ℕ) (bs : List ℕ) → (b == 35) ≡ false → (b == 47) ≡ false → begins_comment (b ∷ bs) ≡ false
+comment_not : (b : ℕ) (bs : List ℕ) → (b == 35) ≡ false → (b == 47) ≡ false → is_comment (b ∷ bs) ≡ false
 comment_not b bs h s = rw (h, s) (and_last (nat_lt 1 (length (b ∷ bs))) (get_or (b ∷ bs) 1 0 == 47))
 
 starts : (text rest : List ℕ) (t : Token) → token_of text ≡ Some t
-    → (is_blank (get_or (text ++ rest) 0 0) ≡ false) × (begins_comment (text ++ rest) ≡ false)
+    → (is_blank (get_or (text ++ rest) 0 0) ≡ false) × (is_comment (text ++ rest) ≡ false)
 starts [] rest t h = let some = some_text [] t h in absurd (omega (arith, some))
 starts (b ∷ bs) rest t h =
     let space = differs 32 space_none b bs t h in
@@ -147,7 +147,7 @@ starts (b ∷ bs) rest t h =
     )
 
 comment_step : (b : ℕ) (bs : List ℕ) (x y : Bool) → (b == 32) ≡ x → (b == 9) ≡ y
-    → begins_comment (b ∷ bs) ≡ true → (x || y) ≡ false
+    → is_comment (b ∷ bs) ≡ true → (x || y) ≡ false
 comment_step b bs true y e f h =
     let same : b ≡ 32 = grind (arith, nat_tests) in
     absurd (false≢true (sym (comment_not b bs (rw same refl) (rw same refl)) ∙ h))
@@ -176,7 +176,7 @@ begins_cut line rest t w =
     (front_is w.text rest t w.spells w.longest) some
     ∙ ap (λ l. with_tokens (t ∷ []) (cut l 0)) (drop-append_seam w.text rest)))
 
-ended_cut : (rest : List ℕ) → ((rest ≡ []) ⊎ (begins_comment rest ≡ true)) → cut rest 0 ≡ Ok []
+ended_cut : (rest : List ℕ) → ((rest ≡ []) ⊎ (is_comment rest ≡ true)) → cut rest 0 ≡ Ok []
 ended_cut [] e = cut_end [] refl
 ended_cut (b ∷ bs) (inl e) = absurd cc
 ended_cut (b ∷ bs) (inr e) =
@@ -324,7 +324,7 @@ made_token : (line : List ℕ) (t : Token) (n : ℕ) (r : Result (List Token) Li
 made_token line t n (Ok ts) e h = (drop n line, begun line t n e, h)
 made_token line t n (Err fault) e h = (t ∷ h.0, (drop n line, begun line t n e, h.1))
 
-made_stuck : (b : ℕ) (bs : List ℕ) → is_blank b ≡ false → begins_comment (b ∷ bs) ≡ false
+made_stuck : (b : ℕ) (bs : List ℕ) → is_blank b ≡ false → is_comment (b ∷ bs) ≡ false
     → front (b ∷ bs) ≡ None → IsMade (b ∷ bs) (Err (fault_at b))
 made_stuck b bs blank comment none = (
   [],
@@ -351,7 +351,7 @@ made_stuck b bs blank comment none = (
 -- a line, if each of its ends has the parts that it is cut into
 made_front : (b : ℕ) (bs : List ℕ) (o : Option (Token × ℕ))
     → ((l : List ℕ) → length l ≤ length bs → IsMade l (cut l 0)) → is_blank b ≡ false
-    → begins_comment (b ∷ bs) ≡ false → front (b ∷ bs) ≡ o → IsMade (b ∷ bs) (cut (b ∷ bs) 0)
+    → is_comment (b ∷ bs) ≡ false → front (b ∷ bs) ≡ o → IsMade (b ∷ bs) (cut (b ∷ bs) 0)
 made_front b bs None more blank comment e =
     rw (cut_none (b ∷ bs) (omega arith) blank comment e) (made_stuck b bs blank comment e)
 made_front b bs (Some at) more blank comment e =
@@ -361,7 +361,7 @@ made_front b bs (Some at) more blank comment e =
     (more (drop at.1 (b ∷ bs)) (omega (arith, length-drop at.1 (b ∷ bs), l.some, l.within))))
 
 made_comment : (b : ℕ) (bs : List ℕ) (c : Bool) → ((l : List ℕ) → length l ≤ length bs → IsMade l (cut l 0))
-    → is_blank b ≡ false → begins_comment (b ∷ bs) ≡ c → IsMade (b ∷ bs) (cut (b ∷ bs) 0)
+    → is_blank b ≡ false → is_comment (b ∷ bs) ≡ c → IsMade (b ∷ bs) (cut (b ∷ bs) 0)
 made_comment b bs true more blank e =
     rw (cut_comment (b ∷ bs) (omega arith) blank e)
     (record { blanks = []; rest = b ∷ bs; parts = refl; are_blank = refl; ends = inr e })
@@ -371,7 +371,7 @@ made_step : (b : ℕ) (bs : List ℕ) (s : Bool) → ((l : List ℕ) → length 
     → is_blank b ≡ s → IsMade (b ∷ bs) (cut (b ∷ bs) 0)
 made_step b bs true more e =
     rw (cut_blank (b ∷ bs) (omega arith) e) (made_blank b bs (cut bs 0) e (more bs (omega arith)))
-made_step b bs false more e = made_comment b bs (begins_comment (b ∷ bs)) more e refl
+made_step b bs false more e = made_comment b bs (is_comment (b ∷ bs)) more e refl
 
 made : (k : ℕ) (line : List ℕ) → length line ≤ k → IsMade line (cut line 0)
 made k [] h =

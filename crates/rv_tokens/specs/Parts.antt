@@ -10,7 +10,7 @@ use Rattle.rv_tokens.specs.declared.fault.LineFault.{LineFault}
 use Rattle.rv_tokens.specs.declared.fault.LineFault.TheVariants.{LineTooLong}
 use Rattle.rv_base.specs.Limits.{line_limit}
 use Rattle.rv_base.specs.Words.{is_blank}
-use Rattle.rv_tokens.specs.Tokens.{token_of, may_precede, begins_comment, fault_at, tokens}
+use Rattle.rv_tokens.specs.Tokens.{token_of, may_precede, is_comment, fault_at, tokens}
 
 -- a text spells a token that may precede the rest of the line
 abbrev pub Spells : List ℕ → List ℕ → Token → Type 0
@@ -37,7 +37,7 @@ pub record IsOver (line : List ℕ) : Type 0 where
   pub rest : List ℕ
   pub parts : line ≡ blanks ++ rest
   pub are_blank : list_all is_blank blanks ≡ true
-  pub ends : (rest ≡ []) ⊎ (begins_comment rest ≡ true)
+  pub ends : (rest ≡ []) ⊎ (is_comment rest ≡ true)
 
 -- a line is blanks, followed by a byte at which neither a comment nor a token begins
 pub record IsStuck (fault : LineFault) (line : List ℕ) : Type 0 where
@@ -47,7 +47,7 @@ pub record IsStuck (fault : LineFault) (line : List ℕ) : Type 0 where
   pub parts : line ≡ blanks ++ (byte ∷ bytes)
   pub are_blank : list_all is_blank blanks ≡ true
   pub no_blank : is_blank byte ≡ false
-  pub no_comment : begins_comment (byte ∷ bytes) ≡ false
+  pub no_comment : is_comment (byte ∷ bytes) ≡ false
   pub no_token : (text rest : List ℕ) (t : Token) → byte ∷ bytes ≡ text ++ rest → Spells text rest t → ⊥
   pub is : fault ≡ fault_at byte
 

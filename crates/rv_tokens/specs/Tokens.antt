@@ -94,8 +94,8 @@ abbrev pub front : List ℕ → Option (Token × ℕ)
 front line = longest (token_in line) (length line)
 
 -- a comment begins with `#` or `//`
-abbrev pub begins_comment : List ℕ → Bool
-begins_comment line =
+abbrev pub is_comment : List ℕ → Bool
+is_comment line =
     (slice_index line 0 == 35)
     || (nat_lt 1 (length line) && ((slice_index line 0 == 47) && (slice_index line 1 == 47)))
 
@@ -114,7 +114,7 @@ cut [] n = Ok []
 cut (b ∷ bs) (suc n) = cut bs n
 cut (b ∷ bs) zero =
     if is_blank b then cut bs zero
-    else (if begins_comment (b ∷ bs) then Ok []
+    else (if is_comment (b ∷ bs) then Ok []
     else (elim (front (b ∷ bs)) as (λ _. Result (List Token) LineFault) [
       | None ↦ Err (fault_at b)
       | Some found ↦ with_tokens (found.0 ∷ []) (cut bs (pred found.1))

@@ -3,7 +3,7 @@ ghost use Rattle.std.specs.Prelude.{◌≡◌, ◌==◌, IfOk, IsTrue, ◌<◌, 
 ghost use Rattle.std.specs.List.{list_all};
 ghost use Rattle.rv_tokens.specs.Faults.{Gives};
 ghost use Rattle.rv_tokens.specs.Parts.{IsCutInto, OneCut};
-ghost use Rattle.rv_tokens.specs.Tokens.{is_name_start, is_name_byte, local, word, sign, half, front, begins_comment, begins_with_name_byte, fault_at, cut, tokens};
+ghost use Rattle.rv_tokens.specs.Tokens.{is_name_start, is_name_byte, local, word, sign, half, front, is_comment, begins_with_name_byte, fault_at, cut, tokens};
 
 use crate::literal::{character, first_byte, number, short_decimal};
 use crate::token::{Text, Token};
@@ -108,9 +108,9 @@ fn begins_with_name_byte(rest: &[u8]) -> bool
 }
 
 /// Returns whether a comment begins here, with `#` or `//`.
-fn begins_comment(line: &[u8]) -> bool
+fn is_comment(line: &[u8]) -> bool
     requires { 0 < length line.now }
-    ensures { result ≡ begins_comment line.now }
+    ensures { result ≡ is_comment line.now }
 {
     line[0] == b'#' || (line.len() > 1 && line[0] == b'/' && line[1] == b'/')
 }
@@ -233,7 +233,7 @@ fn cut<'a>(alloc: Global, line: &'a [u8]) -> Result<Vec<Token<'a>>, LineFault>
     while !rest.is_empty() {
         if is_blank(rest[0]) {
             rest = rest.split_at(1).1;
-        } else if begins_comment(rest) {
+        } else if is_comment(rest) {
             return Ok(out);
         } else {
             match front(rest) {

@@ -1,6 +1,6 @@
 //! A memory that refuses some writes.
 ghost use Rattle.std.specs.Prelude.{◌≡◌, ◌+◌, ◌<◌, ◌≤◌, ◌%◌, true, length, IsTrue, OnOk, OnErr};
-ghost use Rattle.rv_ram.specs.Pages.{is_blank, wants_page};
+ghost use Rattle.rv_ram.specs.Pages.{is_zero_page, wants_page};
 
 use rv_base::NoMemory;
 use rv_isa::Width;
@@ -44,10 +44,10 @@ impl ByteMemory for RefusingMemory {
 }
 
 /// Whether a page has only zeros.
-#[tactic(auto, using(crate::proofs::Pages::one_more_zero, crate::proofs::Pages::is_blank_page))]
-fn is_blank(memory: &FlatMemory, off: u32) -> bool
+#[tactic(auto, using(crate::proofs::Pages::one_more_zero, crate::proofs::Pages::zero_page))]
+fn is_zero_page(memory: &FlatMemory, off: u32) -> bool
     requires { off < length memory.now }
-    ensures { IsTrue result → is_blank memory.now off ≡ true }
+    ensures { IsTrue result → is_zero_page memory.now off ≡ true }
 {
     // `size()` is called for its postcondition: whole pages.
     let _size = memory.size();
@@ -66,7 +66,7 @@ fn needs_page(memory: &FlatMemory, off: u32, width: Width, value: u32) -> bool
     ensures { IsTrue result → wants_page memory.now off width value ≡ true }
 {
     match width {
-        Width::Four => value != 0 && is_blank(memory, off),
+        Width::Four => value != 0 && is_zero_page(memory, off),
         Width::One | Width::Two => false,
     }
 }

@@ -29,7 +29,7 @@ loop-rest-preserved c =
     (length c.loop-rest.rest.now) c.in-Some.n c.in-Some.token (sym c.in-Some.ensures) in
     let e = cut_token c.loop-rest.rest.now c.in-Some.token c.in-Some.n
     (some_left (length c.loop-rest.rest.now) c.loop-rest-test.ensures) (sym c.if-is_blank.ensures)
-    (sym c.if-begins_comment.ensures) (sym c.in-Some.ensures) l.some in (
+    (sym c.if-is_comment.ensures) (sym c.in-Some.ensures) l.some in (
       rw (
         c.in_ok-push-in-Some.ensures.items,
         c.split_at-in-Some.ensures.back,
@@ -57,16 +57,16 @@ loop-rest-smaller c =
 pub returns-in-None-clause-value : goal.returns-in-None-clause-value
 returns-in-None-clause-value c =
     let e = cut_none c.loop-rest.rest.now (some_left (length c.loop-rest.rest.now) c.loop-rest-test.ensures)
-    (sym c.if-is_blank.ensures) (sym c.if-begins_comment.ensures) (sym c.in-None.ensures) in
+    (sym c.if-is_blank.ensures) (sym c.if-is_comment.ensures) (sym c.in-None.ensures) in
     let h = c.loop-rest.invariant.0 in
     let f = rw e at h in
     fails c.fault_at.result _ (sym f ∙ ap (λ x. Err x) (sym c.fault_at.ensures))
 
-pub returns-then-begins_comment-clause-value : goal.returns-then-begins_comment-clause-value
-returns-then-begins_comment-clause-value c =
+pub returns-then-is_comment-clause-value : goal.returns-then-is_comment-clause-value
+returns-then-is_comment-clause-value c =
     let e = cut_comment c.loop-rest.rest.now
     (some_left (length c.loop-rest.rest.now) c.loop-rest-test.ensures) (sym c.if-is_blank.ensures)
-    (sym c.if-begins_comment.ensures) in
+    (sym c.if-is_comment.ensures) in
     let h = c.loop-rest.invariant.0 in
     let f = rw e at h in sym f ∙ ap (λ x. Ok x) (append-nil c.loop-rest.out.items)
 
