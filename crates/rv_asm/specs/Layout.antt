@@ -111,8 +111,7 @@ abbrev pub labelled : ℕ → Known → Label → Known
 labelled k known (label.Name name) =
     record known {
       definitions = record known.definitions {
-        names =
-            known.definitions.names ++ (name, pos known.address) ∷ [];
+        names = known.definitions.names ++ (name, pos known.address) ∷ [];
       };
     }
 labelled k known (label.Local number) =
@@ -133,8 +132,7 @@ named known c statement = elim (name_in statement) as (λ _. Known) [
   | None ↦ known
   | Some name ↦ record known {
     definitions = record known.definitions {
-      names =
-          known.definitions.names ++ (name, c) ∷ [];
+      names = known.definitions.names ++ (name, c) ∷ [];
     };
   }
 ]
@@ -143,8 +141,7 @@ named known c statement = elim (name_in statement) as (λ _. Known) [
 abbrev pub stated : Known → ℤ → Statement → Known
 stated known c statement =
     let after = named known c statement in record after {
-      address =
-          known.address + size_of known.address c statement;
+      address = known.address + size_of known.address c statement;
     }
 
 -- the constant of a statement on line k, once the labels of the line are defined

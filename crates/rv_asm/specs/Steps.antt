@@ -55,8 +55,7 @@ placed k known statement = elim (statement_fault k known statement) as (λ _. Re
   | None ↦ Ok (record {
     line = k;
     address = known.address;
-    constant =
-        unwrap_or (constant_of k known statement) (pos 0);
+    constant = unwrap_or (constant_of k known statement) (pos 0);
     statement = statement;
   })
 ]
@@ -152,8 +151,7 @@ item_at lines k =
       | Some statement ↦ record {
         line = k;
         address = known.address;
-        constant =
-            unwrap_or (constant_of k known statement) (pos 0);
+        constant = unwrap_or (constant_of k known statement) (pos 0);
         statement = statement;
       } ∷ []
     ]

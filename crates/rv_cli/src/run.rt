@@ -155,9 +155,9 @@ pub fn run_text<S: TextIn, I: TextIn, C: TextIn, W: TextOut>(
     ensures unwritten { IfErr result (λ fault. fault ≢ Write → out.new ≡ out.old) }
 
     // After a reader's fault no reader that follows is touched.
-    ensures behind_source { IfErr result (λ fault. fault ≡ ReadSource → (inputs.new ≡ inputs.old)
+    ensures after_source { IfErr result (λ fault. fault ≡ ReadSource → (inputs.new ≡ inputs.old)
         × (commands.new ≡ commands.old)) }
-    ensures behind_inputs { IfErr result (λ fault. fault ≡ ReadInput → commands.new ≡ commands.old) }
+    ensures after_inputs { IfErr result (λ fault. fault ≡ ReadInput → commands.new ≡ commands.old) }
 {
     let texts = read_texts(alloc, source, inputs, commands)?;
     let printed = assemble_and_run(alloc, &texts, options)?;

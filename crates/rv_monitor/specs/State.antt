@@ -61,17 +61,16 @@ most_of s n = min n (s.limit - s.timed.taken)
 
 -- the room after an address was set: one that was there already takes none; another takes a place, and where
 -- there was none, room for nine was made first
-abbrev pub room_behind : Addresses → ℕ → ℕ → ℕ
-room_behind breakpoints room address =
+abbrev pub room_after : Addresses → ℕ → ℕ → ℕ
+room_after breakpoints room address =
     if set.contains breakpoints address then room else (if room == 0 then 9 else room) - 1
 
 -- a session with one breakpoint more
 abbrev pub with_break : SessionState → ℕ → SessionState
 with_break s address =
     record s {
-      breakpoints =
-          set.insert s.breakpoints address;
-      room = room_behind s.breakpoints s.room address;
+      breakpoints = set.insert s.breakpoints address;
+      room = room_after s.breakpoints s.room address;
     }
 
 -- a session with one breakpoint less, which gives no room back

@@ -56,8 +56,8 @@ control_register_text b name csr = line (name ++ codes "=" ++ hex 8 (unwrap_or (
 -- ---- memory
 
 -- the byte at an offset from an address, modulo 2 ^ 32
-abbrev pub byte_behind : BoardState → ℕ → ℕ → Option ℕ
-byte_behind b addr offset = byte_of b ((addr + offset) % 2 ^ 32)
+abbrev pub byte_at_offset : BoardState → ℕ → ℕ → Option ℕ
+byte_at_offset b addr offset = byte_of b ((addr + offset) % 2 ^ 32)
 
 -- a byte, or `--` where there is no memory
 abbrev pub byte_text : Option ℕ → List ℕ
@@ -66,7 +66,7 @@ byte_text (Some byte) = hex 2 byte
 
 -- a byte in its line: a space and the byte
 unfoldable pub byte_in_line : BoardState → ℕ → ℕ → List ℕ
-byte_in_line b addr offset = codes " " ++ byte_text (byte_behind b addr offset)
+byte_in_line b addr offset = codes " " ++ byte_text (byte_at_offset b addr offset)
 
 -- a line of a dump: an address, and `count` bytes from there on
 unfoldable pub bytes_line : BoardState → ℕ → ℕ → List ℕ
@@ -88,7 +88,7 @@ word_from _ _ _ _ = None
 -- the word at an address, if there is memory for it
 unfoldable pub word_of : BoardState → ℕ → Option ℕ
 word_of b addr =
-    word_from (byte_behind b addr 0) (byte_behind b addr 1) (byte_behind b addr 2) (byte_behind b addr 3)
+    word_from (byte_at_offset b addr 0) (byte_at_offset b addr 1) (byte_at_offset b addr 2) (byte_at_offset b addr 3)
 
 -- an instruction's text, or `illegal` where no instruction has the word
 abbrev pub meaning_text : Option Kind → List ℕ

@@ -27,7 +27,6 @@ plic_code =
       pending = t.1.0.0;
       enabled = t.1.0.1;
       priorities = t.1.1.0;
-      threshold =
-          t.1.1.1;
+      threshold = t.1.1.1;
     })
     (λ _. refl)

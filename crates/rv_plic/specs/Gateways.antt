@@ -53,8 +53,7 @@ abbrev pub withdrawn : GatewayState → Sources → GatewayState
 withdrawn gateways sources =
     record gateways {
       outstanding = difference gateways.outstanding sources;
-      edges =
-          given_back sources gateways.edges;
+      edges = given_back sources gateways.edges;
     }
 
 -- the gateways after the request of a source is completed

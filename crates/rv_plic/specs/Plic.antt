@@ -23,8 +23,7 @@ pub record PlicState : Type 0 where
 abbrev pub reset : PlicState
 reset =
     record {
-      gateways =
-          all_low;
+      gateways = all_low;
       pending = empty;
       enabled = empty;
       priorities = replicate 32 0;
@@ -53,8 +52,7 @@ abbrev pub withdrawn : PlicState → Sources → PlicState
 withdrawn plic sources =
     record plic {
       gateways = gateway.withdrawn plic.gateways sources;
-      pending =
-          difference plic.pending sources;
+      pending = difference plic.pending sources;
     }
 
 -- ---- the best source ("Interrupt Priorities": 0 never interrupts, and of equal priorities the lowest number

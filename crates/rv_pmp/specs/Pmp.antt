@@ -21,8 +21,7 @@ pub record PmpState : Type 0 where
 abbrev pub off_entry : Entry
 off_entry =
     record {
-      address =
-          0;
+      address = 0;
       readable = false;
       writable = false;
       executable = false;

@@ -111,9 +111,9 @@ pub fn read_texts<S: TextIn, I: TextIn, C: TextIn>(
     ensures there { is_some commands.new ≡ is_some commands.old }
 
     // After a reader's fault no reader that follows is touched.
-    ensures behind_source { IfErr result (λ fault. fault ≡ Unreadable Source → (inputs.new ≡ inputs.old)
+    ensures after_source { IfErr result (λ fault. fault ≡ Unreadable Source → (inputs.new ≡ inputs.old)
         × (commands.new ≡ commands.old)) }
-    ensures behind_inputs { IfErr result (λ fault. fault ≡ Unreadable Input → commands.new ≡ commands.old) }
+    ensures after_inputs { IfErr result (λ fault. fault ≡ Unreadable Input → commands.new ≡ commands.old) }
 {
     let source = read_text(alloc, TextName::Source, source)?;
     let inputs = read_text(alloc, TextName::Input, inputs)?;

@@ -2,7 +2,7 @@
 ghost use Rattle.std.specs.Prelude.{◌≡◌, ◌++◌, ◌+◌, ◌-◌, ◌*◌, ◌%◌, ◌^◌, ◌<◌, ◌≤◌, codes, min, OnOk, OnErr, vec_len, vec_capacity};
 ghost use Rattle.rv_monitor.specs.Growth.{GrewBy};
 ghost use Rattle.rv_monitor.specs.Room.{memory_room, instruction_room};
-ghost use Rattle.rv_monitor.specs.Views.{pieces, byte_behind, byte_text, byte_in_line, memory_line, memory_text, word_of, word_text, instruction_text};
+ghost use Rattle.rv_monitor.specs.Views.{pieces, byte_at_offset, byte_text, byte_in_line, memory_line, memory_text, word_of, word_text, instruction_text};
 
 use rv_base::{NoMemory, append_within, byte_digits, word_digits};
 use rv_board::Board;
@@ -15,7 +15,7 @@ const LINE_BYTES: u32 = 16;
 
 /// Returns the byte at `addr + offset`, modulo 2^32, if there is memory.
 fn byte_at<M: ByteMemory, C: Decoded>(board: &Board<M, C>, addr: u32, offset: u32) -> Option<u8>
-    ensures { result ≡ byte_behind board.now addr offset }
+    ensures { result ≡ byte_at_offset board.now addr offset }
 {
     board.ram(addr.wrapping_add(offset))
 }

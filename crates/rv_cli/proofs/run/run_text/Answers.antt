@@ -8,15 +8,15 @@ returns-in_err-texts-clause-refused g c =
     let e = err_from_is_err_and c.from_residual.result c.from_residual.ensures.1 in
     rw (e.1, e.2) (refused_unread _ _ c.args.options c.in_err-texts.field-0.0 c.in_err-texts.ensures.err)
 
-pub returns-in_err-texts-clause-behind_source : goal.returns-in_err-texts-clause-behind_source
-returns-in_err-texts-clause-behind_source g c =
+pub returns-in_err-texts-clause-after_source : goal.returns-in_err-texts-clause-after_source
+returns-in_err-texts-clause-after_source g c =
     let e = err_from_is_err_and c.from_residual.result c.from_residual.ensures.1 in
-    rw (e.1, e.2) (λ is. c.in_err-texts.ensures.behind_source (is_source c.in_err-texts.field-0.0 is))
+    rw (e.1, e.2) (λ is. c.in_err-texts.ensures.after_source (is_source c.in_err-texts.field-0.0 is))
 
-pub returns-in_err-texts-clause-behind_inputs : goal.returns-in_err-texts-clause-behind_inputs
-returns-in_err-texts-clause-behind_inputs g c =
+pub returns-in_err-texts-clause-after_inputs : goal.returns-in_err-texts-clause-after_inputs
+returns-in_err-texts-clause-after_inputs g c =
     let e = err_from_is_err_and c.from_residual.result c.from_residual.ensures.1 in
-    rw (e.1, e.2) (λ is. c.in_err-texts.ensures.behind_inputs (is_input c.in_err-texts.field-0.0 is))
+    rw (e.1, e.2) (λ is. c.in_err-texts.ensures.after_inputs (is_input c.in_err-texts.field-0.0 is))
 
 pub returns-in_err-printed-clause-refused : goal.returns-in_err-printed-clause-refused
 returns-in_err-printed-clause-refused g c =
