@@ -1,6 +1,6 @@
 //! How a run ends, the faults for which it has no ending, the line of each, and the exit statuses.
 ghost use Rattle.std.specs.Prelude.{◌≡◌, ◌++◌, Err, IfErr, IfOk, Ok, OnErr, OnOk, Some, false};
-ghost use Rattle.rv_cli.specs.Shown.{StandsBehind};
+ghost use Rattle.rv_cli.specs.Shown.{IsAppended};
 ghost use Rattle.rv_cli.specs.Faults.{input_line_of, line_of, read_fault_of, source_line_of, status_of};
 ghost use Rattle.rv_cli.specs.Numbered.{has_number};
 
@@ -214,7 +214,7 @@ fn append(text: &str, line: &mut Vec<u8>) -> Result<(), NoMemory>
 
 /// Appends the text of a value and a line end to a line, which is left as it was where memory runs out.
 pub(crate) fn append_line<D: fmt::Display>(shown: &D, line: &mut Vec<u8>) -> Result<(), NoMemory>
-    ensures ok { OnOk result (StandsBehind (D.output shown.now) line.old.items line.new.items) }
+    ensures ok { OnOk result (IsAppended (D.output shown.now) line.old.items line.new.items) }
     ensures err { OnErr result (line.new.items ≡ line.old.items) }
 {
     let text = format!(in *line.allocator(); "{shown}\n")?;

@@ -1,5 +1,5 @@
-//! The run from a source text, a timed list and commands to the text that is printed: how it ends, the faults for which it
-//! has no ending, the lines that are printed of both, and the exit status.
+//! The run from a source text, a timed list and commands to the text that is printed: how it ends, the faults
+//! for which it has no ending, the lines that are printed of both, and the exit status.
 #![tactic(auto)]
 
 mod fault;

@@ -119,16 +119,17 @@ fn assemble_and_run(alloc: Global, texts: &Texts, options: Options) -> Result<Pr
 
 /// Runs a source with a timed list and commands, and writes the text that the run prints.
 ///
-/// The three texts are read to their ends. The source is assembled, the timed list is read, and the image is booted on a
-/// board of the options. The commands are executed, or all steps are taken if there are no commands. The text has the
-/// answers of the commands, the console, a line end if the console lacks one, and the status line.
+/// The three texts are read to their ends. The source is assembled, the timed list is read, and the image is
+/// booted on a board of the options. The commands are executed, or all steps are taken if there are no
+/// commands. The text has the answers of the commands, the console, a line end if the console lacks one, and
+/// the status line.
 ///
 /// # Errors
 ///
-/// The first fault that applies, in the order `ReadSource`, `ReadInput`, `ReadCommands`, `Source`, `Input`, `BadPages`,
-/// `BadSlots`, `ImageTooLarge`, `Write`. Only `Write` leaves anything written: a beginning of the text. After a reader's
-/// fault the readers that follow are not touched. `OutOfMemory` may stand in place of any result but a fault that a
-/// reader or the writer had.
+/// The first fault that applies, in the order `ReadSource`, `ReadInput`, `ReadCommands`, `Source`, `Input`,
+/// `BadPages`, `BadSlots`, `ImageTooLarge`, `Write`. Only `Write` leaves anything written: a beginning of the
+/// text. After a reader's fault the readers that follow are not touched. `OutOfMemory` may stand in place of
+/// any result but a fault that a reader or the writer had.
 pub fn run_text<S: TextIn, I: TextIn, C: TextIn, W: TextOut>(
     alloc: Global,
     source: &mut S,

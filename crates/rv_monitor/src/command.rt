@@ -156,9 +156,9 @@ impl<M: ByteMemory, C: Decoded> Session<M, C> {
     ///
     /// # Errors
     ///
-    /// `NoMemory` if memory runs out. `text` is left as it was, and nothing has changed but the steps taken so far, which
-    /// are none if there was no room for the answer. A command that only looks at the board fails only if there was no
-    /// room for the answer.
+    /// `NoMemory` if memory runs out. `text` is left as it was, and nothing has changed but the steps taken
+    /// so far, which are none if there was no room for the answer. A command that only looks at the board
+    /// fails only if there was no room for the answer.
     pub fn command(&mut self, line: &[u8], text: &mut Vec<u8>) -> Result<Next, NoMemory>
         ensures next { IfOk result (λ next. next ≡ next_of (command_in line.now self.old)) }
         ensures ok { OnOk result (Leaves (command_in line.now self.old) self.old self.new) }

@@ -1,5 +1,5 @@
-//! A session: a board with its timed inputs and breakpoints, which takes steps up to a limit; the commands over it, and
-//! the text that they print of a board.
+//! A session: a board with its timed inputs and breakpoints, which takes steps up to a limit; the commands
+//! over it, and the text that they print of a board.
 #![tactic(auto)]
 
 mod breakpoints;

@@ -19,8 +19,8 @@ use std::marker::Model;
 
 /// A board with the program that it was booted with, its timed inputs, a limit of steps, and breakpoints.
 ///
-/// Step number t, counted from 0, follows the inputs of time t in their order. However many calls take the steps, the
-/// board ends as if one call had taken them all.
+/// Step number t, counted from 0, follows the inputs of time t in their order. However many calls take the
+/// steps, the board ends as if one call had taken them all.
 pub struct Session<M: ByteMemory, C: Decoded> {
     timed: TimedBoard<M, C>,
     program: Program,
@@ -59,7 +59,8 @@ impl<M: ByteMemory, C: Decoded> Model for Session<M, C> {
 }
 
 impl<M: ByteMemory, C: Decoded> Session<M, C> {
-    /// Returns a session that has taken no step and may take `limit` steps, without breakpoints. It does not allocate.
+    /// Returns a session that has taken no step and may take `limit` steps, without breakpoints. It does not
+    /// allocate.
     pub fn new(
         alloc: Global,
         board: Board<M, C>,
@@ -119,8 +120,8 @@ impl<M: ByteMemory, C: Decoded> Session<M, C> {
     ///
     /// # Errors
     ///
-    /// `NoMemory` if memory runs out, which it can only for an address that is no breakpoint yet, where the breakpoints
-    /// have no room. Nothing changes then.
+    /// `NoMemory` if memory runs out, which it can only for an address that is no breakpoint yet, where the
+    /// breakpoints have no room. Nothing changes then.
     pub fn set_break(&mut self, address: u32) -> Result<(), NoMemory>
         ensures ok { OnOk result (self.new ≡ with_break self.old address) }
         ensures err { OnErr result (self.new ≡ self.old) }
@@ -142,8 +143,8 @@ impl<M: ByteMemory, C: Decoded> Session<M, C> {
     ///
     /// # Errors
     ///
-    /// `NoMemory` if memory runs out at a step. The steps before it are taken, and the inputs before it are given. The next
-    /// call goes on with that step, and gives no input again.
+    /// `NoMemory` if memory runs out at a step. The steps before it are taken, and the inputs before it are
+    /// given. The next call goes on with that step, and gives no input again.
     pub fn step(&mut self, n: u64) -> Result<Stop, NoMemory>
         ensures ok { IfOk result (HasStopped set.empty (most_of self.old n) self.old.timed self.new.timed) }
         ensures err { OnErr result (IsRefused set.empty (most_of self.old n) self.old.timed self.new.timed) }
@@ -153,8 +154,8 @@ impl<M: ByteMemory, C: Decoded> Session<M, C> {
         self.timed.advance(most, None)
     }
 
-    /// Takes `n` steps, unless the board halts, comes to a breakpoint, or the limit comes first. It does not stop at a
-    /// breakpoint before the first step.
+    /// Takes `n` steps, unless the board halts, comes to a breakpoint, or the limit comes first. It does not
+    /// stop at a breakpoint before the first step.
     ///
     /// # Errors
     ///
@@ -171,8 +172,8 @@ impl<M: ByteMemory, C: Decoded> Session<M, C> {
     }
 }
 
-/// Law: steps may be taken in any number of calls, and the call after one that ran out of memory goes on where that one
-/// stopped.
+/// Law: steps may be taken in any number of calls, and the call after one that ran out of memory goes on
+/// where that one stopped.
 #[tactic(auto, using(crate::proofs::Steps::runs_join))]
 pub fn calls_join()
     ensures runs { RunsJoin }

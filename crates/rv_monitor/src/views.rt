@@ -1,8 +1,9 @@
 //! The lines of text that the monitor prints of a board.
 //!
-//! Each call appends to a text. It makes room for the longest text of its kind first, and fails only if it can't; the text
-//! is left as it was then. No call changes the board: none reads a device, so no received byte is taken and no interrupt
-//! is claimed. Numbers are in lower-case hexadecimal, except counts, which are decimal.
+//! Each call appends to a text. It makes room for the longest text of its kind first, and fails only if it
+//! can't; the text is left as it was then. No call changes the board: none reads a device, so no received
+//! byte is taken and no interrupt is claimed. Numbers are in lower-case hexadecimal, except counts, which are
+//! decimal.
 
 mod edges;
 mod memory;

@@ -1,7 +1,7 @@
 //! The program: `rvboard [SOURCE] [--input F] [--commands F] [--steps N] [--pages P] [--slots S]`.
 //!
-//! Reads the words of the command line, opens the source, the timed list and the commands in this order, runs them, and
-//! exits with the status of the run. The lines of faults go to the standard error.
+//! Reads the words of the command line, opens the source, the timed list and the commands in this order, runs
+//! them, and exits with the status of the run. The lines of faults go to the standard error.
 #![tactic(auto)]
 
 ghost use Rattle.std.specs.Prelude.{◌≡◌, IfOk, false};

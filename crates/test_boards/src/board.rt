@@ -20,7 +20,8 @@ const SLOTS: u32 = 1024;
 const HELLO: &[u8] =
     b"lui t0,0x10000\nli a0,72\nsw a0,0(t0)\nlui t1,0x100\nli t2,0x5555\nsw t2,0(t1)";
 
-// The helpers have no contracts about the board, so that the proof of a test carries no state from call to call.
+// The helpers have no contracts about the board, so that the proof of a test carries no state from call to
+// call.
 
 /// Boots a board over pages.
 fn boot(
@@ -32,8 +33,8 @@ fn boot(
     Board::boot(alloc, program, pages, slots)
 }
 
-// A function that owns a board drops it at each `?`, which costs proof: so a test owns a board, and lends it to another
-// function.
+// A function that owns a board drops it at each `?`, which costs proof: so a test owns a board, and lends it
+// to another function.
 
 /// Boots a board of `pages` pages with the image of a source.
 fn boot_source(alloc: Global, source: &[u8], pages: u32) -> Result<BootedBoard, &'static str> {
@@ -169,7 +170,8 @@ fn check_same<M: ByteMemory, C: Decoded, N: ByteMemory, D: Decoded>(
     assert!(rt; same_everywhere(one, other));
 }
 
-/// Checks that a step which stores is refused, and that the board is then as another that did the steps before it.
+/// Checks that a step which stores is refused, and that the board is then as another that did the steps
+/// before it.
 fn check_refused_store<M: ByteMemory, C: Decoded, N: ByteMemory, D: Decoded>(
     rt: &impl Abort,
     board: &mut Board<M, C>,

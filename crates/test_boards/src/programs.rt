@@ -7,7 +7,8 @@ pub fn assemble_source(alloc: Global, source: &[u8]) -> Result<Program, AsmFault
     assemble(alloc, source)
 }
 
-// The error is a text: the conversion of a fault, which has many kinds, to the failure of a test costs minutes of proof.
+// The error is a text: the conversion of a fault, which has many kinds, to the failure of a test costs
+// minutes of proof.
 
 /// Assembles a source that has no fault.
 pub fn program(alloc: Global, source: &[u8]) -> Result<Program, &'static str> {

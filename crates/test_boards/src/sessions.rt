@@ -33,8 +33,8 @@ fn timeline(alloc: Global, timed: &[u8]) -> Result<Timeline, &'static str> {
     timeline.ok().ok_or("the timed list is refused")
 }
 
-/// Returns a session over a store to the second page and then a jump to itself. Its memory refuses `refusals` writes after
-/// those of the image.
+/// Returns a session over a store to the second page and then a jump to itself. Its memory refuses `refusals`
+/// writes after those of the image.
 fn session(
     alloc: Global,
     timed: &[u8],

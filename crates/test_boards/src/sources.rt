@@ -1,5 +1,5 @@
-//! Sources that can't be rows of test_rows, for their line ends, their bytes or their size. Rows there have the image of
-//! each mnemonic and directive, and each fault.
+//! Sources that can't be rows of test_rows, for their line ends, their bytes or their size. Rows there have
+//! the image of each mnemonic and directive, and each fault.
 use crate::programs::{assemble_source, program};
 use rv_asm::{AsmFault, FaultKind, Program};
 use std::alloc::Global;
@@ -57,7 +57,8 @@ fn program_of_labels(alloc: Global, count: u32) -> Result<Program, Fail> {
     Ok(program(alloc, source.as_bytes())?)
 }
 
-/// Checks that the first and the last of 20,000 labels have their addresses, and that there is no other label.
+/// Checks that the first and the last of 20,000 labels have their addresses, and that there is no other
+/// label.
 fn check_labels(rt: &impl Abort, program: &Program) {
     assert_eq!(rt; program.symbols().len(), 20_000);
     assert_eq!(rt; program.symbol(b"x0"), Some(0x8000_0000));

@@ -1,4 +1,5 @@
-//! Tests of the command line: its words, texts in and out, readers that fail, and the lines and statuses of faults.
+//! Tests of the command line: its words, texts in and out, readers that fail, and the lines and statuses of
+//! faults.
 #![tactic(auto)]
 
 #[cfg(test)]

@@ -16,7 +16,8 @@ fn reader(text: &[u8], fails: bool) -> MemoryIn<'_>
     }
 }
 
-/// Does a run in which the readers of the source, the timed list and the commands fail as `fails` says, in this order.
+/// Does a run in which the readers of the source, the timed list and the commands fail as `fails` says, in
+/// this order.
 fn run(
     alloc: Global,
     source: &[u8],

@@ -118,8 +118,8 @@ fn stops_at_commands_without_an_end(rt: HostRuntime) {
     assert!(rt; out.bytes().is_empty());
 }
 
-/// A reader and writer of std. Each odd call is interrupted, and each even one moves a byte, up to a call that fails, if
-/// there is one.
+/// A reader and writer of std. Each odd call is interrupted, and each even one moves a byte, up to a call
+/// that fails, if there is one.
 #[derive(Drop)]
 struct Interrupted<'a> {
     /// The bytes that are left to read.

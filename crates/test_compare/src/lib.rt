@@ -1,5 +1,5 @@
-//! Compares two boards in all that they can be read by, whatever memories and caches they have. Each test that compares
-//! boards does it by these functions.
+//! Compares two boards in all that they can be read by, whatever memories and caches they have. Each test
+//! that compares boards does it by these functions.
 #![tactic(auto)]
 
 use rv_base::RAM_BASE;
@@ -10,10 +10,12 @@ use rv_mmio::{Serial, Timer};
 use rv_plic::{Plic, Source};
 use rv_ram::{ByteMemory, PAGE_BYTES};
 
-/// The number of addresses of control registers. Each is asked for: where a board has no register, it says so.
+/// The number of addresses of control registers. Each is asked for: where a board has no register, it says
+/// so.
 const CSR_ADDRESSES: u16 = 4096;
 
-/// The offsets of the interrupt controller's registers after the priorities. A peek at `CLAIM` claims nothing.
+/// The offsets of the interrupt controller's registers after the priorities. A peek at `CLAIM` claims
+/// nothing.
 const PENDING: u32 = 0x1000;
 
 const ENABLES: u32 = 0x2000;

@@ -16,7 +16,8 @@ fn bus(alloc: Global) -> Result<Bus<FlatMemory>, Fail> {
     Ok(Bus::new(FlatMemory::new(alloc, 1)?, Serial::new(alloc)?))
 }
 
-// The helpers have no contracts about the bus, so that the proof of a test carries no state from call to call.
+// The helpers have no contracts about the bus, so that the proof of a test carries no state from call to
+// call.
 
 /// Checks the answer to a load.
 fn check_load(

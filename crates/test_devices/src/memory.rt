@@ -8,8 +8,8 @@ use rv_ram::{ByteMemory, FlatMemory};
 use std::process::Abort;
 use std::test::Fail;
 
-// The helpers have no contracts about the memory, so that the proof of a test carries no state from call to call. `size()`
-// is called for its postcondition: a memory has at least a page.
+// The helpers have no contracts about the memory, so that the proof of a test carries no state from call to
+// call. `size()` is called for its postcondition: a memory has at least a page.
 
 /// Writes a value.
 fn write<M: ByteMemory>(memory: &mut M, off: u32, width: Width, value: u32) -> Result<(), NoMemory>

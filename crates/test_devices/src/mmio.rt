@@ -14,7 +14,8 @@ const MTIME_LOW: u32 = 0xBFF8;
 
 const MTIME_HIGH: u32 = 0xBFFC;
 
-// The helpers have no contracts about the port, so that the proof of a test carries no state from call to call.
+// The helpers have no contracts about the port, so that the proof of a test carries no state from call to
+// call.
 
 /// Checks the answer to a load.
 fn check_load(rt: &impl Abort, serial: &mut Serial, register: SerialReg, word: u32) {
@@ -75,7 +76,8 @@ fn console_of_100_000_bytes(rt: HostRuntime) -> Result<(), Fail> {
     Ok(())
 }
 
-/// Sends a byte after those of `sent`. Where memory ran out, checks that nothing was sent, and sends it again.
+/// Sends a byte after those of `sent`. Where memory ran out, checks that nothing was sent, and sends it
+/// again.
 fn check_send(rt: &impl Abort, serial: &mut Serial, byte: u8, sent: &[u8]) {
     if serial.store(SerialReg::Tx, byte as u32) == Err(NoMemory) {
         assert_eq!(rt; serial.console(), sent);

@@ -18,7 +18,8 @@ pub fn source(number: u8) -> Result<Source, &'static str> {
     Source::new(number).ok_or("there is no such source")
 }
 
-// The helpers have no contracts about the controller, so that the proof of a test carries no state from call to call.
+// The helpers have no contracts about the controller, so that the proof of a test carries no state from call
+// to call.
 
 /// Stores a word.
 pub fn store(plic: &mut Plic, off: u32, word: u32)
@@ -56,7 +57,8 @@ fn check_external(rt: &impl Abort, plic: &Plic, external: bool) {
     assert_eq!(rt; plic.external(), external);
 }
 
-/// Returns a controller in which the sources 4 and 9 have these priorities, are enabled, and have been forwarded.
+/// Returns a controller in which the sources 4 and 9 have these priorities, are enabled, and have been
+/// forwarded.
 fn with_4_and_9(priority_4: u32, priority_9: u32, threshold: u32) -> Result<Plic, &'static str> {
     let mut plic = Plic::new();
     store(&mut plic, 4 * 4, priority_4);

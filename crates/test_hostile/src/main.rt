@@ -1,8 +1,8 @@
-//! Runs texts that nobody meant: each beginning of a source, a timed list and commands, and a thousand changes of each.
-//! And readers and writers that fail at each of their calls in turn.
+//! Runs texts that nobody meant: each beginning of a source, a timed list and commands, and a thousand
+//! changes of each. And readers and writers that fail at each of their calls in turn.
 //!
-//! Each text has to give a run of up to a thousand steps, or a fault that its kind may have. The program prints a line for
-//! each kind, with the first text that is answered wrongly.
+//! Each text has to give a run of up to a thousand steps, or a fault that its kind may have. The program
+//! prints a line for each kind, with the first text that is answered wrongly.
 #![tactic(auto)]
 
 mod answers;

@@ -63,8 +63,8 @@ fn writer(alloc: Global, most: usize, good: Option<u64>) -> MemoryOut
     }
 }
 
-/// Does a run whose readers and writer move up to `most` bytes a call, and returns how it ended, which of them failed, and
-/// what was written.
+/// Does a run whose readers and writer move up to `most` bytes a call, and returns how it ended, which of
+/// them failed, and what was written.
 fn run(
     alloc: Global,
     most: usize,

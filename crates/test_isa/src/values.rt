@@ -1,4 +1,5 @@
-//! Values of operations, from the standard's tables (RISC-V Unprivileged ISA 20191213, sections 2.4, 2.5 and 7.2).
+//! Values of operations, from the standard's tables (RISC-V Unprivileged ISA 20191213, sections 2.4, 2.5 and
+//! 7.2).
 use rv_isa::{AluOp, Cond, ImmOp, LoadOp, ShiftOp, Width, alu, branch_taken};
 
 #[test]

@@ -1,5 +1,5 @@
-//! Runs user code and outside events, and checks by example what docs/ISOLATION.md promises: what user code can't change
-//! and can't learn, and which outside events may be exchanged.
+//! Runs user code and outside events, and checks by example what docs/ISOLATION.md promises: what user code
+//! can't change and can't learn, and which outside events may be exchanged.
 //!
 //! The program prints the first check that fails, or that all is as defined.
 #![tactic(auto)]

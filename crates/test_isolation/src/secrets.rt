@@ -4,7 +4,8 @@ use rv_board::{BootedBoard, Event};
 use std::alloc::Global;
 use test_compare::same_but_for_memory;
 
-/// A source whose user code may neither read nor execute the word `secret`: entry 0 is NA4 there, and grants nothing.
+/// A source whose user code may neither read nor execute the word `secret`: entry 0 is NA4 there, and grants
+/// nothing.
 const WORD: &[u8] =
     b"la t0,secret\nsrli t0,t0,2\ncsrw pmpaddr0,t0\nli t0,-1\ncsrw pmpaddr1,t0\nli t0,0x1F10\ncsrw pmpcfg0,t0\nla t0,user\ncsrw mepc,t0\nla t1,secret\nmret\nuser: lw a0,0(t1)\nsecret: .word ";
 
@@ -16,12 +17,14 @@ const WORD_BY_HIGH_ENTRIES: &[u8] =
 const NO_ENTRY: &[u8] =
     b"la t0,secret\nsrli t0,t0,2\ncsrw pmpaddr8,t0\nli t0,-1\ncsrw pmpaddr9,t0\nli t0,0x1F10\nla t0,user\ncsrw mepc,t0\nla t1,secret\nmret\nuser: lw a0,0(t1)\nsecret: .word 1";
 
-/// The front of a source whose user code may read and execute all from `user` to `end` (TOR), read and write the word
-/// `word` (NA4) and the 16 bytes of `area` (NAPOT), and nothing else. It begins with its own address in t0.
+/// The front of a source whose user code may read and execute all from `user` to `end` (TOR), read and write
+/// the word `word` (NA4) and the 16 bytes of `area` (NAPOT), and nothing else. It begins with its own address
+/// in t0.
 const BORDERS: &[u8] =
     b"\nla t0,user\nsrli t0,t0,2\ncsrw pmpaddr0,t0\nla t0,end\nsrli t0,t0,2\ncsrw pmpaddr1,t0\nla t0,word\nsrli t0,t0,2\ncsrw pmpaddr2,t0\nla t0,area\nsrli t0,t0,2\nori t0,t0,1\ncsrw pmpaddr3,t0\nli t0,0x1B130D00\ncsrw pmpcfg0,t0\nla t0,user\ncsrw mepc,t0\nmret\n.space 64,FILL\nuser:\n";
 
-/// The end of that source. The bytes around the word and the area, up to the end of memory, differ between the boards.
+/// The end of that source. The bytes around the word and the area, up to the end of memory, differ between
+/// the boards.
 const BORDERS_END: &[u8] =
     b"\n.align 4\nend: .space 32,FILL\nword: .word 5\n.space 12,FILL\narea: .space 16,7\n.space 0x80001000-.,FILL";
 
@@ -174,7 +177,8 @@ fn check_row_beside(alloc: Global, code: &[u8], one: &mut BootedBoard, end: End)
     check_ends_at_border(one, &mut other, end)
 }
 
-/// Checks that the two boards of a row do its events, end with its cause, and differ only where user code may not see.
+/// Checks that the two boards of a row do its events, end with its cause, and differ only where user code may
+/// not see.
 fn check_row(alloc: Global, row: &[u8]) -> Checked<()> {
     let [done, cause, code @ ..] = row else {
         return Err("a row is too short");

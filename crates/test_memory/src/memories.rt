@@ -127,7 +127,8 @@ fn each_word_of_64_pages_is_stored(rt: HostRuntime) -> Result<(), Fail> {
     Ok(())
 }
 
-/// Writes a word of zeros, which never needs a page: the contract of `write` proves that the other arm is unreachable.
+/// Writes a word of zeros, which never needs a page: the contract of `write` proves that the other arm is
+/// unreachable.
 fn put_zero(memory: &mut PagedRam, off: u32)
     requires in_range { off + 4 ≤ length memory.old.bytes }
     requires aligned { off % 4 ≡ 0 }

@@ -24,7 +24,8 @@ fn is_right_at_end(board: &BootedBoard) -> bool {
         && board.trap_count() == 1
 }
 
-/// Whether a board whose next step was refused is the same as one that did these steps, and no step was refused.
+/// Whether a board whose next step was refused is the same as one that did these steps, and no step was
+/// refused.
 fn is_as_after(alloc: Global, program: &Program, board: &BootedBoard, steps: &[Event]) -> bool {
     match BootedBoard::boot(alloc, program, 1, 64) {
         Ok(mut other) => other.run(steps).is_ok() && same_everywhere(board, &other),
@@ -32,8 +33,8 @@ fn is_as_after(alloc: Global, program: &Program, board: &BootedBoard, steps: &[E
     }
 }
 
-/// Whether the board runs its 16 steps. Where one is refused, the board has to be as before that step in all that it can
-/// be read by, and to do the steps that are left when they are asked again.
+/// Whether the board runs its 16 steps. Where one is refused, the board has to be as before that step in all
+/// that it can be read by, and to do the steps that are left when they are asked again.
 fn runs_right(alloc: Global, program: &Program) -> bool {
     let mut board = match BootedBoard::boot(alloc, program, 1, 64) {
         Ok(board) => board,

@@ -18,8 +18,8 @@ const COMMANDS: &[u8] = b"b 0x8000000c\nc\nc\nq\n";
 const WRITTEN: &[u8] =
     b"break 8000000c\nstop break pc=8000000c mode=M steps=3\nstop halted pc=8000001c mode=M steps=7\nH\nhalted 0 after 7 steps\n";
 
-/// Whether the run writes its output; or memory ran out, and it writes nothing; or memory ran out in its writer, which
-/// has then taken a beginning of the output.
+/// Whether the run writes its output; or memory ran out, and it writes nothing; or memory ran out in its
+/// writer, which has then taken a beginning of the output.
 pub fn answers_right(alloc: Global) -> bool {
     let options = Options {
         steps: 10,

@@ -1,8 +1,9 @@
-//! Does runs in which one allocation is refused: each answer has to be the full one, or out of memory as it is defined.
+//! Does runs in which one allocation is refused: each answer has to be the full one, or out of memory as it
+//! is defined.
 //!
-//! `.ci/run` has the allocation of one number refused, and gives this program on standard input as many bytes as it has
-//! to make allocations before its runs. So each allocation of the runs is the refused one in turn. The program prints the
-//! same whichever it is, unless an answer is wrong.
+//! `.ci/run` has the allocation of one number refused, and gives this program on standard input as many bytes
+//! as it has to make allocations before its runs. So each allocation of the runs is the refused one in turn.
+//! The program prints the same whichever it is, unless an answer is wrong.
 #![tactic(auto)]
 
 mod empty;

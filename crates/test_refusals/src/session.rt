@@ -53,7 +53,8 @@ fn program(alloc: Global, source: &[u8]) -> Result<Program, NoSession> {
 /// A source that sends a received byte.
 const ECHO: &[u8] = b"lui t0,0x10000\nlw a0,4(t0)\nsw a0,0(t0)\n";
 
-/// Whether a refused send leaves the board after the steps and inputs before it, and the next call gives no input again.
+/// Whether a refused send leaves the board after the steps and inputs before it, and the next call gives no
+/// input again.
 fn sends_right(session: &mut BootedSession) -> bool {
     match session.step(3) {
         Ok(stop) => stop == Stop::Limit && has_sent(session),
@@ -120,8 +121,8 @@ const COMMANDS: [(&[u8], &[u8]); 9] = [
     (b"c", b"stop break pc=80000038 mode=M steps=19\n"),
 ];
 
-/// Whether a refused command leaves the text, the board and the breakpoints as they were, and is done when it is asked
-/// again.
+/// Whether a refused command leaves the text, the board and the breakpoints as they were, and is done when it
+/// is asked again.
 fn obeys_right(
     session: &mut BootedSession,
     command: &[u8],

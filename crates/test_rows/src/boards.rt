@@ -1,4 +1,5 @@
-//! The boards of a row: one over flat memory without a cache, and three over pages with caches of several sizes.
+//! The boards of a row: one over flat memory without a cache, and three over pages with caches of several
+//! sizes.
 use crate::devices::append_devices;
 use crate::row::{Row, argument, number};
 use rv_asm::{Program, assemble};

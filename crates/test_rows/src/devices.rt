@@ -4,8 +4,8 @@ use rv_board::Board;
 use rv_cache::Decoded;
 use rv_ram::ByteMemory;
 
-/// The offsets of two registers of the interrupt controller, at which a peek changes nothing: the pending sources, and
-/// the source that a claim would get.
+/// The offsets of two registers of the interrupt controller, at which a peek changes nothing: the pending
+/// sources, and the source that a claim would get.
 const PENDING: u32 = 0x1000;
 
 const CLAIM: u32 = 0x20_0004;
@@ -23,8 +23,9 @@ fn append_number(name: &[u8], number: u32, text: &mut Vec<u8>) -> Result<(), NoM
     Ok(())
 }
 
-/// Appends a line of what the devices hold: how many received bytes are in the queue, whether one was lost, the pending
-/// sources, the source that a claim would get, the time, the time that it is compared with, and the bytes that were sent.
+/// Appends a line of what the devices hold: how many received bytes are in the queue, whether one was lost,
+/// the pending sources, the source that a claim would get, the time, the time that it is compared with, and
+/// the bytes that were sent.
 pub fn append_devices<M: ByteMemory, C: Decoded>(
     board: &Board<M, C>,
     text: &mut Vec<u8>,

@@ -30,7 +30,8 @@ fn append_line(
     Ok(())
 }
 
-/// Appends the size of an image, and then all its bytes, `size` of them as one number; none where `size` is 0.
+/// Appends the size of an image, and then all its bytes, `size` of them as one number; none where `size` is
+/// 0.
 fn append_image(
     alloc: Global,
     bytes: &[u8],

@@ -1,8 +1,8 @@
 //! Rows: small sources with timed inputs and commands, and what boards and whole runs have to answer to them.
 //!
-//! Each argument names a file of rows; those in `data/` hold them by topic. The program answers each row anew and
-//! compares: it prints the first line of each row that gets another answer, and counts the rows. After the argument
-//! `--answers` it prints the rows with the answers that they get instead.
+//! Each argument names a file of rows; those in `data/` hold them by topic. The program answers each row anew
+//! and compares: it prints the first line of each row that gets another answer, and counts the rows. After
+//! the argument `--answers` it prints the rows with the answers that they get instead.
 //!
 //! A blank line separates two rows. The first byte of a line says what it is:
 //!
@@ -11,12 +11,15 @@
 //! - `@ `: a line of the timed list
 //! - `: `: a line of the commands of a whole run
 //! - `= N`: the boards may take N steps in all
-//! - `> `: a command to the boards: one over flat memory without a cache, and three over pages with 64, 1024 and 4096
+//! - `> `: a command to the boards: one over flat memory without a cache, and three over pages with 64, 1024
+//!   and 4096
 //!   slots. They have to answer the same, and to be the same at the end
 //! - `! devices`: asks what the devices of the boards hold
-//! - `% N`: asks for the size of the image, and for its bytes as numbers of N bytes each; N is 0 for the size alone
+//! - `% N`: asks for the size of the image, and for its bytes as numbers of N bytes each; N is 0 for the size
+//!   alone
 //! - `& NAME`: asks for the value of a name
-//! - `$ STEPS PAGES SLOTS`: asks for a whole run with these options: what it prints, the line of its fault, its status
+//! - `$ STEPS PAGES SLOTS`: asks for a whole run with these options: what it prints, the line of its fault,
+//!   its status
 //!
 //! The answer follows the line that asks.
 #![tactic(auto)]

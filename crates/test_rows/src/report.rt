@@ -109,7 +109,8 @@ impl Report {
         self.differences.extend_from_slice(line.as_bytes())
     }
 
-    /// Appends the title of a row with the first line that differs: as the row has it, and as it was answered.
+    /// Appends the title of a row with the first line that differs: as the row has it, and as it was
+    /// answered.
     pub fn append_difference(
         &mut self,
         name: &str,

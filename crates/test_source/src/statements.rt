@@ -1,5 +1,5 @@
-//! The labels and statements of lines, and their faults, as docs/ASSEMBLER.md has them. What each mnemonic is assembled to
-//! is a row of test_rows.
+//! The labels and statements of lines, and their faults, as docs/ASSEMBLER.md has them. What each mnemonic is
+//! assembled to is a row of test_rows.
 use rv_base::cut_lines;
 use rv_source::{Label, Line, LineFault, Statement, read_line};
 use std::alloc::{AllocError, Global};
@@ -69,7 +69,8 @@ fn check_line(
     Ok(())
 }
 
-// A function that owns a line drops it at each `?`, which costs proof: so one function owns lines, and lends them.
+// A function that owns a line drops it at each `?`, which costs proof: so one function owns lines, and lends
+// them.
 
 /// Reads a line that has no fault, and checks its labels and the kind of its statement.
 fn check(

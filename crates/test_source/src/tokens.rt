@@ -5,8 +5,8 @@ use std::alloc::{AllocError, Global};
 use std::process::Abort;
 use std::test::Fail;
 
-/// Appends a token in few letters: a name or a sign as it is spelled, `5` for decimal digits, `#16` for another number,
-/// `5b` for a local reference, `'65` for a character, and a quote with the bytes of a string.
+/// Appends a token in few letters: a name or a sign as it is spelled, `5` for decimal digits, `#16` for
+/// another number, `5b` for a local reference, `'65` for a character, and a quote with the bytes of a string.
 fn push_token(alloc: Global, out: &mut Vec<u8>, token: &Token) -> Result<(), AllocError> {
     match token {
         Token::Name(name) => out.extend_from_slice(name.bytes()),
@@ -36,7 +36,8 @@ fn push_token(alloc: Global, out: &mut Vec<u8>, token: &Token) -> Result<(), All
     }
 }
 
-/// Returns the tokens of a line. It has no contract, so that the proofs of tests don't carry that of `cut_line`.
+/// Returns the tokens of a line. It has no contract, so that the proofs of tests don't carry that of
+/// `cut_line`.
 fn tokens(alloc: Global, line: &[u8]) -> Result<Vec<Token>, LineFault> {
     cut_line(alloc, line)
 }

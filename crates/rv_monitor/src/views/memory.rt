@@ -71,8 +71,8 @@ fn append_line<M: ByteMemory, C: Decoded>(
     append_within(text, b"\n");
 }
 
-/// Appends a dump of `count` bytes from `addr`, 16 in a line, with `--` where there is no memory. Addresses wrap around
-/// at 2^32.
+/// Appends a dump of `count` bytes from `addr`, 16 in a line, with `--` where there is no memory. Addresses
+/// wrap around at 2^32.
 #[tactic(auto, using(crate::proofs::Pieces::no_piece_after, crate::proofs::Pieces::one_more_after), unfolding(crate::specs::Views::memory_text))]
 pub fn write_memory<M: ByteMemory, C: Decoded>(
     board: &Board<M, C>,
@@ -136,8 +136,8 @@ fn append_word(word: Option<u32>, text: &mut Vec<u8>)
 /// The largest number of bytes of an instruction's line.
 const INSTRUCTION_BYTES: usize = WORD_BYTES + 11;
 
-/// Appends the line of an address, its word and the word's instruction: `illegal` if no instruction has the word, and
-/// `--------` if there is not memory for all four bytes.
+/// Appends the line of an address, its word and the word's instruction: `illegal` if no instruction has the
+/// word, and `--------` if there is not memory for all four bytes.
 #[tactic(auto, unfolding(crate::specs::Views::instruction_text))]
 pub fn write_instruction<M: ByteMemory, C: Decoded>(
     board: &Board<M, C>,

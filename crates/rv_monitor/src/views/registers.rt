@@ -108,8 +108,8 @@ pub fn write_registers<M: ByteMemory, C: Decoded>(
 /// The number of bytes of a control register's line, beside its name.
 const VALUE_BYTES: usize = 10;
 
-/// Appends the line of a control register: its name as given, and the value that machine mode reads. `csr` is the number
-/// that `csr_named` returns for the name.
+/// Appends the line of a control register: its name as given, and the value that machine mode reads. `csr` is
+/// the number that `csr_named` returns for the name.
 #[tactic(auto, using(crate::proofs::Named::named_is_read), unfolding(crate::specs::Views::control_register_text))]
 pub fn write_control_register<M: ByteMemory, C: Decoded>(
     board: &Board<M, C>,

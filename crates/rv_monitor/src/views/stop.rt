@@ -13,8 +13,8 @@ use rv_ram::ByteMemory;
 /// The largest number of bytes of a stop's line, beside its word.
 pub const STOP_BYTES: usize = 52;
 
-/// Appends the line of a stop: why the steps ended, the pc, the mode, and how many steps the board has taken. It allocates
-/// only if the text has no room for the word and `STOP_BYTES` more.
+/// Appends the line of a stop: why the steps ended, the pc, the mode, and how many steps the board has taken.
+/// It allocates only if the text has no room for the word and `STOP_BYTES` more.
 #[tactic(auto, unfolding(crate::specs::Views::stop_text, crate::specs::Views::place_text))]
 pub fn write_stop<M: ByteMemory, C: Decoded>(
     board: &Board<M, C>,
