@@ -12,8 +12,7 @@
 //! - `: `: a line of the commands of a whole run
 //! - `= N`: the boards may take N steps in all
 //! - `> `: a command to the boards: one over flat memory without a cache, and three over pages with 64, 1024
-//!   and 4096
-//!   slots. They have to answer the same, and to be the same at the end
+//!   and 4096 slots. They have to answer the same, and to be the same at the end
 //! - `! devices`: asks what the devices of the boards hold
 //! - `% N`: asks for the size of the image, and for its bytes as numbers of N bytes each; N is 0 for the size
 //!   alone
@@ -64,12 +63,16 @@ fn check_files(rt: &HostRuntime, names: &[String], report: &mut Report) -> io::R
 /// Does what the arguments say. Returns whether each row has the answers that it got.
 fn run(rt: &HostRuntime) -> io::Result<bool> {
     let words: Vec<String> = env::args(rt)?.collect(rt.alloc())?;
-    let mut report = Report::new(rt.alloc());
-    let (names, prints_answers) = match words.as_slice() {
-        [_, first, names @ ..] if first.as_str() == "--answers" => (names, true),
-        [_, names @ ..] => (names, false),
-        [] => (words.as_slice(), false),
+    let words = words.as_slice();
+    let prints_answers = words.len() > 1 && words[1].as_str() == "--answers";
+    let names = if prints_answers {
+        &words[2..]
+    } else if words.is_empty() {
+        words
+    } else {
+        &words[1..]
     };
+    let mut report = Report::new(rt.alloc());
     let all = check_files(rt, names, &mut report)?;
     let text = if prints_answers {
         &report.answers
