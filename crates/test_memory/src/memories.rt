@@ -4,6 +4,7 @@ ghost use Rattle.std.specs.Prelude.{◌≡◌, ◌+◌, ◌%◌, ◌≤◌, leng
 use rv_base::NoMemory;
 use rv_isa::Width;
 use rv_ram::{ByteMemory, FlatMemory, PagedRam};
+use std::alloc::Global;
 use std::process::Abort;
 use std::test::Fail;
 
@@ -124,6 +125,22 @@ fn fill<M: ByteMemory>(rt: &impl Abort, memory: &mut M) -> Result<(), NoMemory> 
 fn each_word_of_64_pages_is_stored(rt: HostRuntime) -> Result<(), Fail> {
     fill(&rt, &mut FlatMemory::new(rt.alloc(), 64)?)?;
     fill(&rt, &mut PagedRam::new(rt.alloc(), 64)?)?;
+    Ok(())
+}
+
+/// Writes a word of a new memory of one page, and checks it.
+fn check_first_store(rt: &impl Abort, alloc: Global, off: u32) -> Result<(), NoMemory> {
+    let mut memory = PagedRam::new(alloc, 1)?;
+    put(rt, &mut memory, off, Width::Four, 0x8765_4321)?;
+    assert_eq!(rt; word(rt, &memory, off), 0x8765_4321);
+    Ok(())
+}
+
+#[test]
+fn each_word_of_a_page_may_be_the_first(rt: HostRuntime) -> Result<(), Fail> {
+    for k in 0..1024u32 {
+        check_first_store(&rt, rt.alloc(), 4 * k)?;
+    }
     Ok(())
 }
 
