@@ -131,3 +131,35 @@ fn a_line_has_up_to_1024_bytes(rt: HostRuntime) -> Result<(), Fail> {
     check(&rt, &text, &[rx(1, 0x7F)], alloc)?;
     check(&rt, &[b'#'; 1024], &[], alloc)
 }
+
+/// Returns a timed list of `count` received bytes, one for each step from 0 on.
+fn list_of_bytes(alloc: Global, count: u32) -> Result<String, Fail> {
+    let mut text = String::new(alloc);
+    for step in 0..count {
+        text.push_str(&format!(in alloc; "{step} rx 5a\n")?)?;
+    }
+    Ok(text)
+}
+
+/// Checks how many inputs a text has, and its last one.
+fn check_last(
+    rt: &impl Abort,
+    text: &[u8],
+    count: usize,
+    last: TimedInput,
+    alloc: Global,
+) -> Result<(), Fail> {
+    let timeline = Timeline::read(alloc, text)
+        .ok()
+        .ok_or("the text is refused")?;
+    assert_eq!(rt; timeline.inputs().len(), count);
+    assert_eq!(rt; timeline.inputs().last().copied(), Some(last));
+    Ok(())
+}
+
+#[test]
+fn a_hundred_thousand_inputs(rt: HostRuntime) -> Result<(), Fail> {
+    let alloc = rt.alloc();
+    let text = list_of_bytes(alloc, 100_000)?;
+    check_last(&rt, text.as_bytes(), 100_000, rx(99_999, 0x5A), alloc)
+}
