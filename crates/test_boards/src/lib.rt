@@ -12,8 +12,5 @@ mod memory;
 mod programs;
 #[cfg(test)]
 mod sessions;
-mod slot;
 #[cfg(test)]
 mod sources;
-
-pub use slot::Kept;
