@@ -247,3 +247,70 @@ fn reads_and_writes_by_std(rt: HostRuntime) {
     assert!(rt; outcome == Ok(Ending::Running));
     assert!(rt; printed.as_slice() == b"running at 80000000 after 0 steps\n".as_slice());
 }
+
+/// A reader and writer of std whose first call fails with the error of the system that has this number.
+#[derive(Drop)]
+struct FailsOnce {
+    code: i32,
+    has_failed: bool,
+}
+
+impl FailsOnce {
+    /// Returns a reader and writer that has not been called.
+    fn new(code: i32) -> FailsOnce {
+        FailsOnce {
+            code,
+            has_failed: false,
+        }
+    }
+
+    /// Fails at the first call.
+    fn call(&mut self) -> io::Result<()> {
+        if self.has_failed {
+            return Ok(());
+        }
+        self.has_failed = true;
+        Err(io::Error::from_raw_os_error(self.code))
+    }
+}
+
+impl Read for FailsOnce {
+    fn read(&mut self, _buffer: &mut [u8]) -> io::Result<usize> {
+        self.call()?;
+        Ok(0)
+    }
+}
+
+impl Write for FailsOnce {
+    fn write(&mut self, _bytes: &[u8]) -> io::Result<usize> {
+        self.call()?;
+        Ok(0)
+    }
+
+    fn flush(&mut self) -> io::Result<()> {
+        Ok(())
+    }
+}
+
+/// The number of the system's error that is an interruption.
+const EINTR: i32 = 4;
+
+/// Checks that a read and a write that fail with an error of the system are tried again just if it is an
+/// interruption.
+fn check_error(rt: &impl Abort, code: i32) {
+    let mut text = FileIn::new(FailsOnce::new(code));
+    assert_eq!(rt;
+        text.read(&mut [0; 8]).is_ok(),
+        code == EINTR,
+        "read, at {code}"
+    );
+    let mut out = FileOut::new(FailsOnce::new(code));
+    assert_eq!(rt; out.write(b"x").is_ok(), code == EINTR, "write, at {code}");
+}
+
+#[test]
+fn an_interruption_alone_is_tried_again(rt: HostRuntime) {
+    for code in 1..134 {
+        check_error(&rt, code);
+    }
+}
