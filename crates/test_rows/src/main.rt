@@ -60,26 +60,29 @@ fn check_files(rt: &HostRuntime, names: &[String], report: &mut Report) -> io::R
     Ok(all)
 }
 
+/// Whether the arguments ask for the rows with the answers that they get.
+fn asks_for_answers(words: &[String]) -> bool {
+    words.len() > 1 && words[1].as_str() == "--answers"
+}
+
+/// Returns the names of files among the arguments, of which the first is the program's own.
+fn file_names(words: &[String]) -> &[String] {
+    if words.is_empty() {
+        words
+    } else if asks_for_answers(words) {
+        &words[2..]
+    } else {
+        &words[1..]
+    }
+}
+
 /// Does what the arguments say. Returns whether each row has the answers that it got.
 fn run(rt: &HostRuntime) -> io::Result<bool> {
     let words: Vec<String> = env::args(rt)?.collect(rt.alloc())?;
-    let words = words.as_slice();
-    let prints_answers = words.len() > 1 && words[1].as_str() == "--answers";
-    let names = if prints_answers {
-        &words[2..]
-    } else if words.is_empty() {
-        words
-    } else {
-        &words[1..]
-    };
     let mut report = Report::new(rt.alloc());
-    let all = check_files(rt, names, &mut report)?;
-    let text = if prints_answers {
-        &report.answers
-    } else {
-        &report.differences
-    };
-    rt.stdout().write_all(text.as_slice())?;
+    let all = check_files(rt, file_names(words.as_slice()), &mut report)?;
+    let text = report.text(asks_for_answers(words.as_slice()));
+    rt.stdout().write_all(text)?;
     Ok(all.differing == 0)
 }
 

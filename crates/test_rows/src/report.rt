@@ -84,6 +84,15 @@ impl Report {
         }
     }
 
+    /// Returns what is to be printed: the rows with the answers that they got, or what differs.
+    pub fn text(&self, answers: bool) -> &[u8] {
+        if answers {
+            self.answers.as_slice()
+        } else {
+            self.differences.as_slice()
+        }
+    }
+
     /// Appends a row with the answers that it got.
     pub fn append_answers(&mut self, row: &[u8]) -> Result<(), AllocError> {
         if !self.answers.is_empty() {
