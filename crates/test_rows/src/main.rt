@@ -67,13 +67,8 @@ fn asks_for_answers(words: &[String]) -> bool {
 
 /// Returns the names of files among the arguments, of which the first is the program's own.
 fn file_names(words: &[String]) -> &[String] {
-    if words.is_empty() {
-        words
-    } else if asks_for_answers(words) {
-        &words[2..]
-    } else {
-        &words[1..]
-    }
+    let first: usize = if asks_for_answers(words) { 2 } else { 1 };
+    words.split_at(first.min(words.len())).1
 }
 
 /// Does what the arguments say. Returns whether each row has the answers that it got.
