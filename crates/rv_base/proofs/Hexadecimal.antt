@@ -55,9 +55,9 @@ hex_more n h small =
     ∙ ap (λ x. x ++ last_glyph n ∷ []) (sym (whole (n / 16)))
 
 -- the same after a text, one digit at a time
-pub more_behind : (text longer : List ℕ) (n : ℕ) → 16 ≤ n → n < 2 ^ 32 →
+pub more_after_text : (text longer : List ℕ) (n : ℕ) → 16 ≤ n → n < 2 ^ 32 →
     longer ≡ text ++ digits 16 false (n / 16) → text ++ digits 16 false n ≡ longer ++ last_glyph n ∷ []
-more_behind text longer n h small is =
+more_after_text text longer n h small is =
     ap (λ x. text ++ x) (hex_more n h small) ∙ sym
     (append_assoc text (digits 16 false (n / 16)) (last_glyph n ∷ []))
     ∙ ap (λ x. x ++ last_glyph n ∷ []) (sym is)

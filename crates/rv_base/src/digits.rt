@@ -45,7 +45,7 @@ pub fn word_digits(word: u32) -> [u8; 8]
 }
 
 /// Appends a number in hexadecimal digits, without leading zeros.
-#[tactic(auto, using(crate::proofs::Hexadecimal::hex_one, crate::proofs::Hexadecimal::more_behind, crate::proofs::Hexadecimal::one_long, crate::proofs::Hexadecimal::one_longer))]
+#[tactic(auto, using(crate::proofs::Hexadecimal::hex_one, crate::proofs::Hexadecimal::more_after_text, crate::proofs::Hexadecimal::one_long, crate::proofs::Hexadecimal::one_longer))]
 fn append_digits(text: &mut Vec<u8>, number: u32)
     requires { HasRoom text.old (digits 16 false number) }
     ensures { Appended text.old text.new (digits 16 false number) }
