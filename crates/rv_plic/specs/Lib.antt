@@ -1,5 +1,6 @@
 pub mod AboveThreshold
 pub mod Best
+pub mod Changes
 pub mod Codes
 pub mod Edges
 pub mod Gateways

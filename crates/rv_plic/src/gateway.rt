@@ -1,6 +1,7 @@
 //! Interrupt gateways, which turn the lines of sources into requests.
 ghost use Rattle.std.specs.Prelude.{◌≡◌, ◌-◌, ◌≤◌, true, false, slice_set};
-ghost use Rattle.rv_plic.specs.Edges.{edges_of, taken, given_back, one_more, one_less};
+ghost use Rattle.rv_plic.specs.Edges.{edges_of, changed};
+ghost use Rattle.rv_plic.specs.Changes.{count_after};
 ghost use Rattle.rv_plic.specs.Gateways.{all_low, with_line, requests, after_requests, withdrawn, after_completion};
 
 use crate::Source;
@@ -96,7 +97,7 @@ impl Gateways {
     {
         let requests = self.requests(pending);
         self.outstanding = self.outstanding.union(requests);
-        self.take_edges(requests);
+        self.change_counts(requests, Change::OneLess);
         requests
     }
 
@@ -105,7 +106,7 @@ impl Gateways {
         ensures { self.new ≡ withdrawn self.old requests }
     {
         self.outstanding = self.outstanding.difference(requests);
-        self.give_back_edges(requests);
+        self.change_counts(requests, Change::OneMore);
     }
 
     /// Completes the request of a source, so that its gateway may forward another.
@@ -126,7 +127,7 @@ impl Gateways {
             self.asking.insert(source);
         } else if rises {
             let count = self.edges.count(source);
-            self.set_count(source, one_more(count));
+            self.set_count(source, Change::OneMore.apply(count));
         }
     }
 
@@ -155,10 +156,10 @@ impl Gateways {
         }
     }
 
-    /// Takes one pending edge of each of these sources that is triggered by edges.
+    /// Changes the count of pending edges of each of these sources that is triggered by edges.
     #[tactic(auto, using(crate::proofs::Counts::changing, crate::proofs::Counts::nothing_changed))]
-    fn take_edges(&mut self, sources: SourceSet)
-        ensures { self.new ≡ record self.old { edges = taken sources self.old.edges } }
+    fn change_counts(&mut self, sources: SourceSet, change: Change)
+        ensures { self.new ≡ record self.old { edges = changed (count_after change) sources 24 self.old.edges } }
     {
         if !self.edges.counts_any(sources) {
             return;
@@ -166,38 +167,29 @@ impl Gateways {
         for number in 24..32u8 {
             if let Some(source) = sources.get(number as u32) {
                 let count = self.edges.count(source);
-                self.set_count(source, one_less(count));
+                self.set_count(source, change.apply(count));
             }
         }
     }
+}
 
-    /// Gives back one pending edge of each of these sources that is triggered by edges.
-    #[tactic(auto, using(crate::proofs::Counts::changing, crate::proofs::Counts::nothing_changed))]
-    fn give_back_edges(&mut self, sources: SourceSet)
-        ensures { self.new ≡ record self.old { edges = given_back sources self.old.edges } }
+/// A change of a count of pending edges.
+#[derive(Clone, Copy)]
+enum Change {
+    /// One edge more, unless the count is full.
+    OneMore,
+    /// One edge less, unless the count is 0.
+    OneLess,
+}
+
+impl Change {
+    /// Returns the count after the change.
+    fn apply(self, count: u32) -> u32
+        ensures { result ≡ count_after self count }
     {
-        if !self.edges.counts_any(sources) {
-            return;
-        }
-        for number in 24..32u8 {
-            if let Some(source) = sources.get(number as u32) {
-                let count = self.edges.count(source);
-                self.set_count(source, one_more(count));
-            }
+        match self {
+            Change::OneMore => count.saturating_add(1),
+            Change::OneLess => count.saturating_sub(1),
         }
     }
-}
-
-/// Returns the count with one edge more, unless it is full.
-fn one_more(count: u32) -> u32
-    ensures { result ≡ one_more count }
-{
-    count.saturating_add(1)
-}
-
-/// Returns the count with one edge less, unless it is 0.
-fn one_less(count: u32) -> u32
-    ensures { result ≡ one_less count }
-{
-    count.saturating_sub(1)
 }
