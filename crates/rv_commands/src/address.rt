@@ -3,7 +3,7 @@ ghost use Rattle.std.specs.Prelude.{◌≡◌, ◌&&◌, nat_le};
 ghost use Rattle.rv_commands.specs.Addresses.{hexadecimal, address_of};
 
 use crate::SymbolLookup;
-use rv_base::hex_digit;
+use rv_base::{hex_digit, low_word};
 
 /// Returns whether an address may have this number of hexadecimal digits.
 fn is_digit_count(count: usize) -> bool
@@ -36,6 +36,6 @@ pub fn address<S: SymbolLookup>(word: &[u8], symbols: &S) -> Option<u32>
         hexadecimal(word.split_at(2).1)
     } else {
         let value = symbols.symbol(word)?;
-        Some(value.rem_euclid(0x1_0000_0000) as u32)
+        Some(low_word(value.cast_unsigned()))
     }
 }
