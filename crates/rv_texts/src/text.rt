@@ -13,10 +13,6 @@ use std::alloc::Global;
 #[derive(Clone, Copy)]
 pub struct InFailed;
 
-/// The error of a write that failed, or that took none of some bytes.
-#[derive(Clone, Copy)]
-pub struct OutFailed;
-
 /// A reader of a text.
 pub trait TextIn {
     // The bytes that are left to read, where the type tells them.
@@ -37,33 +33,6 @@ pub trait TextIn {
         ensures err { OnErr result (has_failed self.new ≡ true) };
 
     /// Returns whether a read has failed.
-    fn failed(&self) -> bool
-        ensures { result ≡ has_failed self.now };
-}
-
-/// A writer of a text.
-pub trait TextOut {
-    // The bytes that were written, where the type tells them.
-    ghost taken: { Self → Option (List ℕ) };
-
-    // Whether a write has failed, or taken none of some bytes.
-    ghost has_failed: { Self → Bool };
-
-    /// Writes some of the bytes, from the first on, and returns their number.
-    ///
-    /// After a write that took none of some bytes, `failed` is true.
-    ///
-    /// # Errors
-    ///
-    /// `OutFailed` if the write fails: it takes no byte, and `failed` is true from then on.
-    fn write(&mut self, bytes: &[u8]) -> Result<usize, OutFailed>
-        ensures within { IfOk result (λ n. n ≤ length bytes.now) }
-        ensures bytes { WriteAppends (taken self.old) (taken self.new) result bytes.now }
-        ensures ok { IfOk result (λ n. has_failed self.new
-            ≡ (has_failed self.old || (n == 0 && nat_lt 0 (length bytes.now)))) }
-        ensures err { OnErr result (has_failed self.new ≡ true) };
-
-    /// Returns whether a write has failed, or taken none of some bytes.
     fn failed(&self) -> bool
         ensures { result ≡ has_failed self.now };
 }
@@ -101,6 +70,37 @@ pub(crate) fn read_text<R: TextIn>(
             return Err(ReadFault::OutOfMemory);
         }
     }
+}
+
+/// The error of a write that failed, or that took none of some bytes.
+#[derive(Clone, Copy)]
+pub struct OutFailed;
+
+/// A writer of a text.
+pub trait TextOut {
+    // The bytes that were written, where the type tells them.
+    ghost taken: { Self → Option (List ℕ) };
+
+    // Whether a write has failed, or taken none of some bytes.
+    ghost has_failed: { Self → Bool };
+
+    /// Writes some of the bytes, from the first on, and returns their number.
+    ///
+    /// After a write that took none of some bytes, `failed` is true.
+    ///
+    /// # Errors
+    ///
+    /// `OutFailed` if the write fails: it takes no byte, and `failed` is true from then on.
+    fn write(&mut self, bytes: &[u8]) -> Result<usize, OutFailed>
+        ensures within { IfOk result (λ n. n ≤ length bytes.now) }
+        ensures bytes { WriteAppends (taken self.old) (taken self.new) result bytes.now }
+        ensures ok { IfOk result (λ n. has_failed self.new
+            ≡ (has_failed self.old || (n == 0 && nat_lt 0 (length bytes.now)))) }
+        ensures err { OnErr result (has_failed self.new ≡ true) };
+
+    /// Returns whether a write has failed, or taken none of some bytes.
+    fn failed(&self) -> bool
+        ensures { result ≡ has_failed self.now };
 }
 
 /// Writes some of the bytes that follow the first `done`, and returns how many are written in all.
