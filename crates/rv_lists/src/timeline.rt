@@ -49,6 +49,7 @@ impl Timeline {
         let mut number: usize = 0;
         for line in cut_lines(text) {
             number += 1;
+            // No `map_err` and `?`: with the closure the proof would be half as long again.
             match read_line(line, &mut inputs) {
                 Ok(()) => {}
                 Err(LineRefusal::BadLine) => return Err(TimelineFault::BadLine(number)),
