@@ -1,5 +1,8 @@
 pub mod Alu
+pub mod Fields
+pub mod Layout
 pub mod Meaning
+pub mod Mnemonics
 pub mod Names
 pub mod Number
 pub mod Op

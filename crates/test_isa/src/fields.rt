@@ -1,5 +1,7 @@
 //! Kinds by their named fields: their words as LLVM's assembler writes them, and the ranges of the fields.
-use rv_isa::{AluOp, Cond, CsrOp, ImmOp, Instr, Kind, LoadOp, Reg, ShiftOp, Width, decode, encode};
+use rv_isa::{
+    AluOp, Cond, CsrOp, ImmOp, Instr, Kind, LoadOp, Operation, Reg, ShiftOp, Width, decode, encode,
+};
 use std::process::Abort;
 use std::test::Fail;
 
@@ -12,6 +14,16 @@ fn check(rt: &impl Abort, kind: Kind, word: u32) -> Result<(), Fail> {
     let instr = Instr::new(kind).ok_or("a field is out of its range")?;
     assert_eq!(rt; encode(instr), word);
     assert_eq!(rt; decode(word), Some(instr));
+    Ok(())
+}
+
+#[test]
+fn fields_of_a_store(rt: HostRuntime) -> Result<(), Fail> {
+    let instr = decode(0x00a2a223).ok_or("no instruction has the word")?;
+    let fields = instr.fields();
+    assert!(rt; matches!(fields.operation, Operation::Sw));
+    assert_eq!(rt; (fields.rs1.number(), fields.rs2.number()), (5, 10));
+    assert_eq!(rt; fields.imm, 4);
     Ok(())
 }
 

@@ -1,0 +1,62 @@
+-- An instruction has one layout: `kind_of` undoes `fields_of`.
+use Rattle.std.proofs.Common.{◌≡◌, ◌∙◌, ℕ, ◌^◌, ◌<◌, refl, ap, arith}
+use Rattle.rv_isa.specs.Fields.{kind_with, kind_of, unsigned}
+use Rattle.rv_isa.specs.Layout.{fields_of, branch_operation, load_operation, store_operation, imm_operation, shift_operation, alu_operation, csr_operation, csr_imm_operation}
+use Rattle.rv_isa.specs.Word.{IsInRange}
+use Rattle.rv_isa.specs.declared.fields.Fields.{Fields}
+use Rattle.rv_isa.specs.declared.kind.Kind.{Kind}
+use Rattle.rv_isa.specs.declared.kind.Kind.TheVariants.{Lui, Auipc, Jal, Jalr, Branch, Load, Store, OpImm, Shift, Op, Fence, FenceI, Csr, CsrImm, Ecall, Ebreak, Mret, Wfi}
+use Rattle.std.specs.Prelude.{pos}
+
+-- ---- the kind of each form's operation
+
+branch_kind : (op : _) (f : Fields) → kind_with (branch_operation op) f ≡ Branch op f.rs1 f.rs2 f.imm
+branch_kind op f = grind arith
+
+load_kind : (op : _) (f : Fields) → kind_with (load_operation op) f ≡ Load op f.rd f.rs1 f.imm
+load_kind op f = grind arith
+
+store_kind : (op : _) (f : Fields) → kind_with (store_operation op) f ≡ Store op f.rs2 f.rs1 f.imm
+store_kind op f = grind arith
+
+imm_kind : (op : _) (f : Fields) → kind_with (imm_operation op) f ≡ OpImm op f.rd f.rs1 f.imm
+imm_kind op f = grind arith
+
+shift_kind : (op : _) (f : Fields) → kind_with (shift_operation op) f ≡ Shift op f.rd f.rs1 (unsigned f.imm)
+shift_kind op f = grind arith
+
+alu_kind : (op : _) (f : Fields) → kind_with (alu_operation op) f ≡ Op op f.rd f.rs1 f.rs2
+alu_kind op f = grind arith
+
+csr_kind : (op : _) (f : Fields) → kind_with (csr_operation op) f ≡ Csr op f.rd f.rs1 (unsigned f.imm)
+csr_kind op f = grind arith
+
+csr_imm_kind : (op : _) (f : Fields) →
+    kind_with (csr_imm_operation op) f ≡ CsrImm op f.rd f.rs1 (unsigned f.imm)
+csr_imm_kind op f = grind arith
+
+-- ---- the kind of a kind's fields
+
+word_of : (n : ℕ) → n < 2 ^ 20 → unsigned (pos n) ≡ n
+word_of n h = omega arith
+
+pub kept : (k : Kind) → IsInRange k → kind_of (fields_of k) ≡ k
+unfolding kind_of fields_of
+kept (Lui rd imm) r = ap (Lui rd) (word_of imm r.1)
+kept (Auipc rd imm) r = ap (Auipc rd) (word_of imm r.1)
+kept (Jal rd offset) r = refl
+kept (Jalr rd base offset) r = refl
+kept (Branch op rs1 rs2 offset) r = branch_kind op _
+kept (Load op rd base offset) r = load_kind op _
+kept (Store op source base offset) r = store_kind op _
+kept (OpImm op rd rs1 imm) r = imm_kind op _
+kept (Shift op rd rs1 amount) r = shift_kind op _ ∙ ap (Shift op rd rs1) (word_of amount (omega arith))
+kept (Op op rd rs1 rs2) r = alu_kind op _
+kept (Fence rd rs1 imm) r = ap (Fence rd rs1) (word_of imm (omega arith))
+kept (FenceI rd rs1 imm) r = ap (FenceI rd rs1) (word_of imm (omega arith))
+kept (Csr op rd rs1 csr) r = csr_kind op _ ∙ ap (Csr op rd rs1) (word_of csr (omega arith))
+kept (CsrImm op rd imm csr) r = csr_imm_kind op _ ∙ ap (CsrImm op rd imm) (word_of csr (omega arith))
+kept Ecall r = refl
+kept Ebreak r = refl
+kept Mret r = refl
+kept Wfi r = refl
