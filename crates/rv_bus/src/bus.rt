@@ -1,8 +1,11 @@
 //! The bus over a memory.
-ghost use Rattle.std.specs.Prelude.{◌≡◌, ◌≢◌, ◌+◌, ◌*◌, ◌/◌, ◌%◌, ◌^◌, ◌<◌, ◌≤◌, ℕ, length, IfErr};
+ghost use Rattle.std.specs.Prelude.{◌≡◌, ◌≢◌, ◌+◌, ◌*◌, ◌/◌, ◌%◌, ◌^◌, ◌<◌, ◌≤◌, ℕ, true, false, length, IfErr};
 ghost use Rattle.rv_isa.specs.Width.{bytes_of};
-ghost use Rattle.rv_ram.specs.Bytes.{value_at, HasPages};
+ghost use Rattle.rv_base.specs.Limits.{ram_base};
+ghost use Rattle.rv_ram.specs.Bytes.{put, value_at, HasPages};
+ghost use Rattle.rv_ram.specs.Pages.{is_zero_page};
 ghost use Rattle.rv_mmio.specs.Serial as serial;
+ghost use Rattle.rv_mmio.specs.Timer.{later};
 ghost use Rattle.rv_bus.specs.State.{BusState, reset};
 ghost use Rattle.rv_bus.specs.Access.{location, load, after_load, fetch, low_bits, ram_byte, ticked, next_tick, snapshot_before, lines_of, with_line, received};
 ghost use Rattle.rv_bus.specs.Within.{IsWithin};
@@ -177,8 +180,19 @@ impl<M: ByteMemory> Bus<M> {
         }
     }
 
+    /// Returns the number of bytes of the memory, which begins at 0x80000000.
+    #[inline(always)]
+    pub fn ram_size(&self) -> u32
+        ensures size { result ≡ length self.now.ram }
+        ensures most { result ≤ 2 ^ 24 }
+        ensures pages { result % 4096 ≡ 0 }
+    {
+        self.ram.size()
+    }
+
     /// Returns the value at an offset of the memory.
-    fn load_ram(&self, off: u32, width: Width) -> u32
+    #[inline(always)]
+    pub fn load_ram(&self, off: u32, width: Width) -> u32
         requires within { off + bytes_of width ≤ length self.now.ram }
         requires aligned { off % bytes_of width ≡ 0 }
         ensures { result ≡ value_at self.now.ram off width }
@@ -224,6 +238,22 @@ impl<M: ByteMemory> Bus<M> {
         Ok(())
     }
 
+    /// Writes the low bytes of a value at an offset of the memory, where no room has to be made. Returns whether
+    /// it wrote: it may refuse only a page that has only zeros, and then changes nothing. It never allocates.
+    #[inline(always)]
+    #[tactic(auto, using(crate::proofs::Others::fetch_put))]
+    pub fn overwrite_ram(&mut self, off: u32, width: Width, value: u32) -> bool
+        requires within { off + bytes_of width ≤ length self.old.ram }
+        requires aligned { off % bytes_of width ≡ 0 }
+        ensures written { result ≡ true → self.new ≡ record self.old { ram = put self.old.ram off width value } }
+        ensures refused { result ≡ false → self.new ≡ self.old }
+        ensures blank { result ≡ false → is_zero_page self.old.ram off ≡ true }
+        ensures others { (a : ℕ) → a % 4 ≡ 0 → a ≢ (ram_base + off) / 4 * 4
+            → fetch self.new.ram a ≡ fetch self.old.ram a }
+    {
+        self.ram.overwrite(off, width, value)
+    }
+
     /// Returns the byte of the memory at an address, if there is one. Nothing changes.
     pub fn peek(&self, addr: u32) -> Option<u8>
         ensures { result ≡ ram_byte self.now.ram addr }
@@ -241,6 +271,15 @@ impl<M: ByteMemory> Bus<M> {
     {
         self.timer.tick();
         self.plic.forward();
+    }
+
+    /// Advances the time by a number of ticks. The interrupt controller stays as it is.
+    pub fn advance(&mut self, ticks: u64)
+        ensures advanced { self.new ≡ record self.old { timer = later self.old.timer ticks } }
+        ensures time { self.old.timer.time < 2 ^ 64 }
+    {
+        let time = self.timer.time().wrapping_add(ticks);
+        self.timer = self.timer.at_time(time);
     }
 
     /// Returns the levels of the interrupt lines into the hart.

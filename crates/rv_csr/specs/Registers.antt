@@ -194,3 +194,10 @@ counted counters retired wrote = record {
   cycles = if wrote_cycles wrote then counters.cycles else next_count counters.cycles;
   retired = if retired && not (wrote_retired wrote) then next_count counters.retired else counters.retired;
 }
+
+-- the counters after a number of steps whose instructions all retired, and wrote neither of them
+abbrev pub later : Counters → ℕ → Counters
+later counters steps = record {
+  cycles = (counters.cycles + steps) % 2 ^ 64;
+  retired = (counters.retired + steps) % 2 ^ 64;
+}

@@ -1,6 +1,6 @@
 //! The counters mcycle and minstret. Privileged Architecture 20211203, section 3.1.10.
-ghost use Rattle.std.specs.Prelude.{◌≡◌};
-ghost use Rattle.rv_csr.specs.Registers.{counted, wrote_cycles, wrote_retired};
+ghost use Rattle.std.specs.Prelude.{◌≡◌, ◌^◌, ◌<◌};
+ghost use Rattle.rv_csr.specs.Registers.{counted, later, wrote_cycles, wrote_retired};
 
 use crate::register;
 
@@ -26,5 +26,14 @@ impl Counters {
         if retired && !register::wrote_retired(wrote) {
             self.retired = self.retired.wrapping_add(1);
         }
+    }
+    /// Counts a number of steps whose instructions all retired, and wrote neither counter.
+    pub(crate) fn count_retired(&mut self, steps: u64)
+        ensures counted { self.new ≡ later self.old steps }
+        ensures cycles { self.old.cycles < 2 ^ 64 }
+        ensures retired { self.old.retired < 2 ^ 64 }
+    {
+        self.cycles = self.cycles.wrapping_add(steps);
+        self.retired = self.retired.wrapping_add(steps);
     }
 }

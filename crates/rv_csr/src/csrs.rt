@@ -1,10 +1,11 @@
 //! The control registers as a whole: reads and writes, interrupts, traps and the return from them.
-ghost use Rattle.std.specs.Prelude.{◌≡◌, ◌%◌, true, false, None};
+ghost use Rattle.std.specs.Prelude.{◌≡◌, ℕ, ◌+◌, ◌%◌, ◌^◌, ◌<◌, ◌≤◌, true, false, None};
 ghost use Rattle.rv_csr.specs.Registers.{value_of, with_value, Writes};
 ghost use Rattle.rv_csr.specs.Registers as registers;
 ghost use Rattle.rv_csr.specs.State.{reset};
 ghost use Rattle.rv_csr.specs.Traps as traps;
 ghost use Rattle.rv_isa.specs.Width.{bytes_of};
+ghost use Rattle.rv_isa.specs.declared.op.Width.{Width};
 ghost use Rattle.rv_isa.specs.declared.InterruptLines.{InterruptLines};
 ghost use Rattle.rv_pmp.specs.Pmp.{grants};
 ghost use Rattle.rv_pmp.specs.declared.mode.Mode.{Mode};
@@ -16,7 +17,7 @@ use crate::register::{Register, may_read, may_write};
 use crate::trap::TrapRegisters;
 use rv_base::{high_word, low_word, with_high_word, with_low_word};
 use rv_isa::{InterruptLines, Width};
-use rv_pmp::{Access, Mode, Pmp};
+use rv_pmp::{Access, Mode, Pmp, Span};
 use std::marker::Model;
 
 /// The cause of a software interrupt: mcause's interrupt bit and code 3.
@@ -271,6 +272,25 @@ impl Csrs {
         ensures { self.new ≡ record self.old { counters = registers.counted self.old.counters retired wrote } }
     {
         self.counters.count(retired, wrote);
+    }
+
+    /// Counts a number of steps whose instructions all retired, and wrote neither counter.
+    pub fn count_retired(&mut self, steps: u64)
+        ensures counted { self.new ≡ record self.old { counters = registers.later self.old.counters steps } }
+        ensures cycles { self.old.counters.cycles < 2 ^ 64 }
+        ensures retired { self.old.counters.retired < 2 ^ 64 }
+    {
+        self.counters.count_retired(steps);
+    }
+
+    /// Returns bytes within which protection grants user mode all accesses of a kind: those round the last one
+    /// that was asked for.
+    #[inline(always)]
+    pub fn user_span(&self, access: Access) -> Span
+        ensures { (first : ℕ) (w : Width) → result.first ≤ first → first + bytes_of w ≤ result.end
+            → grants self.now.pmp User access first (bytes_of w) ≡ true }
+    {
+        self.pmp.user_span(access)
     }
 
     /// Whether protection grants a mode an access. The permission cache may change, which no answer shows.

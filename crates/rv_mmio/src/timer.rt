@@ -86,6 +86,13 @@ impl Timer {
         self.time
     }
 
+    /// Returns the time to compare with, at which the interrupt line rises.
+    pub fn compare(&self) -> u64
+        ensures { result ≡ self.now.compare }
+    {
+        self.compare
+    }
+
     /// Returns this timer with another time.
     pub fn at_time(&self, time: u64) -> Timer
         ensures { result ≡ record self.now { time = time } }

@@ -18,3 +18,4 @@ pub use entry::{Entry, Matching};
 pub use mode::Mode;
 pub use pmp::{Pmp, bytes_are_granted_alone};
 pub use register::PmpRegister;
+pub use span::Span;

@@ -1,6 +1,7 @@
 //! The registers of protection, and what they grant.
-ghost use Rattle.std.specs.Prelude.{◌≡◌, ℕ, ◌+◌, ◌-◌, ◌^◌, ◌<◌, true};
+ghost use Rattle.std.specs.Prelude.{◌≡◌, ℕ, ◌+◌, ◌-◌, ◌^◌, ◌<◌, ◌≤◌, true};
 ghost use Rattle.rv_isa.specs.Width.{bytes_of};
+ghost use Rattle.rv_isa.specs.declared.op.Width.{Width};
 ghost use Rattle.rv_pmp.specs.ActiveEntries.{some_on, some_locked, actives_from, decision};
 ghost use Rattle.rv_pmp.specs.Pmp.{PmpState, reset, grants, locks, load, config_at, with_config, with_address, with_word, AllReadable, WritableIsReadable, Stores};
 ghost use Rattle.rv_pmp.specs.Pmp as spec;
@@ -181,6 +182,17 @@ impl Pmp {
             }
             Mode::Machine => self.allows(mode, access, addr, width),
         }
+    }
+
+    /// Returns bytes within which user mode is granted all accesses of a kind: those that the permission cache
+    /// keeps.
+    #[inline(always)]
+    #[tactic(auto, using(crate::proofs::Widest::within_granted))]
+    pub fn user_span(&self, access: Access) -> Span
+        ensures { (first : ℕ) (w : Width) → result.first ≤ first → first + bytes_of w ≤ result.end
+            → grants self.now User access first (bytes_of w) ≡ true }
+    {
+        self.permissions.span_for(access)
     }
 
     /// Whether the entries grant user mode the access, which is outside of the span in the permission cache.

@@ -9,9 +9,9 @@ use crate::entry::{Entry, Matching};
 
 /// The bytes from `first` up to but not including `end`.
 #[derive(Clone, Copy)]
-pub(crate) struct Span {
-    pub(crate) first: u64,
-    pub(crate) end: u64,
+pub struct Span {
+    pub first: u64,
+    pub end: u64,
 }
 
 impl Span {

@@ -66,4 +66,10 @@ impl ByteMemory for FlatMemory {
         put_value(&mut self.bytes, off as usize, width, value);
         Ok(())
     }
+
+    #[tactic(auto, using(crate::proofs::Put::length_put))]
+    fn overwrite(&mut self, off: u32, width: Width, value: u32) -> bool {
+        put_value(&mut self.bytes, off as usize, width, value);
+        true
+    }
 }

@@ -9,10 +9,10 @@ mod page;
 mod paged;
 mod values;
 
-ghost use Rattle.std.specs.Prelude.{◌≡◌, ◌+◌, ◌*◌, ◌%◌, ◌^◌, ◌<◌, ◌≤◌, true, length, slice_index, OnOk, OnErr};
+ghost use Rattle.std.specs.Prelude.{◌≡◌, ◌+◌, ◌*◌, ◌%◌, ◌^◌, ◌<◌, ◌≤◌, true, false, length, slice_index, OnOk, OnErr};
 ghost use Rattle.rv_isa.specs.Width.{bytes_of};
 ghost use Rattle.rv_ram.specs.Bytes.{word_at, put};
-ghost use Rattle.rv_ram.specs.Pages.{wants_page};
+ghost use Rattle.rv_ram.specs.Pages.{is_zero_page, wants_page};
 
 pub use flat::FlatMemory;
 pub use paged::PagedRam;
@@ -60,4 +60,13 @@ pub trait ByteMemory: Drop {
         ensures ok { OnOk result (bytes self.new ≡ put (bytes self.old) off width value) }
         ensures err { OnErr result (bytes self.new ≡ bytes self.old) }
         ensures room { OnErr result (wants_page (bytes self.old) off width value ≡ true) };
+
+    /// Writes as `write` does where no room has to be made. Returns whether it wrote: it may refuse only a page
+    /// that has only zeros, and then leaves every byte as it was. It never allocates.
+    fn overwrite(&mut self, off: u32, width: Width, value: u32) -> bool
+        requires in_range { off + bytes_of width ≤ length (bytes self.old) }
+        requires aligned { off % bytes_of width ≡ 0 }
+        ensures written { result ≡ true → bytes self.new ≡ put (bytes self.old) off width value }
+        ensures refused { result ≡ false → bytes self.new ≡ bytes self.old }
+        ensures blank { result ≡ false → is_zero_page (bytes self.old) off ≡ true };
 }

@@ -1,5 +1,5 @@
 //! A page of memory, which is allocated once something other than zeros is stored in it.
-ghost use Rattle.std.specs.Prelude.{◌≡◌, ◌+◌, ◌<◌, ◌≤◌, ◌||◌, not, false, length, slice_index, OnOk, OnErr};
+ghost use Rattle.std.specs.Prelude.{◌≡◌, ◌+◌, ◌<◌, ◌≤◌, ◌||◌, not, true, false, length, slice_index, OnOk, OnErr};
 ghost use Rattle.std.specs.Vec.{vec_len};
 ghost use Rattle.rv_isa.specs.Width.{bytes_of};
 ghost use Rattle.rv_ram.specs.Bytes.{word_at, put, zeros};
@@ -88,6 +88,25 @@ impl Page {
         }
         put_value(&mut self.bytes, at, width, value);
         Ok(())
+    }
+
+    /// Writes the low bytes of a value at an offset in the page, and returns whether they are there now. A page
+    /// that does not exist yet stays as it is, and has only zeros.
+    #[inline(always)]
+    #[tactic(auto, using(crate::proofs::Put::length_put, crate::proofs::Table::put_unmade, crate::proofs::Table::unmade_bytes, crate::proofs::Table::made_bytes))]
+    pub fn overwrite(&mut self, at: usize, width: Width, value: u32) -> bool
+        requires { at + bytes_of width ≤ 4096 }
+        ensures whole { length self.new.bytes ≡ 4096 }
+        ensures written { result ≡ true → self.new.bytes ≡ put self.old.bytes at width value }
+        ensures refused { result ≡ false → self.new ≡ self.old }
+        ensures blank { result ≡ false → self.old.bytes ≡ zeros 4096 }
+    {
+        let bytes = &mut self.bytes;
+        if bytes.is_empty() {
+            return stores_zeros(width, value);
+        }
+        put_value(bytes, at, width, value);
+        true
     }
 }
 

@@ -102,4 +102,12 @@ impl ByteMemory for PagedRam {
         let page = &mut self.pages[(off / PAGE_BYTES) as usize];
         page.write((off % PAGE_BYTES) as usize, width, value)
     }
+
+    #[inline(always)]
+    #[tactic(auto, using(crate::proofs::Table::index_in, crate::proofs::Table::in_page, crate::proofs::Table::all_bytes_put, crate::proofs::Blank::blank_page))]
+    fn overwrite(&mut self, off: u32, width: Width, value: u32) -> bool {
+        let index = (off / PAGE_BYTES) as usize;
+        let page = &mut self.pages[index];
+        page.overwrite((off % PAGE_BYTES) as usize, width, value)
+    }
 }
