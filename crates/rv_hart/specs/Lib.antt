@@ -6,3 +6,5 @@ pub mod Fetch
 pub mod Keeps
 pub mod Step
 pub mod StepParts
+pub mod Walk
+pub mod Plain

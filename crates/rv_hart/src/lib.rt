@@ -2,10 +2,16 @@
 //! them, over a bus and a decoded cache.
 #![tactic(auto)]
 
+mod access;
 mod hart;
+mod marks;
+mod plain;
+mod run;
 mod shortcuts;
 mod trap;
 mod values;
+mod windows;
 
 pub use hart::Hart;
+pub use marks::{Marks, NoMarks};
 pub use trap::{Outcome, Trap};
