@@ -3,6 +3,8 @@ pub mod Boot
 pub mod Exchange
 pub mod ImageFit
 pub mod Move
+pub mod PlainSteps
+pub mod RunWhile
 pub mod State
 pub mod Steps
 pub mod UserRun
