@@ -2,6 +2,7 @@ pub mod Sets
 pub mod Times
 pub mod Steps
 pub mod Stopping
+pub mod Bursts
 pub mod Filters
 pub mod Decimals
 pub mod Named

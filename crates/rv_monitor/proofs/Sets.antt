@@ -63,6 +63,11 @@ pub has_none : (xs : List ℕ) (q : ℕ) → length xs ≡ 0 → contains (from_
 has_none [] q e = contains-empty nat_cmp q
 has_none (x ∷ xs) q e = absurd (omega arith)
 
+-- the set of the empty list is empty
+pub none_listed : (xs : List ℕ) → length xs ≡ 0 → set.empty {R = nat_cmp} ≡ from_list {R = nat_cmp} xs
+none_listed [] e = refl
+none_listed (x ∷ xs) e = absurd (omega arith)
+
 -- the empty set has no member
 pub no_member : (q : ℕ) → false ≡ contains (set.empty {R = nat_cmp}) q
 no_member q = sym (contains-empty nat_cmp q)

@@ -21,7 +21,7 @@ some_step : (n : ℕ) → 0 < n → nat_lt 0 n ≡ true
 some_step n h = grind (arith, nat_tests)
 
 -- the reason to end does not depend on how many steps were taken, if any were
-stop_later : (a : Addresses) (b : BoardState) (n : ℕ) → 0 < n → stop_after a b n ≡ stop_after a b 1
+pub stop_later : (a : Addresses) (b : BoardState) (n : ℕ) → 0 < n → stop_after a b n ≡ stop_after a b 1
 unfolding stop_after
 stop_later a b n h = rw (some_step n h) refl
 
@@ -127,7 +127,7 @@ not_halted_by a b n true e none =
     absurd (false≢true (ap is_some (sym none) ∙ ap is_some (stop_halted a b n e)))
 not_halted_by a b n false e none = refl
 
-not_halted : (a : Addresses) (b : BoardState) (n : ℕ) → stop_after a b n ≡ None →
+pub not_halted : (a : Addresses) (b : BoardState) (n : ℕ) → stop_after a b n ≡ None →
     is_some (halted_of b) ≡ false
 not_halted a b n none = not_halted_by a b n (is_some (halted_of b)) refl none
 

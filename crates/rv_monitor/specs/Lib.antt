@@ -11,3 +11,4 @@ pub mod Numbers
 pub mod Room
 pub mod Views
 pub mod Growth
+pub mod Took

@@ -168,7 +168,7 @@ impl<M: ByteMemory, C: Decoded> Session<M, C> {
         ensures others { self.new ≡ record self.old { timed = self.new.timed } }
     {
         let most = n.min(self.limit - self.timed.taken());
-        self.timed.advance(most, Some(&self.breakpoints))
+        self.timed.advance(most, self.breakpoints.if_any())
     }
 }
 
