@@ -5,6 +5,8 @@
 #[cfg(test)]
 mod board;
 #[cfg(test)]
+mod bursts;
+#[cfg(test)]
 mod cache;
 #[cfg(test)]
 mod memory;

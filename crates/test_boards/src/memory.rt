@@ -41,6 +41,13 @@ impl ByteMemory for RefusingMemory {
         }
         self.memory.write(off, width, value)
     }
+
+    fn overwrite(&mut self, off: u32, width: Width, value: u32) -> bool {
+        if is_zero_page(&self.memory, off) {
+            return false;
+        }
+        self.memory.overwrite(off, width, value)
+    }
 }
 
 /// Whether a page has only zeros.

@@ -2,6 +2,9 @@
 //! that compares boards does it by these functions.
 #![tactic(auto)]
 
+mod calls;
+
+pub use calls::{event, same_in_calls, step_alone};
 use rv_base::RAM_BASE;
 use rv_board::Board;
 use rv_cache::Decoded;

@@ -10,7 +10,13 @@ use rv_lists::Timeline;
 use rv_monitor::{Next, Session};
 use rv_ram::{ByteMemory, FlatMemory, PagedRam};
 use std::alloc::Global;
-use test_compare::same_everywhere;
+use test_compare::{same_everywhere, same_in_calls};
+
+/// The largest numbers of steps of a call, where a row is run beside a board that takes each step alone.
+const SIZES: [u64; 5] = [1, 2, 7, 64, 1_000_000];
+
+/// How many steps of a row are run so.
+const STEPS: u64 = 200;
 
 const NO_MEMORY: &str = "out of memory\n";
 
@@ -148,6 +154,20 @@ fn pages_agree(
     agrees(alloc, row, &mut session, text, board)
 }
 
+/// Checks that the first steps of the row, up to `size` in a call, are as those of a board that takes each step
+/// alone.
+fn calls_agree(alloc: Global, row: Row<'_>, size: u64) -> Result<(), &'static str> {
+    let mut session = paged_session(alloc, row, 64)?;
+    let timeline = timeline(alloc, row)?;
+    let program = program(alloc, row)?;
+    let mut alone = flat_board(alloc, &program)?;
+    let steps = limit(row).min(STEPS);
+    if !same_in_calls(&mut session, &mut alone, timeline.inputs(), size, steps) {
+        return Err("the boards are different after calls of many steps\n");
+    }
+    Ok(())
+}
+
 /// Returns the row with the answers of a session over flat memory, where those over pages are the same.
 fn common_answers(
     alloc: Global,
@@ -157,6 +177,9 @@ fn common_answers(
     let text = answers(alloc, session, row).ok().ok_or(NO_MEMORY)?;
     for slots in [64, 1024, 4096] {
         pages_agree(alloc, row, slots, text.as_slice(), session.board())?;
+    }
+    for size in SIZES {
+        calls_agree(alloc, row, size)?;
     }
     Ok(text)
 }
