@@ -1,10 +1,11 @@
 pub mod Sums
+pub mod Singles
 pub mod Distances
 pub mod Nops
-pub mod Always
 pub mod Writing
 pub mod Padded
 pub mod Sizes
+pub mod Extents
 pub mod Placing
 pub mod Runs
 pub mod Labels

@@ -1,26 +1,23 @@
--- The bytes of the statements, one by one, and their number.
-use Rattle.std.proofs.Common.{◌≡◌, ℕ, zero, suc, ◌+◌, ◌≤◌, ◌<◌, Bool, true, false, cond, List, [], ◌∷◌, ◌++◌, length, ℤ, pos, refl, sym, ap, arith, append-nil, length-append}
-use Rattle.std.specs.Prelude.{Option, None, Some, Result, Ok, Err, option_and_then}
-use Rattle.std.specs.Option.{option_map, option_or}
-use Rattle.std.specs.List.{All}
-use Rattle.std.proofs.lemmas.List.Elements.{All-nil, All-append, All-push}
-use Rattle.rv_source.specs.Said.{Said}
-use Rattle.rv_source.specs.declared.expression.Term.{Term}
-use Rattle.rv_source.specs.declared.line.Label.{Label}
-use Rattle.rv_source.specs.declared.line.Label.TheVariants as label
+-- The bytes of the lines, one by one, and their number.
+use Rattle.std.proofs.Common.{◌≡◌, ℕ, zero, suc, ◌+◌, ◌≤◌, Bool, true, false, cond, List, [], ◌∷◌, ◌++◌, length, ℤ, pos, refl, sym, ap, ◌∙◌, arith, append-nil, length-append}
+use Rattle.std.specs.Prelude.{Option, None, Some, Result, Ok, Err, option_and_then, not, ◌&&◌, ◌==◌, ◌%◌, nat_lt}
+use Rattle.std.specs.Option.{option_map, option_or, unwrap_or}
+use Rattle.std.proofs.lemmas.Bool.Decides.{nat_tests}
+use Rattle.rv_source.specs.Reading.{Said}
+use Rattle.rv_source.specs.declared.operand.Operand.{Operand}
 use Rattle.rv_source.specs.declared.statement.Statement.{Statement}
 use Rattle.rv_program.specs.declared.fault.FaultKind.{FaultKind}
-use Rattle.rv_program.specs.declared.fault.FaultKind.TheVariants.{DuplicateSymbol}
+use Rattle.rv_program.specs.declared.fault.FaultKind.TheVariants.{DuplicateSymbol, NotConstant, Misplaced, TooLarge}
 use Rattle.rv_program.specs.declared.fault.AsmFault.{AsmFault}
-use Rattle.rv_asm.specs.Symbols.{Definitions, sum_value}
+use Rattle.rv_asm.specs.Symbols.{Definitions, operand_value}
 use Rattle.rv_base.specs.Limits.{ram_base, image_limit}
-use Rattle.rv_asm.specs.Layout.{Known, first, joined, line_at, asked, taken, size_of, labelled, with_labels, with_statement, known_before, known_at, definitions, relabels, statement_fault, phase_two_fault}
-use Rattle.rv_asm.specs.Listing.{◌>>=◌}
-use Rattle.rv_asm.specs.Assembly.{first_fault, line_bytes, phase_three_fault}
-use Rattle.rv_asm.specs.Steps.{size_in, Item, IsTaken, item_bytes, appended, at_line, run, item_step, item_at, unless}
-use Rattle.rv_asm.proofs.Placing.{item_of, free_placed}
+use Rattle.rv_asm.specs.Layout.{line_at, address, names, names_in, values_on, asked, fails, is_unknown, is_instruction, renames, size_of, size_at, definitions, relabels, statement_fault, phase_two_fault}
+use Rattle.rv_asm.specs.Listing.{◌>>=◌, Valuation, statement_bytes}
+use Rattle.rv_asm.specs.Assembly.{first, joined, first_fault}
+use Rattle.rv_asm.specs.Constants.{IsKnown}
+use Rattle.rv_asm.specs.Steps.{Known, Item, values_of, labelled, appended, at_line, run, item_step, item_bytes, image_of, unless, known_before, stated_bytes, AddsOptional, Adds, AddsLine, bytes_by, fault_in, listed, written, Writes}
 use Rattle.rv_asm.proofs.Runs.{run_append}
-use Rattle.rv_asm.proofs.Sizes.{item_size}
+use Rattle.rv_asm.proofs.Sizes.{statement_size}
 
 -- ---- no fault
 
@@ -48,173 +45,183 @@ none_before fault n h = left_none (first_fault fault n) _ h
 
 -- ---- one more line
 
--- the fault of a result, and its list
-abbrev fault_in : Result (List ℕ) FaultKind → Option FaultKind
-fault_in r = elim r as (λ _. Option FaultKind) [ Ok bs ↦ None | Err kind ↦ Some kind ]
-
-abbrev pub listed : Result (List ℕ) FaultKind → List ℕ
-listed r = elim r as (λ _. List ℕ) [ Ok bs ↦ bs | Err kind ↦ [] ]
-
--- the list of line k
-abbrev pub listed_at : List Said → ℕ → List ℕ
-listed_at lines k = listed (line_bytes lines k)
-
-abbrev bytes_if : Definitions → ℕ → Known → Option Statement → Result (List ℕ) FaultKind
-bytes_if ds k known statement = elim statement as (λ _. Result (List ℕ) FaultKind) [
-  | None ↦ Ok []
-  | Some s ↦
-      item_bytes ds (item_of k known s)
-]
-
-abbrev item_if : ℕ → Known → Option Statement → List Item
-item_if k known statement = elim statement as (λ _. List Item) [ None ↦ [] | Some s ↦ item_of k known s ∷ [] ]
-
 answered : (k : ℕ) (out : List ℕ) (r : Result (List ℕ) FaultKind)
-    → (at_line k (appended out r) >>= λ t. Ok t) ≡ unless
+    → at_line k (appended out r) ≡ unless
     (option_map (λ kind. record { line = suc k; kind = kind }) (fault_in r)) (Ok (out ++ listed r))
 answered k out (Ok bs) = refl
 answered k out (Err kind) = refl
 
-emitted : (ds : Definitions) (k : ℕ) (known : Known) (out : List ℕ) (statement : Option Statement)
-    → run (item_step ds) out (item_if k known statement)
-    ≡ unless (option_map (λ kind. record { line = suc k; kind = kind })
-    (fault_in (bytes_if ds k known statement))) (Ok (out ++ listed (bytes_if ds k known statement)))
+nothing_added : (r : Result (List ℕ) AsmFault) (k : ℕ) → r ≡ (r >>= λ out. at_line k (appended out (Ok [])))
+nothing_added (Ok out) k = ap (λ x. Ok x) (sym (append-nil out))
+nothing_added (Err fault) k = refl
+
+-- a line without a statement
+pub adds_none : (k : ℕ) (known : Known) (items : List Item) → AddsOptional k known None items items
+adds_none k known items ds = nothing_added (image_of ds items) k
+
+pushed : (r : Result (List ℕ) AsmFault) (ds : Definitions) (item : Item) (bs : Result (List ℕ) FaultKind)
+    (k : ℕ) →
+    item.line ≡ k → item_bytes ds item ≡ bs
+    → (r >>= λ out. run (item_step ds) out (item ∷ [])) ≡ (r >>= λ out. at_line k (appended out bs))
 unfolding run item_step
-emitted ds k known out None = ap (λ xs. Ok xs) (sym (append-nil out))
-emitted ds k known out (Some s) = answered k out (item_bytes ds (item_of k known s))
+pushed (Err fault) ds item bs k at is = refl
+pushed (Ok out) ds item bs k at is = rw (is, at) (done (at_line k (appended out bs)))
+  where
+    done : (m : Result (List ℕ) AsmFault) → (m >>= λ t. Ok t) ≡ m
+    done (Ok x) = refl
+    done (Err e) = refl
 
-module _ (lines : List Said) where
-  emitted_by : (n : ℕ) (fault : Option AsmFault) → first_fault (phase_three_fault lines) n ≡ fault
-      → run (item_step (definitions lines)) [] (joined (item_at lines) n)
-      ≡ unless fault (Ok (joined (listed_at lines) n))
-      → run (item_step (definitions lines)) [] (joined (item_at lines) (suc n))
-      ≡ unless (first_fault (phase_three_fault lines) (suc n)) (Ok (joined (listed_at lines) (suc n)))
-  unfolding first joined
-  emitted_by n (Some fault) e h = rw (
-    run_append (item_step (definitions lines)) [] (joined (item_at lines) n)
-        (item_at lines n),
-    h,
-    e,
-  ) refl
-  emitted_by n None e h =
-      rw (run_append (item_step (definitions lines)) [] (joined (item_at lines) n) (item_at lines n), h, e)
-      (emitted (definitions lines) n (known_at lines n) (joined (listed_at lines) n)
-      (line_at lines n).statement)
+-- a statement
+pub adds_pushed : (k : ℕ) (known : Known) (statement : Statement) (items : List Item) (item : Item) →
+    item.line ≡ k
+    → ((ds : Definitions) → item_bytes ds item
+    ≡ statement_bytes (values_of k known) (operand_value ds k known.address) known.address statement)
+    → Adds k known statement items (items ++ item ∷ [])
+adds_pushed k known statement items item at is ds =
+    run_append (item_step ds) [] items (item ∷ []) ∙ pushed (image_of ds items) ds item _ k at (is ds)
 
-  pub emission : (n : ℕ) → run (item_step (definitions lines)) [] (joined (item_at lines) n)
-      ≡ unless (first_fault (phase_three_fault lines) n) (Ok (joined (listed_at lines) n))
-  unfolding run first joined
-  emission zero = refl
-  emission (suc n) = emitted_by n (first_fault (phase_three_fault lines) n) refl (emission n)
+module _ (ds : Definitions) (lines : List Said) (n : ℕ) where
+  written_by : (fault : Option AsmFault) → first_fault (λ k. fault_in (bytes_by ds lines k)) n ≡ fault
+      → (written ds lines n >>= λ out. at_line n (appended out (bytes_by ds lines n))) ≡ written ds lines
+      (suc n)
+  unfolding written first joined
+  written_by (Some fault) e = rw e refl
+  written_by None e =
+      rw e (answered n (joined (λ k. listed (bytes_by ds lines k)) n) (bytes_by ds lines n))
 
--- ---- the lines of the items
+  written_more : (written ds lines n >>= λ out. at_line n (appended out (bytes_by ds lines n)))
+      ≡ written ds lines (suc n)
+  written_more = written_by (first_fault (λ k. fault_in (bytes_by ds lines k)) n) refl
 
-below_suc : (n : ℕ) (items : List Item) → All (λ i. i.line < n) items → All (λ i. i.line < suc n) items
-below_suc n items h i d within = let below = h i d within in omega (arith, below)
+pub writes_none : (lines : List Said) → Writes lines 0 []
+unfolding written first joined run
+writes_none lines ds = refl
 
-below_line : (n : ℕ) (known : Known) (statement : Option Statement) →
-    All (λ i. i.line < suc n) (item_if n known statement)
-below_line n known None = All-nil (λ (i : Item). i.line < suc n)
-below_line n known (Some s) = All-push (λ (i : Item). i.line < suc n) [] (item_of n known s)
-    (All-nil (λ (i : Item). i.line < suc n)) (omega arith)
+pub writes_more : (lines : List Said) (n : ℕ) (old new : List Item) → Writes lines n old →
+    AddsLine n (known_before lines n) (line_at lines n) old new → Writes lines (suc n) new
+writes_more lines n old new writes adds ds =
+    adds ds ∙ (ap (λ r. r >>= λ out. at_line n (appended out (bytes_by ds lines n))) (writes ds)
+    ∙ written_more ds lines n)
 
-pub items_below : (lines : List Said) (n : ℕ) → All (λ i. i.line < n) (joined (item_at lines) n)
-unfolding joined
-items_below lines zero = All-nil (λ (i : Item). i.line < 0)
-items_below lines (suc n) =
-    All-append (λ (i : Item). i.line < suc n) (joined (item_at lines) n) (item_at lines n)
-    (below_suc n (joined (item_at lines) n) (items_below lines n))
-    (below_line n (known_at lines n) (line_at lines n).statement)
+-- ---- statements without a fault in phase two
+
+record IsFree (unknown past : Bool) : Type 0 where
+  known : unknown ≡ false
+  within : past ≡ false
+
+free_by : (renamed unknown misplaced past : Bool) → cond renamed (Some DuplicateSymbol)
+    (cond unknown (Some NotConstant) (cond misplaced (Some Misplaced) (cond past (Some TooLarge) None))) ≡
+    None →
+    IsFree unknown past
+free_by true unknown misplaced past h = absurd cc
+free_by false true misplaced past h = absurd cc
+free_by false false true past h = absurd cc
+free_by false false false true h = absurd cc
+free_by false false false false h = record { known = refl; within = refl }
+
+-- the value that must be known on the line of a statement
+abbrev constant_by : Valuation → Option (Operand × (ℤ → Bool)) → ℤ
+constant_by early o = elim o as (λ _. ℤ) [ None ↦ pos 0 | Some a ↦ unwrap_or (early a.0) (pos 0) ]
+
+unfailing : (b : Bool) → not b ≡ false → b ≡ true
+unfailing true h = refl
+unfailing false h = cc
+
+passes : (test : ℤ → Bool) (o : Option ℤ) → fails test o ≡ false →
+    (o ≡ Some (unwrap_or o (pos 0))) × (test (unwrap_or o (pos 0)) ≡ true)
+passes test None h = absurd cc
+passes test (Some v) h = (refl, unfailing (test v) h)
+
+known_by : (early : Valuation) (o : Option (Operand × (ℤ → Bool)))
+    → elim o as (λ _. Bool) [ None ↦ false | Some a ↦ fails a.1 (early a.0) ] ≡ false
+    → elim o as (λ _. Type 0) [
+      | None ↦ constant_by early o ≡ pos 0
+      | Some a ↦ (early a.0 ≡ Some (constant_by early o)) × (a.1 (constant_by early o) ≡ true)
+    ]
+known_by early None h = refl
+known_by early (Some a) h = passes a.1 (early a.0) h
+
+below : (m n : ℕ) → nat_lt m n ≡ false → n ≤ m
+below m n h = grind (arith, nat_tests)
+
+module _ (known : List (List ℕ × ℤ)) (early : Valuation) (here : ℕ) (statement : Statement)
+    (none : statement_fault known early here statement ≡ None) where
+  is_free : IsFree (is_unknown early statement)
+      (nat_lt (ram_base + image_limit) (here + size_of early here statement))
+  is_free = free_by (renames known statement) (is_unknown early statement)
+      (is_instruction statement && not (here % 4 == 0))
+      (nat_lt (ram_base + image_limit) (here + size_of early here statement)) none
+
+  is_known : IsKnown early (constant_by early (asked statement)) statement
+  unfolding IsKnown
+  is_known = known_by early (asked statement) is_free.known
+
+  is_within : here + size_of early here statement ≤ ram_base + image_limit
+  is_within = below _ _ is_free.within
 
 -- ---- the size of the image
-
-address_labels : (k : ℕ) (known : Known) (ls : List Label) → (with_labels k known ls).address ≡ known.address
-address_labels k known [] = refl
-address_labels k known (label.Name name ∷ ls) = address_labels k (labelled k known (label.Name name)) ls
-address_labels k known (label.Local number ∷ ls) = address_labels k (labelled k known (label.Local number)) ls
-
--- a constant that is known passes its test
-taken_by : (takes : ℤ → Bool) (v c : ℤ) (b : Bool) → takes v ≡ b → cond b (Some v) None ≡ Some c →
-    takes c ≡ true
-taken_by takes v c true e h = let same : v ≡ c = cc in rw (← same) e
-taken_by takes v c false e h = absurd cc
-
-taken_value : (takes : ℤ → Bool) (o : Option ℤ) (c : ℤ) → option_and_then (taken takes) o ≡ Some c →
-    takes c ≡ true
-taken_value takes None c h = absurd cc
-taken_value takes (Some v) c h = taken_by takes v c (takes v) refl h
-
-taken_asked : (ds : Definitions) (k here : ℕ) (o : Option (List Term × (ℤ → Bool))) (c : ℤ)
-    → elim o as (λ _. Option ℤ) [
-      | None ↦ Some (pos 0)
-      | Some a ↦
-          option_and_then (taken a.1) (sum_value ds k here a.0)
-    ] ≡ Some c
-    → elim o as (λ _. Type 0) [ None ↦ c ≡ pos 0 | Some a ↦ a.1 c ≡ true ]
-taken_asked ds k here None c h = cc
-taken_asked ds k here (Some a) c h = taken_value a.1 (sum_value ds k here a.0) c h
-
-is_taken : (k : ℕ) (known : Known) (s : Statement) → statement_fault k known s ≡ None →
-    IsTaken (item_of k known s).constant s
-unfolding IsTaken
-is_taken k known s free = taken_asked known.definitions k known.address (asked s) (item_of k known s).constant
-    (free_placed k known s free).known_value
 
 sized_answer : (r : Result (List ℕ) FaultKind) (n : ℕ) → ((bs : List ℕ) → r ≡ Ok bs → length bs ≡ n) →
     fault_in r ≡ None → length (listed r) ≡ n
 sized_answer (Ok bs) n h e = h bs refl
 sized_answer (Err kind) n h e = absurd cc
 
-size_line : (ds : Definitions) (k : ℕ) (known : Known) (statement : Option Statement) →
-    option_and_then (statement_fault k known) statement ≡ None →
-    fault_in (bytes_if ds k known statement) ≡ None
-    → known.address + length (listed (bytes_if ds k known statement))
-    ≡ (with_statement k known statement).address
-size_line ds k known None free e = omega arith
-size_line ds k known (Some s) free e =
-    let item = item_of k known s in
-    ap (λ n. known.address + n) (sized_answer (item_bytes ds item) (size_of known.address item.constant s)
-    (λ bs is. item_size (sum_value ds k known.address) item bs (is_taken k known s free) is) e)
+module _ (names : List (List ℕ × ℤ)) (ds : Definitions) (k : ℕ) (known : Known) where
+  size_line : (statement : Option Statement)
+      → option_and_then (statement_fault names (values_of k known) known.address) statement ≡ None
+      → fault_in (stated_bytes ds k known statement) ≡ None
+      → length (listed (stated_bytes ds k known statement)) ≡ size_at (values_of k known) known.address
+      statement
+  size_line None free e = refl
+  size_line (Some s) free e =
+      sized_answer (stated_bytes ds k known (Some s)) (size_of (values_of k known) known.address s)
+      (λ bs is. statement_size (values_of k known) _ (operand_value ds k known.address) known.address s bs
+      (is_known names (values_of k known) known.address s free) is) e
 
-within_line : (k : ℕ) (known : Known) (statement : Option Statement) →
-    option_and_then (statement_fault k known) statement ≡ None → known.address ≤ ram_base + image_limit
-    → (with_statement k known statement).address ≤ ram_base + image_limit
-unfolding size_in
-within_line k known None free h = h
-within_line k known (Some s) free h = (free_placed k known s free).within
+  within_line : (statement : Option Statement)
+      → option_and_then (statement_fault names (values_of k known) known.address) statement ≡ None
+      → known.address ≤ ram_base + image_limit
+      → known.address + size_at (values_of k known) known.address statement ≤ ram_base + image_limit
+  within_line None free h = omega (arith, h)
+  within_line (Some s) free h = is_within names (values_of k known) known.address s free
 
-unlabelled : (b : Bool) (o : Option FaultKind) → cond b (Some DuplicateSymbol) o ≡ None → o ≡ None
-unlabelled true o h = absurd cc
-unlabelled false o h = h
+without_labels : (b : Bool) (o : Option FaultKind) → cond b (Some DuplicateSymbol) o ≡ None → o ≡ None
+without_labels true o h = absurd cc
+without_labels false o h = h
 
-statement_free : (lines : List Said) (n : ℕ) → phase_two_fault lines n ≡ None →
-    option_and_then (statement_fault n (known_at lines n)) (line_at lines n).statement ≡ None
-unfolding phase_two_fault
-statement_free lines n h =
-    unlabelled (relabels (known_before lines n).definitions.names (line_at lines n).labels) _ h
+module _ (lines : List Said) where
+  abbrev here : ℕ → Known
+  here n = labelled n (known_before lines n) (line_at lines n).labels
 
-pub within_limit : (lines : List Said) (n : ℕ) → first_fault (phase_two_fault lines) n ≡ None →
-    (known_before lines n).address ≤ ram_base + image_limit
-unfolding known_before
-within_limit lines zero h = omega arith
-within_limit lines (suc n) h =
-    let line = line_at lines n in
-    let before = within_limit lines n (none_before (phase_two_fault lines) n h) in
-    let same = address_labels n (known_before lines n) line.labels in
-    within_line n (known_at lines n) line.statement
-    (statement_free lines n (none_last (phase_two_fault lines) n h)) (rw same before)
+  statement_free : (n : ℕ) → phase_two_fault lines n ≡ None
+      → option_and_then (statement_fault (here n).definitions.names (values_of n (here n)) (address lines n))
+      (line_at lines n).statement ≡ None
+  unfolding phase_two_fault
+  statement_free n h = without_labels (relabels (names lines n) (line_at lines n).labels) _ h
 
--- the bytes of n lines without a fault reach from the base to the address following these lines
-pub size_listed : (lines : List Said) (n : ℕ) → first_fault (phase_two_fault lines) n ≡ None →
-    first_fault (phase_three_fault lines) n ≡ None
-    → ram_base + length (joined (listed_at lines) n) ≡ (known_before lines n).address
-unfolding joined known_before
-size_listed lines zero h e = refl
-size_listed lines (suc n) h e =
-    let before = size_listed lines n (none_before (phase_two_fault lines) n h)
-    (none_before (phase_three_fault lines) n e) in
-    let same = address_labels n (known_before lines n) (line_at lines n).labels in
-    let last = size_line (definitions lines) n (known_at lines n) (line_at lines n).statement
-    (statement_free lines n (none_last (phase_two_fault lines) n h))
-    (none_last (phase_three_fault lines) n e) in
-    omega (arith, length-append (joined (listed_at lines) n) (listed_at lines n), before, same, last)
+  pub within_limit : (n : ℕ) → first_fault (phase_two_fault lines) n ≡ None →
+      address lines n ≤ ram_base + image_limit
+  unfolding address
+  within_limit zero h = omega arith
+  within_limit (suc n) h =
+      within_line (here n).definitions.names (here n).definitions n (here n) (line_at lines n).statement
+      (statement_free n (none_last (phase_two_fault lines) n h))
+      (within_limit n (none_before (phase_two_fault lines) n h))
+
+  -- the bytes of n lines without a fault reach from the base to the address following these lines
+  pub size_listed : (ds : Definitions) (n : ℕ) → first_fault (phase_two_fault lines) n ≡ None →
+      first_fault (λ k. fault_in (bytes_by ds lines k)) n ≡ None
+      → ram_base + length (joined (λ k. listed (bytes_by ds lines k)) n) ≡ address lines n
+  unfolding joined address
+  size_listed ds zero h e = refl
+  size_listed ds (suc n) h e =
+      let three = λ (k : ℕ). fault_in (bytes_by ds lines k) in
+      let before = size_listed ds n (none_before (phase_two_fault lines) n h) (none_before three n e) in
+      let last = size_line (here n).definitions.names ds n (here n) (line_at lines n).statement
+      (statement_free n (none_last (phase_two_fault lines) n h)) (none_last three n e) in
+      omega (
+        arith,
+        length-append (joined (λ k. listed (bytes_by ds lines k)) n) (listed (bytes_by ds lines n)),
+        before,
+        last,
+      )

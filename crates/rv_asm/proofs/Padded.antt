@@ -83,10 +83,11 @@ padded here m h = padded_by here m (nat_lt 0 m) (m == 1) (m == 2) (m % 4 == 0) r
 
 -- ---- alignments are 1, 2 or a multiple of 4
 
-pub power_is_regular : (c : ℤ) → is_between (pos 0) (pos 12) c ≡ true → is_regular (2 ^ modulo c 32) ≡ true
+pub power_is_regular : (c : ℤ) → is_between (pos 0) (pos 12) c ≡ true → is_regular (2 ^ modulo c (2 ^ 32))
+    ≡ true
 power_is_regular (pos n) h =
     let below : n < 13 = grind (arith, ints, nat_tests) in
-    agree_below_at (λ n. is_regular (2 ^ (n % 32))) (λ n. true) 13 n refl below
+    agree_below_at (λ n. is_regular (2 ^ (n % 2 ^ 32))) (λ n. true) 13 n refl below
 power_is_regular (negsuc n) h = cc
 
 abbrev divides : ℕ → Bool

@@ -3,21 +3,24 @@ use Rattle.std.proofs.Common.{◌≡◌, ℕ, zero, suc, ◌+◌, ◌-◌, ◌<�
 use Rattle.std.specs.Prelude.{Option, None, Some, Result, Ok, Err, IfOk, ◌⊎◌}
 use Rattle.std.specs.List.{All}
 use Rattle.std.proofs.lemmas.List.{get_or-map}
-use Rattle.rv_source.specs.Said.{Said}
-use Rattle.rv_source.specs.Reading.{said}
-use Rattle.rv_tokens.specs.Faults.{Fails as LineFails}
+use Rattle.rv_source.specs.Reading.{Said, said, written, statement_of}
+use Rattle.rv_source.specs.Written.{Written}
+use Rattle.rv_source.specs.declared.line.Label.{Label}
+use Rattle.rv_source.specs.declared.statement.Statement.{Statement}
+use Rattle.rv_tokens.specs.Faults.{Fails as LineFails, ◌>>=◌}
 use Rattle.rv_tokens.specs.declared.fault.LineFault.{LineFault}
 use Rattle.rv_tokens.specs.declared.fault.LineFault.TheVariants as line
 use Rattle.rv_program.specs.declared.fault.FaultKind.{FaultKind}
 use Rattle.rv_program.specs.declared.fault.FaultKind.TheVariants.{OutOfMemory}
 use Rattle.rv_program.specs.declared.fault.AsmFault.{AsmFault}
 use Rattle.rv_program.specs.Faults.{Fails, Gives, IsFaultAt, kind_of}
-use Rattle.rv_asm.specs.Layout.{start, first, joined, line_at, blank, known_before}
-use Rattle.rv_asm.specs.Assembly.{first_fault, phase_one_fault, all_said}
-use Rattle.rv_asm.specs.Steps.{State, laid, unless, state_at, laid_out, lines_laid_out, extended}
+use Rattle.rv_asm.specs.Layout.{line_at, blank, address}
+use Rattle.rv_asm.specs.Assembly.{first, first_fault, phase_one_fault, all_said}
+use Rattle.rv_asm.specs.Steps.{Known, Item, start, unless, known_before, laid_out, lines_laid_out, extended, AddsLine, Writes}
+use Rattle.rv_asm.specs.Taken.{so_far, Without, IsUnread}
 use Rattle.rv_asm.proofs.Labels.{IsUpTo}
 use Rattle.rv_asm.proofs.Laying.{extended_line, up_to_before}
-use Rattle.rv_asm.proofs.Listed.{items_below}
+use Rattle.rv_asm.proofs.Listed.{writes_more}
 use Rattle.rv_asm.proofs.Runs.{fails_at}
 
 -- the first n lines are read, and the others are left
@@ -30,37 +33,44 @@ pub begun : (texts : List (List ℕ)) → SoFar texts texts 0
 unfolding first
 begun texts = record { left = refl; none = refl; within = omega arith }
 
-pub laid_out-zero : (ls : List Said) → laid_out ls 0 ≡ Ok (laid start [])
-unfolding laid_out first joined known_before
+pub laid_out-zero : (ls : List Said) → laid_out ls 0 ≡ Ok start
+unfolding laid_out first address
 laid_out-zero ls = refl
 
 -- ---- no local label that is laid out is on a later line
 
-up_to_by : (ls : List Said) (n : ℕ) (fault : Option AsmFault) (s : State) →
-    unless fault (Ok (state_at ls n)) ≡ Ok s → IsUpTo n s.known
+up_to_by : (ls : List Said) (n : ℕ) (fault : Option AsmFault) (s : Known) →
+    unless fault (Ok (known_before ls n)) ≡ Ok s → IsUpTo n s
 up_to_by ls n (Some fault) s e = absurd cc
-up_to_by ls n None s e = let same : state_at ls n ≡ s = cc in rw (← same) (up_to_before ls n)
+up_to_by ls n None s e = let same : known_before ls n ≡ s = cc in rw (← same) (up_to_before ls n)
 
-pub up_to_laid_out : (ls : List Said) (n : ℕ) (layout : Result State AsmFault) →
-    Gives (λ s. s) layout (laid_out ls n) → IfOk layout (λ s. IsUpTo n s.known)
+pub up_to_laid_out : (ls : List Said) (n : ℕ) (layout : Result Known AsmFault) →
+    Gives (λ s. s) layout (laid_out ls n) → IfOk layout (IsUpTo n)
 unfolding laid_out
 up_to_laid_out ls n (Err fault) h = tt
 up_to_laid_out ls n (Ok s) h = up_to_by ls n (first_fault _ n) s h
 
--- ---- nor is an item
+-- ---- what the items write
 
-below_by : (ls : List Said) (n m : ℕ) (fault : Option AsmFault) (s : State) → n ≤ m →
-    unless fault (Ok (state_at ls n)) ≡ Ok s → All (λ i. i.line < m) s.items
-below_by ls n m (Some fault) s le e = absurd cc
-below_by ls n m None s le e =
-    let same : state_at ls n ≡ s = cc in
-    rw (← same) (λ i d within. let below = items_below ls n i d within in omega (arith, below))
+known_by : (ls : List Said) (n : ℕ) (fault : Option AsmFault) (s : Known) →
+    unless fault (Ok (known_before ls n)) ≡ Ok s → s ≡ known_before ls n
+known_by ls n (Some fault) s e = absurd cc
+known_by ls n None s e = cc
 
-pub below_laid_out : (ls : List Said) (n m : ℕ) (layout : Result State AsmFault) → n ≤ m →
-    Gives (λ s. s) layout (laid_out ls n) → IfOk layout (λ s. All (λ i. i.line < m) s.items)
+known_is : (ls : List Said) (n : ℕ) (s : Known) → laid_out ls n ≡ Ok s → s ≡ known_before ls n
 unfolding laid_out
-below_laid_out ls n m (Err fault) le h = tt
-below_laid_out ls n m (Ok s) le h = below_by ls n m (first_fault _ n) s le h
+known_is ls n s e = known_by ls n (first_fault _ n) s e
+
+pub writes_line : (ls : List Said) (n : ℕ) (old new : Option AsmFault) (known : Known)
+    (items after : List Item)
+    (line : Said) → line_at ls n ≡ line → Gives (λ s. s) (so_far old known) (laid_out ls n)
+    → Without old (Writes ls n items) → Without new ((old ≡ None) × AddsLine n known line items after)
+    → Without new (Writes ls (n + 1) after)
+writes_line ls n old (Some fault) known items after line at layout writes adds = tt
+writes_line ls n (Some fault) None known items after line at layout writes adds = absurd cc
+writes_line ls n None None known items after line at layout writes adds =
+    let same = known_is ls n known layout in
+    rw add-one (writes_more ls n items after writes (rw (same, ← at) at adds.1))
 
 -- ---- the first fault of some lines is also the first of more lines
 
@@ -125,7 +135,7 @@ module _ (texts rest : List (List ℕ)) (n : ℕ) (so : SoFar texts rest n) wher
             omega (arith, next.below);
       })
 
-      read_line_at : line_at (all_said texts) n ≡ line
+      pub read_line_at : line_at (all_said texts) n ≡ line
       read_line_at =
           get_or-map (λ t. elim (said t) as (λ _. Said) [ Ok l ↦ l | Err fault ↦ blank ]) texts n [] blank
           next.below
@@ -162,9 +172,58 @@ module _ (texts rest : List (List ℕ)) (n : ℕ) (so : SoFar texts rest n) wher
           IsFaultAt (n + 1) (kind_of fault) at → answer ≡ at → Fails answer (lines_laid_out texts)
       unread at answer h e is = rw is (unread_by at (unread_kind fault (said text) h) e)
 
-  pub read_all : rest ≡ [] → lines_laid_out texts ≡ laid_out (all_said texts) n
+  pub read_all : rest ≡ [] → (lines_laid_out texts ≡ laid_out (all_said texts) n) × (length texts ≡ n)
   unfolding lines_laid_out
   read_all h =
       let none : length rest ≡ 0 = rw h refl in
       let same : length texts ≡ n = omega (arith, length-drop n texts, ap length so.left, none, so.within) in
-      rw (same, so.none) refl
+      (rw (same, so.none) refl, same)
+
+-- ---- a line that can't be read
+
+unread_bind : (fault : LineFault) (r : Result Written LineFault) (f : Written → Result Said LineFault) →
+    LineFails fault r → LineFails fault (r >>= f)
+unread_bind line.OutOfMemory r f h = h
+unread_bind line.BadByte r f h = rw h refl
+unread_bind line.LineTooLong r f h = rw h refl
+unread_bind line.Syntax r f h = rw h refl
+unread_bind line.UnknownWord r f h = rw h refl
+unread_bind line.BadOperands r f h = rw h refl
+
+pub unread_line : (k : ℕ) (text : List ℕ) (fault : LineFault) (at : AsmFault) → LineFails fault
+    (written text) →
+    IsFaultAt (k + 1) (kind_of fault) at → IsUnread k text at
+unfolding said
+unread_line k text fault at h e = record
+    { kind = fault; fails = unread_bind fault (written text) _ h; at = e }
+
+pub said_of : (text : List ℕ) (read : Written) → written text ≡ Ok read
+    → said text ≡ (statement_of read.body >>= λ s. Ok (record { labels = read.labels; statement = s }))
+unfolding said
+said_of text read w = rw w refl
+
+abbrev pub with_labels : List Label → Result (Option Statement) LineFault → Result Said LineFault
+with_labels labels m = m >>= λ s. Ok (record { labels = labels; statement = s })
+
+fails_by : (fault : LineFault) (r : Result Said LineFault) → r ≡ Err fault → LineFails fault r
+fails_by line.OutOfMemory r h = tt
+fails_by line.BadByte r h = h
+fails_by line.LineTooLong r h = h
+fails_by line.Syntax r h = h
+fails_by line.UnknownWord r h = h
+fails_by line.BadOperands r h = h
+
+pub unread_statement : (k : ℕ) (text : List ℕ) (read : Written) (fault : LineFault) (at : AsmFault) →
+    written text ≡ Ok read → Err fault ≡ statement_of read.body → IsFaultAt (k + 1) (kind_of fault) at →
+    IsUnread k text at
+unread_statement k text read fault at w h e = record {
+  kind = fault;
+  fails = fails_by fault (said text) (said_of text read w ∙ ap (with_labels read.labels) (sym h));
+  at = e;
+}
+
+pub read_statement : (text : List ℕ) (read : Written) (statement : Option Statement) → written text ≡ Ok
+    read →
+    Ok statement ≡ statement_of read.body
+    → said text ≡ Ok (record { labels = read.labels; statement = statement })
+read_statement text read statement w h = said_of text read w ∙ ap (with_labels read.labels) (sym h)

@@ -1,36 +1,30 @@
 -- The bytes of a statement are as many as its size says.
 use Rattle.std.proofs.Common.{◌≡◌, ◌∙◌, ℕ, suc, ◌*◌, ◌^◌, Bool, true, false, List, [], ◌∷◌, ◌++◌, length, replicate, ℤ, ap, sym, refl, cond, arith, length-append}
-use Rattle.std.specs.Prelude.{Option, Some, None, Result, Ok, Err}
+use Rattle.std.specs.Prelude.{Option, Some, None, option_and_then, Result, Ok, Err}
+use Rattle.std.specs.Option.{option_map}
 use Rattle.std.proofs.lemmas.List.{length-replicate}
 use Rattle.rv_isa.specs.Number.{modulo}
 use Rattle.rv_isa.specs.Width.{bytes_of}
 use Rattle.rv_isa.specs.declared.kind.Kind.{Kind}
+use Rattle.rv_isa.specs.declared.kind.Kind.TheVariants.{Auipc}
 use Rattle.rv_isa.specs.declared.op.Width.{Width}
 use Rattle.rv_isa.specs.declared.op.Width.TheVariants.{One, Two, Four}
-use Rattle.rv_source.specs.declared.expression.Term.{Term}
-use Rattle.rv_source.specs.declared.statement.ValueTaker.TheVariants as takes
+use Rattle.rv_source.specs.declared.operand.Operand.{Operand}
+use Rattle.rv_source.specs.declared.operand.Part.{Part}
+use Rattle.rv_source.specs.Operands.{part_of}
 use Rattle.rv_source.specs.declared.statement.Statement.{Statement}
 use Rattle.rv_source.specs.declared.statement.Statement.TheVariants as s
 use Rattle.rv_program.specs.declared.fault.FaultKind.{FaultKind}
-use Rattle.rv_asm.specs.Values.{fits, far, loading}
-use Rattle.rv_asm.specs.Listing.{Valuation, ◌>>=◌, wanted, one, bytes, immediate_of, upper_of, values_of, data_bytes, value_bytes, sums_bytes, fill_of, instructions, statement_bytes}
-use Rattle.rv_asm.specs.Layout.{size_of}
-use Rattle.rv_asm.specs.Steps.{Item, IsTaken}
+use Rattle.rv_asm.specs.Values.{fits, part_value, far, hi, lo, loading}
+use Rattle.rv_asm.specs.Listing.{Valuation, ◌>>=◌, wanted, near, pair, filled as fill, bytes, values_of, data_bytes, value_bytes, sums_bytes, fill_of, statement_bytes}
+use Rattle.rv_asm.specs.Layout.{size_of, constant_in}
+use Rattle.rv_asm.specs.Constants.{IsTaken, IsKnown, always}
 use Rattle.rv_asm.proofs.Padded.{length_bytes, padded, power_is_regular, multiple_is_regular}
 
 -- the length of a result, or n if it is a fault
 abbrev pub count_or : {A : Type 0} → ℕ → Result (List A) FaultKind → ℕ
 count_or n (Ok xs) = length xs
 count_or n (Err kind) = n
-
-one_counted : {A : Type 0} (kind : A → Kind) (m : Result A FaultKind) → count_or 1 (one kind m) ≡ 1
-one_counted kind (Ok x) = refl
-one_counted kind (Err fault) = refl
-
-two_counted : {A : Type 0} (kinds : A → Kind × Kind) (m : Result A FaultKind) →
-    count_or 2 (m >>= λ x. Ok ((kinds x).0 ∷ (kinds x).1 ∷ [])) ≡ 2
-two_counted kinds (Ok x) = refl
-two_counted kinds (Err fault) = refl
 
 words_counted : (n : ℕ) (m : Result (List Kind) FaultKind) → count_or n m ≡ n →
     count_or (4 * n) (m >>= λ kinds. Ok (bytes kinds)) ≡ 4 * n
@@ -65,14 +59,14 @@ module _ (width : Width) where
   more_data n v (Err fault) h = refl
 
   module _ (value : Valuation) where
-    data_by : (e : List Term) (es : List (List Term)) (o : Option ℤ) → value e ≡ o →
+    data_by : (e : Operand) (es : List Operand) (o : Option ℤ) → value e ≡ o →
         count_or (bytes_of width * length es) (sums_bytes value width es) ≡ bytes_of width * length es
         → count_or (bytes_of width * suc (length es)) (sums_bytes value width (e ∷ es))
         ≡ bytes_of width * suc (length es)
     data_by e es None known h = rw (known, values_of) refl
     data_by e es (Some v) known h = rw (known, values_of) (more_data (length es) v (values_of value es) h)
 
-    data_counted : (es : List (List Term)) → count_or (bytes_of width * length es) (sums_bytes value width es)
+    data_counted : (es : List Operand) → count_or (bytes_of width * length es) (sums_bytes value width es)
         ≡ bytes_of width * length es
     data_counted [] = omega arith
     data_counted (e ∷ es) = data_by e es (value e) refl (data_counted es)
@@ -81,42 +75,121 @@ filled : (n : ℕ) (m : Result ℕ FaultKind) → count_or n (m >>= λ b. Ok (re
 filled n (Ok b) = length-replicate n b
 filled n (Err fault) = refl
 
-sized : (value : Valuation) (here : ℕ) (c : ℤ) (statement : Statement) → IsTaken c statement
-    → count_or (size_of here c statement) (statement_bytes value here c statement) ≡ size_of here c statement
-unfolding statement_bytes instructions IsTaken
-sized value here c (s.Instruction k) t = refl
-sized value here c (s.Lui rd imm) t = words_counted 1 _ (one_counted _ (upper_of value imm))
-sized value here c (s.WithImmediate taker imm) t = words_counted 1 _ (one_counted _ (immediate_of value imm))
-sized value here c (s.WithValue (takes.Auipc rd) v) t = words_counted 1 _ (one_counted _ (wanted _ (value v)))
-sized value here c (s.WithValue (takes.Jal rd) v) t = words_counted 1 _ (one_counted _ (wanted _ (value v)))
-sized value here c (s.WithValue (takes.Branch cond rs1 rs2) v) t =
-    words_counted 1 _ (one_counted _ (wanted _ (value v)))
-sized value here c (s.WithValue (takes.Shift op rd rs1) v) t =
-    words_counted 1 _ (one_counted _ (wanted _ (value v)))
-sized value here c (s.WithValue (takes.CsrImm op rd csr) v) t =
-    words_counted 1 _ (one_counted _ (wanted _ (value v)))
-sized value here c (s.WithValue (takes.Li rd) v) t = length_bytes (loading rd (modulo c (2 ^ 32)))
-sized value here c (s.WithValue (takes.La rd) v) t =
-    words_counted 2 _ (two_counted _ (wanted (far here) (value v)))
-sized value here c (s.WithValue (takes.Call link scratch) v) t =
-    words_counted 2 _ (two_counted _ (wanted (far here) (value v)))
-sized value here c (s.WithValue (takes.LoadFrom op rd) v) t =
-    words_counted 2 _ (two_counted _ (wanted (far here) (value v)))
-sized value here c (s.WithValue (takes.StoreTo width source scratch) v) t =
-    words_counted 2 _ (two_counted _ (wanted (far here) (value v)))
-sized value here c (s.WithValue takes.Align power) t = padded here (2 ^ modulo c 32) (power_is_regular c t)
-sized value here c (s.WithValue takes.Balign multiple) t =
-    padded here (modulo c (2 ^ 32)) (multiple_is_regular c t)
-sized value here c (s.Data width values) t = data_counted width value values
-sized value here c (s.Bytes bs) t = refl
-sized value here c (s.Space size fill) t = filled (modulo c (2 ^ 32)) (fill_of value fill)
-sized value here c (s.Constant name v) t = refl
-sized value here c s.Marker t = refl
+near_counted : (o : Option Kind) (fault : FaultKind) → count_or 1
+    (elim (option_map (λ k. k ∷ []) o) as (λ _. Result (List Kind) FaultKind)
+    [ None ↦ Err fault | Some ks ↦ Ok ks ])
+    ≡ 1
+near_counted None fault = refl
+near_counted (Some k) fault = refl
 
--- the bytes of an item fill its place
-pub item_size : (value : Valuation) (item : Item) (bs : List ℕ) → IsTaken item.constant item.statement
-    → statement_bytes value item.address item.constant item.statement ≡ Ok bs
-    → length bs ≡ size_of item.address item.constant item.statement
-item_size value item bs taken h =
-    sym (ap (count_or (size_of item.address item.constant item.statement)) h)
-    ∙ sized value item.address item.constant item.statement taken
+pair_counted : (o : Option ℕ) (first : ℕ → Kind) (second : ℕ → Option Kind) (fault : FaultKind) → count_or 2
+    (elim (option_and_then (λ d. option_map (λ k. first d ∷ k ∷ []) (second d)) o)
+    as (λ _. Result (List Kind) FaultKind) [ None ↦ Err fault | Some ks ↦ Ok ks ]) ≡ 2
+pair_counted None first second fault = refl
+pair_counted (Some d) first second fault = second_counted (second d)
+  where
+    second_counted : (o : Option Kind) → count_or 2 (elim (option_map (λ k. first d ∷ k ∷ []) o)
+        as (λ _. Result (List Kind) FaultKind) [ None ↦ Err fault | Some ks ↦ Ok ks ]) ≡ 2
+    second_counted None = refl
+    second_counted (Some k) = refl
+
+near_wanted : (here : ℕ) (kind : Kind) (part : Part) (o : Option ℤ) →
+    count_or 1 (wanted (near here kind part) o) ≡ 1
+near_wanted here kind part None = refl
+near_wanted here kind part (Some v) = near_counted (option_and_then (fill here kind) (part_value part v)) _
+
+pair_wanted : (here scratch : ℕ) (kind : Kind) (o : Option ℤ) → count_or 2
+    (wanted (pair here scratch kind) o) ≡ 2
+pair_wanted here scratch kind None = refl
+pair_wanted here scratch kind (Some v) =
+    pair_counted (far here v) (λ d. Auipc scratch (hi d)) (λ d. fill here kind (lo d)) _
+
+module _ (late : Valuation) (here : ℕ) (c : ℤ) where
+  sized : (statement : Statement) → IsTaken c statement
+      → count_or (size_of (always c) here statement) (statement_bytes (always c) late here statement)
+      ≡ size_of (always c) here statement
+  unfolding statement_bytes IsTaken
+  sized (s.Instruction k) t = refl
+  sized (s.WithValue kind e) t = words_counted 1 _ (near_wanted here kind (part_of e) (late e))
+  sized (s.Far scratch kind e) t = words_counted 2 _ (pair_wanted here scratch kind (late e))
+  sized (s.Li rd e) t = length_bytes (loading rd (modulo c (2 ^ 32)))
+  sized (s.Data width values) t = data_counted width late values
+  sized (s.Bytes bs) t = refl
+  sized (s.Space size fill) t = filled (modulo c (2 ^ 32)) (fill_of late fill)
+  sized (s.Align power) t = padded here (2 ^ modulo c (2 ^ 32)) (power_is_regular c t)
+  sized (s.Balign multiple) t = padded here (modulo c (2 ^ 32)) (multiple_is_regular c t)
+  sized (s.Constant name e) t = refl
+  sized s.Marker t = refl
+
+-- ---- the value that must be known is all that a statement takes from the symbols of its line
+
+module _ (early : Valuation) (c : ℤ) where
+  pub taken : (statement : Statement) → IsKnown early c statement → IsTaken c statement
+  unfolding IsKnown IsTaken
+  taken (s.Instruction kind) k = k
+  taken (s.WithValue kind e) k = k
+  taken (s.Far scratch kind e) k = k
+  taken (s.Li rd e) k = k.1
+  taken (s.Data width es) k = k
+  taken (s.Bytes bs) k = k
+  taken (s.Space size fill) k = k.1
+  taken (s.Align power) k = k.1
+  taken (s.Balign multiple) k = k.1
+  taken (s.Constant name e) k = k.1
+  taken s.Marker k = k
+
+  pub same_size : (here : ℕ) (statement : Statement) → IsKnown early c statement →
+      size_of early here statement ≡ size_of (always c) here statement
+  unfolding IsKnown
+  same_size here (s.Instruction kind) k = refl
+  same_size here (s.WithValue kind e) k = refl
+  same_size here (s.Far scratch kind e) k = refl
+  same_size here (s.Li rd e) k = rw k.0 refl
+  same_size here (s.Data width es) k = refl
+  same_size here (s.Bytes bs) k = refl
+  same_size here (s.Space size fill) k = rw k.0 refl
+  same_size here (s.Align power) k = rw k.0 refl
+  same_size here (s.Balign multiple) k = rw k.0 refl
+  same_size here (s.Constant name e) k = refl
+  same_size here s.Marker k = refl
+
+  pub same_constant : (statement : Statement) → IsKnown early c statement →
+      constant_in early statement ≡ constant_in (always c) statement
+  unfolding IsKnown
+  same_constant (s.Instruction kind) k = refl
+  same_constant (s.WithValue kind e) k = refl
+  same_constant (s.Far scratch kind e) k = refl
+  same_constant (s.Li rd e) k = refl
+  same_constant (s.Data width es) k = refl
+  same_constant (s.Bytes bs) k = refl
+  same_constant (s.Space size fill) k = refl
+  same_constant (s.Align power) k = refl
+  same_constant (s.Balign multiple) k = refl
+  same_constant (s.Constant name e) k = rw k.0 refl
+  same_constant s.Marker k = refl
+
+  pub same_bytes : (late : Valuation) (here : ℕ) (statement : Statement) → IsKnown early c statement →
+      statement_bytes early late here statement ≡ statement_bytes (always c) late here statement
+  unfolding IsKnown statement_bytes
+  same_bytes late here (s.Instruction kind) k = refl
+  same_bytes late here (s.WithValue kind e) k = refl
+  same_bytes late here (s.Far scratch kind e) k = refl
+  same_bytes late here (s.Li rd e) k = rw k.0 refl
+  same_bytes late here (s.Data width es) k = refl
+  same_bytes late here (s.Bytes bs) k = refl
+  same_bytes late here (s.Space size fill) k = rw k.0 refl
+  same_bytes late here (s.Align power) k = rw k.0 refl
+  same_bytes late here (s.Balign multiple) k = rw k.0 refl
+  same_bytes late here (s.Constant name e) k = refl
+  same_bytes late here s.Marker k = refl
+
+  -- the bytes of a statement are as many as its size says
+  pub statement_size : (late : Valuation) (here : ℕ) (statement : Statement) (bs : List ℕ) →
+      IsKnown early c statement → statement_bytes early late here statement ≡ Ok bs →
+      length bs ≡ size_of early here statement
+  statement_size late here statement bs k h =
+      let same = same_size here statement k in
+      let is : statement_bytes (always c) late here statement ≡ Ok bs = rw
+      (same_bytes late here statement k) at h in
+      sym (ap (count_or (size_of (always c) here statement)) is)
+      ∙ (sized late here c statement (taken statement k) ∙ sym same)

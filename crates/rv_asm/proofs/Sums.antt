@@ -32,11 +32,11 @@ near_added : (n : ℕ) (sum v : ℤ) (negative : Bool) → IsNear n sum → IsNe
 near_added n sum v true h k = near_less n sum v h k
 near_added n sum v false h k = near_more n sum v h k
 
--- sum is that of the first i terms, and at most i times 2 ^ 32 away from 0
-pub record SumSoFar (ds : Definitions) (line here : ℕ) (terms : List Term) (i : ℕ) (sum : ℤ) : Type 0 where
-  pub value : option_map (λ w. w +ℤ sum) (sum_value ds line here (drop i terms))
-      ≡ sum_value ds line here terms
-  pub near : IsNear (4294967296 * i) sum
+-- sum is that of the first term and of i more, and at most i + 1 times 2 ^ 32 away from 0
+pub record SumSoFar (ds : Definitions) (line here : ℕ) (terms more : List Term) (i : ℕ) (sum : ℤ) : Type 0
+  where
+    pub value : option_map (λ w. w +ℤ sum) (sum_value ds line here (drop i more)) ≡ sum_value ds line here terms
+    pub near : IsNear (4294967296 * (i + 1)) sum
 
 plus_zero : (w : ℤ) → w +ℤ pos 0 ≡ w
 plus_zero w = omega (arith, ints)
@@ -56,49 +56,58 @@ map_added : (o : Option ℤ) (sum v : ℤ) (negative : Bool) →
 map_added None sum v negative = refl
 map_added (Some w) sum v negative = ap (λ x. Some x) (added_before w sum v negative)
 
-module _ (ds : Definitions) (line here : ℕ) (terms : List Term) where
-  pub sum_begun : SumSoFar ds line here terms 0 (pos 0)
-  sum_begun = record {
-    value = map_zero (sum_value ds line here terms);
-    near =
-        record { low = omega (arith, ints); high = omega (arith, ints) };
-  }
+module _ (ds : Definitions) (line here : ℕ) (terms more : List Term) where
+  module _ (first : Term) (is : first ∷ more ≡ terms) where
+    pub sum_begun : (v : ℤ) → atom_value ds line here first.atom ≡ Some v → is_word v ≡ true →
+        SumSoFar ds line here terms more 0 (added (pos 0) first.negative v)
+    unfolding sum_value
+    sum_begun v e word = rw (← is) (record {
+      value = rw e (sym (map_added (sum_value ds line here more) (pos 0) v first.negative)
+          ∙ map_zero (option_map (λ w. added w first.negative v) (sum_value ds line here more)));
+      near = near_added 0 (pos 0) v first.negative
+          (record { low = omega (arith, ints); high = omega (arith, ints) }) (near_word v word);
+    })
 
-  at_term : (i : ℕ) (d : Term) → i < length terms
-      → sum_value ds line here (drop i terms) ≡ option_and_then
-      (λ v. option_map (λ w. added w (get_or terms i d).negative v)
-      (sum_value ds line here (drop (i + 1) terms))) (atom_value ds line here (get_or terms i d).atom)
+    pub first_none : atom_value ds line here first.atom ≡ None → None ≡ sum_value ds line here terms
+    unfolding sum_value
+    first_none e = rw (← is, e) refl
+
+  at_term : (i : ℕ) (d : Term) → i < length more
+      → sum_value ds line here (drop i more) ≡ option_and_then
+      (λ v. option_map (λ w. added w (get_or more i d).negative v)
+      (sum_value ds line here (drop (i + 1) more))) (atom_value ds line here (get_or more i d).atom)
   unfolding sum_value
-  at_term i d h = let e : drop i terms ≡ get_or terms i d ∷ drop (suc i) terms = drop-cons terms i d h
+  at_term i d h = let e : drop i more ≡ get_or more i d ∷ drop (suc i) more = drop-cons more i d h
       in rw (e, add-one) refl
 
-  pub sum_more : (i : ℕ) (d : Term) (sum v : ℤ) → i < length terms → SumSoFar ds line here terms i sum
-      → atom_value ds line here (get_or terms i d).atom ≡ Some v → is_word v ≡ true →
-      SumSoFar ds line here terms (i + 1) (added sum (get_or terms i d).negative v)
+  pub sum_more : (i : ℕ) (d : Term) (sum v : ℤ) → i < length more → SumSoFar ds line here terms more i sum
+      → atom_value ds line here (get_or more i d).atom ≡ Some v → is_word v ≡ true →
+      SumSoFar ds line here terms more (i + 1) (added sum (get_or more i d).negative v)
   sum_more i d sum v h so e word =
       record {
         value =
             let f = at_term i d h in
             let g = rw e at f in
             sym (ap (option_map (λ w. w +ℤ sum)) g
-            ∙ map_added (sum_value ds line here (drop (i + 1) terms)) sum v (get_or terms i d).negative)
+            ∙ map_added (sum_value ds line here (drop (i + 1) more)) sum v (get_or more i d).negative)
             ∙ so.value;
         near =
-            let w = near_added (4294967296 * i) sum v (get_or terms i d).negative so.near (near_word v word)
+            let w = near_added (4294967296 * (i + 1)) sum v (get_or more i d).negative so.near
+            (near_word v word)
             in
-            let m : 4294967296 * (i + 1) ≡ 4294967296 * i + 4294967296 = omega arith in rw m w;
+            let m : 4294967296 * (i + 1 + 1) ≡ 4294967296 * (i + 1) + 4294967296 = omega arith in rw m w;
       }
 
-  pub sum_none : (i : ℕ) (d : Term) (sum : ℤ) → i < length terms → SumSoFar ds line here terms i sum
-      → atom_value ds line here (get_or terms i d).atom ≡ None → None ≡ sum_value ds line here terms
+  pub sum_none : (i : ℕ) (d : Term) (sum : ℤ) → i < length more → SumSoFar ds line here terms more i sum
+      → atom_value ds line here (get_or more i d).atom ≡ None → None ≡ sum_value ds line here terms
   sum_none i d sum h so e =
       let f = at_term i d h in let g = rw e at f in sym (ap (option_map (λ w. w +ℤ sum)) g) ∙ so.value
 
-  pub sum_whole : (i : ℕ) (sum : ℤ) → length terms ≤ i → SumSoFar ds line here terms i sum →
+  pub sum_whole : (i : ℕ) (sum : ℤ) → length more ≤ i → SumSoFar ds line here terms more i sum →
       Some sum ≡ sum_value ds line here terms
   unfolding sum_value
   sum_whole i sum end so =
-      let e : drop i terms ≡ [] = drop_all i terms end in
+      let e : drop i more ≡ [] = drop_all i more end in
       let g = so.value in
       let zero : pos 0 +ℤ sum ≡ sum = omega (arith, ints) in
       ap (λ x. Some x) (sym zero) ∙ (rw e at g)

@@ -1,18 +1,31 @@
 -- The image and the names of a source, or its fault.
 -- To audit: public contracts cite this.
 -- The language is this project's own: docs/ASSEMBLER.md.
-use Rattle.std.specs.Prelude.{ℕ, suc, List, [], map, length, get_or, pos, Option, Some, None, Result, Ok, Err}
-use Rattle.std.specs.Option.{option_map, option_or, unwrap_or}
+use Rattle.std.specs.Prelude.{ℕ, zero, suc, List, [], ◌++◌, map, length, get_or, Option, Some, None, Result, Ok, Err}
+use Rattle.std.specs.Option.{option_map, option_or}
 pub use Rattle.rv_program.specs.Program.{Assembly}
-use Rattle.rv_source.specs.Said.{Said}
-use Rattle.rv_source.specs.Reading.{said}
+use Rattle.rv_source.specs.Reading.{Said, said}
 use Rattle.rv_base.specs.Lines.{lines}
 use Rattle.rv_program.specs.declared.fault.FaultKind.{FaultKind}
 use Rattle.rv_program.specs.declared.fault.AsmFault.{AsmFault}
 use Rattle.rv_program.specs.Faults.{kind_of}
-use Rattle.rv_asm.specs.Symbols.{sum_value}
-use Rattle.rv_asm.specs.Layout.{first, joined, blank, line_at, known_at, constant_of, definitions, phase_two_fault}
+use Rattle.rv_asm.specs.Symbols.{operand_value}
+use Rattle.rv_asm.specs.Layout.{blank, line_at, address, values_on, definitions, phase_two_fault}
 use Rattle.rv_asm.specs.Listing.{statement_bytes}
+
+-- ---- over the numbers below n, in their order
+
+-- the first of f 0, f 1, .. that is Some
+unfoldable pub first : {A : Type 0} → (ℕ → Option A) → ℕ → Option A
+first f zero = None
+first f (suc n) = option_or (first f n) (f n)
+
+-- f 0, f 1, .. joined
+unfoldable pub joined : {A : Type 0} → (ℕ → List A) → ℕ → List A
+joined f zero = []
+joined f (suc n) = joined f n ++ f n
+
+-- ---- the phases
 
 -- the fault of line k in phase one, if it has one
 abbrev pub phase_one_fault : List (List ℕ) → ℕ → Option FaultKind
@@ -27,15 +40,14 @@ phase_one_fault texts k =
 abbrev pub all_said : List (List ℕ) → List Said
 all_said texts = map (λ text. elim (said text) as (λ _. Said) [ Ok line ↦ line | Err fault ↦ blank ]) texts
 
--- the bytes of line k, once all names are known, or its fault in phase three
+-- the bytes of line k, once all symbols are known, or its fault in phase three
 abbrev pub line_bytes : List Said → ℕ → Result (List ℕ) FaultKind
-line_bytes lines k =
-    let known = known_at lines k in
-    elim (line_at lines k).statement as (λ _. Result (List ℕ) FaultKind) [
-      | None ↦ Ok []
-      | Some statement ↦ statement_bytes (sum_value (definitions lines) k known.address) known.address
-          (unwrap_or (constant_of k known statement) (pos 0)) statement
-    ]
+line_bytes lines k = elim (line_at lines k).statement as (λ _. Result (List ℕ) FaultKind) [
+  | None ↦ Ok []
+  | Some statement ↦
+      statement_bytes (values_on lines k) (operand_value (definitions lines) k (address lines k))
+      (address lines k) statement
+]
 
 -- the fault of line k in phase three, if it has one
 abbrev pub phase_three_fault : List Said → ℕ → Option FaultKind

@@ -7,8 +7,9 @@ use Rattle.rv_program.specs.declared.fault.FaultKind.{FaultKind}
 use Rattle.rv_program.specs.declared.fault.FaultKind.TheVariants.{OutOfMemory}
 use Rattle.rv_asm.specs.declared.locals.LocalLabel.{LocalLabel}
 use Rattle.rv_isa.specs.declared.kind.Kind.{Kind}
-use Rattle.rv_source.specs.declared.statement.ValueTaker.{ValueTaker}
-use Rattle.rv_asm.specs.Listing.{◌>>=◌, bytes, with_value}
+use Rattle.rv_asm.specs.declared.fixup.Waiting.{Waiting}
+use Rattle.rv_asm.specs.declared.fixup.Waiting.TheVariants as w
+use Rattle.rv_asm.specs.Listing.{◌>>=◌, near, pair}
 
 -- ---- results whose fault has no line yet
 
@@ -27,17 +28,13 @@ KindBecomes new (Err kind) meaning = KindFails kind meaning
 
 -- ---- the bytes of a statement
 
--- with_value, as one word: its cases would make the proofs that don't need them expensive
-unfoldable pub valued : ℕ → ℤ → ValueTaker → Option ℤ → Result (List Kind) FaultKind
-valued here c taker v = with_value here c taker v
-
--- the bytes of instructions, unless there is a fault
-abbrev pub words_of : Result (List Kind) FaultKind → Result (List ℕ) FaultKind
-words_of m = m >>= λ kinds. Ok (bytes kinds)
+abbrev pub with_value : ℕ → Waiting → ℤ → Option (List Kind)
+with_value here (w.Near kind part) v = near here kind part v
+with_value here (w.Far scratch kind) v = pair here scratch kind v
 
 -- size copies of a byte, unless there is a fault
-abbrev pub filled : ℕ → Result ℕ FaultKind → Result (List ℕ) FaultKind
-filled size m = m >>= λ b. Ok (replicate size b)
+abbrev pub filled_with : ℕ → Result ℕ FaultKind → Result (List ℕ) FaultKind
+filled_with size m = m >>= λ b. Ok (replicate size b)
 
 -- ---- lists of local labels
 

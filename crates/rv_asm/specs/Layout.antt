@@ -1,4 +1,4 @@
--- The addresses of the lines of a source, the symbols that they define, and the faults of phase two.
+-- Where the lines of a source lie, the symbols that they define, and the faults of phase two.
 -- To audit: public contracts cite this.
 -- Lines are counted from 0.
 -- The language is this project's own: docs/ASSEMBLER.md.
@@ -7,92 +7,80 @@ use Rattle.std.specs.Option.{option_or, unwrap_or}
 use Rattle.rv_base.specs.Limits.{ram_base, image_limit}
 use Rattle.rv_isa.specs.Number.{modulo}
 use Rattle.rv_isa.specs.Width.{bytes_of}
-use Rattle.rv_source.specs.Said.{Said}
-use Rattle.rv_source.specs.declared.expression.Term.{Term}
+use Rattle.rv_source.specs.Reading.{Said}
+use Rattle.rv_source.specs.declared.operand.Operand.{Operand}
 use Rattle.rv_source.specs.declared.line.Label.{Label}
 use Rattle.rv_source.specs.declared.line.Label.TheVariants as label
-use Rattle.rv_source.specs.declared.statement.ValueTaker.TheVariants as takes
 use Rattle.rv_source.specs.declared.statement.Statement.{Statement}
 use Rattle.rv_source.specs.declared.statement.Statement.TheVariants as s
 use Rattle.rv_program.specs.declared.fault.FaultKind.{FaultKind}
 use Rattle.rv_program.specs.declared.fault.FaultKind.TheVariants.{DuplicateSymbol, NotConstant, Misplaced, TooLarge}
-use Rattle.rv_asm.specs.Symbols.{Definitions, value_of, sum_value}
+use Rattle.rv_asm.specs.declared.locals.LocalLabel.{LocalLabel}
+use Rattle.rv_asm.specs.Symbols.{Definitions, value_of, operand_value}
 use Rattle.rv_asm.specs.Values.{is_between, is_word, loading, gap}
-use Rattle.rv_asm.specs.Listing.{multiple_of}
+use Rattle.rv_asm.specs.Listing.{Valuation, known}
 
--- ---- over the numbers below n, in their order
-
--- the first of f 0, f 1, .. that is Some
-unfoldable pub first : {A : Type 0} → (ℕ → Option A) → ℕ → Option A
-first f zero = None
-first f (suc n) = option_or (first f n) (f n)
-
--- f 0, f 1, .. joined
-unfoldable pub joined : {A : Type 0} → (ℕ → List A) → ℕ → List A
-joined f zero = []
-joined f (suc n) = joined f n ++ f n
-
--- ---- the constant and the size of a statement
+-- ---- one statement, by the values that its operands have on its line
 
 -- a power of two from 1 to 4096
 abbrev pub is_multiple : ℤ → Bool
 is_multiple v = is_between (pos 1) (pos 4096) v && (4096 % modulo v (2 ^ 32) == 0)
 
--- the expression whose value must be known on the line of the statement, and the test that the value has to
--- pass
-abbrev pub asked : Statement → Option (List Term × (ℤ → Bool))
-asked (s.WithValue (takes.Li rd) value) = Some (value, is_word)
-asked (s.Constant name value) = Some (value, is_word)
+-- the operand whose value must be known on the line of the statement, and the test that it has to pass
+abbrev pub asked : Statement → Option (Operand × (ℤ → Bool))
+asked (s.Instruction kind) = None
+asked (s.WithValue kind x) = None
+asked (s.Far scratch kind x) = None
+asked (s.Li rd x) = Some (x, is_word)
+asked (s.Data width xs) = None
+asked (s.Bytes bs) = None
 asked (s.Space size fill) = Some (size, is_between (pos 0) (pos image_limit))
-asked (s.WithValue takes.Align power) = Some (power, is_between (pos 0) (pos 12))
-asked (s.WithValue takes.Balign multiple) = Some (multiple, is_multiple)
-asked statement = None
+asked (s.Align power) = Some (power, is_between (pos 0) (pos 12))
+asked (s.Balign multiple) = Some (multiple, is_multiple)
+asked (s.Constant name x) = Some (x, is_word)
+asked s.Marker = None
 
-abbrev pub taken : (ℤ → Bool) → ℤ → Option ℤ
-taken takes v = if takes v then Some v else None
-
--- the constant of a statement: that value, or 0 if there is no such expression; None if it isn't known or
--- fails the test
-abbrev pub constant : Definitions → ℕ → ℕ → Statement → Option ℤ
-constant ds line here statement = elim (asked statement) as (λ _. Option ℤ) [
-  | None ↦ Some (pos 0)
-  | Some a ↦ option_and_then (taken a.1) (sum_value ds line here a.0)
-]
-
--- the size in bytes of a statement at an address, with the constant c
-abbrev pub size_of : ℕ → ℤ → Statement → ℕ
-size_of here c (s.WithValue (takes.Li rd) value) = 4 * length (loading rd (modulo c (2 ^ 32)))
-size_of here c (s.WithValue (takes.La rd) target) = 8
-size_of here c (s.WithValue (takes.Call link scratch) target) = 8
-size_of here c (s.WithValue (takes.LoadFrom op rd) target) = 8
-size_of here c (s.WithValue (takes.StoreTo width source scratch) target) = 8
-size_of here c (s.Data width values) = bytes_of width * length values
-size_of here c (s.Bytes bytes) = length bytes
-size_of here c (s.Space size fill) = modulo c (2 ^ 32)
-size_of here c (s.WithValue takes.Align power) = gap here (multiple_of (s.WithValue takes.Align power) c)
-size_of here c (s.WithValue takes.Balign multiple) =
-    gap here (multiple_of (s.WithValue takes.Balign multiple) c)
-size_of here c (s.Constant name value) = 0
-size_of here c s.Marker = 0
-size_of here c statement = 4
+-- the number of bytes of a statement at an address
+abbrev pub size_of : Valuation → ℕ → Statement → ℕ
+size_of early here (s.Instruction kind) = 4
+size_of early here (s.WithValue kind x) = 4
+size_of early here (s.Far scratch kind x) = 8
+size_of early here (s.Li rd x) = 4 * length (loading rd (known early x))
+size_of early here (s.Data width xs) = bytes_of width * length xs
+size_of early here (s.Bytes bs) = length bs
+size_of early here (s.Space size fill) = known early size
+size_of early here (s.Align power) = gap here (2 ^ known early power)
+size_of early here (s.Balign multiple) = gap here (known early multiple)
+size_of early here (s.Constant name x) = 0
+size_of early here s.Marker = 0
 
 -- whether a statement is assembled to instructions
 abbrev pub is_instruction : Statement → Bool
-is_instruction (s.Data width values) = false
-is_instruction (s.Bytes bytes) = false
-is_instruction (s.Space size fill) = false
-is_instruction (s.WithValue takes.Align power) = false
-is_instruction (s.WithValue takes.Balign multiple) = false
-is_instruction (s.Constant name value) = false
-is_instruction s.Marker = false
-is_instruction statement = true
+is_instruction (s.Instruction kind) = true
+is_instruction (s.WithValue kind x) = true
+is_instruction (s.Far scratch kind x) = true
+is_instruction (s.Li rd x) = true
+is_instruction statement = false
 
--- the name that `.equ` defines
-abbrev pub name_in : Statement → Option (List ℕ)
-name_in (s.Constant name value) = Some name
-name_in statement = None
+-- the name that `.equ` defines, with its value
+abbrev pub constant_in : Valuation → Statement → List (List ℕ × ℤ)
+constant_in early (s.Constant name x) = (name, unwrap_or (early x) (pos 0)) ∷ []
+constant_in early statement = []
 
--- ---- the state before a line
+-- ---- the labels of a line at an address
+
+abbrev pub names_in : ℕ → List Label → List (List ℕ × ℤ)
+names_in here [] = []
+names_in here (label.Name name ∷ ls) = (name, pos here) ∷ names_in here ls
+names_in here (label.Local number ∷ ls) = names_in here ls
+
+abbrev pub locals_in : ℕ → ℕ → List Label → List LocalLabel
+locals_in k here [] = []
+locals_in k here (label.Name name ∷ ls) = locals_in k here ls
+locals_in k here (label.Local number ∷ ls) = record { number = number; line = k; address = here } ∷
+    locals_in k here ls
+
+-- ---- where lines lie
 
 -- a line with no label and no statement, as every line past the end
 abbrev pub blank : Said
@@ -101,106 +89,94 @@ blank = record { labels = []; statement = None }
 abbrev pub line_at : List Said → ℕ → Said
 line_at lines k = get_or lines k blank
 
--- the address of the next statement, and the symbols defined so far
-pub record Known : Type 0 where
-  pub address : ℕ
-  pub definitions : Definitions
+-- the values that operands have on a line, by its address and by the symbols before it and those of its
+-- labels
+abbrev pub values_at : Said → ℕ → ℕ → List (List ℕ × ℤ) → List LocalLabel → Valuation
+values_at line k here names locals = operand_value (record {
+  names = names ++ names_in here line.labels;
+  locals = locals ++ locals_in k here line.labels;
+}) k here
 
--- with a label on line k, which stands for the address of the next statement
-abbrev pub labelled : ℕ → Known → Label → Known
-labelled k known (label.Name name) =
-    record known {
-      definitions = record known.definitions {
-        names = known.definitions.names ++ (name, pos known.address) ∷ [];
-      };
-    }
-labelled k known (label.Local number) =
-    record known {
-      definitions = record known.definitions {
-        locals =
-            known.definitions.locals ++ record { number = number; line = k; address = known.address } ∷ [];
-      };
-    }
+abbrev pub size_at : Valuation → ℕ → Option Statement → ℕ
+size_at early here None = 0
+size_at early here (Some statement) = size_of early here statement
 
-abbrev pub with_labels : ℕ → Known → List Label → Known
-with_labels k known [] = known
-with_labels k known (l ∷ ls) = with_labels k (labelled k known l) ls
+abbrev pub constants_at : Valuation → Option Statement → List (List ℕ × ℤ)
+constants_at early None = []
+constants_at early (Some statement) = constant_in early statement
 
--- with the name of `.equ`, which stands for the constant c
-abbrev pub named : Known → ℤ → Statement → Known
-named known c statement = elim (name_in statement) as (λ _. Known) [
-  | None ↦ known
-  | Some name ↦ record known {
-    definitions = record known.definitions {
-      names = known.definitions.names ++ (name, c) ∷ [];
-    };
-  }
-]
+-- the address of line k, and the names and the local labels that are defined before it
+unfoldable mutual
+  pub address : List Said → ℕ → ℕ
+  address lines zero = ram_base
+  address lines (suc k) =
+      let line = line_at lines k in
+      address lines k + size_at (values_at line k (address lines k) (names lines k) (locals lines k))
+      (address lines k) line.statement
 
--- after a statement: its name is defined, and the address is past it
-abbrev pub stated : Known → ℤ → Statement → Known
-stated known c statement =
-    let after = named known c statement in record after {
-      address = known.address + size_of known.address c statement;
-    }
+  pub names : List Said → ℕ → List (List ℕ × ℤ)
+  names lines zero = []
+  names lines (suc k) =
+      let line = line_at lines k in
+      (names lines k ++ names_in (address lines k) line.labels)
+      ++ constants_at (values_at line k (address lines k) (names lines k) (locals lines k)) line.statement
 
--- the constant of a statement on line k, once the labels of the line are defined
-abbrev pub constant_of : ℕ → Known → Statement → Option ℤ
-constant_of k known statement = constant known.definitions k known.address statement
+  pub locals : List Said → ℕ → List LocalLabel
+  locals lines zero = []
+  locals lines (suc k) = locals lines k ++ locals_in k (address lines k) (line_at lines k).labels
 
--- after the statement of line k, if it has one, once the labels of the line are defined
-abbrev pub with_statement : ℕ → Known → Option Statement → Known
-with_statement k known None = known
-with_statement k known (Some statement) =
-    stated known (unwrap_or (constant_of k known statement) (pos 0)) statement
+-- the symbols that are known at the statement of line k: those that are defined before the line, and its
+-- labels
+abbrev pub values_on : List Said → ℕ → Valuation
+values_on lines k = values_at (line_at lines k) k (address lines k) (names lines k) (locals lines k)
 
--- before the first line
-abbrev pub start : Known
-start = record { address = ram_base; definitions = record { names = []; locals = [] } }
-
--- before line k: the symbols that the lines before it define, and the address following them
-unfoldable pub known_before : List Said → ℕ → Known
-known_before lines zero = start
-known_before lines (suc k) =
-    let line =
-    line_at lines k in with_statement k (with_labels k (known_before lines k) line.labels) line.statement
-
--- after the labels of line k, before its statement
-abbrev pub known_at : List Said → ℕ → Known
-known_at lines k = with_labels k (known_before lines k) (line_at lines k).labels
-
--- the symbols that all lines define
+-- all symbols
 abbrev pub definitions : List Said → Definitions
-definitions lines = (known_before lines (length lines)).definitions
+definitions lines = record { names = names lines (length lines); locals = locals lines (length lines) }
 
 -- ---- phase two
 
+-- the first of some faults that applies
+abbrev pub first_of : List (Bool × FaultKind) → Option FaultKind
+first_of [] = None
+first_of (fault ∷ faults) = if fault.0 then Some fault.1 else first_of faults
+
 -- whether the labels of a line define a name that is already defined
 abbrev pub relabels : List (List ℕ × ℤ) → List Label → Bool
-relabels names [] = false
-relabels names (label.Name name ∷ ls) = is_some (value_of names name) || relabels ((name, pos 0) ∷ names) ls
-relabels names (label.Local number ∷ ls) = relabels names ls
+relabels known [] = false
+relabels known (label.Name name ∷ ls) = is_some (value_of known name) || relabels ((name, pos 0) ∷ known) ls
+relabels known (label.Local number ∷ ls) = relabels known ls
 
 -- whether `.equ` defines a name that is already defined
 abbrev pub renames : List (List ℕ × ℤ) → Statement → Bool
-renames names statement =
-    elim (name_in statement) as (λ _. Bool) [ None ↦ false | Some name ↦ is_some (value_of names name) ]
+renames known (s.Constant name x) = is_some (value_of known name)
+renames known statement = false
 
--- the fault in phase two of a statement on line k, once the labels of the line are defined
-unfoldable pub statement_fault : ℕ → Known → Statement → Option FaultKind
-statement_fault k known statement =
-    if renames known.definitions.names statement then Some DuplicateSymbol
-    else (elim (constant_of k known statement) as (λ _. Option FaultKind) [
-      | None ↦ Some NotConstant
-      | Some c ↦ if is_instruction statement && not (known.address % 4 == 0) then Some Misplaced
-          else (if nat_lt (ram_base + image_limit) (known.address + size_of known.address c statement)
-          then Some TooLarge
-          else None)
-    ])
+-- whether a value isn't known, or fails a test
+abbrev pub fails : (ℤ → Bool) → Option ℤ → Bool
+fails test None = true
+fails test (Some v) = not (test v)
+
+-- whether the value that must be known isn't known, or fails its test
+abbrev pub is_unknown : Valuation → Statement → Bool
+is_unknown early statement =
+    elim (asked statement) as (λ _. Bool) [ None ↦ false | Some a ↦ fails a.1 (early a.0) ]
+
+-- the fault in phase two of a statement at an address, by the names and the values known on its line
+abbrev pub statement_fault : List (List ℕ × ℤ) → Valuation → ℕ → Statement → Option FaultKind
+statement_fault known early here statement = first_of (
+    (renames known statement, DuplicateSymbol)
+    ∷ (is_unknown early statement, NotConstant)
+    ∷ (is_instruction statement && not (here % 4 == 0), Misplaced)
+    ∷ (nat_lt (ram_base + image_limit) (here + size_of early here statement), TooLarge)
+    ∷ []
+    )
 
 -- the fault of line k in phase two
 unfoldable pub phase_two_fault : List Said → ℕ → Option FaultKind
 phase_two_fault lines k =
     let line = line_at lines k in
-    if relabels (known_before lines k).definitions.names line.labels then Some DuplicateSymbol
-    else option_and_then (statement_fault k (known_at lines k)) line.statement
+    let here = address lines k in
+    if relabels (names lines k) line.labels then Some DuplicateSymbol
+    else option_and_then
+    (statement_fault (names lines k ++ names_in here line.labels) (values_on lines k) here) line.statement

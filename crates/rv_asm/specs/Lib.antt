@@ -4,5 +4,6 @@ pub mod Kept
 pub mod Listing
 pub mod Layout
 pub mod Assembly
+pub mod Constants
 pub mod Steps
 pub mod Taken

@@ -5,8 +5,10 @@ use Rattle.std.specs.Prelude.{ℕ, ◌&&◌, List, [], ◌∷◌, ℤ, pos, ◌+
 use Rattle.std.specs.Option.{option_map, option_or}
 pub use Rattle.rv_program.specs.Program.{value_of}
 use Rattle.rv_source.specs.declared.expression.Atom.{Atom}
-use Rattle.rv_source.specs.declared.expression.Atom.TheVariants.{Number, Symbol, Local, Here}
+use Rattle.rv_source.specs.declared.expression.Atom.TheVariants.{Number, Character, Symbol, Local, Here}
 use Rattle.rv_source.specs.declared.expression.Term.{Term}
+use Rattle.rv_source.specs.declared.operand.Operand.{Operand}
+use Rattle.rv_source.specs.Operands.{terms_of}
 use Rattle.rv_tokens.specs.declared.token.Direction.{Direction}
 use Rattle.rv_tokens.specs.declared.token.Direction.TheVariants.{Backward, Forward}
 use Rattle.rv_asm.specs.declared.locals.LocalLabel.{LocalLabel}
@@ -36,6 +38,7 @@ nearest labels number line Forward = nearest_after labels number line
 -- the value of an atom on a line, in a statement at the address `here`
 abbrev pub atom_value : Definitions → ℕ → ℕ → Atom → Option ℤ
 atom_value ds line here (Number n) = Some (pos n)
+atom_value ds line here (Character b) = Some (pos b)
 atom_value ds line here (Symbol name) = value_of ds.names name
 atom_value ds line here (Local number direction) =
     option_map (λ a. pos a) (nearest ds.locals number line direction)
@@ -51,3 +54,7 @@ sum_value ds line here [] = Some (pos 0)
 sum_value ds line here (t ∷ ts) =
     option_and_then (λ v. option_map (λ w. added w t.negative v) (sum_value ds line here ts))
     (atom_value ds line here t.atom)
+
+-- the value of an operand
+abbrev pub operand_value : Definitions → ℕ → ℕ → Operand → Option ℤ
+operand_value ds line here x = sum_value ds line here (terms_of x)

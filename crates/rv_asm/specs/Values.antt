@@ -9,6 +9,8 @@ use Rattle.rv_isa.specs.declared.kind.Kind.TheVariants.{Lui, OpImm}
 use Rattle.rv_isa.specs.declared.op.ImmOp.TheVariants.{Addi}
 use Rattle.rv_isa.specs.declared.op.Width.{Width}
 use Rattle.rv_isa.specs.declared.op.Width.TheVariants.{One, Two, Four}
+use Rattle.rv_source.specs.declared.operand.Part.{Part}
+use Rattle.rv_source.specs.declared.operand.Part.TheVariants.{Whole, High, Low}
 
 abbrev pub is_between : ℤ → ℤ → ℤ → Bool
 is_between low high v = int_le low v && int_le v high
@@ -49,9 +51,12 @@ hi w = (w + 2048) / 4096 % 2 ^ 20
 abbrev pub lo : ℕ → ℤ
 lo w = if nat_lt (w % 4096) 2048 then pos (w % 4096) else negsuc (4095 - w % 4096)
 
--- a value that fits into 32 bits, modulo 2 ^ 32
-abbrev pub as_word : ℤ → Option ℕ
-as_word v = if is_word v then Some (modulo v (2 ^ 32)) else None
+-- a part of a value that an instruction takes; the high and the low part are those of a value that fits into
+-- 32 bits
+abbrev pub part_value : Part → ℤ → Option ℤ
+part_value Whole v = Some v
+part_value High v = if is_word v then Some (pos (hi (modulo v (2 ^ 32)))) else None
+part_value Low v = if is_word v then Some (lo (modulo v (2 ^ 32))) else None
 
 -- the distance from `here` to a target that fits into 32 bits, modulo 2 ^ 32
 abbrev pub far : ℕ → ℤ → Option ℕ

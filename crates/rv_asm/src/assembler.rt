@@ -1,31 +1,49 @@
 //! The phases of assembly, from a source to its image.
-ghost use Rattle.std.specs.Prelude.{◌≡◌, ◌≤◌, ◌<◌, [], Result, Ok, IfOk, IfErr, OnOk, length};
+ghost use Rattle.std.specs.Prelude.{◌≡◌, ◌≤◌, ◌<◌, [], None, Result, Ok, IfOk, IfErr, OnOk, length};
 ghost use Rattle.std.specs.List.{All};
 ghost use Rattle.rv_base.specs.Lines.{lines};
-ghost use Rattle.rv_source.specs.Reading.{said};
+ghost use Rattle.rv_source.specs.Reading.{said, written};
 ghost use Rattle.rv_program.specs.declared.fault.AsmFault.{AsmFault};
 ghost use Rattle.rv_program.specs.Faults.{Gives};
-ghost use Rattle.rv_asm.specs.Assembly.{assembled};
-ghost use Rattle.rv_asm.specs.Layout.{start};
-ghost use Rattle.rv_asm.specs.Steps.{State, laid, extended, lines_laid_out, image_of};
-ghost use Rattle.rv_asm.specs.Taken.{so_far, IsUnread};
+ghost use Rattle.rv_asm.specs.Assembly.{all_said, assembled};
+ghost use Rattle.rv_asm.specs.Steps.{Known as KnownValue, AddsLine, Writes, start, extended, lines_laid_out, image_of};
+ghost use Rattle.rv_asm.specs.Taken.{so_far, Without, IsUnread, Takes};
 
 use crate::layout::Known;
 use crate::placement::PlacedStatement;
 use crate::symbols::Symbols;
 use crate::{AsmFault, FaultKind, Program};
 use rv_base::cut_lines;
-use rv_source::{Line, read_line};
+use rv_source::{Label, Line, Statement, read_line};
 use std::alloc::Global;
 
 /// Reads a line in phase one.
+#[tactic(auto, using(crate::proofs::Reading::unread_line))]
 fn read<'a>(alloc: Global, number: usize, text: &'a [u8]) -> Result<Line<'a>, AsmFault>
     requires { number < 0xffffffffffffffff }
-    ensures ok { IfOk result (λ line. said text.now ≡ Ok line) }
+    ensures ok { IfOk result (λ line. written text.now ≡ Ok line) }
     ensures err { IfErr result (IsUnread number text.now) }
 {
     match read_line(alloc, text) {
         Ok(line) => Ok(line),
+        Err(fault) => Err(AsmFault::at(number + 1, FaultKind::from(fault))),
+    }
+}
+
+/// Returns the statement of a line in phase one.
+#[tactic(auto, using(crate::proofs::Reading::unread_statement, crate::proofs::Reading::read_statement))]
+fn statement_of<'t, 'a>(
+    number: usize,
+    text: &[u8],
+    line: &'t Line<'a>,
+) -> Result<Option<Statement<'t, 'a>>, AsmFault>
+    requires counted { number < 0xffffffffffffffff }
+    requires written { written text.now ≡ Ok line.now }
+    ensures ok { IfOk result (λ s. said text.now ≡ Ok (record { labels = line.now.labels; statement = s })) }
+    ensures err { IfErr result (IsUnread number text.now) }
+{
+    match line.statement() {
+        Ok(statement) => Ok(statement),
         Err(fault) => Err(AsmFault::at(number + 1, FaultKind::from(fault))),
     }
 }
@@ -35,21 +53,59 @@ fn add<'a>(
     alloc: Global,
     number: usize,
     text: &'a [u8],
-    line: &Line,
+    labels: &[Label],
+    statement: &Option<Statement<'_, 'a>>,
     known: &mut Known,
     items: &mut Vec<PlacedStatement<'a>>,
     fault: &mut Option<AsmFault>,
 )
-    requires up_to { IfOk (so_far fault.old (laid known.old items.old.items)) (λ l. All (λ d. d.line ≤ number) l.known.definitions.locals) }
+    requires up_to { IfOk (so_far fault.old known.old) (λ l. All (λ d. d.line ≤ number) l.definitions.locals) }
     requires counted { number < 0xffffffffffffffff }
-    requires read { said text.now ≡ Ok line.now }
-    ensures { (m : Result State AsmFault) → Gives (λ l. l) (so_far fault.old (laid known.old items.old.items)) m → Gives (λ l. l) (so_far fault.new (laid known.new items.new.items)) (extended number line.now m) }
+    requires read { said text.now ≡ Ok (record { labels = labels.now; statement = statement.now }) }
+    ensures known { (m : Result KnownValue AsmFault) → Gives (λ l. l) (so_far fault.old known.old) m → Gives (λ l. l) (so_far fault.new known.new) (extended number (record { labels = labels.now; statement = statement.now }) m) }
+    ensures items { Without fault.new ((fault.old ≡ None) × AddsLine number known.old (record { labels = labels.now; statement = statement.now }) items.old.items items.new.items) }
 {
     if fault.is_some() {
         return;
     }
-    if let Err(kind) = known.add(alloc, number, text, line, items) {
+    if let Err(kind) = known.add(alloc, number, text, labels, statement, items) {
         *fault = Some(AsmFault::at(number + 1, kind));
+    }
+}
+
+/// Performs phases one and two on one more line.
+fn take<'a>(
+    alloc: Global,
+    number: usize,
+    text: &'a [u8],
+    known: &mut Known,
+    items: &mut Vec<PlacedStatement<'a>>,
+    fault: &mut Option<AsmFault>,
+) -> Result<(), AsmFault>
+    requires up_to { IfOk (so_far fault.old known.old) (λ l. All (λ d. d.line ≤ number) l.definitions.locals) }
+    requires counted { number < 0xffffffffffffffff }
+    ensures ok { OnOk result (Takes number text.now fault.old known.old items.old.items fault.new known.new items.new.items) }
+    ensures err { IfErr result (IsUnread number text.now) }
+{
+    let line = match read(alloc, number, text) {
+        Ok(line) => line,
+        Err(unread) => return Err(unread),
+    };
+    match statement_of(number, text, &line) {
+        Ok(statement) => {
+            add(
+                alloc,
+                number,
+                text,
+                line.labels(),
+                &statement,
+                known,
+                items,
+                fault,
+            );
+            Ok(())
+        }
+        Err(unread) => Err(unread),
     }
 }
 
@@ -61,16 +117,16 @@ fn lay_out<'a>(
     known: &mut Known,
     items: &mut Vec<PlacedStatement<'a>>,
 ) -> Result<(), AsmFault>
-    requires { laid known.old items.old.items ≡ laid start [] }
-    ensures layout { Gives (λ _. laid known.new items.new.items) result (lines_laid_out (lines source.now)) }
-    ensures within { OnOk result (All (λ i. i.line < length source.now) items.new.items) }
+    requires known { known.old ≡ start }
+    requires items { items.old.items ≡ [] }
+    ensures layout { Gives (λ _. known.new) result (lines_laid_out (lines source.now)) }
+    ensures items { OnOk result (Writes (all_said (lines source.now)) (length (lines source.now)) items.new.items) }
 {
     let mut fault = None;
     let mut number: usize = 0;
     for text in cut_lines(source) {
-        match read(alloc, number, text) {
-            Ok(line) => add(alloc, number, text, &line, known, items, &mut fault),
-            Err(unread) => return Err(unread),
+        if let Err(unread) = take(alloc, number, text, known, items, &mut fault) {
+            return Err(unread);
         }
         number += 1;
     }
@@ -82,7 +138,6 @@ fn lay_out<'a>(
 
 /// Returns the bytes of all statements: phase three.
 fn image(alloc: Global, items: &[PlacedStatement], symbols: &Symbols) -> Result<Vec<u8>, AsmFault>
-    requires { All (λ i. i.line < 0xffffffffffffffff) items.now }
     ensures { Gives (λ v. v.items) result (image_of symbols.now items.now) }
 {
     let mut out = Vec::new(alloc);

@@ -7,9 +7,10 @@ ghost use Rattle.rv_asm.specs.Listing.{value_bytes, padding, bytes, nops};
 ghost use Rattle.rv_asm.specs.Values.{gap};
 
 use crate::FaultKind;
-use crate::instructions::{op_imm, write_instr, zero};
+use crate::instructions::{addi, write_instr, zero};
 use crate::values::{bits, gap};
-use rv_isa::{ImmOp, Width};
+use rv_isa::Width;
+use rv_source::Strings;
 use std::alloc::AllocError;
 
 /// Appends the low bytes of a value, as many as the width has, lowest first.
@@ -36,7 +37,7 @@ pub fn fill(count: u32, byte: u8, out: &mut Vec<u8>) -> Result<(), FaultKind>
 fn write_nops(count: u32, out: &mut Vec<u8>) -> Result<(), FaultKind>
     ensures { KindBecomes out.new.items result (Ok (out.old.items ++ bytes (nops count))) }
 {
-    let nop = op_imm(ImmOp::Addi, zero(), zero(), 0);
+    let nop = addi(zero(), zero(), 0);
     for _ in 0..count {
         write_instr(nop, out)?;
     }
@@ -60,5 +61,13 @@ pub fn append(bytes: &[u8], out: &mut Vec<u8>) -> Result<(), FaultKind>
     ensures { KindBecomes out.new.items result (Ok (out.old.items ++ bytes.now)) }
 {
     out.extend_from_slice(bytes)?;
+    Ok(())
+}
+
+/// Appends the bytes of strings.
+pub fn append_strings(strings: &Strings, out: &mut Vec<u8>) -> Result<(), FaultKind>
+    ensures { KindBecomes out.new.items result (Ok (out.old.items ++ strings.now)) }
+{
+    strings.append_to(out)?;
     Ok(())
 }

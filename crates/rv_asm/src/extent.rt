@@ -1,22 +1,36 @@
-//! The size of a statement, and the value that has to be known before it has one.
-ghost use Rattle.std.specs.Prelude.{◌≡◌, ◌≤◌, ◌<◌, ◌+◌, ◌^◌, true, None, IfSome};
-ghost use Rattle.std.specs.Prelude.{◌*◌, min, option_and_then};
-ghost use Rattle.rv_asm.specs.Values.{is_between};
-ghost use Rattle.rv_asm.specs.Layout.{is_instruction, is_multiple, taken};
-ghost use Rattle.rv_asm.specs.Listing.{multiple_of};
+//! The extent of a statement, and its faults in phase two.
+ghost use Rattle.std.specs.Prelude.{◌≡◌, ◌==◌, ◌&&◌, ◌%◌, ◌≤◌, ◌<◌, ◌+◌, ◌*◌, ℕ, List, ℤ, min, not, is_some, true, false, Some, IfOk, IfSome};
 ghost use Rattle.rv_isa.specs.Width.{bytes_of};
-ghost use Rattle.rv_asm.specs.Steps.{IsTaken, Ends, constant_in, size_in};
+ghost use Rattle.rv_source.specs.declared.statement.Statement.{Statement};
+ghost use Rattle.rv_asm.specs.Values.{is_between};
+ghost use Rattle.rv_asm.specs.Symbols.{operand_value};
+ghost use Rattle.rv_asm.specs.Layout.{is_instruction, is_multiple, fails, is_unknown, renames, size_of};
+ghost use Rattle.rv_asm.specs.Kept.{KindGives};
+ghost use Rattle.rv_asm.specs.Constants.{IsKnown, IsTaken, always};
+ghost use Rattle.rv_asm.specs.Steps.{Ends, image_end, free};
 
+use crate::FaultKind;
+use crate::emission::Scope;
+use crate::instructions::loading;
 use crate::symbols::Symbols;
-use crate::values::{bits, gap, is_between, loading};
+use crate::values::{bits, gap, is_between};
 use rv_base::{IMAGE_LIMIT, RAM_BASE};
 use rv_isa::Width;
-use rv_source::{Statement, ValueTaker};
+use rv_source::Statement;
+
+/// The extent of a statement.
+#[derive(Clone, Copy)]
+pub struct Extent {
+    /// The value that has to be known on the line of the statement, or 0 if there is none.
+    pub constant: i64,
+    /// The address following the statement.
+    pub end: u32,
+}
 
 /// Returns the value if it is known and lies between two bounds, both included.
 fn between(low: i64, high: i64, value: Option<i64>) -> Option<i64>
-    ensures value { result ≡ option_and_then (taken (is_between low high)) value }
-    ensures taken { IfSome result (λ v. is_between low high v ≡ true) }
+    ensures fails { fails (is_between low high) value ≡ not (is_some result) }
+    ensures known { IfSome result (λ c. (value ≡ Some c) × (is_between low high c ≡ true)) }
 {
     match value {
         Some(value) if is_between(low, high, value) => Some(value),
@@ -26,8 +40,8 @@ fn between(low: i64, high: i64, value: Option<i64>) -> Option<i64>
 
 /// Returns the value if it is known and a power of two from 1 to 4096.
 fn multiple(value: Option<i64>) -> Option<i64>
-    ensures value { result ≡ option_and_then (taken is_multiple) value }
-    ensures taken { IfSome result (λ v. is_multiple v ≡ true) }
+    ensures fails { fails is_multiple value ≡ not (is_some result) }
+    ensures known { IfSome result (λ c. (value ≡ Some c) × (is_multiple c ≡ true)) }
 {
     match value {
         Some(value) if is_between(1, 4096, value) && 4096 % value == 0 => Some(value),
@@ -36,56 +50,33 @@ fn multiple(value: Option<i64>) -> Option<i64>
 }
 
 /// Returns the constant of a statement: the value that must be known on its line, because its size or a name
-/// depends on it (the value of `li` and `.equ`, the size of `.space`, the alignment of `.align` and
-/// `.balign`). Other statements have the constant 0. None if the value isn't known there, or isn't in the
+/// depends on it. Other statements have the constant 0. None if the value isn't known there, or isn't in the
 /// range of the statement.
-#[tactic(auto, unfolding(crate::specs::Steps::constant_in, crate::specs::Steps::IsTaken))]
-pub fn constant(symbols: &Symbols, line: usize, here: u32, statement: &Statement) -> Option<i64>
-    ensures value { result ≡ constant_in symbols.now line here statement.now }
-    ensures taken { IfSome result (λ c. IsTaken c statement.now) }
+#[tactic(auto, unfolding(crate::specs::Constants::IsKnown))]
+fn constant(symbols: &Symbols, line: usize, here: u32, statement: &Statement) -> Option<i64>
+    ensures unknown { is_unknown (operand_value symbols.now line here) statement.now ≡ not (is_some result) }
+    ensures known { IfSome result (λ c. IsKnown (operand_value symbols.now line here) c statement.now) }
 {
     match statement {
-        Statement::WithValue {
-            taker: ValueTaker::Li { .. },
-            value,
-        } => between(-0x8000_0000, 0xffff_ffff, symbols.sum(value, line, here)),
-        Statement::Constant { value, .. } => {
-            between(-0x8000_0000, 0xffff_ffff, symbols.sum(value, line, here))
+        Statement::Li { value, .. } | Statement::Constant { value, .. } => {
+            between(
+                -0x8000_0000,
+                0xffff_ffff,
+                symbols.value(value.operand(), line, here),
+            )
         }
         Statement::Space { size, .. } => between(
             0,
             IMAGE_LIMIT as i64,
-            symbols.sum(size, line, here),
+            symbols.value(size.operand(), line, here),
         ),
-        Statement::WithValue {
-            taker: ValueTaker::Align,
-            value: power,
-        } => between(0, 12, symbols.sum(power, line, here)),
-        Statement::WithValue {
-            taker: ValueTaker::Balign,
-            value,
-        } => multiple(symbols.sum(value, line, here)),
+        Statement::Align { power } => between(0, 12, symbols.value(power.operand(), line, here)),
+        Statement::Balign { multiple: value } => multiple(symbols.value(
+            value.operand(),
+            line,
+            here,
+        )),
         _ => Some(0),
-    }
-}
-
-/// Returns the number of bytes that an alignment directive aligns to; 1 for any other statement.
-#[tactic(auto, unfolding(crate::specs::Steps::IsTaken))]
-pub fn multiple_of(constant: i64, statement: &Statement) -> u32
-    requires { IsTaken constant statement.now }
-    ensures value { result ≡ multiple_of statement.now constant }
-    ensures positive { 0 < result }
-{
-    match statement {
-        Statement::WithValue {
-            taker: ValueTaker::Align,
-            ..
-        } => 1 << bits(constant),
-        Statement::WithValue {
-            taker: ValueTaker::Balign,
-            ..
-        } => bits(constant),
-        _ => 1,
     }
 }
 
@@ -102,58 +93,83 @@ fn data_size(width: Width, count: usize) -> u32
 }
 
 /// Returns the size in bytes of a statement at the address `here`, saturated at 2^32 - 1.
-#[tactic(auto, unfolding(crate::specs::Values::loading, crate::specs::Steps::size_in))]
-pub fn size_of(here: u32, constant: i64, statement: &Statement) -> u32
+#[tactic(auto, unfolding(crate::specs::Values::loading, crate::specs::Constants::IsTaken))]
+fn size_of(here: u32, constant: i64, statement: &Statement) -> u32
     requires { IsTaken constant statement.now }
-    ensures { result ≡ min (size_in here constant statement.now) 0xffffffff }
+    ensures { result ≡ min (size_of (always constant) here statement.now) 0xffffffff }
 {
     match statement {
-        Statement::WithValue {
-            taker: ValueTaker::Li { rd },
-            ..
-        } => loading(*rd, bits(constant)).size(),
-        Statement::WithValue {
-            taker: ValueTaker::La { .. }
-            | ValueTaker::Call { .. }
-            | ValueTaker::LoadFrom { .. }
-            | ValueTaker::StoreTo { .. },
-            ..
-        } => 8,
+        Statement::Instruction(_) | Statement::WithValue { .. } => 4,
+        Statement::Far { .. } => 8,
+        Statement::Li { rd, .. } => loading(*rd, bits(constant)).size(),
         Statement::Data { width, values } => data_size(*width, values.as_slice().len()),
-        Statement::Bytes(bytes) => data_size(Width::One, bytes.as_slice().len()),
+        Statement::Bytes(bytes) => bytes.size(),
         Statement::Space { .. } => bits(constant),
-        Statement::WithValue {
-            taker: ValueTaker::Align | ValueTaker::Balign,
-            ..
-        } => gap(here, multiple_of(constant, statement)),
+        Statement::Align { .. } => gap(here, 1 << bits(constant)),
+        Statement::Balign { .. } => gap(here, bits(constant)),
         Statement::Constant { .. } | Statement::Marker => 0,
-        _ => 4,
     }
 }
 
 /// Returns the address following a statement, or None if the statement ends past the largest image.
-pub fn end_of(here: u32, constant: i64, statement: &Statement) -> Option<u32>
+fn end_of(here: u32, constant: i64, statement: &Statement) -> Option<u32>
     requires { IsTaken constant statement.now }
-    ensures { Ends result (here + size_in here constant statement.now) }
+    ensures { Ends result (here + size_of (always constant) here statement.now) }
 {
     let end = here.saturating_add(size_of(here, constant, statement));
     (end <= RAM_BASE + IMAGE_LIMIT).then_some(end)
 }
 
-/// Returns whether a statement is assembled to instructions. Their address has to be a multiple of 4.
-pub fn is_instruction(statement: &Statement) -> bool
-    ensures { result ≡ is_instruction statement.now }
+/// Returns whether a statement is assembled to instructions, whose address has to be a multiple of 4, and isn't at
+/// one.
+fn is_misplaced(here: u32, statement: &Statement) -> bool
+    ensures { result ≡ (is_instruction statement.now && not (here % 4 == 0)) }
 {
-    !matches!(
+    let is_instruction = matches!(
         statement,
-        Statement::Data { .. }
-            | Statement::Bytes(_)
-            | Statement::Space { .. }
-            | Statement::WithValue {
-                taker: ValueTaker::Align | ValueTaker::Balign,
-                ..
-            }
-            | Statement::Constant { .. }
-            | Statement::Marker
-    )
+        Statement::Instruction(_)
+            | Statement::WithValue { .. }
+            | Statement::Far { .. }
+            | Statement::Li { .. }
+    );
+    is_instruction && here % 4 != 0
+}
+
+/// Returns whether a statement is `.equ` of a name that is already defined.
+fn renames(symbols: &Symbols, statement: &Statement) -> bool
+    ensures { result ≡ renames symbols.now.names statement.now }
+{
+    match statement {
+        Statement::Constant { name, .. } => symbols.names.value(name.bytes()).is_some(),
+        _ => false,
+    }
+}
+
+/// Returns the extent of a statement, or its fault in phase two.
+#[tactic(auto, using(crate::proofs::Sizes::taken, crate::proofs::Extents::past, crate::proofs::Extents::within), unfolding(crate::specs::Steps::free))]
+pub fn extent_of(scope: Scope, statement: &Statement) -> Result<Extent, FaultKind>
+    ensures fault { KindGives (λ _. tt) result (free scope.entry.symbols.now scope.entry.line scope.entry.here statement.now) }
+    ensures known { IfOk result (λ e. IsKnown (operand_value scope.entry.symbols.now scope.entry.line scope.entry.here) e.constant statement.now) }
+    ensures end { IfOk result (λ e. e.end ≡ scope.entry.here + size_of (always e.constant) scope.entry.here statement.now) }
+    ensures within { IfOk result (λ e. e.end ≤ image_end) }
+    ensures renames { IfOk result (λ _. renames scope.entry.symbols.now.names statement.now ≡ false) }
+{
+    let Scope {
+        symbols,
+        line,
+        here,
+    } = scope;
+    if renames(symbols, statement) {
+        return Err(FaultKind::DuplicateSymbol);
+    }
+    let Some(constant) = constant(symbols, line, here, statement) else {
+        return Err(FaultKind::NotConstant);
+    };
+    if is_misplaced(here, statement) {
+        return Err(FaultKind::Misplaced);
+    }
+    let Some(end) = end_of(here, constant, statement) else {
+        return Err(FaultKind::TooLarge);
+    };
+    Ok(Extent { constant, end })
 }

@@ -1,14 +1,16 @@
 //! The instructions that a statement is assembled to.
 ghost use Rattle.std.specs.Prelude.{◌≡◌, ◌<◌, ◌^◌, ◌++◌, [], ◌∷◌, Ok};
-ghost use Rattle.rv_isa.specs.Number.{IsWithin, IsDistance};
+ghost use Rattle.rv_isa.specs.Number.{IsWithin};
+ghost use Rattle.rv_isa.specs.declared.kind.Kind.TheVariants.{Lui, Auipc, OpImm};
+ghost use Rattle.rv_isa.specs.declared.op.ImmOp.TheVariants.{Addi};
 ghost use Rattle.rv_asm.specs.Kept.{KindBecomes};
-ghost use Rattle.rv_asm.specs.Listing.{bytes, with_immediate};
-ghost use Rattle.rv_isa.specs.declared.kind.Kind.TheVariants.{Lui, Auipc, Jal, Branch, OpImm, Shift, CsrImm};
+ghost use Rattle.rv_asm.specs.Listing.{bytes};
+ghost use Rattle.rv_asm.specs.Values.{loading};
 
 use crate::FaultKind;
 use crate::data::append;
-use rv_isa::{Cond, CsrOp, ImmOp, Instr, Kind, Reg, ShiftOp, encode};
-use rv_source::{Csr, ImmediateTaker};
+use crate::values::{hi, lo};
+use rv_isa::{ImmOp, Instr, Kind, Reg, encode};
 use std::marker::Model;
 
 /// The instructions of a statement: at most two.
@@ -38,18 +40,9 @@ impl Model for Instructions {
 }
 
 impl Instructions {
-    ghost use Rattle.std.specs.Prelude.{◌≡◌, ◌++◌, ◌*◌, length, [], ◌∷◌, Ok, IfSome};
+    ghost use Rattle.std.specs.Prelude.{◌≡◌, ◌++◌, ◌*◌, length, [], ◌∷◌, Ok};
     ghost use Rattle.rv_asm.specs.Kept.{KindBecomes};
     ghost use Rattle.rv_asm.specs.Listing.{bytes};
-
-    pub fn none() -> Self
-        ensures { result ≡ [] }
-    {
-        Instructions {
-            first: None,
-            second: None,
-        }
-    }
 
     pub fn one(first: Instr) -> Self
         ensures { result ≡ first ∷ [] }
@@ -66,16 +59,6 @@ impl Instructions {
         Instructions {
             first: Some(first),
             second: Some(second),
-        }
-    }
-
-    /// Returns the instruction, if there is exactly one.
-    pub fn only(&self) -> Option<Instr>
-        ensures { IfSome result (λ kind. self.now ≡ kind ∷ []) }
-    {
-        match self.second {
-            None => self.first,
-            Some(_) => None,
         }
     }
 
@@ -116,7 +99,7 @@ pub fn zero() -> Reg
 
 // `number()` is called for its postcondition, `< 32`.
 
-pub fn lui(rd: Reg, imm: u32) -> Instr
+fn lui(rd: Reg, imm: u32) -> Instr
     requires { imm < 2 ^ 20 }
     ensures { result ≡ Lui rd imm }
 {
@@ -132,91 +115,28 @@ pub fn auipc(rd: Reg, imm: u32) -> Instr
     Instr::of(Kind::Auipc { rd, imm })
 }
 
-pub fn op_imm(op: ImmOp, rd: Reg, rs1: Reg, imm: i32) -> Instr
+pub fn addi(rd: Reg, rs1: Reg, imm: i32) -> Instr
     requires { IsWithin (2 ^ 11) imm }
-    ensures { result ≡ OpImm op rd rs1 imm }
+    ensures { result ≡ OpImm Addi rd rs1 imm }
 {
-    let _ = rd.number();
-    let _ = rs1.number();
+    let _ = (rd.number(), rs1.number());
+    let op = ImmOp::Addi;
     Instr::of(Kind::OpImm { op, rd, rs1, imm })
 }
 
-pub fn jal(rd: Reg, offset: i32) -> Instr
-    requires { IsDistance (2 ^ 20) offset }
-    ensures { result ≡ Jal rd offset }
+/// Returns the one or two instructions that load a word into a register.
+#[tactic(auto, unfolding(crate::specs::Values::loading))]
+pub fn loading(rd: Reg, word: u32) -> Instructions
+    ensures { result ≡ loading rd word }
 {
-    let _ = rd.number();
-    Instr::of(Kind::Jal { rd, offset })
-}
-
-pub fn branch(cond: Cond, rs1: Reg, rs2: Reg, offset: i32) -> Instr
-    requires { IsDistance (2 ^ 12) offset }
-    ensures { result ≡ Branch cond rs1 rs2 offset }
-{
-    let _ = (rs1.number(), rs2.number());
-    Instr::of(Kind::Branch {
-        cond,
-        rs1,
-        rs2,
-        offset,
-    })
-}
-
-pub fn shift(op: ShiftOp, rd: Reg, rs1: Reg, amount: u8) -> Instr
-    requires { amount < 32 }
-    ensures { result ≡ Shift op rd rs1 amount }
-{
-    let _ = (rd.number(), rs1.number());
-    Instr::of(Kind::Shift {
-        op,
-        rd,
-        rs1,
-        amount,
-    })
-}
-
-pub fn csr_imm(op: CsrOp, rd: Reg, imm: u8, csr: Csr) -> Instr
-    requires { imm < 32 }
-    ensures { result ≡ CsrImm op rd imm csr }
-{
-    let _ = rd.number();
-    let csr = csr.number();
-    Instr::of(Kind::CsrImm { op, rd, imm, csr })
-}
-
-/// Returns an instruction with its 12-bit immediate put in.
-pub fn with_immediate(taker: ImmediateTaker, imm: i32) -> Instr
-    requires { IsWithin (2 ^ 11) imm }
-    ensures { result ≡ with_immediate taker imm }
-{
-    match taker {
-        ImmediateTaker::Jalr { rd, base } => {
-            let _ = (rd.number(), base.number());
-            let offset = imm;
-            Instr::of(Kind::Jalr { rd, base, offset })
-        }
-        ImmediateTaker::Load { op, rd, base } => {
-            let _ = (rd.number(), base.number());
-            Instr::of(Kind::Load {
-                op,
-                rd,
-                base,
-                offset: imm,
-            })
-        }
-        ImmediateTaker::Store {
-            width,
-            source,
-            base,
-        } => {
-            let _ = (source.number(), base.number());
-            Instr::of(Kind::Store {
-                width,
-                source,
-                base,
-                offset: imm,
-            })
-        }
-        ImmediateTaker::OpImm { op, rd, rs1 } => op_imm(op, rd, rs1, imm),
+    let value = word.cast_signed();
+    if value >= -2048 && value <= 2047 {
+        return Instructions::one(addi(rd, zero(), value));
+    }
+    let upper = lui(rd, hi(word));
+    if word % 4096 == 0 {
+        Instructions::one(upper)
+    } else {
+        Instructions::two(upper, addi(rd, rd, lo(word)))
     }
 }

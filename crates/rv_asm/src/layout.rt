@@ -1,17 +1,31 @@
 //! Phase two: the addresses of statements, and the symbols that lines define.
-ghost use Rattle.std.specs.Prelude.{◌≡◌, ◌≤◌};
-ghost use Rattle.std.specs.List.{All};
+ghost use Rattle.std.specs.Prelude.{◌≡◌, ◌++◌, ◌∷◌, [], OnOk};
 
 use crate::FaultKind;
 use crate::emission::Scope;
+use crate::extent::extent_of;
 use crate::locals::LocalLabel;
 use crate::placement::PlacedStatement;
 use crate::symbols::Symbols;
 use rv_base::RAM_BASE;
 use rv_program::Names;
-use rv_source::{Label, Line, Statement};
-use std::alloc::Global;
+use rv_source::{Label, Statement};
+use std::alloc::{AllocError, Global};
 use std::marker::Model;
+
+/// Appends a statement.
+// Out of line: the drop of a refused one would be proved anew among what the caller knows.
+fn push<'a>(
+    items: &mut Vec<PlacedStatement<'a>>,
+    item: PlacedStatement<'a>,
+) -> Result<(), AllocError>
+    ensures { OnOk result (items.new.items ≡ items.old.items ++ item.entry ∷ []) }
+{
+    match items.push(item) {
+        Ok(()) => Ok(()),
+        Err(_) => Err(AllocError),
+    }
+}
 
 /// The state between two statements: the address of the next one, and the symbols defined so far.
 #[derive(Drop)]
@@ -21,7 +35,7 @@ pub struct Known {
 }
 
 impl Model for Known {
-    ghost use Rattle.rv_asm.specs.Layout.{Known};
+    ghost use Rattle.rv_asm.specs.Steps.{Known};
 
     ghost Value = { Known };
 
@@ -29,12 +43,12 @@ impl Model for Known {
 }
 
 impl Known {
-    ghost use Rattle.std.specs.Prelude.{◌≡◌, ◌≤◌, Some, Ok};
+    ghost use Rattle.std.specs.Prelude.{◌≡◌, ◌≤◌, ◌<◌, Some, Ok, OnOk};
     ghost use Rattle.std.specs.List.{All};
     ghost use Rattle.rv_source.specs.Reading.{said};
     ghost use Rattle.rv_asm.specs.Kept.{KindBecomes};
-    ghost use Rattle.rv_asm.specs.Layout.{start};
-    ghost use Rattle.rv_asm.specs.Steps.{newly_labelled, all_labelled, laid, after_statement, after_line, statement_in};
+    ghost use Rattle.rv_asm.specs.Steps.{start, newly_labelled, all_labelled, after_statement, after_line, Adds, AddsLine};
+    ghost use Rattle.rv_asm.specs.Constants.{statement_in};
 
     pub fn new(alloc: Global) -> Self
         ensures { result ≡ start }
@@ -93,51 +107,56 @@ impl Known {
 
     /// Gives the statement of a line its place, defines its name if it is `.equ`, and moves the address past
     /// it.
-    #[tactic(auto, using(crate::proofs::Placing::definition_new, crate::proofs::Placing::newly_defined, crate::proofs::Placing::newly_passed), unfolding(crate::specs::Steps::newly_stated))]
+    #[tactic(auto, using(crate::proofs::Placing::not_placed, crate::proofs::Placing::placed, crate::proofs::Placing::adds, crate::proofs::Sizes::taken))]
     fn place<'a>(
         &mut self,
         alloc: Global,
         line: usize,
         text: &'a [u8],
-        statement: &Statement,
+        statement: &Statement<'_, 'a>,
         items: &mut Vec<PlacedStatement<'a>>,
     ) -> Result<(), FaultKind>
-        requires { statement_in text.now ≡ Some statement.now }
-        ensures { KindBecomes (laid self.new items.new.items) result (after_statement line self.old items.old.items (Some statement.now)) }
+        requires counted { line < 0xffffffffffffffff }
+        requires said { statement_in text.now ≡ Some statement.now }
+        ensures known { KindBecomes self.new result (after_statement line self.old statement.now) }
+        ensures items { OnOk result (Adds line self.old statement.now items.old.items items.new.items) }
     {
         let scope = Scope {
             symbols: self.symbols(),
             line,
             here: self.address,
         };
-        let item = PlacedStatement::new(alloc, scope, text, statement)?;
-        if let Some((name, value)) = item.definition(statement) {
-            self.symbols.names.define(alloc, name, value)?;
+        let extent = extent_of(scope, statement)?;
+        let item = PlacedStatement::new(line, self.address, extent.constant, text, statement);
+        self.symbols
+            .define_constant(alloc, extent.constant, statement)?;
+        self.address = extent.end;
+        match push(items, item) {
+            Ok(()) => Ok(()),
+            Err(_) => Err(FaultKind::OutOfMemory),
         }
-        self.address = item.end();
-        if items.push(item).is_err() {
-            return Err(FaultKind::OutOfMemory);
-        }
-        Ok(())
     }
 
-    /// Lays out one more line: defines its labels and places its statement. `text` is the line as written,
-    /// `line` as read, and `number` counts from 0.
+    /// Lays out one more line: defines its labels and places its statement. `text` is the line as written, and
+    /// `number` counts from 0.
     #[tactic(auto, unfolding(crate::specs::Steps::after_line))]
     pub fn add<'a>(
         &mut self,
         alloc: Global,
         number: usize,
         text: &'a [u8],
-        line: &Line,
+        labels: &[Label],
+        statement: &Option<Statement<'_, 'a>>,
         items: &mut Vec<PlacedStatement<'a>>,
     ) -> Result<(), FaultKind>
         requires up_to { All (λ d. d.line ≤ number) self.old.definitions.locals }
-        requires read { said text.now ≡ Ok line.now }
-        ensures { KindBecomes (laid self.new items.new.items) result (after_line number (laid self.old items.old.items) line.now) }
+        requires counted { number < 0xffffffffffffffff }
+        requires read { said text.now ≡ Ok (record { labels = labels.now; statement = statement.now }) }
+        ensures known { KindBecomes self.new result (after_line number self.old (record { labels = labels.now; statement = statement.now })) }
+        ensures items { OnOk result (AddsLine number self.old (record { labels = labels.now; statement = statement.now }) items.old.items items.new.items) }
     {
-        self.labels(alloc, number, line.labels())?;
-        match line.statement() {
+        self.labels(alloc, number, labels)?;
+        match statement {
             Some(statement) => self.place(alloc, number, text, statement, items),
             None => Ok(()),
         }

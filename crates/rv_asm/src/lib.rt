@@ -12,10 +12,13 @@ mod assembler;
 mod data;
 mod emission;
 mod extent;
+mod fixup;
 mod instructions;
+mod kept;
 mod layout;
 mod locals;
 mod placement;
+mod single;
 mod symbols;
 mod values;
 

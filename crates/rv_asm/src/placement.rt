@@ -1,158 +1,150 @@
 //! Statements with their places in the image.
-ghost use Rattle.std.specs.Prelude.{◌≡◌, IfSome};
-ghost use Rattle.rv_asm.specs.Layout.{renames};
-ghost use Rattle.rv_asm.specs.Steps.{IsAlways};
+ghost use Rattle.std.specs.Prelude.{◌≡◌, ℕ, IfSome};
+ghost use Rattle.rv_asm.specs.Symbols.{Definitions, operand_value};
+ghost use Rattle.rv_asm.specs.Listing.{statement_bytes};
+ghost use Rattle.rv_asm.specs.Constants.{always};
+ghost use Rattle.rv_asm.specs.Kept.{KindBecomes};
+ghost use Rattle.rv_asm.specs.Steps.{kept_bytes, waiting_bytes, line_text_bytes, appended};
 
 use crate::FaultKind;
-use crate::emission::Scope;
-use crate::extent::{constant, end_of, is_instruction};
-use crate::instructions::write_instr;
+use crate::emission::{Scope, write_with_value};
+use crate::fixup::Waiting;
+use crate::instructions::{Instructions, loading};
+use crate::kept::{Kept, LineText};
+use crate::single::as_single;
 use crate::symbols::Symbols;
-use rv_isa::Instr;
-use rv_source::{Statement, read_line};
+use crate::values::bits;
+use rv_source::{Form, Operand, Statement, read_line};
 use std::alloc::Global;
 use std::marker::Model;
 
-/// A statement with its place: its line, its address and its constant. The statement itself isn't kept, since
-/// its lists would take many times the memory of its text: phase three reads the line again.
+/// A statement with its place.
 #[derive(Drop)]
 pub struct PlacedStatement<'a> {
     /// The number of the line, counted from 0.
     line: usize,
     address: u32,
-    /// The address following the statement.
-    end: u32,
-    /// The value that had to be known in phase two, or 0 if there is none.
-    constant: i64,
-    /// The line as written.
-    text: &'a [u8],
-    /// The instruction, if the statement is a single one that depends on no symbol. The line isn't read again
-    /// then.
-    instr: Option<Instr>,
+    kept: Kept<'a>,
 }
 
 impl<'a> Model for PlacedStatement<'a> {
-    ghost use Rattle.std.specs.Prelude.{◌≡◌, ◌≤◌, IfSome};
-    ghost use Rattle.rv_asm.specs.Steps.{Item, IsTaken, IsAlways, stated_in, end_of, image_end};
+    ghost use Rattle.std.specs.Prelude.{◌<◌};
+    ghost use Rattle.rv_asm.specs.Steps.{Item};
 
     ghost Value = { Item };
 
-    ghost view = { λ p. record { line = p.line; address = p.address; constant = p.constant; statement = stated_in p.text.now } };
+    ghost view = { λ p. record { line = p.line; address = p.address; kept = p.kept } };
 
-    ghost invariant = { λ p.
-        let item : Item = record { line = p.line; address = p.address; constant = p.constant; statement = stated_in p.text.now } in
-        IsTaken item.constant item.statement × (p.end ≡ end_of item) × (p.end ≤ image_end) × IfSome p.instr (IsAlways item) };
+    ghost invariant = { λ p. p.line < 0xffffffffffffffff };
 }
 
-/// Returns whether a statement is `.equ` of a name that is already defined.
-fn renames(symbols: &Symbols, statement: &Statement) -> bool
-    ensures { result ≡ renames symbols.now.names statement.now }
+/// Appends the bytes of the statement of a line that is read again.
+#[tactic(auto, using(crate::proofs::Writing::nothing_again, crate::proofs::Writing::fault_again))]
+fn write_line(
+    alloc: Global,
+    scope: Scope,
+    text: &LineText,
+    out: &mut Vec<u8>,
+) -> Result<(), FaultKind>
+    ensures { KindBecomes out.new.items result (appended out.old.items (line_text_bytes scope.entry.symbols.now scope.entry.line scope.entry.here text.now)) }
 {
-    match statement {
-        Statement::Constant { name, .. } => symbols.names.value(name.bytes()).is_some(),
-        _ => false,
+    // The line was read in phase one, so reading it again can only run out of memory.
+    let Ok(line) = read_line(alloc, text.bytes) else {
+        return Err(FaultKind::OutOfMemory);
+    };
+    match line.statement() {
+        Ok(Some(statement)) => scope.write(text.constant, &statement, out),
+        Ok(None) => Ok(()),
+        Err(_) => Ok(()),
     }
 }
 
-/// Returns the instruction of a statement, if it is a single one that depends on no symbol.
-fn always(
-    alloc: Global,
-    line: usize,
-    here: u32,
-    constant: i64,
-    statement: &Statement,
-) -> Option<Instr>
-    ensures { IfSome result (IsAlways (record { line = line; address = here; constant = constant; statement = statement.now })) }
+/// Returns what is kept of a statement that waits for the value of an operand.
+#[tactic(auto, using(crate::proofs::Placing::waiting_kept))]
+fn waiting<'a>(waiting: Waiting, operand: &Operand<'a>) -> Option<Kept<'a>>
+    ensures { IfSome result (λ k. (ds : Definitions) → (line here : ℕ) → kept_bytes ds line here k ≡ waiting_bytes here waiting (operand_value ds line here operand.now)) }
 {
-    let none = Symbols::new(alloc);
-    let scope = Scope {
-        symbols: &none,
-        line,
-        here,
+    let value = match &operand.form {
+        Form::Value { sum, .. } => as_single(sum)?,
+        Form::Text(_) => return None,
     };
-    match scope.instructions(constant, statement) {
-        Ok(instructions) => instructions.only(),
-        Err(_) => None,
+    Some(Kept::Waiting { waiting, value })
+}
+
+/// Returns what is kept of a statement of one or two instructions, unless its text is.
+#[tactic(auto, unfolding(crate::specs::Listing::statement_bytes, crate::specs::Steps::kept_bytes))]
+fn short<'a>(constant: i64, statement: &Statement<'_, 'a>) -> Option<Kept<'a>>
+    ensures { IfSome result (λ k. (ds : Definitions) → (line here : ℕ) → kept_bytes ds line here k ≡ statement_bytes (always constant) (operand_value ds line here) here statement.now) }
+{
+    match statement {
+        Statement::Instruction(instr) => Some(Kept::Instructions(Instructions::one(*instr))),
+        Statement::Li { rd, .. } => Some(Kept::Instructions(loading(*rd, bits(constant)))),
+        Statement::WithValue { instr, value } => {
+            waiting(Waiting::near(*instr, value.operand()), value.operand())
+        }
+        Statement::Far {
+            scratch,
+            instr,
+            target,
+        } => {
+            let (scratch, instr) = (*scratch, *instr);
+            waiting(Waiting::Far { scratch, instr }, target.operand())
+        }
+        _ => None,
     }
 }
 
 impl<'a> PlacedStatement<'a> {
-    ghost use Rattle.std.specs.Prelude.{◌≡◌, ◌≤◌, true, Some, IfSome, IfOk};
-    ghost use Rattle.std.specs.Option.{option_map};
-    ghost use Rattle.rv_asm.specs.Values.{is_word};
-    ghost use Rattle.rv_asm.specs.Kept.{KindGives, KindBecomes};
-    ghost use Rattle.rv_asm.specs.Steps.{placed, statement_in, end_of, definition_in, item_bytes, appended, image_end};
+    ghost use Rattle.std.specs.Prelude.{◌≡◌, ◌<◌, ℕ, Some};
+    ghost use Rattle.rv_asm.specs.Kept.{KindBecomes};
+    ghost use Rattle.rv_asm.specs.Symbols.{Definitions, operand_value};
+    ghost use Rattle.rv_asm.specs.Listing.{statement_bytes};
+    ghost use Rattle.rv_asm.specs.Constants.{IsTaken, always, statement_in};
+    ghost use Rattle.rv_asm.specs.Steps.{item_bytes, appended};
 
-    /// Places the statement of a line, or returns its fault in phase two.
-    #[tactic(auto, unfolding(crate::specs::Steps::placed, crate::specs::Layout::statement_fault, crate::specs::Steps::constant_in, crate::specs::Steps::size_in))]
+    /// Makes the statement of a line, with its constant, at an address.
+    #[tactic(auto, unfolding(crate::specs::Steps::kept_bytes))]
     pub fn new(
-        alloc: Global,
-        scope: Scope,
+        line: usize,
+        address: u32,
+        constant: i64,
         text: &'a [u8],
-        statement: &Statement,
-    ) -> Result<PlacedStatement<'a>, FaultKind>
-        requires { statement_in text.now ≡ Some statement.now }
-        ensures gives { KindGives (λ p. p) result (placed scope.entry.line (record { address = scope.entry.here; definitions = scope.entry.symbols.now }) statement.now) }
-        ensures same { IfOk result (λ p. p.statement ≡ statement.now) }
+        statement: &Statement<'_, 'a>,
+    ) -> PlacedStatement<'a>
+        requires counted { line < 0xffffffffffffffff }
+        requires taken { IsTaken constant statement.now }
+        requires said { statement_in text.now ≡ Some statement.now }
+        ensures at { result.line ≡ line }
+        ensures bytes { (ds : Definitions) → item_bytes ds result ≡ statement_bytes (always constant) (operand_value ds line address) address statement.now }
     {
-        let Scope {
-            symbols,
-            line,
-            here: address,
-        } = scope;
-        if renames(symbols, statement) {
-            return Err(FaultKind::DuplicateSymbol);
-        }
-        let Some(constant) = constant(symbols, line, address, statement) else {
-            return Err(FaultKind::NotConstant);
+        let kept = match short(constant, statement) {
+            Some(kept) => kept,
+            None => {
+                let bytes = text;
+                return PlacedStatement {
+                    line,
+                    address,
+                    kept: Kept::Line(LineText { bytes, constant }),
+                };
+            }
         };
-        if is_instruction(statement) && address % 4 != 0 {
-            return Err(FaultKind::Misplaced);
-        }
-        let Some(end) = end_of(address, constant, statement) else {
-            return Err(FaultKind::TooLarge);
-        };
-        let instr = always(alloc, line, address, constant, statement);
-        Ok(PlacedStatement {
+        PlacedStatement {
             line,
             address,
-            end,
-            constant,
-            text,
-            instr,
-        })
+            kept,
+        }
     }
 
     /// Returns the number of the line, counted from 0.
     pub fn line(&self) -> usize
-        ensures { result ≡ self.now.line }
+        ensures value { result ≡ self.now.line }
+        ensures below { result < 0xffffffffffffffff }
     {
         self.line
     }
 
-    /// Returns the address following the statement.
-    pub fn end(&self) -> u32
-        ensures value { result ≡ end_of self.now }
-        ensures within { result ≤ image_end }
-    {
-        self.end
-    }
-
-    /// Returns the name that `.equ` defines, with its value; None for any other statement.
-    #[tactic(auto, unfolding(crate::specs::Steps::definition_in, crate::specs::Steps::IsTaken))]
-    pub fn definition<'s>(&self, statement: &Statement<'s>) -> Option<(&'s [u8], i64)>
-        requires { statement.now ≡ self.now.statement }
-        ensures value { option_map (λ d. (d.0.now, d.1)) result ≡ definition_in self.now }
-        ensures word { IfSome result (λ d. is_word d.1 ≡ true) }
-    {
-        match statement {
-            Statement::Constant { name, .. } => Some((name.bytes(), self.constant)),
-            _ => None,
-        }
-    }
-
     /// Appends the bytes of the statement, once all symbols are known.
-    #[tactic(auto, using(crate::proofs::Writing::nothing_written, crate::proofs::Writing::written))]
+    #[tactic(auto, unfolding(crate::specs::Steps::kept_bytes))]
     pub fn write(
         &self,
         alloc: Global,
@@ -161,21 +153,18 @@ impl<'a> PlacedStatement<'a> {
     ) -> Result<(), FaultKind>
         ensures { KindBecomes out.new.items result (appended out.old.items (item_bytes symbols.now self.now)) }
     {
-        if let Some(instr) = self.instr {
-            return write_instr(instr, out);
-        }
-        // The line was read in phase one, so reading it again can only run out of memory.
-        let Ok(line) = read_line(alloc, self.text) else {
-            return Err(FaultKind::OutOfMemory);
-        };
         let scope = Scope {
             symbols,
             line: self.line,
             here: self.address,
         };
-        match line.statement() {
-            Some(statement) => scope.write(self.constant, statement, out),
-            None => Ok(()),
+        match &self.kept {
+            Kept::Instructions(instructions) => instructions.write(out),
+            Kept::Waiting { waiting, value } => {
+                let value = value.value(scope);
+                write_with_value(self.address, *waiting, value, out)
+            }
+            Kept::Line(text) => write_line(alloc, scope, text, out),
         }
     }
 }

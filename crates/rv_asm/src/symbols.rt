@@ -1,12 +1,15 @@
 //! The symbols of a source, and the values of expressions.
-ghost use Rattle.std.specs.Prelude.{◌≡◌, ◌^◌, true, [], IfSome};
-ghost use Rattle.rv_asm.specs.Symbols.{atom_value, sum_value, added};
-ghost use Rattle.rv_asm.specs.Kept.{IsNear};
+ghost use Rattle.std.specs.Prelude.{◌≡◌, ◌^◌, ◌++◌, true, false, [], Ok, IfSome};
+ghost use Rattle.rv_asm.specs.Symbols.{atom_value, sum_value, operand_value, added};
+ghost use Rattle.rv_asm.specs.Layout.{renames, constant_in};
+ghost use Rattle.rv_asm.specs.Constants.{IsTaken, always};
+ghost use Rattle.rv_asm.specs.Kept.{KindBecomes, IsNear};
 ghost use Rattle.rv_asm.specs.Values.{is_word};
 
+use crate::FaultKind;
 use crate::locals::Locals;
 use rv_program::Names;
-use rv_source::{Atom, Expression};
+use rv_source::{Atom, Expression, Form, Operand, Statement};
 use std::alloc::Global;
 use std::marker::Model;
 
@@ -35,13 +38,35 @@ impl Symbols {
         }
     }
 
+    /// Defines the name of `.equ` with its value; nothing for any other statement.
+    #[tactic(auto, using(crate::proofs::Placing::not_some), unfolding(crate::specs::Constants::IsTaken))]
+    pub fn define_constant(
+        &mut self,
+        alloc: Global,
+        constant: i64,
+        statement: &Statement,
+    ) -> Result<(), FaultKind>
+        requires taken { IsTaken constant statement.now }
+        requires new { renames self.old.names statement.now ≡ false }
+        ensures { KindBecomes self.new result (Ok (record { names = self.old.names ++ constant_in (always constant) statement.now; locals = self.old.locals })) }
+    {
+        match statement {
+            Statement::Constant { name, .. } => {
+                self.names.define(alloc, name.bytes(), constant)?;
+                Ok(())
+            }
+            _ => Ok(()),
+        }
+    }
+
     /// Returns the value of an atom, or None if its symbol isn't defined.
-    fn atom(&self, atom: &Atom, line: usize, here: u32) -> Option<i64>
+    pub fn atom(&self, atom: &Atom, line: usize, here: u32) -> Option<i64>
         ensures value { result ≡ atom_value self.now line here atom.now }
         ensures word { IfSome result (λ v. is_word v ≡ true) }
     {
         match atom {
             Atom::Number(n) => Some(i64::from(*n)),
+            Atom::Character(b) => Some(i64::from(*b)),
             Atom::Symbol(name) => self.names.value(name.bytes()),
             Atom::Local { number, direction } => {
                 match self.locals.nearest(*number, *direction, line) {
@@ -55,20 +80,33 @@ impl Symbols {
 
     /// Returns the value of an expression on a line, counted from 0, in a statement at the address `here`.
     /// None if one of its symbols isn't defined.
-    pub fn sum(&self, expression: &Expression, line: usize, here: u32) -> Option<i64>
+    fn sum(&self, expression: &Expression, line: usize, here: u32) -> Option<i64>
         ensures { result ≡ sum_value self.now line here expression.now }
     {
-        let mut sum: i64 = 0;
-        for term in expression.terms() {
+        let (first, more) = expression.terms();
+        let value = self.atom(&first.atom, line, here)?;
+        let mut sum = added(0, first.negative, value);
+        for term in more {
             let value = self.atom(&term.atom, line, here)?;
             sum = added(sum, term.negative, value);
         }
         Some(sum)
     }
+
+    /// Returns the value of an operand on a line, in the same way.
+    #[tactic(auto, unfolding(crate::specs::Symbols::sum_value))]
+    pub fn value(&self, operand: &Operand, line: usize, here: u32) -> Option<i64>
+        ensures { result ≡ operand_value self.now line here operand.now }
+    {
+        match &operand.form {
+            Form::Value { sum, .. } => self.sum(sum, line, here),
+            Form::Text(_) => Some(0),
+        }
+    }
 }
 
 /// Adds a value to a sum, or subtracts it if it has a minus sign.
-fn added(sum: i64, negative: bool, value: i64) -> i64
+pub fn added(sum: i64, negative: bool, value: i64) -> i64
     requires sum { IsNear (2 ^ 62) sum }
     requires value { is_word value ≡ true }
     ensures { result ≡ added sum negative value }

@@ -2,11 +2,10 @@
 ghost use Rattle.std.specs.Prelude.{◌≡◌, ◌==◌, ◌&&◌, ◌<◌, ◌≤◌, ◌^◌, Some, None, IfSome, if◌then◌else◌};
 ghost use Rattle.rv_isa.specs.declared.op.Width.TheVariants.{One};
 ghost use Rattle.rv_isa.specs.Number.{IsWithin, IsDistance, modulo};
-ghost use Rattle.rv_asm.specs.Values.{is_between, is_word, fits, immediate, upper_immediate, five_bits, distance, hi, lo, far, loading, gap};
-ghost use Rattle.rv_asm.specs.Listing.{part_of};
+ghost use Rattle.rv_asm.specs.Values.{is_between, is_word, fits, immediate, upper_immediate, five_bits, distance, hi, lo, part_value, far, gap};
 
-use crate::instructions::{Instructions, lui, op_imm, zero};
-use rv_isa::{ImmOp, Reg, Width};
+use rv_isa::Width;
+use rv_source::Part;
 
 pub fn is_between(low: i64, high: i64, value: i64) -> bool
     ensures { result ≡ is_between low high value }
@@ -139,27 +138,15 @@ pub fn lo(word: u32) -> i32
     if low < 2048 { low } else { low - 4096 }
 }
 
-/// Returns the low part of a value that fits into 32 bits.
-pub fn low(value: i64) -> Option<i32>
-    ensures value { result ≡ part_of lo value }
-    ensures within { IfSome result (IsWithin (2 ^ 11)) }
+/// Returns the part of a value that an instruction takes, if the value has one.
+pub fn part_value(part: Part, value: i64) -> Option<i64>
+    ensures { result ≡ part_value part value }
 {
-    if is_word(value) {
-        Some(lo(bits(value)))
-    } else {
-        None
-    }
-}
-
-/// Returns the high part of a value that fits into 32 bits.
-pub fn high(value: i64) -> Option<u32>
-    ensures value { result ≡ part_of hi value }
-    ensures below { IfSome result (λ imm. imm < 2 ^ 20) }
-{
-    if is_word(value) {
-        Some(hi(bits(value)))
-    } else {
-        None
+    match part {
+        Part::Whole => Some(value),
+        Part::High if is_word(value) => Some(i64::from(hi(bits(value)))),
+        Part::Low if is_word(value) => Some(i64::from(lo(bits(value)))),
+        _ => None,
     }
 }
 
@@ -171,23 +158,6 @@ pub fn far(here: u32, target: i64) -> Option<u32>
         Some(bits(target - i64::from(here)))
     } else {
         None
-    }
-}
-
-/// Returns the one or two instructions that load a word into a register.
-#[tactic(auto, unfolding(crate::specs::Values::loading))]
-pub fn loading(rd: Reg, word: u32) -> Instructions
-    ensures { result ≡ loading rd word }
-{
-    let value = word.cast_signed();
-    if value >= -2048 && value <= 2047 {
-        return Instructions::one(op_imm(ImmOp::Addi, rd, zero(), value));
-    }
-    let upper = lui(rd, hi(word));
-    if word % 4096 == 0 {
-        Instructions::one(upper)
-    } else {
-        Instructions::two(upper, op_imm(ImmOp::Addi, rd, rd, lo(word)))
     }
 }
 

@@ -1,6 +1,3 @@
-pub mod Sums
 pub mod Pieces
-pub mod Placed
-pub mod Fronts
-pub mod Listed
-pub mod Labelling
+pub mod Ranges
+pub mod Sums

@@ -1,11 +1,14 @@
 -- Splitting operands, one by one.
-use Rattle.std.proofs.Common.{◌≡◌, ℕ, suc, ◌+◌, ◌<◌, ◌≤◌, Bool, true, false, cond, List, [], ◌∷◌, length, take, drop, refl, sym, ap, arith, add-one}
+use Rattle.std.proofs.Common.{◌≡◌, ℕ, suc, ◌+◌, ◌<◌, ◌≤◌, Bool, true, false, cond, List, [], ◌∷◌, length, take, drop, refl, sym, ap, ◌∙◌, arith, add-one, append_assoc}
 use Rattle.std.proofs.Math.Numerals.{one-add}
-use Rattle.std.specs.Prelude.{◌==◌, Some, None, nat_lt}
+use Rattle.std.specs.Prelude.{◌==◌, ◌++◌, Option, Some, None, nat_lt, option_and_then}
+use Rattle.std.specs.Option.{option_map}
+use Rattle.std.proofs.lemmas.List.{length-take-le}
 use Rattle.std.specs.List.{position_or_len, position}
 use Rattle.std.proofs.lemmas.Bool.Decides.{nat_tests}
 use Rattle.rv_tokens.specs.declared.token.Token.{Token}
-use Rattle.rv_source.specs.Operands.{is_comma, is_nothing, before, pieces, operands_of}
+use Rattle.rv_source.specs.declared.operand.Operand.{Operand}
+use Rattle.rv_source.specs.Operands.{is_comma, before, pieces, operand, operands}
 
 -- the number of tokens before the first comma
 abbrev pub until_comma : List Token → ℕ
@@ -59,27 +62,27 @@ cut_pieces ts n e h =
 pub one_piece : (ts : List Token) → None ≡ position is_comma ts → pieces ts ≡ ts ∷ []
 one_piece ts e = pieces_last ts (at_end ts (nat_lt (until_comma ts) (length ts)) refl (sym e))
 
-some_step : (b : Bool) (t : Token) (ps qs : List (List Token)) →
-    is_nothing (cond b ([] ∷ qs) (before t ps)) ≡ false
-some_step true t ps qs = refl
-some_step false t [] qs = refl
-some_step false t (p ∷ ps) qs = refl
+-- ---- reading one operand more
 
-some_pieces : (ts : List Token) → is_nothing (pieces ts) ≡ false
-unfolding pieces
-some_pieces [] = refl
-some_pieces (t ∷ ts) = some_step (is_comma t) t (pieces ts) (pieces ts)
+step : (old mid : List Operand) (o : Option Operand) (r : Option (List Operand))
+    → option_map (λ x. old ++ x ∷ []) o ≡ Some mid
+    → option_map (λ xs. old ++ xs) (option_and_then (λ x. option_map (λ xs. x ∷ xs) r) o)
+    ≡ option_map (λ xs. mid ++ xs) r
+step old mid None r e = cc
+step old mid (Some x) None e = refl
+step old mid (Some x) (Some xs) e =
+    let is : old ++ x ∷ [] ≡ mid = cc in rw (← is) (ap (λ ys. Some ys) (sym (append_assoc old (x ∷ []) xs)))
 
--- whether there are operands, by whether there are tokens
-pub no_operand : (ts : List Token) → length ts ≡ 0 → is_nothing (operands_of ts) ≡ true
-unfolding operands_of
-no_operand [] h = refl
-no_operand (t ∷ ts) h = absurd (omega arith)
-
-pub an_operand : (ts : List Token) → 0 < length ts → is_nothing (operands_of ts) ≡ false
-unfolding operands_of
-an_operand [] h = absurd (omega arith)
-an_operand (t ∷ ts) h = some_pieces (t ∷ ts)
-
-pub some_operand : (ts : List Token) → false ≡ (length ts == 0) → is_nothing (operands_of ts) ≡ false
-some_operand ts h = an_operand ts (grind (arith, h))
+-- the operands of pieces after the first, which is read
+pub operands_more : (old mid : List Operand) (n k : ℕ) (ts : List Token)
+    → Some k ≡ position is_comma ts → k < length ts
+    → option_map (λ x. old ++ x ∷ []) (operand n (take k ts)) ≡ Some mid
+    → option_map (λ xs. old ++ xs) (operands n (pieces ts))
+    ≡ option_map (λ xs. mid ++ xs) (operands (n + k + 1) (pieces (drop (k + 1) ts)))
+unfolding operands
+operands_more old mid n k ts e h i =
+    let rest = pieces (drop (k + 1) ts) in
+    let is : length (take k ts) ≡ k = length-take-le k ts (omega arith) in
+    rw (cut_pieces ts k e h)
+    (step old mid (operand n (take k ts)) (operands (n + length (take k ts) + 1) rest) i
+    ∙ ap (λ m. option_map (λ xs. mid ++ xs) (operands (n + m + 1) rest)) is)

@@ -1,61 +1,56 @@
 -- The expressions that tokens spell: atoms joined by signs.
 -- To audit: public contracts cite this.
 -- The language is this project's own: docs/ASSEMBLER.md.
-use Rattle.std.specs.Prelude.{ℕ, Bool, true, false, not, List, [], ◌∷◌, ◌++◌, Option, Some, None, if◌then◌else◌, codes}
+use Rattle.std.specs.Prelude.{ℕ, Bool, true, false, not, List, [], ◌∷◌, map, Option, Some, None, if◌then◌else◌, codes}
 use Rattle.std.specs.Option.{option_map}
 use Rattle.std.specs.Str.{bytes_eq}
 use Rattle.rv_tokens.specs.declared.token.Token.{Token}
-use Rattle.rv_tokens.specs.declared.token.Token.TheVariants.{Name, Digits, Number, Character, Local, Plus, Minus}
+use Rattle.rv_tokens.specs.declared.token.Token.TheVariants as t
 use Rattle.rv_source.specs.declared.expression.Term.{Term}
 use Rattle.rv_source.specs.declared.expression.Atom.{Atom}
-use Rattle.rv_source.specs.declared.expression.Atom.TheVariants as atom
-use Rattle.rv_source.specs.declared.expression.Wanted.{Wanted}
-use Rattle.rv_source.specs.declared.expression.Wanted.TheVariants.{Sign, Value}
+use Rattle.rv_source.specs.declared.expression.Atom.TheVariants as a
+use Rattle.rv_source.specs.declared.terms.Piece.{Piece}
+use Rattle.rv_source.specs.declared.terms.Piece.TheVariants as p
 
 -- whether a name is a symbol: one other than `.`
 abbrev pub is_symbol : List ℕ → Bool
-is_symbol name = if bytes_eq name (codes ".") then false else true
+is_symbol name = not (bytes_eq name (codes "."))
 
--- the atom of a token
-abbrev pub atom_of : Token → Option Atom
-atom_of (Name name) = if is_symbol name then Some (atom.Symbol name) else Some atom.Here
-atom_of (Digits n) = Some (atom.Number n)
-atom_of (Number n) = Some (atom.Number n)
-atom_of (Character b) = Some (atom.Number b)
-atom_of (Local n direction) = Some (atom.Local n direction)
-atom_of _ = None
+abbrev pub name_atom : List ℕ → Atom
+name_atom name = if is_symbol name then a.Symbol name else a.Here
 
--- whether a sign is a minus; None if the token isn't a sign
-abbrev pub sign_of : Token → Option Bool
-sign_of Plus = Some false
-sign_of Minus = Some true
-sign_of _ = None
+-- what a token is in an expression: a sign, which may be a minus, an atom, or neither
+abbrev pub piece_of : Token → Piece
+piece_of t.Plus = p.Sign false
+piece_of t.Minus = p.Sign true
+piece_of (t.Name name) = p.Atom (name_atom name)
+piece_of (t.Digits n) = p.Atom (a.Number n)
+piece_of (t.Number n) = p.Atom (a.Number n)
+piece_of (t.Character b) = p.Atom (a.Character b)
+piece_of (t.Local n direction) = p.Atom (a.Local n direction)
+piece_of _ = p.Other
 
 -- whether two signs together are a minus
 abbrev pub times : Bool → Bool → Bool
 times sign other = if sign then not other else other
 
--- terms in front of those of the rest
-abbrev pub with_terms : List Term → Option (List Term) → Option (List Term)
-with_terms terms more = option_map (λ us. terms ++ us) more
+-- a term in front of others
+abbrev pub with_term : Bool → Atom → Option (List Term) → Option (List Term)
+with_term sign atom terms = option_map (λ ts. record { negative = sign; atom = atom } ∷ ts) terms
 
--- The terms that tokens spell. A sign may come before a value as long as `more` allows one.
--- After a value the expression ends, or goes on with a sign, which one more sign may follow.
-unfoldable pub terms : Wanted → List Token → Option (List Term)
-terms Sign [] = Some []
-terms Sign (t ∷ ts) = elim (sign_of t) as (λ _. Option (List Term)) [
-  | Some sign ↦ terms (Value sign true) ts
-  | None ↦ None
-]
-terms (Value sign more) [] = None
-terms (Value sign more) (t ∷ ts) = elim (sign_of t) as (λ _. Option (List Term)) [
-  | Some other ↦ (if more then terms (Value (times sign other) false) ts else None)
-  | None ↦ (elim (atom_of t) as (λ _. Option (List Term)) [
-    | Some atom ↦ with_terms (record { negative = sign; atom = atom } ∷ []) (terms Sign ts)
-    | None ↦ None
-  ])
-]
+-- the terms after the first: each has one sign or two before it
+unfoldable pub further : List Piece → Option (List Term)
+further [] = Some []
+further (p.Sign s ∷ p.Atom x ∷ ps) = with_term s x (further ps)
+further (p.Sign s ∷ p.Sign r ∷ p.Atom x ∷ ps) = with_term (times s r) x (further ps)
+further _ = None
 
--- E: the expression that the tokens as a whole spell, with at most one sign before its first value
+-- a sum: a term with no sign or one before it, and further terms
+unfoldable pub sum : List Piece → Option (List Term)
+sum (p.Atom x ∷ ps) = with_term false x (further ps)
+sum (p.Sign s ∷ p.Atom x ∷ ps) = with_term s x (further ps)
+sum _ = None
+
+-- E: the expression that the tokens as a whole spell
 unfoldable pub value : List Token → Option (List Term)
-value = terms (Value false true)
+value ts = sum (map piece_of ts)

@@ -1,9 +1,7 @@
 pub mod Expressions
+pub mod Fields
 pub mod Operands
-pub mod Words
-pub mod Statements
-pub mod Said
-pub mod Reading
 pub mod Partial
-pub mod Registers
-pub mod Takers
+pub mod Reading
+pub mod Table
+pub mod Written

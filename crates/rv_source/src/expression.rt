@@ -1,12 +1,14 @@
-//! Expressions: sums of terms, each a number, a name or the line's own address.
+//! Expressions: sums of terms, each a number, a name or the statement's own address.
 use rv_tokens::{Direction, Name};
 use std::marker::Model;
 
 /// An atom of an expression: it has one value.
 #[derive(Drop)]
 pub enum Atom<'a> {
-    /// A number, or the byte of a character.
+    /// A number.
     Number(u32),
+    /// A character: the byte that it stands for.
+    Character(u8),
     /// A name other than `.`: a label or a constant.
     Symbol(Name<'a>),
     /// A reference to a local label with a number from 0 to 9999.
@@ -25,57 +27,58 @@ pub struct Term<'a> {
 /// An expression: the sum of its terms as whole numbers. It has at most as many terms as a line has bytes,
 /// 1,024. Its view is the list of them.
 pub struct Expression<'a> {
-    terms: Vec<Term<'a>>,
+    first: Term<'a>,
+    /// The terms after the first. Mostly there are none, and nothing is allocated.
+    more: Vec<Term<'a>>,
 }
 
 // Hand-written: a derived `Drop` would be proved anew at each exit (docs/PROVING.md).
 impl<'a> Drop for Expression<'a> {
     fn drop(self) {
-        let Expression { terms: _ } = self;
+        let Expression { first: _, more: _ } = self;
     }
 }
 
 impl<'a> Model for Expression<'a> {
-    ghost use Rattle.std.specs.Prelude.{List, length, ◌≤◌};
+    ghost use Rattle.std.specs.Prelude.{List, length, ◌<◌, ◌∷◌};
     ghost use Rattle.rv_source.specs.declared.expression.Term.{Term};
 
     ghost Value = { List Term };
 
-    ghost view = { λ e. e.terms.items };
+    ghost view = { λ e. e.first ∷ e.more.items };
 
-    ghost invariant = { λ e. length e.terms.items ≤ 1024 };
+    ghost invariant = { λ e. length e.more.items < 1024 };
 }
 
 impl<'a> Expression<'a> {
-    ghost use Rattle.std.specs.Prelude.{◌≡◌, ◌≤◌, length};
+    ghost use Rattle.std.specs.Prelude.{◌≡◌, ◌<◌, ◌∷◌, [], length};
+    ghost use Rattle.std.specs.Option.{option_map};
+    ghost use Rattle.rv_source.specs.Operands.{only_of};
 
-    /// Makes the sum of these terms.
-    pub(crate) fn new(terms: Vec<Term<'a>>) -> Self
-        requires { length terms.items ≤ 1024 }
-        ensures { result ≡ terms.entry.items }
+    /// Makes the sum of a term and more terms.
+    pub(crate) fn new(first: Term<'a>, more: Vec<Term<'a>>) -> Self
+        requires { length more.items < 1024 }
+        ensures { result ≡ first.entry ∷ more.entry.items }
     {
-        Expression { terms }
+        Expression { first, more }
     }
 
-    /// Returns the terms, from left to right.
-    pub fn terms(&self) -> &[Term<'a>]
-        ensures value { result.now ≡ self.now }
-        ensures short { length result.now ≤ 1024 }
+    /// Returns the first term, and the others from left to right.
+    pub fn terms(&self) -> (&Term<'a>, &[Term<'a>])
+        ensures value { result.0.now ∷ result.1.now ≡ self.now }
+        ensures short { length result.1.now < 1024 }
     {
-        self.terms.as_slice()
+        (&self.first, self.more.as_slice())
     }
-}
 
-/// The tokens that may come next in an expression.
-#[derive(Clone, Copy)]
-pub enum Wanted {
-    /// A sign, or the end of the expression.
-    Sign,
-    /// A value, possibly with one more sign before it.
-    Value {
-        /// Whether the signs before the value subtract it.
-        negative: bool,
-        /// Whether one more sign may come before the value.
-        more: bool,
-    },
+    /// Returns the atom of the only term, if it is added.
+    pub(crate) fn only(&self) -> Option<&Atom<'a>>
+        ensures { option_map (λ a. a.now) result ≡ only_of self.now }
+    {
+        if self.more.is_empty() && !self.first.negative {
+            Some(&self.first.atom)
+        } else {
+            None
+        }
+    }
 }

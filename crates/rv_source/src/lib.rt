@@ -3,25 +3,20 @@
 //! The language is this project's own: see docs/ASSEMBLER.md.
 #![tactic(auto)]
 
-mod directives;
 mod expression;
-mod fence;
-mod form;
-mod instructions;
+mod field;
 mod line;
 mod operand;
-mod places;
-mod pseudo;
 mod reader;
-mod refusal;
+mod row;
 mod statement;
 mod table;
-mod taker;
 mod terms;
+mod words;
 
-pub use expression::{Atom, Expression, Term, Wanted};
-pub use form::{Directive, Form, Instruction, Pseudo};
-pub use line::{Label, Line};
+pub use expression::{Atom, Expression, Term};
+pub use line::{Body, Label, Line, Operands};
+pub use operand::{Form, Operand, Part};
 pub use reader::read_line;
-pub use rv_tokens::{Direction, LineFault, Name};
-pub use statement::{Bytes, Csr, Immediate, ImmediateTaker, Statement, Upper, ValueTaker, Values};
+pub use rv_tokens::{Direction, LineFault, Name, Text};
+pub use statement::{Statement, Strings, Value, Values};

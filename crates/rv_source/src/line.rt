@@ -1,5 +1,8 @@
 //! Lines of a source.
-use crate::Statement;
+ghost use Rattle.std.specs.Prelude.{◌≡◌};
+
+use crate::table::meaning;
+use crate::{LineFault, Operand, Statement};
 use rv_tokens::Name;
 use std::marker::Model;
 
@@ -12,38 +15,79 @@ pub enum Label<'a> {
     Local(u16),
 }
 
-/// A line as read: its labels and its statement.
+/// The operands of a statement. The view is the list of them.
+#[derive(Drop)]
+pub struct Operands<'a>(Vec<Operand<'a>>);
+
+impl<'a> Model for Operands<'a> {
+    ghost use Rattle.std.specs.Prelude.{List};
+    ghost use Rattle.rv_source.specs.declared.operand.Operand.{Operand};
+
+    ghost Value = { List Operand };
+
+    ghost view = { λ o. o.0.items };
+}
+
+impl<'a> Operands<'a> {
+    ghost use Rattle.std.specs.Prelude.{◌≡◌};
+
+    /// Makes the list of these operands.
+    pub(crate) fn new(operands: Vec<Operand<'a>>) -> Self
+        ensures { result ≡ operands.entry.items }
+    {
+        Operands(operands)
+    }
+
+    /// Returns the operands, from left to right.
+    pub fn as_slice(&self) -> &[Operand<'a>]
+        ensures { result.now ≡ self.now }
+    {
+        self.0.as_slice()
+    }
+}
+
+/// What a line has after its labels.
+#[derive(Drop)]
+pub enum Body<'a> {
+    Nothing,
+    /// A directive without effect, with any tokens after it.
+    Marker,
+    /// Any other word with its operands.
+    Word {
+        word: Name<'a>,
+        operands: Operands<'a>,
+    },
+}
+
+/// A line as written: its labels, a word and its operands.
 pub struct Line<'a> {
     labels: Vec<Label<'a>>,
-    statement: Option<Statement<'a>>,
+    body: Body<'a>,
 }
 
 // Hand-written: a derived `Drop` would be proved anew at each exit (docs/PROVING.md).
 impl<'a> Drop for Line<'a> {
     fn drop(self) {
-        let Line {
-            labels: _,
-            statement: _,
-        } = self;
+        let Line { labels: _, body: _ } = self;
     }
 }
 
 impl<'a> Model for Line<'a> {
-    ghost use Rattle.rv_source.specs.Said.{Said};
+    ghost use Rattle.rv_source.specs.Written.{Written};
 
-    ghost Value = { Said };
+    ghost Value = { Written };
 
-    ghost view = { λ l. record { labels = l.labels.items; statement = l.statement } };
+    ghost view = { λ l. record { labels = l.labels.items; body = l.body } };
 }
 
 impl<'a> Line<'a> {
     ghost use Rattle.std.specs.Prelude.{◌≡◌};
-    ghost use Rattle.std.specs.Option.{option_map};
+    ghost use Rattle.rv_source.specs.Reading.{statement_of};
 
-    pub(crate) fn new(labels: Vec<Label<'a>>, statement: Option<Statement<'a>>) -> Self
-        ensures { result ≡ record { labels = labels.entry.items; statement = statement.entry } }
+    pub(crate) fn new(labels: Vec<Label<'a>>, body: Body<'a>) -> Self
+        ensures { result ≡ record { labels = labels.entry.items; body = body.entry } }
     {
-        Line { labels, statement }
+        Line { labels, body }
     }
 
     /// Returns the labels, from left to right.
@@ -53,10 +97,22 @@ impl<'a> Line<'a> {
         self.labels.as_slice()
     }
 
-    /// Returns the statement, if the line has one.
-    pub fn statement(&self) -> Option<&Statement<'a>>
-        ensures { option_map (λ s. s.now) result ≡ self.now.statement }
+    /// Returns the statement, if the line has one. It takes no memory.
+    ///
+    /// # Errors
+    ///
+    /// `UnknownWord` if the word is neither a mnemonic nor a directive, else `BadOperands` if it doesn't take the
+    /// operands.
+    pub fn statement<'t>(&'t self) -> Result<Option<Statement<'t, 'a>>, LineFault>
+        ensures { result ≡ statement_of self.now.body }
     {
-        self.statement.as_ref()
+        match &self.body {
+            Body::Nothing => Ok(None),
+            Body::Marker => Ok(Some(Statement::Marker)),
+            Body::Word { word, operands } => match meaning(word.bytes(), operands.as_slice()) {
+                Ok(statement) => Ok(Some(statement)),
+                Err(fault) => Err(fault),
+            },
+        }
     }
 }

@@ -1,40 +1,21 @@
 //! Reads lines.
-ghost use Rattle.std.specs.Prelude.{◌≡◌, ◌<◌, ◌≤◌, length, IfSome};
-ghost use Rattle.std.specs.Option.{option_map};
+ghost use Rattle.std.specs.Prelude.{◌≡◌, ◌≤◌, length, IfOk, IfSome};
 ghost use Rattle.rv_tokens.specs.Faults.{Gives};
 ghost use Rattle.rv_tokens.specs.Parts.{IsCutInto};
 ghost use Rattle.rv_tokens.specs.Tokens.{tokens};
-ghost use Rattle.rv_source.specs.Operands.{operands_of};
-ghost use Rattle.rv_source.specs.Partial.{Finds};
-ghost use Rattle.rv_source.specs.Reading.{label_of, rest_of, before_colon, line_of, said};
-ghost use Rattle.rv_source.specs.Statements.{meaning};
+ghost use Rattle.rv_source.specs.Partial.{left_after, with_labels};
+ghost use Rattle.rv_source.specs.Reading.{body_of, label_of, labels_of, line_of, written};
 
-use crate::directives::read_directive;
-use crate::form::{Directive, Form};
-use crate::instructions::read_instruction;
-use crate::operand::{are_operands, behind};
-use crate::pseudo::read_pseudo;
-use crate::refusal::Refusal;
-use crate::table::form_of;
+use crate::line::{Body, Operands};
+use crate::operand::read_operands;
+use crate::table::is_marker;
 use crate::terms::is_symbol;
-use crate::{Label, Line, LineFault, Statement};
+use crate::{Label, Line, LineFault};
 use rv_tokens::{Token, cut_line};
-use std::alloc::Global;
-
-/// Reads the statement of a form with these operands.
-fn read_form<'a>(alloc: Global, form: Form, tokens: &[Token<'a>]) -> Result<Statement<'a>, Refusal>
-    requires { length tokens.now ≤ 1024 }
-    ensures { Finds (λ s. s) result (meaning form (operands_of tokens.now)) }
-{
-    match form {
-        Form::Instruction(form) => read_instruction(alloc, form, tokens),
-        Form::Pseudo(form) => read_pseudo(alloc, form, tokens),
-        Form::Directive(form) => read_directive(alloc, form, tokens),
-    }
-}
+use std::alloc::{AllocError, Global};
 
 /// Reads a token before a colon as a label.
-fn label<'a>(token: &Token<'a>) -> Option<Label<'a>>
+fn label_of<'a>(token: &Token<'a>) -> Option<Label<'a>>
     ensures { result ≡ label_of token.now }
 {
     match token {
@@ -50,83 +31,91 @@ fn label<'a>(token: &Token<'a>) -> Option<Label<'a>>
     }
 }
 
-/// Returns the first token, if a colon follows it.
-fn before_colon<'t, 'a>(tokens: &'t [Token<'a>]) -> Option<&'t Token<'a>>
-    ensures value { option_map (λ t. t.now) result ≡ before_colon tokens.now }
-    ensures within { IfSome result (λ _. 1 < length tokens.now) }
+/// Reads labels, appends them, and returns the tokens after them; `None` if a token before a colon isn't a
+/// label.
+#[tactic(auto, unfolding(crate::specs::Reading::labels_of))]
+fn read_labels<'t, 'a>(
+    out: &mut Vec<Label<'a>>,
+    line: &'t [Token<'a>],
+) -> Result<Option<&'t [Token<'a>]>, AllocError>
+    ensures reads { IfOk result (λ rest. with_labels out.old.items (labels_of line.now) ≡ left_after out.new.items rest) }
+    ensures shorter { IfOk result (λ rest. IfSome rest (λ ts. length ts.now ≤ length line.now)) }
 {
-    let [first, second, ..] = tokens else {
-        return None;
+    let [first, second, rest @ ..] = line else {
+        return Ok(Some(line));
     };
     match second {
-        Token::Colon => Some(first),
-        _ => None,
+        Token::Colon => match label_of(first) {
+            Some(label) => {
+                out.push(label)?;
+                read_labels(out, rest)
+            }
+            None => Ok(None),
+        },
+        _ => Ok(Some(line)),
     }
 }
 
-/// Reads a statement, or nothing if there are no tokens.
-#[tactic(auto, unfolding(crate::specs::Reading::statement_of))]
-fn read_rest<'a>(alloc: Global, tokens: &[Token<'a>]) -> Result<Option<Statement<'a>>, LineFault>
-    requires { length tokens.now ≤ 1024 }
-    ensures { Gives (λ s. s) result (rest_of tokens.now) }
+/// Reads the tokens after the labels of a line that has `count` tokens.
+fn read_body<'a>(
+    alloc: Global,
+    count: usize,
+    line: &[Token<'a>],
+) -> Result<Option<Body<'a>>, AllocError>
+    requires within { length line.now ≤ count }
+    requires short { count ≤ 1024 }
+    ensures { IfOk result (λ body. body ≡ body_of count line.now) }
 {
-    let [first, operands @ ..] = tokens else {
-        return Ok(None);
+    let [first, rest @ ..] = line else {
+        return Ok(Some(Body::Nothing));
     };
     let Token::Name(word) = first else {
-        return Err(LineFault::Syntax);
+        return Ok(None);
     };
-    let form = form_of(word.bytes());
-    if let Some(Form::Directive(Directive::Marker)) = form {
-        return Ok(Some(Statement::Marker));
+    if is_marker(word.bytes()) {
+        return Ok(Some(Body::Marker));
     }
-    if !are_operands(operands) {
-        return Err(LineFault::Syntax);
-    }
-    let Some(form) = form else {
-        return Err(LineFault::UnknownWord);
-    };
-    match read_form(alloc, form, operands) {
-        Ok(statement) => Ok(Some(statement)),
-        Err(Refusal::BadOperands) => Err(LineFault::BadOperands),
-        Err(Refusal::OutOfMemory) => Err(LineFault::OutOfMemory),
+    match read_operands(alloc, count - rest.len(), rest)? {
+        Some(operands) => Ok(Some(Body::Word {
+            word: word.again(),
+            operands: Operands::new(operands),
+        })),
+        None => Ok(None),
     }
 }
 
 /// Reads the tokens of a line.
-fn read_tokens<'a>(alloc: Global, tokens: &[Token<'a>]) -> Result<Line<'a>, LineFault>
-    requires { length tokens.now ≤ 1024 }
-    ensures { Gives (λ l. l) result (line_of tokens.now) }
+fn read_tokens<'a>(alloc: Global, line: &[Token<'a>]) -> Result<Option<Line<'a>>, AllocError>
+    requires { length line.now ≤ 1024 }
+    ensures { IfOk result (λ l. l ≡ line_of line.now) }
 {
     let mut labels = Vec::new(alloc);
-    let mut rest = tokens;
-    while let Some(first) = before_colon(rest) {
-        let Some(label) = label(first) else {
-            return Err(LineFault::Syntax);
-        };
-        labels.push(label)?;
-        rest = behind(rest, 1);
-    }
-    match read_rest(alloc, rest) {
-        Ok(statement) => Ok(Line::new(labels, statement)),
-        Err(fault) => Err(fault),
+    let Some(rest) = read_labels(&mut labels, line)? else {
+        return Ok(None);
+    };
+    match read_body(alloc, line.len(), rest)? {
+        Some(body) => Ok(Some(Line::new(labels, body))),
+        None => Ok(None),
     }
 }
 
-/// Reads a line, without its line end.
+/// Reads a line, without its line end. `Line::statement` says what its word and operands stand for.
 ///
 /// # Errors
 ///
-/// `LineTooLong`, `BadByte` or `Syntax` if the line can't be cut into tokens; else the first of `Syntax`,
-/// `UnknownWord` and
-/// `BadOperands` that applies. `OutOfMemory` may come in place of any result.
-#[tactic(auto, unfolding(crate::specs::Reading::said))]
+/// `LineTooLong`, `BadByte` or `Syntax` if the line can't be cut into tokens; else `Syntax` if they aren't labels
+/// and a statement. `OutOfMemory` may come in place of any result.
+#[tactic(auto, unfolding(crate::specs::Reading::written))]
 pub fn read_line<'a>(alloc: Global, text: &'a [u8]) -> Result<Line<'a>, LineFault>
     ensures cut { IsCutInto text.now (tokens text.now) }
-    ensures says { Gives (λ l. l) result (said text.now) }
+    ensures written { Gives (λ l. l) result (written text.now) }
 {
     match cut_line(alloc, text) {
-        Ok(tokens) => read_tokens(alloc, &tokens),
+        Ok(line) => match read_tokens(alloc, &line) {
+            Ok(Some(line)) => Ok(line),
+            Ok(None) => Err(LineFault::Syntax),
+            Err(_) => Err(LineFault::OutOfMemory),
+        },
         Err(fault) => Err(fault),
     }
 }

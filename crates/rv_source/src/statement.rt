@@ -1,244 +1,212 @@
 //! Statements: mnemonics and directives with their operands, before expressions are evaluated.
-use crate::Expression;
-use rv_isa::{Cond, CsrOp, ImmOp, Instr, LoadOp, Reg, ShiftOp, Width};
+ghost use Rattle.std.specs.Prelude.{◌≡◌, ◌++◌, OnOk, length, min};
+ghost use Rattle.rv_source.specs.Operands.{bytes_of, strings};
+
+use crate::{Form, Operand};
+use rv_isa::{Instr, Reg, Width};
 use rv_tokens::Name;
+use std::alloc::AllocError;
 use std::marker::Model;
 
-/// The number of a control register: 0 to 4095, whether it exists or not.
-///
-/// RISC-V Unprivileged ISA 20191213, section 9.1.
-#[derive(Clone, Copy)]
-pub struct Csr(u16);
+/// An operand whose value is taken, borrowed from its line. Its view is the operand.
+#[derive(Drop)]
+pub struct Value<'t, 'a>(&'t Operand<'a>);
 
-impl Model for Csr {
-    ghost use Rattle.std.specs.Prelude.{ℕ, ◌<◌};
+impl<'t, 'a> Model for Value<'t, 'a> {
+    ghost use Rattle.rv_source.specs.declared.operand.Operand.{Operand};
 
-    ghost Value = { ℕ };
+    ghost Value = { Operand };
 
-    ghost view = { λ c. c.0 };
-
-    ghost invariant = { λ c. c.0 < 4096 };
-
-    ghost inverse = { λ n. record { 0 = n } };
+    ghost view = { λ v. v.0.now };
 }
 
-impl Csr {
-    ghost use Rattle.std.specs.Prelude.{◌≡◌, ◌<◌};
+impl<'t, 'a> Value<'t, 'a> {
+    ghost use Rattle.std.specs.Prelude.{◌≡◌};
 
-    /// Makes the control register with a number.
-    pub(crate) fn new(number: u16) -> Csr
-        requires { number < 4096 }
-        ensures { result ≡ number }
+    /// Makes the value of an operand.
+    pub(crate) fn new(operand: &'t Operand<'a>) -> Self
+        ensures { result ≡ operand.now }
     {
-        Csr(number)
+        Value(operand)
     }
 
-    /// Returns the number: 0 to 4095.
-    pub fn number(self) -> u16
-        ensures value { result ≡ self }
-        ensures below { result < 4096 }
+    /// Returns the operand.
+    pub fn operand(&self) -> &'t Operand<'a>
+        ensures { result.now ≡ self.now }
     {
         self.0
     }
 }
 
-/// The source of a 12-bit immediate.
+/// The operands of a data directive, borrowed from their line. The view is the list of them.
 #[derive(Drop)]
-pub enum Immediate<'a> {
-    /// Nothing, as in `lw a0,(a1)`: 0.
-    Zero,
-    /// An expression.
-    Sum(Expression<'a>),
-    /// `%lo`: the low part of an expression.
-    Low(Expression<'a>),
-}
+pub struct Values<'t, 'a>(&'t [Operand<'a>]);
 
-/// The source of a 20-bit immediate.
-#[derive(Drop)]
-pub enum Upper<'a> {
-    /// An expression.
-    Sum(Expression<'a>),
-    /// `%hi`: the high part of an expression.
-    High(Expression<'a>),
-}
-
-/// The values of a data directive. The view is the list of them.
-#[derive(Drop)]
-pub struct Values<'a>(Vec<Expression<'a>>);
-
-impl<'a> Model for Values<'a> {
+impl<'t, 'a> Model for Values<'t, 'a> {
     ghost use Rattle.std.specs.Prelude.{List};
-    ghost use Rattle.rv_source.specs.declared.expression.Term.{Term};
+    ghost use Rattle.rv_source.specs.declared.operand.Operand.{Operand};
 
-    ghost Value = { List (List Term) };
+    ghost Value = { List Operand };
 
-    ghost view = { λ v. v.0.items };
+    ghost view = { λ v. v.0.now };
 }
 
-impl<'a> Values<'a> {
+impl<'t, 'a> Values<'t, 'a> {
     ghost use Rattle.std.specs.Prelude.{◌≡◌};
 
-    /// Makes the list of these values.
-    pub(crate) fn new(values: Vec<Expression<'a>>) -> Self
-        ensures { result ≡ values.entry.items }
+    /// Makes the list of these operands.
+    pub(crate) fn new(operands: &'t [Operand<'a>]) -> Self
+        ensures { result ≡ operands.now }
     {
-        Values(values)
+        Values(operands)
     }
 
-    /// Returns the values, from left to right.
-    pub fn as_slice(&self) -> &[Expression<'a>]
+    /// Returns the operands, from left to right.
+    pub fn as_slice(&self) -> &'t [Operand<'a>]
         ensures { result.now ≡ self.now }
     {
-        self.0.as_slice()
+        self.0
     }
 }
 
-/// The bytes of strings. The view is the list of them.
-#[derive(Drop)]
-pub struct Bytes(Vec<u8>);
+/// Returns the number of bytes of an operand that is a string.
+fn text_len(operand: &Operand) -> usize
+    ensures { result ≡ length (bytes_of operand.now) }
+{
+    match &operand.form {
+        Form::Text(text) => text.len(),
+        _ => 0,
+    }
+}
 
-impl Model for Bytes {
+/// Appends the bytes of an operand that is a string.
+fn append_text(operand: &Operand, out: &mut Vec<u8>) -> Result<(), AllocError>
+    ensures { OnOk result (out.new.items ≡ out.old.items ++ bytes_of operand.now) }
+{
+    match &operand.form {
+        Form::Text(text) => text.append_to(out),
+        _ => Ok(()),
+    }
+}
+
+/// Appends the bytes of strings, each followed by a byte 0 if they are terminated.
+#[tactic(auto, unfolding(crate::specs::Operands::strings))]
+fn append(terminated: bool, texts: &[Operand], out: &mut Vec<u8>) -> Result<(), AllocError>
+    ensures { OnOk result (out.new.items ≡ out.old.items ++ strings terminated texts.now) }
+{
+    let [first, rest @ ..] = texts else {
+        return Ok(());
+    };
+    append_text(first, out)?;
+    if terminated {
+        out.push(0)?;
+    }
+    append(terminated, rest, out)
+}
+
+/// Returns the number of bytes of strings, saturated at 2^32 - 1.
+#[tactic(auto, unfolding(crate::specs::Operands::strings))]
+fn size(terminated: bool, texts: &[Operand]) -> u32
+    ensures { result ≡ min (length (strings terminated texts.now)) 0xffffffff }
+{
+    let [first, rest @ ..] = texts else {
+        return 0;
+    };
+    let bytes = text_len(first).min(0xffff_ffff) as u32;
+    bytes
+        .saturating_add(u32::from(terminated))
+        .saturating_add(size(terminated, rest))
+}
+
+/// The strings of a directive, borrowed from their line. The view is their bytes, each string followed by a byte 0
+/// if they are terminated.
+#[derive(Drop)]
+pub struct Strings<'t, 'a> {
+    terminated: bool,
+    texts: &'t [Operand<'a>],
+}
+
+impl<'t, 'a> Model for Strings<'t, 'a> {
     ghost use Rattle.std.specs.Prelude.{List, ℕ};
+    ghost use Rattle.rv_source.specs.Operands.{strings};
 
     ghost Value = { List ℕ };
 
-    ghost view = { λ b. b.0.items };
+    ghost view = { λ s. strings s.terminated s.texts.now };
 }
 
-impl Bytes {
-    ghost use Rattle.std.specs.Prelude.{◌≡◌};
+impl<'t, 'a> Strings<'t, 'a> {
+    ghost use Rattle.std.specs.Prelude.{◌≡◌, ◌++◌, OnOk, length, min};
+    ghost use Rattle.rv_source.specs.Operands.{strings};
 
-    /// Makes the list of these bytes.
-    pub(crate) fn new(bytes: Vec<u8>) -> Self
-        ensures { result ≡ bytes.items }
+    /// Makes the strings of operands.
+    pub(crate) fn new(terminated: bool, texts: &'t [Operand<'a>]) -> Self
+        ensures { result ≡ strings terminated texts.now }
     {
-        Bytes(bytes)
+        Strings { terminated, texts }
     }
 
-    /// Returns the bytes, from left to right.
-    pub fn as_slice(&self) -> &[u8]
-        ensures { result.now ≡ self.now }
+    /// Returns the number of bytes, saturated at 2^32 - 1.
+    pub fn size(&self) -> u32
+        ensures { result ≡ min (length self.now) 0xffffffff }
     {
-        self.0.as_slice()
+        size(self.terminated, self.texts)
+    }
+
+    /// Appends the bytes.
+    pub fn append_to(&self, out: &mut Vec<u8>) -> Result<(), AllocError>
+        ensures { OnOk result (out.new.items ≡ out.old.items ++ self.now) }
+    {
+        append(self.terminated, self.texts, out)
     }
 }
 
-/// An instruction without its 12-bit immediate.
-#[derive(Clone, Copy)]
-pub enum ImmediateTaker {
-    Jalr {
-        rd: Reg,
-        base: Reg,
+/// A statement of a line. Where an instruction waits for a value, its field is 0.
+#[derive(Drop)]
+pub enum Statement<'t, 'a> {
+    /// An instruction that waits for nothing.
+    Instruction(Instr),
+    /// An instruction that waits for the part of a value.
+    WithValue {
+        instr: Instr,
+        value: Value<'t, 'a>,
     },
-    Load {
-        op: LoadOp,
-        rd: Reg,
-        base: Reg,
+    /// Two instructions that reach a target, however far: AUIPC into `scratch`, which takes the upper part of the
+    /// distance, and one that takes the lower part.
+    Far {
+        scratch: Reg,
+        instr: Instr,
+        target: Value<'t, 'a>,
     },
-    Store {
-        width: Width,
-        source: Reg,
-        base: Reg,
-    },
-    OpImm {
-        op: ImmOp,
-        rd: Reg,
-        rs1: Reg,
-    },
-}
-
-/// A statement without its one value.
-#[derive(Clone, Copy)]
-pub enum ValueTaker {
-    Auipc {
-        rd: Reg,
-    },
-    /// A jump to the value.
-    Jal {
-        rd: Reg,
-    },
-    /// A branch to the value.
-    Branch {
-        cond: Cond,
-        rs1: Reg,
-        rs2: Reg,
-    },
-    Shift {
-        op: ShiftOp,
-        rd: Reg,
-        rs1: Reg,
-    },
-    CsrImm {
-        op: CsrOp,
-        rd: Reg,
-        csr: Csr,
-    },
-    /// Loads the value, by one or two instructions.
+    /// `li`: the value is loaded by one or two instructions.
     Li {
         rd: Reg,
-    },
-    /// AUIPC and ADDI: loads the value, an address, into `rd`.
-    La {
-        rd: Reg,
-    },
-    /// AUIPC into `scratch` and JALR: a jump to the value, however far. `link` gets the address following the
-    /// two.
-    Call {
-        link: Reg,
-        scratch: Reg,
-    },
-    /// AUIPC into `rd` and a load from the value, an address.
-    LoadFrom {
-        op: LoadOp,
-        rd: Reg,
-    },
-    /// AUIPC into `scratch` and a store to the value, an address.
-    StoreTo {
-        width: Width,
-        source: Reg,
-        scratch: Reg,
-    },
-    /// Padding to a multiple of 2 to the value.
-    Align,
-    /// Padding to a multiple of the value.
-    Balign,
-}
-
-/// A statement of a line.
-#[derive(Drop)]
-pub enum Statement<'a> {
-    /// An instruction without an expression.
-    Instruction(Instr),
-    Lui {
-        rd: Reg,
-        imm: Upper<'a>,
-    },
-    /// An instruction with a 12-bit immediate.
-    WithImmediate {
-        taker: ImmediateTaker,
-        imm: Immediate<'a>,
-    },
-    /// A statement with one value.
-    WithValue {
-        taker: ValueTaker,
-        value: Expression<'a>,
+        value: Value<'t, 'a>,
     },
     /// Values of a width.
     Data {
         width: Width,
-        values: Values<'a>,
+        values: Values<'t, 'a>,
     },
     /// The bytes of strings.
-    Bytes(Bytes),
+    Bytes(Strings<'t, 'a>),
     /// As many bytes as `size` says, each of them `fill`, or 0 if it is None.
     Space {
-        size: Expression<'a>,
-        fill: Option<Expression<'a>>,
+        size: Value<'t, 'a>,
+        fill: Option<Value<'t, 'a>>,
+    },
+    /// Padding to a multiple of 2 to the power.
+    Align {
+        power: Value<'t, 'a>,
+    },
+    /// Padding to a multiple.
+    Balign {
+        multiple: Value<'t, 'a>,
     },
     /// `.equ`: a name and its value.
     Constant {
         name: Name<'a>,
-        value: Expression<'a>,
+        value: Value<'t, 'a>,
     },
     /// A directive without effect, as `.text`.
     Marker,

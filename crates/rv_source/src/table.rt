@@ -1,183 +1,277 @@
-//! The tables of mnemonics and directives with their forms, in the order of docs/ASSEMBLER.md.
-ghost use Rattle.std.specs.Prelude.{◌≡◌};
-ghost use Rattle.rv_base.specs.Tables.{lookup};
-ghost use Rattle.rv_source.specs.Words.{form_of, instruction_words, pseudo_words, directive_words};
+//! The statement of a word with its operands.
+ghost use Rattle.std.specs.Prelude.{◌≡◌, ◌∷◌, [], map};
+ghost use Rattle.std.specs.List.{list_any};
+ghost use Rattle.std.specs.Str.{bytes_eq};
+ghost use Rattle.rv_isa.specs.Mnemonics.{blank};
+ghost use Rattle.rv_source.specs.Operands.{is_nothing};
+ghost use Rattle.rv_source.specs.Partial.{row_of, rows};
+ghost use Rattle.rv_source.specs.Table.{constant, filled, first_fit, is_marker, jalr_rows, meaning, meant, of_kind, of_word, words, waiting, near, far};
 
-use crate::form::{Directive, Form, Instruction, Pseudo};
-use rv_base::look_up;
-use rv_isa::{AluOp, Cond, CsrOp, ImmOp, LoadOp, ShiftOp, Width};
+use crate::field::{Fields, given, in_role, in_roles, instruction, name};
+use crate::row::Role::{After, Before, Both, Csr, Imm, Memory, Rd, Rs1, Rs2, Upper, Value};
+use crate::row::{Given, Role, Row, Template};
+use crate::words::{MARKERS, WORDS};
+use crate::{LineFault, Operand, Statement, Strings, Values};
+use rv_isa::{Instr, Kind, Operation, operation_named};
 
-/// The mnemonics of instructions.
-static INSTRUCTIONS: [(&str, Instruction); 57] = [
-    ("lui", Instruction::Lui),
-    ("auipc", Instruction::Auipc),
-    ("jal", Instruction::Jal),
-    ("jalr", Instruction::Jalr),
-    ("beq", Instruction::Branch(Cond::Eq)),
-    ("bne", Instruction::Branch(Cond::Ne)),
-    ("blt", Instruction::Branch(Cond::Lt)),
-    ("bge", Instruction::Branch(Cond::Ge)),
-    ("bltu", Instruction::Branch(Cond::Ltu)),
-    ("bgeu", Instruction::Branch(Cond::Geu)),
-    ("lb", Instruction::Load(LoadOp::Lb)),
-    ("lh", Instruction::Load(LoadOp::Lh)),
-    ("lw", Instruction::Load(LoadOp::Lw)),
-    ("lbu", Instruction::Load(LoadOp::Lbu)),
-    ("lhu", Instruction::Load(LoadOp::Lhu)),
-    ("sb", Instruction::Store(Width::One)),
-    ("sh", Instruction::Store(Width::Two)),
-    ("sw", Instruction::Store(Width::Four)),
-    ("addi", Instruction::OpImm(ImmOp::Addi)),
-    ("slti", Instruction::OpImm(ImmOp::Slti)),
-    ("sltiu", Instruction::OpImm(ImmOp::Sltiu)),
-    ("xori", Instruction::OpImm(ImmOp::Xori)),
-    ("ori", Instruction::OpImm(ImmOp::Ori)),
-    ("andi", Instruction::OpImm(ImmOp::Andi)),
-    ("slli", Instruction::Shift(ShiftOp::Slli)),
-    ("srli", Instruction::Shift(ShiftOp::Srli)),
-    ("srai", Instruction::Shift(ShiftOp::Srai)),
-    ("add", Instruction::Op(AluOp::Add)),
-    ("sub", Instruction::Op(AluOp::Sub)),
-    ("sll", Instruction::Op(AluOp::Sll)),
-    ("slt", Instruction::Op(AluOp::Slt)),
-    ("sltu", Instruction::Op(AluOp::Sltu)),
-    ("xor", Instruction::Op(AluOp::Xor)),
-    ("srl", Instruction::Op(AluOp::Srl)),
-    ("sra", Instruction::Op(AluOp::Sra)),
-    ("or", Instruction::Op(AluOp::Or)),
-    ("and", Instruction::Op(AluOp::And)),
-    ("mul", Instruction::Op(AluOp::Mul)),
-    ("mulh", Instruction::Op(AluOp::Mulh)),
-    ("mulhsu", Instruction::Op(AluOp::Mulhsu)),
-    ("mulhu", Instruction::Op(AluOp::Mulhu)),
-    ("div", Instruction::Op(AluOp::Div)),
-    ("divu", Instruction::Op(AluOp::Divu)),
-    ("rem", Instruction::Op(AluOp::Rem)),
-    ("remu", Instruction::Op(AluOp::Remu)),
-    ("csrrw", Instruction::Csr(CsrOp::Write)),
-    ("csrrs", Instruction::Csr(CsrOp::Set)),
-    ("csrrc", Instruction::Csr(CsrOp::Clear)),
-    ("csrrwi", Instruction::CsrImm(CsrOp::Write)),
-    ("csrrsi", Instruction::CsrImm(CsrOp::Set)),
-    ("csrrci", Instruction::CsrImm(CsrOp::Clear)),
-    ("fence", Instruction::Fence),
-    ("fence.i", Instruction::FenceI),
-    ("ecall", Instruction::Ecall),
-    ("ebreak", Instruction::Ebreak),
-    ("mret", Instruction::Mret),
-    ("wfi", Instruction::Wfi),
-];
-
-/// The mnemonics of pseudo-instructions.
-static PSEUDOS: [(&str, Pseudo); 33] = [
-    ("nop", Pseudo::Nop),
-    ("mv", Pseudo::Mv),
-    ("not", Pseudo::Not),
-    ("neg", Pseudo::Neg),
-    ("seqz", Pseudo::Seqz),
-    ("snez", Pseudo::Snez),
-    ("sltz", Pseudo::Sltz),
-    ("sgtz", Pseudo::Sgtz),
-    ("beqz", Pseudo::BranchZero(Cond::Eq)),
-    ("bnez", Pseudo::BranchZero(Cond::Ne)),
-    ("blez", Pseudo::ZeroBranch(Cond::Ge)),
-    ("bgez", Pseudo::BranchZero(Cond::Ge)),
-    ("bltz", Pseudo::BranchZero(Cond::Lt)),
-    ("bgtz", Pseudo::ZeroBranch(Cond::Lt)),
-    ("bgt", Pseudo::BranchSwapped(Cond::Lt)),
-    ("ble", Pseudo::BranchSwapped(Cond::Ge)),
-    ("bgtu", Pseudo::BranchSwapped(Cond::Ltu)),
-    ("bleu", Pseudo::BranchSwapped(Cond::Geu)),
-    ("j", Pseudo::Jump),
-    ("jr", Pseudo::JumpRegister),
-    ("ret", Pseudo::Return),
-    ("csrr", Pseudo::CsrRead),
-    ("csrw", Pseudo::CsrChange(CsrOp::Write)),
-    ("csrs", Pseudo::CsrChange(CsrOp::Set)),
-    ("csrc", Pseudo::CsrChange(CsrOp::Clear)),
-    ("csrwi", Pseudo::CsrChangeImm(CsrOp::Write)),
-    ("csrsi", Pseudo::CsrChangeImm(CsrOp::Set)),
-    ("csrci", Pseudo::CsrChangeImm(CsrOp::Clear)),
-    ("li", Pseudo::Li),
-    ("la", Pseudo::La),
-    ("lla", Pseudo::La),
-    ("call", Pseudo::Call),
-    ("tail", Pseudo::Tail),
-];
-
-/// The directives.
-static DIRECTIVES: [(&str, Directive); 32] = [
-    (".word", Directive::Data(Width::Four)),
-    (".long", Directive::Data(Width::Four)),
-    (".4byte", Directive::Data(Width::Four)),
-    (".half", Directive::Data(Width::Two)),
-    (".short", Directive::Data(Width::Two)),
-    (".2byte", Directive::Data(Width::Two)),
-    (".byte", Directive::Data(Width::One)),
-    (".ascii", Directive::Text { terminated: false }),
-    (".asciz", Directive::Text { terminated: true }),
-    (".string", Directive::Text { terminated: true }),
-    (".space", Directive::Space),
-    (".skip", Directive::Space),
-    (".zero", Directive::Space),
-    (".align", Directive::Align),
-    (".p2align", Directive::Align),
-    (".balign", Directive::Balign),
-    (".equ", Directive::Constant),
-    (".set", Directive::Constant),
-    (".text", Directive::Marker),
-    (".data", Directive::Marker),
-    (".rodata", Directive::Marker),
-    (".bss", Directive::Marker),
-    (".section", Directive::Marker),
-    (".globl", Directive::Marker),
-    (".global", Directive::Marker),
-    (".local", Directive::Marker),
-    (".option", Directive::Marker),
-    (".type", Directive::Marker),
-    (".size", Directive::Marker),
-    (".file", Directive::Marker),
-    (".ident", Directive::Marker),
-    (".attribute", Directive::Marker),
-];
-
-/// Returns the form of an instruction's mnemonic.
-#[tactic(auto, unfolding(crate::specs::Words::instruction_words))]
-fn instruction_of(word: &[u8]) -> Option<Instruction>
-    ensures { result ≡ lookup word.now instruction_words }
+/// Returns the statement of an instruction, which may wait for a value.
+fn waiting<'t, 'a>(instr: Instr, value: Option<crate::Value<'t, 'a>>) -> Statement<'t, 'a>
+    ensures { result ≡ waiting instr value.entry }
 {
-    look_up(&INSTRUCTIONS, word)
+    match value {
+        None => Statement::Instruction(instr),
+        Some(value) => Statement::WithValue { instr, value },
+    }
 }
 
-/// Returns the form of a pseudo-instruction's mnemonic.
-#[tactic(auto, unfolding(crate::specs::Words::pseudo_words))]
-fn pseudo_of(word: &[u8]) -> Option<Pseudo>
-    ensures { result ≡ lookup word.now pseudo_words }
+/// Returns the statement of `.equ` with these fields.
+fn constant<'t, 'a>(fields: Fields<'t, 'a>) -> Option<Statement<'t, 'a>>
+    ensures { result ≡ constant fields.entry }
 {
-    look_up(&PSEUDOS, word)
+    let Fields { value, second, .. } = fields;
+    let symbol = value?;
+    let name = name(symbol.operand())?;
+    let value = second?;
+    Some(Statement::Constant { name, value })
 }
 
-/// Returns the form of a directive.
-#[tactic(auto, unfolding(crate::specs::Words::directive_words))]
-fn directive_of(word: &[u8]) -> Option<Directive>
-    ensures { result ≡ lookup word.now directive_words }
+/// Returns the statement of a template with these operands, which gave these fields.
+#[tactic(auto, unfolding(crate::specs::Table::filled))]
+fn fill<'t, 'a>(
+    template: Template,
+    operands: &'t [Operand<'a>],
+    fields: Fields<'t, 'a>,
+) -> Option<Statement<'t, 'a>>
+    ensures { result ≡ filled template operands.now fields.entry }
 {
-    look_up(&DIRECTIVES, word)
+    match template {
+        Template::Near(operation) => {
+            let instr = instruction(operation, &fields);
+            let Fields { value, .. } = fields;
+            Some(waiting(instr, value))
+        }
+        Template::Far(operation) => {
+            let instr = instruction(operation, &fields);
+            let Fields {
+                rs1: scratch,
+                value,
+                ..
+            } = fields;
+            let target = value?;
+            Some(Statement::Far {
+                scratch,
+                instr,
+                target,
+            })
+        }
+        Template::Li => {
+            let Fields { rd, value, .. } = fields;
+            let value = value?;
+            Some(Statement::Li { rd, value })
+        }
+        Template::Data(width) => {
+            let values = Values::new(operands);
+            Some(Statement::Data { width, values })
+        }
+        Template::Text { terminated } => {
+            let strings = Strings::new(terminated, operands);
+            Some(Statement::Bytes(strings))
+        }
+        Template::Space => {
+            let Fields {
+                value,
+                second: fill,
+                ..
+            } = fields;
+            let size = value?;
+            Some(Statement::Space { size, fill })
+        }
+        Template::Align => {
+            let Fields { value, .. } = fields;
+            let power = value?;
+            Some(Statement::Align { power })
+        }
+        Template::Balign => {
+            let Fields { value, .. } = fields;
+            let multiple = value?;
+            Some(Statement::Balign { multiple })
+        }
+        Template::Constant => constant(fields),
+    }
 }
 
-/// Returns the form of a word, or None if it is neither a mnemonic nor a directive.
-#[tactic(auto, unfolding(crate::specs::Words::form_of))]
-pub fn form_of(word: &[u8]) -> Option<Form>
-    ensures { result ≡ form_of word.now }
+/// Returns the statement of a row with these operands, or `None` if it doesn't take them.
+fn meant<'t, 'a>(row: Row, operands: &'t [Operand<'a>]) -> Option<Statement<'t, 'a>>
+    ensures { result ≡ meant (row_of row) operands.now }
 {
-    if let Some(form) = instruction_of(word) {
-        return Some(Form::Instruction(form));
+    match row {
+        Row::These(roles, template, fields) => match in_roles(roles, operands, given(fields)) {
+            Some(fields) => fill(template, operands, fields),
+            None => None,
+        },
+        Row::Each(role, template) => {
+            if operands.is_empty() {
+                return None;
+            }
+            match in_role(role, operands, given(Given::Zeros)) {
+                Some(fields) => fill(template, operands, fields),
+                None => None,
+            }
+        }
     }
-    if let Some(form) = pseudo_of(word) {
-        return Some(Form::Pseudo(form));
+}
+
+/// Returns the statement of the first row that takes the operands.
+fn first_fit<'t, 'a>(rows: &[Row], operands: &'t [Operand<'a>]) -> Option<Statement<'t, 'a>>
+    ensures { result ≡ first_fit operands.now (map row_of rows.now) }
+{
+    let [row, rest @ ..] = rows else {
+        return None;
+    };
+    match meant(*row, operands) {
+        Some(statement) => Some(statement),
+        None => first_fit(rest, operands),
     }
-    match directive_of(word) {
-        Some(form) => Some(Form::Directive(form)),
-        None => None,
+}
+
+/// Returns the row of an instruction.
+fn near(operation: Operation, roles: &'static [Role]) -> Row
+    ensures { row_of result ≡ near operation roles.now }
+{
+    Row::These(roles, Template::Near(operation), Given::Zeros)
+}
+
+/// Returns the row of an instruction that reaches a target, however far.
+fn far(operation: Operation, roles: &'static [Role]) -> Row
+    ensures { row_of result ≡ far operation roles.now }
+{
+    Row::These(roles, Template::Far(operation), Given::Zeros)
+}
+
+/// Returns the statement of the first of two rows that takes the operands.
+fn either<'t, 'a>(first: Row, second: Row, operands: &'t [Operand<'a>]) -> Option<Statement<'t, 'a>>
+    ensures { result ≡ first_fit operands.now (row_of first ∷ row_of second ∷ []) }
+{
+    let rows = [first, second];
+    first_fit(&rows, operands)
+}
+
+/// Returns the statement of `jalr` with these operands.
+fn jalr<'t, 'a>(op: Operation, operands: &'t [Operand<'a>]) -> Option<Statement<'t, 'a>>
+    ensures { result ≡ first_fit operands.now (jalr_rows op) }
+{
+    let rows = [
+        near(op, &[Rd, Rs1]),
+        near(op, &[Rd, Memory]),
+        near(op, &[Rd, Rs1, Imm]),
+        Row::These(&[Rs1], Template::Near(op), Given::Link),
+    ];
+    first_fit(&rows, operands)
+}
+
+/// Returns the statement of the only row of an instruction, if it takes the operands.
+fn only<'t, 'a>(row: Row, operands: &'t [Operand<'a>]) -> Option<Statement<'t, 'a>>
+    ensures { result ≡ first_fit operands.now (row_of row ∷ []) }
+{
+    let rows = [row];
+    first_fit(&rows, operands)
+}
+
+/// Returns the statement of an operation with these operands.
+#[tactic(auto, unfolding(crate::specs::Table::of_kind))]
+fn of_operation<'t, 'a>(op: Operation, operands: &'t [Operand<'a>]) -> Option<Statement<'t, 'a>>
+    ensures { result ≡ first_fit operands.now (of_kind op (blank op)) }
+{
+    match op.kind() {
+        Kind::Lui { .. } => only(near(op, &[Rd, Upper]), operands),
+        Kind::Auipc { .. } => only(near(op, &[Rd, Value]), operands),
+        Kind::Jal { .. } => {
+            let linked = Row::These(&[Value], Template::Near(op), Given::Link);
+            either(near(op, &[Rd, Value]), linked, operands)
+        }
+        Kind::Jalr { .. } => jalr(op, operands),
+        Kind::Branch { .. } => only(near(op, &[Rs1, Rs2, Value]), operands),
+        Kind::Load { .. } => { either(near(op, &[Rd, Memory]), far(op, &[Both, Value]), operands) }
+        Kind::Store { .. } => {
+            let by_name = far(op, &[Rs2, Value, Rs1]);
+            either(near(op, &[Rs2, Memory]), by_name, operands)
+        }
+        Kind::OpImm { .. } => only(near(op, &[Rd, Rs1, Imm]), operands),
+        Kind::Shift { .. } => only(near(op, &[Rd, Rs1, Value]), operands),
+        Kind::Op { .. } => only(near(op, &[Rd, Rs1, Rs2]), operands),
+        Kind::Fence { .. } => either(near(op, &[]), near(op, &[Before, After]), operands),
+        Kind::Csr { .. } => only(near(op, &[Rd, Csr, Rs1]), operands),
+        Kind::CsrImm { .. } => only(near(op, &[Rd, Csr, Value]), operands),
+        Kind::FenceI { .. } | Kind::Ecall | Kind::Ebreak | Kind::Mret | Kind::Wfi => {
+            only(near(op, &[]), operands)
+        }
     }
+}
+
+// ---- words
+
+/// Returns the statement of the first row of a word that takes the operands.
+fn of_word<'t, 'a>(
+    table: &[(&str, Row)],
+    word: &[u8],
+    operands: &'t [Operand<'a>],
+) -> Option<Statement<'t, 'a>>
+    ensures { result ≡ first_fit operands.now (of_word word.now (rows table.now)) }
+{
+    let [entry, rest @ ..] = table else {
+        return None;
+    };
+    if entry.0.as_bytes() == word {
+        if let Some(statement) = meant(entry.1, operands) {
+            return Some(statement);
+        }
+    }
+    of_word(rest, word, operands)
+}
+
+/// Returns whether a word has no row in a table.
+fn has_none(table: &[(&str, Row)], word: &[u8]) -> bool
+    ensures { result ≡ is_nothing (of_word word.now (rows table.now)) }
+{
+    let [entry, rest @ ..] = table else {
+        return true;
+    };
+    entry.0.as_bytes() != word && has_none(rest, word)
+}
+
+/// Returns whether a word is one of these.
+fn is_among(names: &[&str], word: &[u8]) -> bool
+    ensures { result ≡ list_any (λ name. bytes_eq name.now word.now) names.now }
+{
+    names.iter().any(|name| name.as_bytes() == word)
+}
+
+/// Returns whether a word is a directive without effect.
+#[tactic(auto, unfolding(crate::specs::Table::markers))]
+pub fn is_marker(word: &[u8]) -> bool
+    ensures { result ≡ is_marker word.now }
+{
+    is_among(&MARKERS, word)
+}
+
+/// Returns the statement of a word with these operands.
+///
+/// # Errors
+///
+/// `UnknownWord` if the word is neither a mnemonic nor a directive, else `BadOperands` if it doesn't take the
+/// operands.
+#[tactic(auto, unfolding(crate::specs::Table::meaning, crate::specs::Table::words))]
+pub fn meaning<'t, 'a>(
+    word: &[u8],
+    operands: &'t [Operand<'a>],
+) -> Result<Statement<'t, 'a>, LineFault>
+    ensures { result ≡ meaning word.now operands.now }
+{
+    if let Some(operation) = operation_named(word) {
+        return of_operation(operation, operands).ok_or(LineFault::BadOperands);
+    }
+    if has_none(&WORDS, word) {
+        return Err(LineFault::UnknownWord);
+    }
+    of_word(&WORDS, word, operands).ok_or(LineFault::BadOperands)
 }

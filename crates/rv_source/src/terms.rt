@@ -1,13 +1,11 @@
 //! Reads expressions.
-ghost use Rattle.std.specs.Prelude.{◌≡◌, ◌≤◌, ◌+◌, ◌∷◌, List, IfOk, is_some, length};
-ghost use Rattle.rv_tokens.specs.declared.token.Token.{Token};
-ghost use Rattle.rv_source.specs.Partial.{Extends, Finds, terms_behind};
-ghost use Rattle.rv_source.specs.Expressions.{atom_of, is_symbol, sign_of, terms, value};
+ghost use Rattle.std.specs.Prelude.{◌≡◌, ◌<◌, ◌≤◌, ◌+◌, ◌++◌, ◌∷◌, Some, None, IfOk, length, map, if◌then◌else◌};
+ghost use Rattle.std.specs.Option.{option_map};
+ghost use Rattle.rv_source.specs.Expressions.{is_symbol, name_atom, piece_of, times, further, value};
 
-use crate::refusal::Refusal;
-use crate::{Atom, Expression, Term, Wanted};
+use crate::{Atom, Expression, Term};
 use rv_tokens::{Name, Token};
-use std::alloc::Global;
+use std::alloc::{AllocError, Global};
 
 /// Returns whether a name is a symbol: one other than `.`.
 pub fn is_symbol(name: &Name) -> bool
@@ -16,132 +14,146 @@ pub fn is_symbol(name: &Name) -> bool
     name.bytes() != b".".as_slice()
 }
 
-/// Reads a token as an atom.
-fn atom<'a>(token: &Token<'a>) -> Option<Atom<'a>>
-    ensures { result ≡ atom_of token.now }
+/// A piece of an expression: what a token may be in one.
+#[derive(Drop)]
+pub enum Piece<'a> {
+    /// `+` or `-`
+    Sign { minus: bool },
+    Atom(Atom<'a>),
+    /// A token that no expression has.
+    Other,
+}
+
+/// Returns the atom of a name.
+fn name_atom<'a>(name: &Name<'a>) -> Atom<'a>
+    ensures { result ≡ name_atom name.now }
+{
+    if is_symbol(name) {
+        Atom::Symbol(name.again())
+    } else {
+        Atom::Here
+    }
+}
+
+/// Reads a token as a piece of an expression.
+fn piece_of<'a>(token: &Token<'a>) -> Piece<'a>
+    ensures { result ≡ piece_of token.now }
 {
     match token {
-        Token::Name(name) => {
-            if is_symbol(name) {
-                Some(Atom::Symbol(name.again()))
-            } else {
-                Some(Atom::Here)
-            }
-        }
-        Token::Digits(n) => Some(Atom::Number(u32::from(*n))),
-        Token::Number(n) => Some(Atom::Number(*n)),
-        Token::Character(b) => Some(Atom::Number(u32::from(*b))),
-        Token::Local { number, direction } => Some(Atom::Local {
+        Token::Plus => Piece::Sign { minus: false },
+        Token::Minus => Piece::Sign { minus: true },
+        Token::Name(name) => Piece::Atom(name_atom(name)),
+        Token::Digits(n) => Piece::Atom(Atom::Number(u32::from(*n))),
+        Token::Number(n) => Piece::Atom(Atom::Number(*n)),
+        Token::Character(b) => Piece::Atom(Atom::Character(*b)),
+        Token::Local { number, direction } => Piece::Atom(Atom::Local {
             number: *number,
             direction: *direction,
         }),
-        _ => None,
+        _ => Piece::Other,
     }
 }
 
-/// Reads a token as a sign: whether it is a minus.
-fn sign(token: &Token) -> Option<bool>
-    ensures { result ≡ sign_of token.now }
+/// Returns whether two signs together are a minus: two that are minus cancel.
+fn times(sign: bool, other: bool) -> bool
+    ensures { result ≡ times sign other }
 {
-    match token {
-        Token::Plus => Some(false),
-        Token::Minus => Some(true),
-        _ => None,
-    }
+    if sign { !other } else { other }
 }
 
-/// The tokens that may begin an expression: a value, possibly with one sign before it.
-const START: Wanted = Wanted::Value {
-    negative: false,
-    more: true,
-};
-
-/// Reads one more token: returns the term that it completes, if any, and the tokens that may come next. None
-/// if the token may not come here.
-#[tactic(auto, unfolding(crate::specs::Expressions::terms))]
-fn read_token<'a>(wanted: Wanted, token: &Token<'a>) -> Option<(Option<Term<'a>>, Wanted)>
-    ensures { (ts : List Token) → terms wanted (token.now ∷ ts) ≡ terms_behind result ts }
+/// Reads the terms after the first, each with a sign or two before it, and appends them; false if the tokens
+/// aren't that.
+#[tactic(auto, using(crate::proofs::Sums::further_more), unfolding(crate::specs::Expressions::further))]
+fn read_further<'a>(out: &mut Vec<Term<'a>>, tokens: &[Token<'a>]) -> Result<bool, AllocError>
+    ensures reads { IfOk result (λ ok. option_map (λ ts. out.old.items ++ ts) (further (map piece_of tokens.now)) ≡ (if ok then Some out.new.items else None)) }
+    ensures short { IfOk result (λ _. length out.new.items ≤ length out.old.items + length tokens.now) }
 {
-    let Wanted::Value { negative, more } = wanted else {
-        return match sign(token) {
-            Some(negative) => Some((
-                None,
-                Wanted::Value {
-                    negative,
-                    more: true,
-                },
-            )),
-            None => None,
-        };
+    let [first, rest @ ..] = tokens else {
+        return Ok(true);
     };
-    if let Some(sign) = sign(token) {
-        if !more {
-            return None;
-        }
-        // Two minus signs cancel.
-        let negative = negative != sign;
-        return Some((
-            None,
-            Wanted::Value {
-                negative,
-                more: false,
-            },
-        ));
-    }
-    match atom(token) {
-        Some(atom) => Some((Some(Term { negative, atom }), Wanted::Sign)),
-        None => None,
-    }
-}
-
-/// Returns whether the tokens as a whole are an expression.
-#[tactic(auto, using(crate::proofs::Sums::terms_end), unfolding(crate::specs::Expressions::value))]
-pub fn is_value(tokens: &[Token]) -> bool
-    ensures { result ≡ is_some (value tokens.now) }
-{
-    let mut wanted = START;
-    for token in tokens {
-        match read_token(wanted, token) {
-            Some((_, next)) => wanted = next,
-            None => return false,
-        }
-    }
-    matches!(wanted, Wanted::Sign)
-}
-
-/// Reads one more token, appends the term that it completes, if any, and returns the tokens that may come
-/// next.
-#[tactic(auto, using(crate::proofs::Sums::with_terms_append))]
-fn take_token<'a>(
-    out: &mut Vec<Term<'a>>,
-    wanted: Wanted,
-    token: &Token<'a>,
-) -> Result<Wanted, Refusal>
-    ensures reads { (ts : List Token) → Extends out.old.items out.new.items result (terms wanted (token.now ∷ ts)) ts }
-    ensures one { IfOk result (λ _. length out.new.items ≤ length out.old.items + 1) }
-{
-    let Some((term, next)) = read_token(wanted, token) else {
-        return Err(Refusal::BadOperands);
+    let Piece::Sign { minus } = piece_of(first) else {
+        return Ok(false);
     };
-    if let Some(term) = term {
-        out.push(term)?;
+    let [second, rest @ ..] = rest else {
+        return Ok(false);
+    };
+    match piece_of(second) {
+        Piece::Atom(atom) => {
+            out.push(Term {
+                negative: minus,
+                atom,
+            })?;
+            read_further(out, rest)
+        }
+        Piece::Sign { minus: other } => {
+            let [third, rest @ ..] = rest else {
+                return Ok(false);
+            };
+            let Piece::Atom(atom) = piece_of(third) else {
+                return Ok(false);
+            };
+            let negative = times(minus, other);
+            out.push(Term { negative, atom })?;
+            read_further(out, rest)
+        }
+        Piece::Other => Ok(false),
     }
-    Ok(next)
+}
+
+/// Reads an expression whose first term is read.
+fn read_sum<'a>(
+    alloc: Global,
+    first: Term<'a>,
+    tokens: &[Token<'a>],
+) -> Result<Option<Expression<'a>>, AllocError>
+    requires { length tokens.now < 1024 }
+    ensures { IfOk result (λ e. e ≡ option_map (λ ts. first.entry ∷ ts) (further (map piece_of tokens.now))) }
+{
+    let mut more = Vec::new(alloc);
+    if read_further(&mut more, tokens)? {
+        Ok(Some(Expression::new(first, more)))
+    } else {
+        Ok(None)
+    }
 }
 
 /// Reads the tokens as a whole as an expression.
-#[tactic(auto, using(crate::proofs::Sums::terms_end, crate::proofs::Sums::with_terms_nothing), unfolding(crate::specs::Expressions::value))]
-pub fn read_value<'a>(alloc: Global, tokens: &[Token<'a>]) -> Result<Expression<'a>, Refusal>
+#[tactic(auto, unfolding(crate::specs::Expressions::value, crate::specs::Expressions::sum))]
+pub fn read_value<'a>(
+    alloc: Global,
+    tokens: &[Token<'a>],
+) -> Result<Option<Expression<'a>>, AllocError>
     requires { length tokens.now ≤ 1024 }
-    ensures { Finds (λ e. e) result (value tokens.now) }
+    ensures { IfOk result (λ e. e ≡ value tokens.now) }
 {
-    let mut wanted = START;
-    let mut terms = Vec::new(alloc);
-    for token in tokens {
-        wanted = take_token(&mut terms, wanted, token)?;
-    }
-    match wanted {
-        Wanted::Sign => Ok(Expression::new(terms)),
-        Wanted::Value { .. } => Err(Refusal::BadOperands),
+    let [first, rest @ ..] = tokens else {
+        return Ok(None);
+    };
+    match piece_of(first) {
+        Piece::Atom(atom) => read_sum(
+            alloc,
+            Term {
+                negative: false,
+                atom,
+            },
+            rest,
+        ),
+        Piece::Sign { minus } => {
+            let [second, rest @ ..] = rest else {
+                return Ok(None);
+            };
+            match piece_of(second) {
+                Piece::Atom(atom) => read_sum(
+                    alloc,
+                    Term {
+                        negative: minus,
+                        atom,
+                    },
+                    rest,
+                ),
+                _ => Ok(None),
+            }
+        }
+        Piece::Other => Ok(None),
     }
 }

@@ -5,4 +5,5 @@ pub mod StringEnds
 pub mod Front
 pub mod Cutting
 pub mod PartsLemmas
+pub mod Placing
 pub mod Spellings

@@ -6,10 +6,12 @@
 mod fault;
 mod literal;
 mod name;
+mod place;
 mod scan;
 mod token;
 
 pub use fault::LineFault;
 pub use name::Name;
+pub use place::{Place, place_of};
 pub use scan::{cut_line, one_cut};
 pub use token::{Direction, Text, Token};

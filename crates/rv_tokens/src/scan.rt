@@ -108,7 +108,7 @@ fn begins_with_name_byte(rest: &[u8]) -> bool
 }
 
 /// Returns whether a comment begins here, with `#` or `//`.
-fn is_comment(line: &[u8]) -> bool
+pub fn is_comment(line: &[u8]) -> bool
     requires { 0 < length line.now }
     ensures { result ≡ is_comment line.now }
 {
@@ -205,7 +205,7 @@ fn sign_front<'a>(line: &'a [u8]) -> Option<(Token<'a>, usize)>
 }
 
 /// Returns the longest token at the front of a line, and its length.
-fn front<'a>(line: &'a [u8]) -> Option<(Token<'a>, usize)>
+pub fn front<'a>(line: &'a [u8]) -> Option<(Token<'a>, usize)>
     requires { 0 < length line.now }
     ensures { result ≡ front line.now }
 {

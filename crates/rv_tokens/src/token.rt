@@ -33,7 +33,7 @@ impl<'a> Model for Text<'a> {
 }
 
 impl<'a> Text<'a> {
-    ghost use Rattle.std.specs.Prelude.{◌≡◌, ◌++◌, IsTrue, is_some, Some, OnOk};
+    ghost use Rattle.std.specs.Prelude.{◌≡◌, ◌++◌, length, IsTrue, is_some, Some, OnOk};
     ghost use Rattle.rv_tokens.specs.Literals.{bytes_of};
 
     /// Makes a string of the text between its quotes.
@@ -42,6 +42,28 @@ impl<'a> Text<'a> {
         ensures { bytes_of spelling.now ≡ Some result }
     {
         Text { spelling }
+    }
+
+    /// Returns a copy of the string: a struct with a `Model` and a lifetime can't be `Copy`.
+    pub fn again(&self) -> Text<'a>
+        ensures { result ≡ self.now }
+    {
+        Text {
+            spelling: self.spelling,
+        }
+    }
+
+    /// Returns the number of the string's bytes.
+    pub fn len(&self) -> usize
+        ensures { result ≡ length self.now }
+    {
+        let mut count = 0;
+        let mut rest = self.spelling;
+        while let Some((_, n)) = first_byte(rest) {
+            count += 1;
+            rest = rest.split_at(n).1;
+        }
+        count
     }
 
     /// Appends the bytes of the string.

@@ -16,9 +16,17 @@ fn line<'a>(alloc: Global, text: &'a [u8]) -> Result<Line<'a>, &'static str> {
     read(alloc, text).ok().ok_or("the line is refused")
 }
 
+/// Returns the fault of a line, as written or of its statement.
+fn fault_of(alloc: Global, text: &[u8]) -> Option<LineFault> {
+    match read(alloc, text) {
+        Ok(line) => line.statement().err(),
+        Err(fault) => Some(fault),
+    }
+}
+
 /// Checks the fault of a line.
 fn check_fault(rt: &impl Abort, alloc: Global, line: &[u8], fault: LineFault) {
-    assert_eq!(rt; read(alloc, line).err(), Some(fault));
+    assert_eq!(rt; fault_of(alloc, line), Some(fault));
 }
 
 /// Checks that each line of the text has this fault.
@@ -49,9 +57,10 @@ fn labels_of(alloc: Global, line: &Line<'_>) -> Result<Vec<u8>, AllocError> {
 /// Returns the kind of statement of a line.
 fn statement_kind(line: &Line<'_>) -> &'static str {
     match line.statement() {
-        Some(Statement::Instruction(_)) => "an instruction",
-        Some(_) => "something else",
-        None => "nothing",
+        Ok(Some(Statement::Instruction(_))) => "an instruction",
+        Ok(Some(_)) => "something else",
+        Ok(None) => "nothing",
+        Err(_) => "a fault",
     }
 }
 
@@ -171,4 +180,25 @@ fn faults(rt: HostRuntime) {
     check_each_fault(&rt, alloc, UNKNOWN_WORDS, LineFault::UnknownWord);
     check_each_fault(&rt, alloc, BAD_OPERANDS, LineFault::BadOperands);
     check_each_fault(&rt, alloc, BAD_BYTES, LineFault::BadByte);
+}
+
+/// Returns the index of the first token of the value that the statement of a line waits for, and the number of its
+/// tokens.
+fn place(alloc: Global, text: &[u8]) -> Option<(usize, usize)> {
+    let line = read(alloc, text).ok()?;
+    match line.statement() {
+        Ok(Some(Statement::WithValue { value, .. })) => {
+            let operand = value.operand();
+            Some((operand.first, operand.count))
+        }
+        _ => None,
+    }
+}
+
+#[test]
+fn operands_keep_their_places(rt: HostRuntime) {
+    let alloc = rt.alloc();
+    assert_eq!(rt; place(alloc, b"lw a0,(sp)"), Some((3, 3)));
+    assert_eq!(rt; place(alloc, b"x: 1: addi a0,a1,%lo(y + 4)"), Some((9, 6)));
+    assert_eq!(rt; place(alloc, b"sw a0 , - 4(sp)"), Some((3, 5)));
 }

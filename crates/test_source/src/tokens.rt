@@ -1,6 +1,6 @@
 //! How a line is cut into tokens.
 use rv_base::cut_lines;
-use rv_tokens::{Direction, LineFault, Token, cut_line};
+use rv_tokens::{Direction, LineFault, Place, Token, cut_line, place_of};
 use std::alloc::{AllocError, Global};
 use std::process::Abort;
 use std::test::Fail;
@@ -333,4 +333,23 @@ fn a_line_has_up_to_1024_tokens(rt: HostRuntime) -> Result<(), Fail> {
     let commas = commas.ok().ok_or("the line is refused")?;
     assert_eq!(rt; commas.len(), 1024);
     Ok(())
+}
+
+/// Returns where a token stands. It has no contract, as `tokens`.
+fn place(line: &[u8], index: usize) -> Option<Place> {
+    place_of(line, index)
+}
+
+#[test]
+fn tokens_stand_in_their_columns(rt: HostRuntime) {
+    let line = b"x:\taddi a0, a1,%lo(\"y z\") # c";
+    let at = |index: usize| place(line, index);
+    assert_eq!(rt; at(0), Some(Place { column: 0, len: 1 }));
+    assert_eq!(rt; at(1), Some(Place { column: 1, len: 1 }));
+    assert_eq!(rt; at(2), Some(Place { column: 3, len: 4 }));
+    assert_eq!(rt; at(5), Some(Place { column: 12, len: 2 }));
+    assert_eq!(rt; at(7), Some(Place { column: 15, len: 3 }));
+    assert_eq!(rt; at(9), Some(Place { column: 19, len: 5 }));
+    assert_eq!(rt; at(10), Some(Place { column: 24, len: 1 }));
+    assert_eq!(rt; at(11), None);
 }

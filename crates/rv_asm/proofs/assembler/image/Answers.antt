@@ -22,7 +22,7 @@ returns-in-Err c =
     let ds = c.args.symbols.now in
     let item = c.item-item.result in
     let out = c.loop-item.out.items in
-    let at : IsFaultAt (item.line + 1) c.in-Err.kind c.at.result = rw c.line.ensures at c.at.ensures in
+    let at : IsFaultAt (item.line + 1) c.in-Err.kind c.at.result = rw c.line.ensures.value at c.at.ensures in
     let step : Fails c.at.result (item_step ds out item) =
     fails_at_line item.line c.in-Err.kind c.at.result
     (appended out (item_bytes ds item)) c.in-Err.ensures at in

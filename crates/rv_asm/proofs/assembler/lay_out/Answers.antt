@@ -2,9 +2,10 @@ use Rattle.std.proofs.Common.{◌≡◌, ◌∙◌, ◌∷◌, length, ap, sym, 
 use Rattle.std.specs.Prelude.{Ok}
 use Rattle.rv_base.specs.Lines.{lines}
 use Rattle.rv_asm.specs.Assembly.{all_said}
-use Rattle.rv_asm.specs.Steps.{State, laid, laid_out}
+use Rattle.rv_asm.specs.Steps.{Known, laid_out}
 use Rattle.rv_asm.specs.Taken.{so_far}
-use Rattle.rv_asm.proofs.Reading.{begun, laid_out-zero, up_to_laid_out, below_laid_out, read_more, laid_out_more, unread, read_all}
+use Rattle.rv_asm.proofs.Reading.{begun, laid_out-zero, up_to_laid_out, writes_line, read_more, read_line_at, laid_out_more, unread, read_all}
+use Rattle.rv_asm.proofs.Listed.{writes_none}
 use Rattle.rv_asm.proofs.assembler.lay_out.Goals as goal
 
 pub loop-text-init : goal.loop-text-init
@@ -15,7 +16,9 @@ loop-text-init c =
       can_next = tt;
       is_finite = tt;
       read = rw all (begun (lines c.args.source.now));
-      layout = laid_out-zero (all_said (lines c.args.source.now)) ∙ ap (λ (s : State). Ok s) (sym c.requires);
+      layout = laid_out-zero (all_said (lines c.args.source.now)) ∙ ap (λ (s : Known). Ok s)
+          (sym c.requires.known);
+      writes = rw c.requires.items (writes_none (all_said (lines c.args.source.now)));
       counted = omega (
         arith,
         ap length c.into_iter-text-iterator.ensures.into_iter_gives,
@@ -23,11 +26,10 @@ loop-text-init c =
       );
     }
 
-pub add-requires-clause-up_to : goal.add-requires-clause-up_to
-add-requires-clause-up_to c =
+pub take-requires-clause-up_to : goal.take-requires-clause-up_to
+take-requires-clause-up_to c =
     up_to_laid_out (all_said (lines c.args.source.now)) c.loop-text.number
-    (so_far c.loop-text.fault (laid c.loop-text.known c.loop-text.items.items))
-    c.loop-text.invariant.layout
+    (so_far c.loop-text.fault c.loop-text.known) c.loop-text.invariant.layout
 
 pub returns-in-Err-clause-layout : goal.returns-in-Err-clause-layout
 returns-in-Err-clause-layout c =
@@ -45,30 +47,34 @@ loop-text-preserved c =
     let text = c.in-Some.text.now in
     let after = c.next.new.self in
     let cut : rest ≡ text ∷ after = c.in-Some.ensures.steps in
+    let took = c.in_default.ensures.ok in
     record {
       can_next = tt;
       is_finite = tt;
-      read = read_more texts rest n so text after cut c.in-Ok.line c.in-Ok.ensures.ok;
-      layout = rw (← laid_out_more texts rest n so text after cut c.in-Ok.line c.in-Ok.ensures.ok)
-          (c.add.ensures (laid_out (all_said texts) n) c.loop-text.invariant.layout);
+      read = read_more texts rest n so text after cut took.line took.read;
+      layout = rw (← laid_out_more texts rest n so text after cut took.line took.read)
+          (took.state (laid_out (all_said texts) n) c.loop-text.invariant.layout);
+      writes = writes_line (all_said texts) n c.loop-text.fault c.take.new.fault c.loop-text.known
+          c.loop-text.items.items c.take.new.items.items took.line
+          (read_line_at texts rest n so text after cut took.line took.read)
+          c.loop-text.invariant.layout c.loop-text.invariant.writes took.adds;
       counted = omega (arith, c.loop-text.invariant.counted, ap length cut);
     }
 
 pub returns-in-None-fault-clause-layout : goal.returns-in-None-fault-clause-layout
 returns-in-None-fault-clause-layout c =
     rw (read_all (lines c.args.source.now) c.loop-text.text-iterator c.loop-text.number
-    c.loop-text.invariant.read c.in-None.ensures.steps.0)
+    c.loop-text.invariant.read c.in-None.ensures.steps.0).0
     (rw c.in-None-fault.is at c.loop-text.invariant.layout)
 
-pub returns-in-None-fault-clause-within : goal.returns-in-None-fault-clause-within
-returns-in-None-fault-clause-within c =
-    let whole = rw c.in-None-fault.is at c.loop-text.invariant.layout in
-    below_laid_out (all_said (lines c.args.source.now)) c.loop-text.number (length c.args.source.now)
-    (Ok (laid c.loop-text.known c.loop-text.items.items))
-    (omega (arith, c.loop-text.invariant.counted)) whole
+pub returns-in-None-fault-clause-items : goal.returns-in-None-fault-clause-items
+returns-in-None-fault-clause-items c =
+    let all = read_all (lines c.args.source.now) c.loop-text.text-iterator c.loop-text.number
+    c.loop-text.invariant.read c.in-None.ensures.steps.0 in
+    rw all.1 (rw c.in-None-fault.is at c.loop-text.invariant.writes)
 
 pub returns-in-Some-fault-clause-layout : goal.returns-in-Some-fault-clause-layout
 returns-in-Some-fault-clause-layout c =
     rw (read_all (lines c.args.source.now) c.loop-text.text-iterator c.loop-text.number
-    c.loop-text.invariant.read c.in-None.ensures.steps.0)
+    c.loop-text.invariant.read c.in-None.ensures.steps.0).0
     (rw c.in-Some-fault.is at c.loop-text.invariant.layout)

@@ -1,0 +1,165 @@
+-- What the operands of a row give: the fields of an instruction, and the values that it waits for.
+-- To audit: public contracts cite this.
+-- The language is this project's own: docs/ASSEMBLER.md.
+use Rattle.std.specs.Prelude.{ℕ, ℤ, ◌+◌, ◌*◌, Bool, true, false, not, ◌&&◌, List, [], ◌∷◌, Option, Some, None, option_and_then, is_some, if◌then◌else◌, ◌==◌, nat_lt, pos, negsuc}
+use Rattle.std.specs.Option.{option_map}
+use Rattle.rv_base.specs.Tables.{lookup}
+use Rattle.rv_isa.specs.Names.{register_names, csr_names}
+use Rattle.rv_isa.specs.Fields.{kind_of}
+use Rattle.rv_isa.specs.Mnemonics.{blank, with_fields}
+use Rattle.rv_isa.specs.declared.fields.Operation.{Operation}
+use Rattle.rv_isa.specs.declared.kind.Kind.{Kind}
+use Rattle.rv_isa.specs.declared.kind.Kind.TheVariants as k
+use Rattle.rv_source.specs.declared.expression.Atom.{Atom}
+use Rattle.rv_source.specs.declared.expression.Atom.TheVariants as a
+use Rattle.rv_source.specs.declared.operand.Part.{Part}
+use Rattle.rv_source.specs.declared.operand.Part.TheVariants.{Whole, High, Low}
+use Rattle.rv_source.specs.declared.operand.Form.{Form}
+use Rattle.rv_source.specs.declared.operand.Form.TheVariants as f
+use Rattle.rv_source.specs.declared.operand.Operand.{Operand}
+use Rattle.rv_source.specs.declared.field.Fields.{Fields}
+use Rattle.rv_source.specs.declared.row.Role.{Role}
+use Rattle.rv_source.specs.declared.row.Role.TheVariants as r
+use Rattle.rv_source.specs.declared.row.Given.{Given}
+use Rattle.rv_source.specs.declared.row.Given.TheVariants as g
+use Rattle.rv_source.specs.Operands.{is_nothing, only_of}
+
+-- ---- operands in their roles
+
+-- the atom of a form that is a value as a whole, and no sum
+abbrev pub atom_of : Form → Option Atom
+atom_of (f.Value Whole e None) = only_of e
+atom_of _ = None
+
+-- the atom that an operand of one token is
+abbrev pub atom_alone : Operand → Option Atom
+atom_alone x = if x.count == 1 then atom_of x.form else None
+
+abbrev pub symbol_of : Atom → Option (List ℕ)
+symbol_of (a.Symbol name) = Some name
+symbol_of _ = None
+
+-- the name that an operand is
+abbrev pub name : Operand → Option (List ℕ)
+name x = option_and_then symbol_of (atom_alone x)
+
+-- the register that it names
+abbrev pub register : Operand → Option ℕ
+register x = option_and_then (λ name. lookup name register_names) (name x)
+
+-- control registers have numbers of twelve bits
+abbrev pub csr_number : ℕ → Option ℕ
+csr_number n = if nat_lt n 4096 then Some n else None
+
+abbrev pub csr_of : Atom → Option ℕ
+csr_of (a.Symbol name) = option_and_then csr_number (lookup name csr_names)
+csr_of (a.Number n) = csr_number n
+csr_of _ = None
+
+-- the control register that an operand is, by its name or its number
+abbrev pub csr : Operand → Option ℕ
+csr x = option_and_then csr_of (atom_alone x)
+
+-- 1 if the letter comes first, else 0, and the rest
+abbrev pub letter : ℕ → List ℕ → ℕ × List ℕ
+letter l [] = (0, [])
+letter l (b ∷ bs) = if b == l then (1, bs) else (0, b ∷ bs)
+
+-- the set of one or more of the letters i, o, r and w, in this order
+unfoldable pub fence_letters : List ℕ → Option ℕ
+fence_letters name =
+    let i = letter 105 name in
+    let o = letter 111 i.1 in
+    let r = letter 114 o.1 in
+    let w = letter 119 r.1 in
+    if is_nothing w.1 && not (is_nothing name) then Some (8 * i.0 + 4 * o.0 + 2 * r.0 + w.0) else None
+
+-- the set of accesses that an operand names
+abbrev pub set : Operand → Option ℕ
+set x = option_and_then fence_letters (name x)
+
+-- a value without a base, or its upper or lower part if that may be
+abbrev pub is_value : Bool → Bool → Form → Bool
+is_value high low (f.Value Whole e None) = true
+is_value high low (f.Value High e None) = high
+is_value high low (f.Value Low e None) = low
+is_value high low _ = false
+
+abbrev pub is_text : Form → Bool
+is_text (f.Text bytes) = true
+is_text _ = false
+
+-- the register of a base
+abbrev pub base : Form → Option ℕ
+base (f.Value part e (Some name)) = lookup name register_names
+base _ = None
+
+-- the fields with an operand whose value is waited for, if it fits
+abbrev pub value_in : Bool → Operand → Fields → Option Fields
+value_in fits x fields = if fits then Some (record fields { value = Some x }) else None
+
+-- the fields with an operand in its role
+unfoldable pub put : Role → Operand → Fields → Option Fields
+put r.Rd x fields = option_map (λ n. record fields { rd = n }) (register x)
+put r.Rs1 x fields = option_map (λ n. record fields { rs1 = n }) (register x)
+put r.Rs2 x fields = option_map (λ n. record fields { rs2 = n }) (register x)
+put r.Both x fields = option_map (λ n. record fields { rd = n; rs1 = n }) (register x)
+put r.Imm x fields = value_in (is_value false true x.form) x fields
+put r.Upper x fields = value_in (is_value true false x.form) x fields
+put r.Value x fields = value_in (is_value false false x.form) x fields
+put r.Memory x fields = option_map (λ n. record fields { rs1 = n; value = Some x }) (base x.form)
+put r.Csr x fields = option_map (λ n. record fields { csr = n }) (csr x)
+put r.Before x fields = option_map (λ n. record fields { before = n }) (set x)
+put r.After x fields = option_map (λ n. record fields { after = n }) (set x)
+put r.Symbol x fields = value_in (is_some (name x)) x fields
+put r.Second x fields = if is_value false false x.form then Some (record fields { second = Some x }) else None
+put r.Text x fields = value_in (is_text x.form) x fields
+
+-- the fields with as many operands as there are roles, each in its role
+unfoldable pub in_roles : List Role → List Operand → Fields → Option Fields
+in_roles [] [] fields = Some fields
+in_roles (role ∷ roles) (x ∷ xs) fields = option_and_then (in_roles roles xs) (put role x fields)
+in_roles _ _ fields = None
+
+-- the fields with operands that are all in one role
+unfoldable pub in_role : Role → List Operand → Fields → Option Fields
+in_role role [] fields = Some fields
+in_role role (x ∷ xs) fields = option_and_then (in_role role xs) (put role x fields)
+
+-- fields with two registers and an immediate that are given; a fence orders all before all after it
+abbrev pub start : ℕ → ℕ → ℤ → Fields
+start rd rs1 imm = record {
+  rd = rd;
+  rs1 = rs1;
+  rs2 = 0;
+  imm = imm;
+  csr = 0;
+  before = 15;
+  after = 15;
+  value = None;
+  second = None;
+}
+
+-- the fields before operands are read
+abbrev pub given : Given → Fields
+given g.Zeros = start 0 0 (pos 0)
+given g.Link = start 1 0 (pos 0)
+given g.Return = start 0 1 (pos 0)
+given g.Call = start 1 1 (pos 0)
+given g.Tail = start 0 6 (pos 0)
+given g.One = start 0 0 (pos 1)
+given g.Ones = start 0 0 (negsuc 0)
+
+-- ---- instructions
+
+-- the immediate of an instruction of this kind; 0 where it waits for a value
+abbrev pub immediate : Kind → Fields → ℤ
+immediate (k.OpImm _ _ _ _) f = f.imm
+immediate (k.Csr _ _ _ _) f = pos f.csr
+immediate (k.CsrImm _ _ _ _) f = pos f.csr
+immediate (k.Fence _ _ _) f = pos (16 * f.before + f.after)
+immediate _ f = pos 0
+
+-- the instruction of an operation with these fields; the field of a value that it waits for is 0
+unfoldable pub instruction : Operation → Fields → Kind
+instruction operation f = kind_of (with_fields operation f.rd f.rs1 f.rs2 (immediate (blank operation) f))

@@ -1,0 +1,178 @@
+-- The tables of the language, and the statement of a word with its operands.
+-- To audit: public contracts cite this.
+-- The language is this project's own: docs/ASSEMBLER.md.
+use Rattle.std.specs.Prelude.{ℕ, Bool, true, false, List, map, [], ◌∷◌, ◌++◌, Option, Some, None, option_and_then, if◌then◌else◌, Result, Ok, Err, codes}
+use Rattle.std.specs.List.{list_any}
+use Rattle.std.specs.Option.{option_map, option_or, ok_or}
+use Rattle.std.specs.Str.{bytes_eq}
+use Rattle.rv_base.specs.Tables.{lookup}
+use Rattle.rv_isa.specs.Mnemonics.{mnemonics, blank}
+use Rattle.rv_isa.specs.declared.fields.Operation.{Operation}
+use Rattle.rv_isa.specs.declared.fields.Operation.TheVariants as o
+use Rattle.rv_isa.specs.declared.kind.Kind.{Kind}
+use Rattle.rv_isa.specs.declared.kind.Kind.TheVariants as k
+use Rattle.rv_isa.specs.declared.op.Width.TheVariants as width
+use Rattle.rv_tokens.specs.declared.fault.LineFault.{LineFault}
+use Rattle.rv_tokens.specs.declared.fault.LineFault.TheVariants.{UnknownWord, BadOperands}
+use Rattle.rv_source.specs.declared.operand.Operand.{Operand}
+use Rattle.rv_source.specs.declared.field.Fields.{Fields}
+use Rattle.rv_source.specs.declared.statement.Statement.{Statement}
+use Rattle.rv_source.specs.declared.statement.Statement.TheVariants as s
+use Rattle.rv_source.specs.declared.row.Role.{Role}
+use Rattle.rv_source.specs.declared.row.Role.TheVariants as r
+use Rattle.rv_source.specs.declared.row.Template.{Template}
+use Rattle.rv_source.specs.declared.row.Template.TheVariants as t
+use Rattle.rv_source.specs.declared.row.Given.{Given}
+use Rattle.rv_source.specs.declared.row.Given.TheVariants as g
+use Rattle.rv_source.specs.Operands.{is_nothing, strings}
+use Rattle.rv_source.specs.Fields.{in_roles, in_role, given, instruction, name}
+
+-- ---- the meaning of a row
+
+-- an instruction, which may wait for a value
+abbrev pub waiting : Kind → Option Operand → Statement
+waiting kind None = s.Instruction kind
+waiting kind (Some x) = s.WithValue kind x
+
+-- a name and its value
+abbrev pub constant : Fields → Option Statement
+constant f = option_and_then (λ n. option_map (λ x. s.Constant n x) f.second) (option_and_then name f.value)
+
+-- the statement of a template with these operands, which gave These fields
+unfoldable pub filled : Template → List Operand → Fields → Option Statement
+filled (t.Near op) xs f = Some (waiting (instruction op f) f.value)
+filled (t.Far op) xs f = option_map (λ x. s.Far f.rs1 (instruction op f) x) f.value
+filled t.Li xs f = option_map (λ x. s.Li f.rd x) f.value
+filled (t.Data width) xs f = Some (s.Data width xs)
+filled (t.Text terminated) xs f = Some (s.Bytes (strings terminated xs))
+filled t.Space xs f = option_map (λ x. s.Space x f.second) f.value
+filled t.Align xs f = option_map (λ x. s.Align x) f.value
+filled t.Balign xs f = option_map (λ x. s.Balign x) f.value
+filled t.Constant xs f = constant f
+
+-- a row: as many operands as there are roles, each in its role; or one or more, all in one role
+pub data Row : Type 0 where
+  These : List Role → Template → Given → Row
+  Each : Role → Template → Row
+
+-- the statement of a row with these operands, or None if it doesn't take them
+abbrev pub meant : Row → List Operand → Option Statement
+meant (These roles template fields) xs = option_and_then (filled template xs) (in_roles roles xs (given fields))
+meant (Each role template) xs =
+    if is_nothing xs then None else option_and_then (filled template xs) (in_role role xs (given g.Zeros))
+
+-- the statement of the first row that takes the operands
+abbrev pub first_fit : List Operand → List Row → Option Statement
+first_fit xs [] = None
+first_fit xs (row ∷ rows) = option_or (meant row xs) (first_fit xs rows)
+
+-- ---- the tables
+
+abbrev pub near : Operation → List Role → Row
+near op roles = These roles (t.Near op) g.Zeros
+
+abbrev pub far : Operation → List Role → Row
+far op roles = These roles (t.Far op) g.Zeros
+
+-- the rows of `jalr`
+abbrev pub jalr_rows : Operation → List Row
+jalr_rows op =
+    near op (r.Rd ∷ r.Rs1 ∷ []) ∷ near op (r.Rd ∷ r.Memory ∷ []) ∷ near op (r.Rd ∷ r.Rs1 ∷ r.Imm ∷ [])
+    ∷ These (r.Rs1 ∷ []) (t.Near op) g.Link ∷ []
+
+-- the rows of an operation, by its kind
+unfoldable pub of_kind : Operation → Kind → List Row
+of_kind op (k.Lui _ _) = near op (r.Rd ∷ r.Upper ∷ []) ∷ []
+of_kind op (k.Auipc _ _) = near op (r.Rd ∷ r.Value ∷ []) ∷ []
+of_kind op (k.Jal _ _) = near op (r.Rd ∷ r.Value ∷ []) ∷ These (r.Value ∷ []) (t.Near op) g.Link ∷ []
+of_kind op (k.Jalr _ _ _) = jalr_rows op
+of_kind op (k.Branch _ _ _ _) = near op (r.Rs1 ∷ r.Rs2 ∷ r.Value ∷ []) ∷ []
+of_kind op (k.Load _ _ _ _) = near op (r.Rd ∷ r.Memory ∷ []) ∷ far op (r.Both ∷ r.Value ∷ []) ∷ []
+of_kind op (k.Store _ _ _ _) = near op (r.Rs2 ∷ r.Memory ∷ []) ∷ far op (r.Rs2 ∷ r.Value ∷ r.Rs1 ∷ []) ∷ []
+of_kind op (k.OpImm _ _ _ _) = near op (r.Rd ∷ r.Rs1 ∷ r.Imm ∷ []) ∷ []
+of_kind op (k.Shift _ _ _ _) = near op (r.Rd ∷ r.Rs1 ∷ r.Value ∷ []) ∷ []
+of_kind op (k.Op _ _ _ _) = near op (r.Rd ∷ r.Rs1 ∷ r.Rs2 ∷ []) ∷ []
+of_kind op (k.Fence _ _ _) = near op [] ∷ near op (r.Before ∷ r.After ∷ []) ∷ []
+of_kind op (k.Csr _ _ _ _) = near op (r.Rd ∷ r.Csr ∷ r.Rs1 ∷ []) ∷ []
+of_kind op (k.CsrImm _ _ _ _) = near op (r.Rd ∷ r.Csr ∷ r.Value ∷ []) ∷ []
+of_kind op _ = near op [] ∷ []
+
+-- the same row for some words
+abbrev pub alike : List (List ℕ) → Row → List (List ℕ × Row)
+alike names row = map (λ name. (name, row)) names
+
+-- the pseudo-instructions, and the directives that take operands
+unfoldable pub words : List (List ℕ × Row)
+words =
+    (codes "nop", near o.Addi [])
+    ∷ (codes "mv", near o.Addi (r.Rd ∷ r.Rs1 ∷ []))
+    ∷ (codes "not", These (r.Rd ∷ r.Rs1 ∷ []) (t.Near o.Xori) g.Ones)
+    ∷ (codes "neg", near o.Sub (r.Rd ∷ r.Rs2 ∷ []))
+    ∷ (codes "seqz", These (r.Rd ∷ r.Rs1 ∷ []) (t.Near o.Sltiu) g.One)
+    ∷ (codes "snez", near o.Sltu (r.Rd ∷ r.Rs2 ∷ []))
+    ∷ (codes "sltz", near o.Slt (r.Rd ∷ r.Rs1 ∷ []))
+    ∷ (codes "sgtz", near o.Slt (r.Rd ∷ r.Rs2 ∷ []))
+    ∷ (codes "beqz", near o.Beq (r.Rs1 ∷ r.Value ∷ []))
+    ∷ (codes "bnez", near o.Bne (r.Rs1 ∷ r.Value ∷ []))
+    ∷ (codes "blez", near o.Bge (r.Rs2 ∷ r.Value ∷ []))
+    ∷ (codes "bgez", near o.Bge (r.Rs1 ∷ r.Value ∷ []))
+    ∷ (codes "bltz", near o.Blt (r.Rs1 ∷ r.Value ∷ []))
+    ∷ (codes "bgtz", near o.Blt (r.Rs2 ∷ r.Value ∷ []))
+    ∷ (codes "bgt", near o.Blt (r.Rs2 ∷ r.Rs1 ∷ r.Value ∷ []))
+    ∷ (codes "ble", near o.Bge (r.Rs2 ∷ r.Rs1 ∷ r.Value ∷ []))
+    ∷ (codes "bgtu", near o.Bltu (r.Rs2 ∷ r.Rs1 ∷ r.Value ∷ []))
+    ∷ (codes "bleu", near o.Bgeu (r.Rs2 ∷ r.Rs1 ∷ r.Value ∷ []))
+    ∷ (codes "j", near o.Jal (r.Value ∷ []))
+    ∷ (codes "jr", near o.Jalr (r.Rs1 ∷ []))
+    ∷ (codes "ret", These [] (t.Near o.Jalr) g.Return)
+    ∷ (codes "csrr", near o.Csrrs (r.Rd ∷ r.Csr ∷ []))
+    ∷ (codes "csrw", near o.Csrrw (r.Csr ∷ r.Rs1 ∷ []))
+    ∷ (codes "csrs", near o.Csrrs (r.Csr ∷ r.Rs1 ∷ []))
+    ∷ (codes "csrc", near o.Csrrc (r.Csr ∷ r.Rs1 ∷ []))
+    ∷ (codes "csrwi", near o.Csrrwi (r.Csr ∷ r.Value ∷ []))
+    ∷ (codes "csrsi", near o.Csrrsi (r.Csr ∷ r.Value ∷ []))
+    ∷ (codes "csrci", near o.Csrrci (r.Csr ∷ r.Value ∷ []))
+    ∷ (codes "li", These (r.Rd ∷ r.Value ∷ []) t.Li g.Zeros)
+    ∷ (codes "call", These (r.Value ∷ []) (t.Far o.Jalr) g.Call)
+    ∷ (codes "tail", These (r.Value ∷ []) (t.Far o.Jalr) g.Tail)
+    ∷ []
+    ++ alike (codes "la" ∷ codes "lla" ∷ []) (far o.Addi (r.Both ∷ r.Value ∷ []))
+    ++ alike (codes ".word" ∷ codes ".long" ∷ codes ".4byte" ∷ []) (Each r.Value (t.Data width.Four))
+    ++ alike (codes ".half" ∷ codes ".short" ∷ codes ".2byte" ∷ []) (Each r.Value (t.Data width.Two))
+    ++ alike (codes ".byte" ∷ []) (Each r.Value (t.Data width.One))
+    ++ alike (codes ".ascii" ∷ []) (Each r.Text (t.Text false))
+    ++ alike (codes ".asciz" ∷ codes ".string" ∷ []) (Each r.Text (t.Text true))
+    ++ alike (codes ".space" ∷ codes ".skip" ∷ codes ".zero" ∷ []) (These (r.Value ∷ []) t.Space g.Zeros)
+    ++ alike (codes ".space" ∷ codes ".skip" ∷ codes ".zero" ∷ []) (These (r.Value ∷ r.Second ∷ []) t.Space g.Zeros)
+    ++ alike (codes ".align" ∷ codes ".p2align" ∷ []) (These (r.Value ∷ []) t.Align g.Zeros)
+    ++ alike (codes ".balign" ∷ []) (These (r.Value ∷ []) t.Balign g.Zeros)
+    ++ alike (codes ".equ" ∷ codes ".set" ∷ []) (These (r.Symbol ∷ r.Second ∷ []) t.Constant g.Zeros)
+
+-- the directives without effect
+unfoldable pub markers : List (List ℕ)
+markers =
+    codes ".text" ∷ codes ".data" ∷ codes ".rodata" ∷ codes ".bss" ∷ codes ".section" ∷ codes ".globl"
+    ∷ codes ".global" ∷ codes ".local" ∷ codes ".option" ∷ codes ".type" ∷ codes ".size" ∷ codes ".file"
+    ∷ codes ".ident" ∷ codes ".attribute" ∷ []
+
+-- ---- the statement of a word
+
+-- whether a word is a directive without effect, which any tokens may follow
+abbrev pub is_marker : List ℕ → Bool
+is_marker word = list_any (λ marker. bytes_eq marker word) markers
+
+-- the rows of a word in a table
+abbrev pub of_word : List ℕ → List (List ℕ × Row) → List Row
+of_word word [] = []
+of_word word (row ∷ rows) = if bytes_eq row.0 word then row.1 ∷ of_word word rows else of_word word rows
+
+-- the statement of the first row that takes the operands, or E5
+abbrev pub fitted : List Operand → List Row → Result Statement LineFault
+fitted xs rows = ok_or (first_fit xs rows) BadOperands
+
+-- the statement of a word with these operands; E4 if it is neither a mnemonic nor a directive
+unfoldable pub meaning : List ℕ → List Operand → Result Statement LineFault
+meaning word xs = elim (lookup word mnemonics) as (λ _. Result Statement LineFault) [
+  | Some op ↦ fitted xs (of_kind op (blank op))
+  | None ↦ if is_nothing (of_word word words) then Err UnknownWord else fitted xs (of_word word words)
+]

@@ -1,0 +1,420 @@
+//! Reads the operands of a row into the fields of an instruction.
+ghost use Rattle.std.specs.Prelude.{◌≡◌, ◌<◌, ◌≤◌, ◌^◌};
+ghost use Rattle.std.specs.Option.{option_map};
+ghost use Rattle.rv_isa.specs.Number.{IsWithin};
+ghost use Rattle.rv_source.specs.Fields.{atom_alone, base, csr, csr_number, fence_letters, given, immediate, instruction, is_text, is_value, letter, name, put, register, set, in_roles, in_role, start, value_in};
+
+use crate::row::{Given, Role};
+use crate::{Atom, Form, Operand, Part, Value};
+use rv_isa::{Instr, Kind, Operation, Reg, csr_named, reg_named};
+use rv_tokens::Name;
+use std::marker::Model;
+
+/// The number of a control register: 0 to 4095, whether it exists or not.
+///
+/// RISC-V Unprivileged ISA 20191213, section 9.1.
+#[derive(Clone, Copy)]
+pub struct Csr(u16);
+
+impl Model for Csr {
+    ghost use Rattle.std.specs.Prelude.{ℕ, ◌<◌};
+
+    ghost Value = { ℕ };
+
+    ghost view = { λ c. c.0 };
+
+    ghost invariant = { λ c. c.0 < 4096 };
+
+    ghost inverse = { λ n. record { 0 = n } };
+}
+
+impl Csr {
+    ghost use Rattle.std.specs.Prelude.{◌≡◌, ◌<◌};
+
+    /// Returns the number: 0 to 4095.
+    fn number(self) -> u16
+        ensures value { result ≡ self }
+        ensures below { result < 4096 }
+    {
+        self.0
+    }
+}
+
+/// A set of accesses that a fence orders: `i` 8, `o` 4, `r` 2 and `w` 1, added up.
+#[derive(Clone, Copy)]
+pub struct FenceSet(u16);
+
+impl Model for FenceSet {
+    ghost use Rattle.std.specs.Prelude.{ℕ, ◌<◌};
+
+    ghost Value = { ℕ };
+
+    ghost view = { λ s. s.0 };
+
+    ghost invariant = { λ s. s.0 < 16 };
+
+    ghost inverse = { λ n. record { 0 = n } };
+}
+
+impl FenceSet {
+    ghost use Rattle.std.specs.Prelude.{◌≡◌, ◌<◌};
+
+    /// Returns the sum of the letters: 0 to 15.
+    fn bits(self) -> u16
+        ensures value { result ≡ self }
+        ensures below { result < 16 }
+    {
+        self.0
+    }
+}
+
+/// What the operands of a row give: the fields of an instruction, and the operands whose values it waits for.
+#[derive(Drop)]
+pub struct Fields<'t, 'a> {
+    pub rd: Reg,
+    pub rs1: Reg,
+    pub rs2: Reg,
+    pub imm: i8,
+    pub csr: Csr,
+    pub before: FenceSet,
+    pub after: FenceSet,
+    pub value: Option<Value<'t, 'a>>,
+    pub second: Option<Value<'t, 'a>>,
+}
+
+// ---- operands in their roles
+
+/// Returns the atom that an operand is, if it is one token.
+fn atom_alone<'t, 'a>(operand: &'t Operand<'a>) -> Option<&'t Atom<'a>>
+    ensures { option_map (λ a. a.now) result ≡ atom_alone operand.now }
+{
+    if operand.count != 1 {
+        return None;
+    }
+    match &operand.form {
+        Form::Value {
+            part: Part::Whole,
+            sum,
+            base: None,
+        } => sum.only(),
+        _ => None,
+    }
+}
+
+/// Returns the name that an operand is.
+pub fn name<'a>(operand: &Operand<'a>) -> Option<Name<'a>>
+    ensures { result ≡ name operand.now }
+{
+    match atom_alone(operand) {
+        Some(Atom::Symbol(name)) => Some(name.again()),
+        _ => None,
+    }
+}
+
+/// Returns the register that an operand names.
+fn register(operand: &Operand) -> Option<Reg>
+    ensures { result ≡ register operand.now }
+{
+    match name(operand) {
+        Some(name) => reg_named(name.bytes()),
+        None => None,
+    }
+}
+
+/// Returns the control register with a number, if it has twelve bits.
+fn numbered(number: u32) -> Option<Csr>
+    ensures { result ≡ csr_number number }
+{
+    if number < 4096 {
+        Some(Csr(number as u16))
+    } else {
+        None
+    }
+}
+
+/// Returns the control register that an operand is, by its name or its number.
+fn control_register(operand: &Operand) -> Option<Csr>
+    ensures { result ≡ csr operand.now }
+{
+    match atom_alone(operand) {
+        Some(Atom::Symbol(name)) => match csr_named(name.bytes()) {
+            Some(number) => numbered(u32::from(number)),
+            None => None,
+        },
+        Some(Atom::Number(number)) => numbered(*number),
+        _ => None,
+    }
+}
+
+/// Takes a letter off the front of a text, if it is there: returns 1 or 0, and the rest.
+fn letter(wanted: u8, text: &[u8]) -> (u16, &[u8])
+    ensures count { result.0 ≡ (letter wanted text.now).0 }
+    ensures rest { result.1.now ≡ (letter wanted text.now).1 }
+    ensures one { result.0 ≤ 1 }
+{
+    match text {
+        [first, rest @ ..] => {
+            if *first == wanted {
+                (1, rest)
+            } else {
+                (0, text)
+            }
+        }
+        [] => (0, text),
+    }
+}
+
+/// Reads the letters of a set: one or more of `iorw`, in this order.
+#[tactic(auto, unfolding(crate::specs::Fields::fence_letters))]
+fn fence_letters(text: &[u8]) -> Option<FenceSet>
+    ensures { result ≡ fence_letters text.now }
+{
+    let (i, rest) = letter(b'i', text);
+    let (o, rest) = letter(b'o', rest);
+    let (r, rest) = letter(b'r', rest);
+    let (w, rest) = letter(b'w', rest);
+    if rest.is_empty() && !text.is_empty() {
+        Some(FenceSet(8 * i + 4 * o + 2 * r + w))
+    } else {
+        None
+    }
+}
+
+/// Returns the set of accesses that an operand names.
+fn set(operand: &Operand) -> Option<FenceSet>
+    ensures { result ≡ set operand.now }
+{
+    match name(operand) {
+        Some(name) => fence_letters(name.bytes()),
+        None => None,
+    }
+}
+
+/// Returns whether an operand is a value without a base, or one of these parts of it.
+fn is_value(high: bool, low: bool, operand: &Operand) -> bool
+    ensures { result ≡ is_value high low operand.now.form }
+{
+    match &operand.form {
+        Form::Value {
+            part,
+            base: None,
+            ..
+        } => match part {
+            Part::Whole => true,
+            Part::High => high,
+            Part::Low => low,
+        },
+        _ => false,
+    }
+}
+
+/// Returns whether an operand is a string.
+fn is_text(operand: &Operand) -> bool
+    ensures { result ≡ is_text operand.now.form }
+{
+    matches!(&operand.form, Form::Text(_))
+}
+
+/// Returns the register of the base of an operand.
+fn base(operand: &Operand) -> Option<Reg>
+    ensures { result ≡ base operand.now.form }
+{
+    match &operand.form {
+        Form::Value {
+            base: Some(base),
+            ..
+        } => reg_named(base.bytes()),
+        _ => None,
+    }
+}
+
+/// Returns the fields with an operand whose value is waited for, if it fits.
+fn value_in<'t, 'a>(
+    fits: bool,
+    operand: &'t Operand<'a>,
+    fields: Fields<'t, 'a>,
+) -> Option<Fields<'t, 'a>>
+    ensures { result ≡ value_in fits operand.now fields.entry }
+{
+    if fits {
+        Some(Fields {
+            value: Some(Value::new(operand)),
+            ..fields
+        })
+    } else {
+        None
+    }
+}
+
+/// Returns the fields with an operand in its role.
+#[tactic(auto, unfolding(crate::specs::Fields::put))]
+fn put<'t, 'a>(
+    role: Role,
+    operand: &'t Operand<'a>,
+    fields: Fields<'t, 'a>,
+) -> Option<Fields<'t, 'a>>
+    ensures { result ≡ put role operand.now fields.entry }
+{
+    match role {
+        Role::Rd => {
+            let rd = register(operand)?;
+            Some(Fields { rd, ..fields })
+        }
+        Role::Rs1 => {
+            let rs1 = register(operand)?;
+            Some(Fields { rs1, ..fields })
+        }
+        Role::Rs2 => {
+            let rs2 = register(operand)?;
+            Some(Fields { rs2, ..fields })
+        }
+        Role::Both => {
+            let rd = register(operand)?;
+            let rs1 = rd;
+            Some(Fields { rd, rs1, ..fields })
+        }
+        Role::Imm => value_in(is_value(false, true, operand), operand, fields),
+        Role::Upper => value_in(is_value(true, false, operand), operand, fields),
+        Role::Value => value_in(is_value(false, false, operand), operand, fields),
+        Role::Memory => {
+            let rs1 = base(operand)?;
+            value_in(true, operand, Fields { rs1, ..fields })
+        }
+        Role::Csr => {
+            let csr = control_register(operand)?;
+            Some(Fields { csr, ..fields })
+        }
+        Role::Before => {
+            let before = set(operand)?;
+            Some(Fields { before, ..fields })
+        }
+        Role::After => {
+            let after = set(operand)?;
+            Some(Fields { after, ..fields })
+        }
+        Role::Symbol => value_in(name(operand).is_some(), operand, fields),
+        Role::Second => {
+            if !is_value(false, false, operand) {
+                return None;
+            }
+            let second = Some(Value::new(operand));
+            Some(Fields { second, ..fields })
+        }
+        Role::Text => value_in(is_text(operand), operand, fields),
+    }
+}
+
+/// Returns the fields with as many operands as there are roles, each in its role.
+#[tactic(auto, unfolding(crate::specs::Fields::in_roles))]
+pub fn in_roles<'t, 'a>(
+    roles: &[Role],
+    operands: &'t [Operand<'a>],
+    fields: Fields<'t, 'a>,
+) -> Option<Fields<'t, 'a>>
+    ensures { result ≡ in_roles roles.now operands.now fields.entry }
+{
+    let [role, roles @ ..] = roles else {
+        return if operands.is_empty() {
+            Some(fields)
+        } else {
+            None
+        };
+    };
+    let [operand, operands @ ..] = operands else {
+        return None;
+    };
+    match put(*role, operand, fields) {
+        Some(fields) => in_roles(roles, operands, fields),
+        None => None,
+    }
+}
+
+/// Returns the fields with operands that are all in one role.
+#[tactic(auto, unfolding(crate::specs::Fields::in_role))]
+pub fn in_role<'t, 'a>(
+    role: Role,
+    operands: &'t [Operand<'a>],
+    fields: Fields<'t, 'a>,
+) -> Option<Fields<'t, 'a>>
+    ensures { result ≡ in_role role operands.now fields.entry }
+{
+    let [operand, operands @ ..] = operands else {
+        return Some(fields);
+    };
+    match put(role, operand, fields) {
+        Some(fields) => in_role(role, operands, fields),
+        None => None,
+    }
+}
+
+/// Returns fields with two registers and an immediate that are given.
+fn start<'t, 'a>(rd: u8, rs1: u8, imm: i8) -> Fields<'t, 'a>
+    requires rd { rd < 32 }
+    requires rs1 { rs1 < 32 }
+    ensures { result ≡ start rd rs1 imm }
+{
+    Fields {
+        rd: Reg::of(rd),
+        rs1: Reg::of(rs1),
+        rs2: Reg::of(0),
+        imm,
+        csr: Csr(0),
+        before: FenceSet(15),
+        after: FenceSet(15),
+        value: None,
+        second: None,
+    }
+}
+
+/// Returns the fields before operands are read.
+pub fn given<'t, 'a>(fields: Given) -> Fields<'t, 'a>
+    ensures { result ≡ given fields }
+{
+    match fields {
+        Given::Zeros => start(0, 0, 0),
+        Given::Link => start(1, 0, 0),
+        Given::Return => start(0, 1, 0),
+        Given::Call => start(1, 1, 0),
+        Given::Tail => start(0, 6, 0),
+        Given::One => start(0, 0, 1),
+        Given::Ones => start(0, 0, -1),
+    }
+}
+
+// ---- instructions
+
+/// Returns the immediate that is given, which has twelve bits.
+fn given_imm(fields: &Fields) -> i32
+    ensures value { result ≡ fields.now.imm }
+    ensures within { IsWithin (2 ^ 11) fields.now.imm }
+{
+    i32::from(fields.imm)
+}
+
+/// Returns the immediate of an instruction of this kind; 0 where it waits for a value.
+fn immediate(kind: Kind, fields: &Fields) -> i32
+    ensures { result ≡ immediate kind fields.now }
+{
+    match kind {
+        Kind::OpImm { .. } => given_imm(fields),
+        Kind::Csr { .. } | Kind::CsrImm { .. } => i32::from(fields.csr.number()),
+        Kind::Fence { .. } => i32::from(16 * fields.before.bits() + fields.after.bits()),
+        _ => 0,
+    }
+}
+
+/// Returns the instruction of an operation with these fields; the field of a value that it waits for is 0.
+#[tactic(auto, unfolding(crate::specs::Fields::instruction))]
+pub fn instruction(operation: Operation, fields: &Fields) -> Instr
+    ensures { result ≡ instruction operation fields.now }
+{
+    let (rd, rs1, rs2) = (fields.rd, fields.rs1, fields.rs2);
+    // These are called for what they say of their ranges.
+    let _ = (rd.number(), rs1.number(), rs2.number(), given_imm(fields));
+    let _ = (
+        fields.csr.number(),
+        fields.before.bits(),
+        fields.after.bits(),
+    );
+    operation.with(rd, rs1, rs2, immediate(operation.kind(), fields))
+}
