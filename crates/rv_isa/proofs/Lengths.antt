@@ -4,7 +4,8 @@ use Rattle.std.proofs.lemmas.Fmt.{length-decimal-le, length_signed_le}
 use Rattle.std.specs.Prelude.{ℤ, pos, negsuc}
 use Rattle.std.specs.Fmt.{decimal, signed_decimal}
 use Rattle.rv_isa.specs.Number.{IsWithin}
-use Rattle.rv_isa.specs.Text.{target, register, text, cond_name, load_op_name, width_name, imm_op_name, shift_op_name, csr_op_name, alu_op_name}
+use Rattle.rv_isa.specs.Mnemonics.{cond_name, load_op_name, width_name, imm_op_name, shift_op_name, csr_op_name, alu_op_name}
+use Rattle.rv_isa.specs.Text.{target, register, text}
 use Rattle.rv_isa.specs.Word.{IsInRange}
 use Rattle.rv_isa.specs.declared.kind.Kind.{Kind}
 use Rattle.rv_isa.specs.declared.kind.Kind.TheVariants.{Lui, Auipc, Jal, Jalr, Branch, Load, Store, OpImm, Shift, Op, Csr, CsrImm}

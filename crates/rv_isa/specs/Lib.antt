@@ -1,6 +1,7 @@
 pub mod Alu
 pub mod Fields
 pub mod Layout
+pub mod Letters
 pub mod Meaning
 pub mod Mnemonics
 pub mod Names
@@ -8,5 +9,5 @@ pub mod Number
 pub mod Op
 pub mod Text
 pub mod TextParts
-pub mod Word
 pub mod Width
+pub mod Word

@@ -1,9 +1,9 @@
 -- Not to audit: private contracts alone cite this.
--- The text of an instruction by its parts.
-use Rattle.std.specs.Prelude.{ℕ, List}
+-- The operands of an instruction's text by their parts.
+use Rattle.std.specs.Prelude.{ℕ, List, []}
 use Rattle.std.specs.Fmt.{signed_decimal}
 use Rattle.rv_base.specs.Digits.{short_hex}
-use Rattle.rv_isa.specs.Text.{register, target, address, line_of_2, line_of_3}
+use Rattle.rv_isa.specs.Text.{register, target, address, two, three}
 use Rattle.rv_isa.specs.declared.text.TextOperand.{TextOperand}
 use Rattle.rv_isa.specs.declared.text.TextOperand.TheVariants.{Register, Hex, Number, Target, Address}
 use Rattle.rv_isa.specs.declared.text.TextOperands.{TextOperands}
@@ -17,8 +17,8 @@ operand (Number z) = signed_decimal z
 operand (Target z) = target z
 operand (Address z base) = address z base
 
--- a mnemonic and its operands, as one text
-abbrev pub joined_parts : List ℕ → TextOperands → List ℕ
-joined_parts mnemonic texts.None = mnemonic
-joined_parts mnemonic (texts.Two a b) = line_of_2 mnemonic (register a) (operand b)
-joined_parts mnemonic (texts.Three a b c) = line_of_3 mnemonic (register a) (operand b) (operand c)
+-- operands after a mnemonic, as one text
+abbrev pub joined : TextOperands → List ℕ
+joined texts.None = []
+joined (texts.Two a b) = two (register a) (operand b)
+joined (texts.Three a b c) = three (register a) (operand b) (operand c)

@@ -5,8 +5,7 @@ use Rattle.std.specs.Prelude.{ℕ, Bool, true, false, List, map, [], ◌∷◌, 
 use Rattle.std.specs.List.{list_any}
 use Rattle.std.specs.Option.{option_map, option_or, ok_or}
 use Rattle.std.specs.Str.{bytes_eq}
-use Rattle.rv_base.specs.Tables.{lookup}
-use Rattle.rv_isa.specs.Mnemonics.{mnemonics, blank}
+use Rattle.rv_isa.specs.Mnemonics.{named, blank}
 use Rattle.rv_isa.specs.declared.fields.Operation.{Operation}
 use Rattle.rv_isa.specs.declared.fields.Operation.TheVariants as o
 use Rattle.rv_isa.specs.declared.kind.Kind.{Kind}
@@ -172,7 +171,7 @@ fitted xs rows = ok_or (first_fit xs rows) BadOperands
 
 -- the statement of a word with these operands; E4 if it is neither a mnemonic nor a directive
 unfoldable pub meaning : List ℕ → List Operand → Result Statement LineFault
-meaning word xs = elim (lookup word mnemonics) as (λ _. Result Statement LineFault) [
+meaning word xs = elim (named word) as (λ _. Result Statement LineFault) [
   | Some op ↦ fitted xs (of_kind op (blank op))
   | None ↦ if is_nothing (of_word word words) then Err UnknownWord else fitted xs (of_word word words)
 ]
