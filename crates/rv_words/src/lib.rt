@@ -9,12 +9,14 @@ ghost use Rattle.rv_words.specs.Chain.{HasRule, IsLocal, board_rules, parsed_rul
 ghost use Rattle.rv_words.specs.Parse.{IsBoardParse};
 ghost use Rattle.rv_words.specs.Read.{IsReadFrom};
 
+mod laws;
 mod no_run;
 mod origin;
 
 use clap::builder::ValueParser;
 use clap::error::ErrorKind;
 use clap::{Arg, ArgAction, ArgMatches, Command, Error, value_parser};
+pub use laws::{help_is_answered, words_are_taken_by_rules, words_have_a_meaning};
 pub use no_run::NoRun;
 pub use origin::Origin;
 use std::alloc::{AllocError, Global};

@@ -1,0 +1,16 @@
+-- A request for help.
+use Rattle.std.proofs.Common.{refl}
+use Rattle.std.specs.Prelude.{codes}
+use Rattle.std.specs.Char.{encode_utf8}
+use Rattle.std.specs.Str.{chars}
+use Rattle.clap.specs.Faults.{flags_fault, walk_fault}
+use Rattle.rv_words.specs.Board.{board_app}
+use Rattle.rv_words.specs.Rules.{AsksForHelp}
+
+pub long_help : AsksForHelp (codes "--help")
+unfolding board_app walk_fault
+long_help program more = refl
+
+pub short_help : AsksForHelp (codes "-h")
+unfolding board_app walk_fault flags_fault chars encode_utf8
+short_help program more = refl
