@@ -4,6 +4,7 @@ pub mod Shortcuts
 pub mod Effect
 pub mod Fetch
 pub mod Keeps
+pub mod Laws
 pub mod Step
 pub mod StepParts
 pub mod Walk

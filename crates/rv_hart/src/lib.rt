@@ -4,6 +4,7 @@
 
 mod access;
 mod hart;
+mod laws;
 mod marks;
 mod plain;
 mod run;
@@ -13,5 +14,6 @@ mod values;
 mod windows;
 
 pub use hart::Hart;
+pub use laws::{traps_return, user_mode_changes_by_traps};
 pub use marks::{Marks, NoMarks};
 pub use trap::{Outcome, Trap};

@@ -1,0 +1,88 @@
+-- The return from a trap right after its entry.
+use Rattle.std.proofs.Common.{◌≡◌, ℕ, Option, Some, None, Result, Ok, Err, true, false, refl, sym, ap, subst, ◌∙◌}
+use Rattle.rv_isa.specs.declared.kind.Kind.{Kind}
+use Rattle.rv_isa.specs.declared.kind.Kind.TheVariants.{Mret}
+use Rattle.rv_pmp.specs.declared.mode.Mode.TheVariants as mode
+use Rattle.rv_csr.specs.Traps.{entered, left}
+use Rattle.rv_hart.specs.State.{Machine}
+use Rattle.rv_hart.specs.Effect.{Effect, effect, return_effect, csr_written}
+use Rattle.rv_hart.specs.Fetch.{fetch_result}
+use Rattle.rv_hart.specs.Step.{step, tries, tries_by, ticked, step_by, attempt, conclusion, trap_step, counts, enter, outcome_of, interrupt}
+use Rattle.rv_hart.specs.Laws.{IsBack, TrapsReturn}
+use Rattle.rv_hart.specs.declared.trap.Trap.{Trap}
+use Rattle.rv_hart.specs.declared.trap.Outcome.{Outcome}
+use Rattle.rv_hart.specs.declared.trap.Outcome.TheVariants.{Retired, Trapped, Halted}
+
+-- ---- a step that ends in a trap
+
+abbrev Enters : Machine → Machine → Outcome → Type 0
+Enters m new Retired = Unit {0}
+Enters m new Halted = Unit {0}
+Enters m new (Trapped cause epc tval) = (t : Trap) × (new ≡ (trap_step m t).0)
+
+retires : (m new : Machine) (halt : Option ℕ) → Enters m new (outcome_of halt)
+retires m new None = tt
+retires m new (Some code) = tt
+
+concludes : (m : Machine) (wrote : Option ℕ) (e : Effect)
+    → Enters m (conclusion m wrote e).0 (conclusion m wrote e).1
+concludes m wrote (Ok new) = retires m (counts new true wrote) new.bus.halt
+concludes m wrote (Err t) = (t, refl)
+
+attempts : (m : Machine) (f : Result Kind Trap) → Enters m (attempt m f).0 (attempt m f).1
+attempts m (Ok k) = concludes m (csr_written k) (effect k m)
+attempts m (Err t) = (t, refl)
+
+enters : (m : Machine) (cause : Option ℕ) → Enters m (step_by m cause).0 (step_by m cause).1
+enters m (Some cause) = (record { cause = cause; tval = 0 }, refl)
+enters m None = attempts m (fetch_result m)
+
+-- ---- a step that tries MRET
+
+tried : (m : Machine) (cause : Option ℕ) (f : Result Kind Trap) (k : Kind) → tries_by cause f ≡ Some k
+    → fetch_result m ≡ f → step_by m cause ≡ conclusion m (csr_written k) (effect k m)
+tried m None (Ok j) k is at =
+    let same : j ≡ k = cc in ap (attempt m) at ∙ ap (λ x. attempt m (Ok x)) same
+tried m None (Err t) k is at = absurd cc
+tried m (Some cause) f k is at = absurd cc
+
+abbrev returned : Machine → Machine
+returned m = record m { csrs = left m.csrs; mode = m.csrs.status.previous_mode; pc = m.csrs.trap.epc }
+
+returns : (m : Machine) → m.mode ≡ mode.Machine → effect Mret m ≡ Ok (returned m)
+unfolding effect return_effect
+returns m machine = ap (return_effect m) machine
+
+leaves : (m : Machine) → m.mode ≡ mode.Machine → tries m ≡ Some Mret
+    → (step m).0 ≡ counts (returned (ticked m)) true (csr_written Mret)
+unfolding step tries
+leaves m machine is =
+    let h = ticked m in
+    ap (λ (s : Machine × Outcome). s.0) (tried h (interrupt h) (fetch_result h) Mret is refl
+    ∙ ap (conclusion h (csr_written Mret)) (returns h machine))
+
+-- ---- both
+
+back : (m : Machine) (t : Trap)
+    → IsBack m (counts (returned (ticked (trap_step (ticked m) t).0)) true (csr_written Mret))
+unfolding counts enter entered left
+back m t = record { pc = refl; mode = refl; interrupts = refl; registers = refl; memory = refl }
+
+in_machine_mode : (m : Machine) (t : Trap) → (trap_step m t).0.mode ≡ mode.Machine
+unfolding counts enter
+in_machine_mode m t = refl
+
+leads_back : (m handler : Machine) (t : Trap) → handler ≡ (trap_step (ticked m) t).0
+    → tries handler ≡ Some Mret → IsBack m (step handler).0
+leads_back m handler t is mret =
+    let machine = ap (λ (h : Machine). h.mode) is ∙ in_machine_mode (ticked m) t in
+    let stepped = leaves handler machine mret
+    ∙ ap (λ h. counts (returned (ticked h)) true (csr_written Mret)) is in
+    subst (IsBack m) (sym stepped) (back m t)
+
+pub traps_return : TrapsReturn
+unfolding step
+traps_return m cause epc tval trapped mret =
+    let entered : Enters (ticked m) (step m).0 (Trapped cause epc tval)
+    = subst (Enters (ticked m) (step m).0) trapped (enters (ticked m) (interrupt (ticked m))) in
+    leads_back m (step m).0 entered.0 entered.1 mret

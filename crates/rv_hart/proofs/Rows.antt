@@ -1,0 +1,112 @@
+-- What is kept by every instruction, if those keep it that can change the mode or a control register.
+use Rattle.std.proofs.Common.{◌≡◌, ℕ, ◌+◌, ◌*◌, ◌/◌, ◌%◌, ◌^◌, ◌==◌, Option, Some, None, Result, Ok, Err, Bool, true, false, refl}
+use Rattle.std.specs.Prelude.{if◌then◌else◌}
+use Rattle.rv_isa.specs.Number.{modulo}
+use Rattle.rv_isa.specs.Width.{bytes_of, load_width, imm_alu_op, shift_alu_op}
+use Rattle.rv_isa.specs.Alu.{value, is_taken}
+use Rattle.rv_isa.specs.declared.op.CsrOp.{CsrOp}
+use Rattle.rv_isa.specs.declared.op.LoadOp.{LoadOp}
+use Rattle.rv_isa.specs.declared.op.Width.{Width}
+use Rattle.rv_isa.specs.declared.kind.Kind.{Kind}
+use Rattle.rv_isa.specs.declared.kind.Kind.TheVariants.{Lui, Auipc, Jal, Jalr, Branch, Load, Store, OpImm, Shift, Op, Fence, FenceI, Csr, CsrImm, Ecall, Ebreak, Mret, Wfi}
+use Rattle.rv_pmp.specs.declared.access.Access.TheVariants.{Read, Write}
+use Rattle.rv_pmp.specs.declared.mode.Mode.{Mode}
+use Rattle.rv_pmp.specs.declared.mode.Mode.TheVariants.{User, Machine}
+use Rattle.rv_bus.specs.State.{BusState}
+use Rattle.rv_bus.specs.Access.{load, after_load, store}
+use Rattle.rv_hart.specs.State as state
+use Rattle.rv_hart.specs.Effect.{Effect, effect, jump, checked_effect, branch, target_check, load_effect, store_effect, load_result, store_result, load_value, may_access, csr_effect, call_from, return_effect, wait_effect, is_wait_illegal, illegal, at_next, with_result, plus, next, reg, with_reg, refused_load, misaligned_load, refused_store, misaligned_store}
+use Rattle.rv_hart.specs.declared.trap.Trap.{Trap}
+
+-- a fact of the machine after an instruction that retires
+abbrev pub IfRetired : (state.Machine → Type 0) → Effect → Type 0
+IfRetired P (Ok new) = P new
+IfRetired P (Err t) = Unit {0}
+
+-- a fact that holds of every machine with the mode and the control registers of this one
+module _ (m : state.Machine) (P : state.Machine → Type 0)
+    (same : (new : state.Machine) → new.mode ≡ m.mode → new.csrs ≡ m.csrs → P new) where
+  checked : (one : state.Machine) (c : Result Unit Trap) → one.mode ≡ m.mode → one.csrs ≡ m.csrs
+      → IfRetired P (checked_effect one c)
+  checked one (Ok u) in_mode still = same one in_mode still
+  checked one (Err t) in_mode still = tt
+
+  jumps : (rd target : ℕ) → IfRetired P (jump m rd target)
+  unfolding jump
+  jumps rd target =
+      checked (record m { registers = with_reg m.registers rd (next m.pc); pc = target })
+      (target_check target) refl refl
+
+  branches : (taken : Bool) (target : ℕ) → IfRetired P (branch m taken target)
+  unfolding branch
+  branches true target = checked (record m { pc = target }) (target_check target) refl refl
+  branches false target = same (at_next m) refl refl
+
+  accesses : (aligned granted : Bool) (x refused misaligned : Effect) → IfRetired P x → IfRetired P refused
+      → IfRetired P misaligned
+      → IfRetired P (if aligned then (if granted then x else refused) else misaligned)
+  accesses true true x refused misaligned done r s = done
+  accesses true false x refused misaligned done r s = r
+  accesses false granted x refused misaligned done r s = s
+
+  loaded : (op : LoadOp) (rd addr : ℕ) (after : BusState) (v : Option ℕ)
+      → IfRetired P (load_result m op rd addr after v)
+  loaded op rd addr after None = tt
+  loaded op rd addr after (Some v) =
+      same (with_result (record m { bus = after }) rd (load_value op v)) refl refl
+
+  loads : (op : LoadOp) (rd addr : ℕ) → IfRetired P (load_effect m op rd addr)
+  unfolding load_effect
+  loads op rd addr =
+      let w = load_width op in
+      accesses (addr % bytes_of w == 0) (may_access m Read addr w)
+      (load_result m op rd addr (after_load m.bus addr w) (load m.bus addr w)) (refused_load addr)
+      (misaligned_load addr) (loaded op rd addr (after_load m.bus addr w) (load m.bus addr w)) tt tt
+
+  stored : (addr : ℕ) (after : Option BusState) → IfRetired P (store_result m addr after)
+  stored addr None = tt
+  stored addr (Some b) = same (at_next (record m { bus = b })) refl refl
+
+  stores : (w : Width) (addr v : ℕ) → IfRetired P (store_effect m w addr v)
+  unfolding store_effect
+  stores w addr v =
+      accesses (addr % bytes_of w == 0) (may_access m Write addr w)
+      (store_result m addr (store m.bus addr w v)) (refused_store addr) (misaligned_store addr)
+      (stored addr (store m.bus addr w v)) tt tt
+
+  calls : (d : Mode) → IfRetired P (call_from d)
+  calls User = tt
+  calls Machine = tt
+
+  waits : (b : Bool) → IfRetired P (if b then illegal Wfi else Ok (at_next m))
+  waits true = tt
+  waits false = same (at_next m) refl refl
+
+  pub rows : ((k : Kind) (op : CsrOp) (field operand rd csr : ℕ)
+      → IfRetired P (csr_effect k m op field operand rd csr))
+      → IfRetired P (return_effect m m.mode)
+      → (k : Kind) → IfRetired P (effect k m)
+  unfolding effect wait_effect
+  rows registers returns (Lui rd imm) = same (with_result m rd (imm * 2 ^ 12)) refl refl
+  rows registers returns (Auipc rd imm) =
+      same (with_result m rd ((m.pc + imm * 2 ^ 12) % 2 ^ 32)) refl refl
+  rows registers returns (Jal rd offset) = jumps rd (plus m.pc offset)
+  rows registers returns (Jalr rd base offset) = jumps rd (plus (reg m base) offset / 2 * 2)
+  rows registers returns (Branch cond rs1 rs2 offset) =
+      branches (is_taken cond (reg m rs1) (reg m rs2)) (plus m.pc offset)
+  rows registers returns (Load op rd base offset) = loads op rd (plus (reg m base) offset)
+  rows registers returns (Store w source base offset) = stores w (plus (reg m base) offset) (reg m source)
+  rows registers returns (OpImm op rd rs1 imm) =
+      same (with_result m rd (value (imm_alu_op op) (reg m rs1) (modulo imm (2 ^ 32)))) refl refl
+  rows registers returns (Shift op rd rs1 amount) =
+      same (with_result m rd (value (shift_alu_op op) (reg m rs1) amount)) refl refl
+  rows registers returns (Op op rd rs1 rs2) =
+      same (with_result m rd (value op (reg m rs1) (reg m rs2))) refl refl
+  rows registers returns (Fence rd rs1 imm) = same (at_next m) refl refl
+  rows registers returns (FenceI rd rs1 imm) = same (at_next m) refl refl
+  rows registers returns (Csr op rd rs1 csr) = registers (Csr op rd rs1 csr) op rs1 (reg m rs1) rd csr
+  rows registers returns (CsrImm op rd imm csr) = registers (CsrImm op rd imm csr) op imm imm rd csr
+  rows registers returns Ecall = calls m.mode
+  rows registers returns Ebreak = tt
+  rows registers returns Mret = returns
+  rows registers returns Wfi = waits (is_wait_illegal m m.mode)

@@ -1,0 +1,81 @@
+-- What a step in user mode leaves as it was.
+use Rattle.std.proofs.Common.{◌≡◌, ℕ, Option, Some, None, Result, Ok, Err, true, false, refl, sym, ap, subst, ◌∙◌}
+use Rattle.rv_isa.specs.declared.op.CsrOp.{CsrOp}
+use Rattle.rv_isa.specs.declared.kind.Kind.{Kind}
+use Rattle.rv_pmp.specs.declared.mode.Mode.{Mode}
+use Rattle.rv_pmp.specs.declared.mode.Mode.TheVariants as mode
+use Rattle.rv_csr.specs.Registers.{counted, read}
+use Rattle.rv_csr.specs.State.{CsrState}
+use Rattle.rv_csr.specs.Traps.{entered}
+use Rattle.rv_csr.proofs.Levels.{nothing_read}
+use Rattle.rv_bus.specs.Access.{lines_of}
+use Rattle.rv_hart.specs.State.{Machine}
+use Rattle.rv_hart.specs.Effect.{Effect, effect, csr_effect, exchange_result, return_effect, csr_written}
+use Rattle.rv_hart.specs.Fetch.{fetch_result}
+use Rattle.rv_hart.specs.Laws.{ChangesByTrap, UserChangesByTraps}
+use Rattle.rv_hart.specs.Step.{step, ticked, step_by, attempt, conclusion, trap_step, counts, enter, outcome_of, interrupt}
+use Rattle.rv_hart.specs.declared.trap.Trap.{Trap}
+use Rattle.rv_hart.proofs.Rows.{IfRetired, rows}
+
+-- the mode and the control registers are as they were
+abbrev IsAlike : Machine → Machine → Type 0
+IsAlike m new = (new.mode ≡ m.mode) × (new.csrs ≡ m.csrs)
+
+module _ (m : Machine) (user : m.mode ≡ mode.User) where
+  -- no control register can be read
+  registers : (k : Kind) (op : CsrOp) (field operand rd csr : ℕ)
+      → IfRetired (IsAlike m) (csr_effect k m op field operand rd csr)
+  unfolding csr_effect
+  registers k op field operand rd csr =
+      subst (λ old. IfRetired (IsAlike m) (exchange_result k m op field operand rd csr old)) (sym none) tt
+    where
+      none : read m.csrs csr m.mode (lines_of m.bus) ≡ None
+      none = ap (λ d. read m.csrs csr d (lines_of m.bus)) user ∙ nothing_read m.csrs csr (lines_of m.bus)
+
+  returns : (d : Mode) → d ≡ mode.User → IfRetired (IsAlike m) (return_effect m d)
+  unfolding return_effect
+  returns mode.User is = tt
+  returns mode.Machine is = absurd cc
+
+  effects : (k : Kind) → IfRetired (IsAlike m) (effect k m)
+  effects = rows m (IsAlike m) (λ new same still. (same, still)) registers (returns m.mode user)
+
+  -- ---- a step
+
+  traps : (t : Trap) → ChangesByTrap m (trap_step m t).0 (trap_step m t).1
+  unfolding counts enter
+  traps t =
+      let made = counted (entered m.csrs t.cause m.pc t.tval m.mode).counters false None in (
+        refl,
+        ap (λ (d : Mode). record (entered m.csrs t.cause m.pc t.tval d) { counters = made }) user,
+      )
+
+  settled : (wrote halt : Option ℕ) (new : Machine) → IsAlike m new
+      → ChangesByTrap m (counts new true wrote) (outcome_of halt)
+  unfolding counts
+  settled wrote None new alike = (
+    alike.0 ∙ user,
+    ap (λ (s : CsrState). record s { counters = counted new.csrs.counters true wrote }) alike.1,
+  )
+  settled wrote (Some code) new alike = (
+    alike.0 ∙ user,
+    ap (λ (s : CsrState). record s { counters = counted new.csrs.counters true wrote }) alike.1,
+  )
+
+  settles : (wrote : Option ℕ) (e : Effect) → IfRetired (IsAlike m) e
+      → ChangesByTrap m (conclusion m wrote e).0 (conclusion m wrote e).1
+  settles wrote (Ok new) alike = settled wrote new.bus.halt new alike
+  settles wrote (Err t) alike = traps t
+
+  attempts : (f : Result Kind Trap) → ChangesByTrap m (attempt m f).0 (attempt m f).1
+  attempts (Ok k) = settles (csr_written k) (effect k m) (effects k)
+  attempts (Err t) = traps t
+
+  tried : (cause : Option ℕ) → ChangesByTrap m (step_by m cause).0 (step_by m cause).1
+  tried (Some cause) = traps (record { cause = cause; tval = 0 })
+  tried None = attempts (fetch_result m)
+
+-- one step
+pub user_changes : UserChangesByTraps
+unfolding step
+user_changes m user = tried (ticked m) user (interrupt (ticked m))

@@ -1,0 +1,5 @@
+use Rattle.rv_hart.proofs.Returning.{traps_return}
+use Rattle.rv_hart.proofs.laws.traps_return.Goals as goal
+
+pub returns : goal.returns
+returns c = traps_return

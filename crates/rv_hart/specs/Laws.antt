@@ -1,0 +1,49 @@
+-- Laws: what a step in user mode leaves as it was, and the way back from a trap. RISC-V Privileged
+-- Architecture 20211203, sections 2.1, 3.1, 3.1.6.1 and 3.3.2.
+-- To audit: public contracts cite this.
+use Rattle.std.specs.Prelude.{◌≡◌, ℕ, Some}
+use Rattle.rv_isa.specs.declared.kind.Kind.TheVariants.{Mret}
+use Rattle.rv_pmp.specs.declared.mode.Mode.TheVariants as mode
+use Rattle.rv_csr.specs.State.{CsrState}
+use Rattle.rv_csr.specs.Registers.{aligned}
+use Rattle.rv_csr.specs.Traps.{entered}
+use Rattle.rv_hart.specs.State.{Machine}
+use Rattle.rv_hart.specs.Step.{step, tries}
+use Rattle.rv_hart.specs.declared.trap.Outcome.{Outcome}
+use Rattle.rv_hart.specs.declared.trap.Outcome.TheVariants.{Retired, Trapped, Halted}
+
+-- ---- user mode
+
+-- the control registers are those of another state, except for mcycle and minstret. mip isn't among them: it
+-- shows the levels of the interrupt lines
+abbrev pub SameButCounters : CsrState → CsrState → Type 0
+SameButCounters old new = new ≡ record old { counters = new.counters }
+
+-- a step from user mode leaves user mode and the control registers as they were, or it ends in a trap, and
+-- leaves machine mode and what the entry of that trap makes of the control registers
+abbrev pub ChangesByTrap : Machine → Machine → Outcome → Type 0
+ChangesByTrap old new Retired = (new.mode ≡ mode.User) × SameButCounters old.csrs new.csrs
+ChangesByTrap old new Halted = (new.mode ≡ mode.User) × SameButCounters old.csrs new.csrs
+ChangesByTrap old new (Trapped cause epc tval) =
+    (new.mode ≡ mode.Machine) × SameButCounters (entered old.csrs cause epc tval mode.User) new.csrs
+
+-- in user mode the mode and the control registers change by traps alone
+abbrev pub UserChangesByTraps : Type 0
+UserChangesByTraps = (m : Machine) → m.mode ≡ mode.User → ChangesByTrap m (step m).0 (step m).1
+
+-- ---- the return from a trap
+
+-- a machine is back where another was: at its pc without the two lowest bits, which mepc doesn't keep, in its
+-- mode, with interrupts enabled if they were, and with its registers and memory
+pub record IsBack (old new : Machine) : Type 0 where
+  pub pc : new.pc ≡ aligned old.pc
+  pub mode : new.mode ≡ old.mode
+  pub interrupts : new.csrs.status.interrupts ≡ old.csrs.status.interrupts
+  pub registers : new.registers ≡ old.registers
+  pub memory : new.bus.ram ≡ old.bus.ram
+
+-- a step that ends in a trap, whatever its cause, and then a step that tries MRET lead back
+abbrev pub TrapsReturn : Type 0
+TrapsReturn =
+    (m : Machine) (cause epc tval : ℕ) → (step m).1 ≡ Trapped cause epc tval
+    → tries (step m).0 ≡ Some Mret → IsBack m (step (step m).0).0
