@@ -28,6 +28,10 @@ pub record IsRefused (new : BoardState) (events : List Event) (n : ℕ) : Type 0
   pub user : runs_user new ≡ true
   pub next_writes : (e : Event) → slice_get events n ≡ Some e → writes new e ≡ true
 
+-- no register of protection changed
+abbrev pub KeepsProtection : BoardState → BoardState → Type 0
+KeepsProtection old new = pmp_of new ≡ pmp_of old
+
 -- no byte of the memory changed that user mode may not write
 abbrev pub KeepsUnwritten : BoardState → BoardState → Type 0
 KeepsUnwritten old new =
