@@ -2,6 +2,7 @@ pub mod Agreement
 pub mod Boot
 pub mod Exchange
 pub mod ImageFit
+pub mod Laws
 pub mod Move
 pub mod PlainSteps
 pub mod RunWhile

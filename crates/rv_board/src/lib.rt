@@ -5,6 +5,8 @@
 mod board;
 mod event;
 mod image;
+mod laws;
 
 pub use board::{Board, BootedBoard};
 pub use event::{BootFault, Event, Stopped, TrapRecord};
+pub use laws::locked_entries_stay;
