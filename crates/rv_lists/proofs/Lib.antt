@@ -1,3 +1,5 @@
 pub mod Inputs
 pub mod Lines
 pub mod Whole
+pub mod Inserted
+pub mod Texts

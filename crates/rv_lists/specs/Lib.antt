@@ -1,2 +1,3 @@
 pub mod Timed
 pub mod Reading
+pub mod Text

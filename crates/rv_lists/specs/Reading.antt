@@ -1,8 +1,9 @@
 -- Not to audit: private contracts alone cite this.
--- Reading a timed list, line by line.
-use Rattle.std.specs.Prelude.{◌≡◌, ℕ, List, [], ◌∷◌, ◌++◌, Option, Some, None, Result, Ok, Err, option_and_then}
+-- Reading a timed list, line by line, and writing one.
+use Rattle.std.specs.Prelude.{◌≡◌, ℕ, ◌&&◌, Bool, nat_lt, List, [], ◌∷◌, ◌++◌, Option, Some, None, Result, Ok, Err, option_and_then}
 use Rattle.std.specs.Option.{option_map}
 use Rattle.rv_lists.specs.declared.input.Input.{Input}
+use Rattle.rv_lists.specs.declared.input.Input.TheVariants.{Rx, Line}
 use Rattle.rv_lists.specs.declared.input.TimedInput.{TimedInput}
 use Rattle.rv_lists.specs.declared.line_refusal.LineRefusal.{LineRefusal}
 use Rattle.rv_lists.specs.declared.line_refusal.LineRefusal.TheVariants.{BadLine, OutOfMemory}
@@ -31,3 +32,9 @@ with_inputs before step inputs = option_map (λ is. before ++ at step is) inputs
 -- the inputs of a line, following others, unless a step falls
 abbrev pub with_line : List TimedInput → Option (List TimedInput) → Option (List TimedInput)
 with_line before said = option_and_then (λ inputs. unless_falling (before ++ inputs)) said
+
+-- ---- the ranges of an input's fields, as they are written
+
+abbrev pub is_input : Input → Bool
+is_input (Rx byte) = nat_lt byte 256
+is_input (Line source high) = nat_lt 0 source && nat_lt source 32

@@ -99,6 +99,11 @@ pub record IsFirstRefused (texts : List (List ℕ)) (n : ℕ) : Type 0 where
   pub refused : timed (take n texts) ≡ None
   pub taken : (k : ℕ) → k < n → is_some (timed (take k texts)) ≡ true
 
+-- a list with one input more: after all others of its step, and before the first later one
+unfoldable pub inserted : List TimedInput → TimedInput → List TimedInput
+inserted [] x = x ∷ []
+inserted (y ∷ ys) x = if nat_lt x.step y.step then x ∷ y ∷ ys else y ∷ inserted ys x
+
 -- a text is read: the result is its list, its first refused line, or out of memory
 abbrev pub IsRead : List ℕ → Result (List TimedInput) TimelineFault → Type 0
 IsRead text (Ok inputs) = timed (lines text) ≡ Some inputs

@@ -19,7 +19,9 @@ mod line_refusal;
 mod number;
 mod reader;
 mod timeline;
+mod writer;
 
 pub use fault::TimelineFault;
 pub use input::{Input, TimedInput};
 pub use timeline::Timeline;
+pub use writer::list_text;

@@ -1,10 +1,12 @@
 //! Timed lists.
-ghost use Rattle.rv_lists.specs.Timed.{IsRead};
+ghost use Rattle.std.specs.Prelude.{◌≡◌, ◌≤◌, length, insert};
+ghost use Rattle.rv_lists.specs.declared.input.TimedInput.{TimedInput};
+ghost use Rattle.rv_lists.specs.Timed.{IsRead, inserted};
 
 use crate::line_refusal::LineRefusal;
 use crate::reader::read_line;
 use crate::{TimedInput, TimelineFault};
-use rv_base::cut_lines;
+use rv_base::{NoMemory, cut_lines};
 use std::alloc::Global;
 use std::marker::Model;
 
@@ -32,8 +34,22 @@ impl Model for Timeline {
     ghost invariant = { λ t. never_falls t.inputs.items ≡ true };
 }
 
+/// Returns the index at which an input of a step is inserted: that of the first later input, or the length.
+#[tactic(auto, using(crate::proofs::Inserted::at_end))]
+fn place_of(inputs: &[TimedInput], step: u64) -> usize
+    ensures within { result ≤ length inputs.now }
+    ensures place { (x : TimedInput) → x.step ≡ step → inserted inputs.now x ≡ insert inputs.now result x }
+{
+    for (place, timed) in inputs.iter().enumerate() {
+        if timed.step > step {
+            return place;
+        }
+    }
+    inputs.len()
+}
+
 impl Timeline {
-    ghost use Rattle.std.specs.Prelude.{◌≡◌, true};
+    ghost use Rattle.std.specs.Prelude.{◌≡◌, true, OnOk, OnErr};
     ghost use Rattle.rv_lists.specs.Timed.{never_falls};
 
     /// Reads a timed list, in time linear in its length.
@@ -57,6 +73,23 @@ impl Timeline {
             }
         }
         Ok(Timeline { inputs })
+    }
+
+    /// Inserts an input after all others of its step, and before the first later one.
+    ///
+    /// # Errors
+    ///
+    /// `NoMemory` if memory runs out. The list is as it was.
+    #[tactic(auto, using(crate::proofs::Inserted::rises))]
+    pub fn insert(&mut self, input: TimedInput) -> Result<(), NoMemory>
+        ensures ok { OnOk result (self.new ≡ inserted self.old input) }
+        ensures err { OnErr result (self.new ≡ self.old) }
+    {
+        let place = place_of(&self.inputs, input.step);
+        match self.inputs.insert(place, input) {
+            Ok(()) => Ok(()),
+            Err(_) => Err(NoMemory),
+        }
     }
 
     /// Returns the inputs in order: their steps never fall.

@@ -1,5 +1,5 @@
-//! Timed lists that are read.
-use rv_lists::{Input, TimedInput, Timeline};
+//! Timed lists that are read, get one input more, or are written.
+use rv_lists::{Input, TimedInput, Timeline, list_text};
 use rv_plic::Source;
 use std::alloc::Global;
 use std::process::Abort;
@@ -162,4 +162,28 @@ fn a_hundred_thousand_inputs(rt: HostRuntime) -> Result<(), Fail> {
     let alloc = rt.alloc();
     let text = list_of_bytes(alloc, 100_000)?;
     check_last(&rt, text.as_bytes(), 100_000, rx(99_999, 0x5A), alloc)
+}
+
+#[test]
+fn an_input_is_inserted_after_those_of_its_step(rt: HostRuntime) -> Result<(), Fail> {
+    let mut timeline = Timeline::read(rt.alloc(), b"3 rx 01 02\n5 rx 03")
+        .ok()
+        .ok_or("the text is refused")?;
+    timeline.insert(rx(3, 4)).ok().ok_or("there is no memory")?;
+    let inputs = [rx(3, 1), rx(3, 2), rx(3, 4), rx(5, 3)];
+    assert_eq!(&rt; timeline.inputs(), inputs.as_slice());
+    Ok(())
+}
+
+#[test]
+fn a_line_is_written_for_each_input(rt: HostRuntime) -> Result<(), Fail> {
+    let inputs = [rx(0, 0x0A), line(7, 31, true)?, line(9999999999, 5, false)?];
+    let text = list_text(rt.alloc(), &inputs)
+        .ok()
+        .ok_or("there is no memory")?;
+    assert_eq!(&rt;
+        text.as_slice(),
+        b"0 rx 0a\n7 line 31 1\n9999999999 line 5 0\n".as_slice()
+    );
+    Ok(())
 }

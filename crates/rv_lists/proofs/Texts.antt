@@ -1,0 +1,396 @@
+-- The text of a list is read as the list.
+use Rattle.std.proofs.Common.{◌≡◌, ◌∙◌, ℕ, zero, suc, ◌+◌, ◌-◌, ◌*◌, ◌/◌, ◌%◌, ◌^◌, ◌<◌, ◌≤◌, Bool, true, false, List, [], ◌∷◌, ◌++◌, length, get_or, take, refl, sym, ap, arith, append-nil, append_assoc, length-append}
+use Rattle.std.proofs.lemmas.List.{take_more}
+use Rattle.std.proofs.lemmas.Bool.Decides.{nat_tests}
+use Rattle.std.proofs.lemmas.Fmt.{decimal_by_steps, length-decimal-le}
+use Rattle.std.proofs.lemmas.List.Elements.{All-head, All-tail}
+use Rattle.std.proofs.lemmas.List.Folds.{list_all-append}
+use Rattle.std.proofs.lemmas.List.Splits.{slice_split_none, slice_split_at}
+use Rattle.std.proofs.lemmas.List.Sums.{AllPass-from_list_all, fold-append}
+use Rattle.std.specs.Char.{is_ascii_digit}
+use Rattle.std.specs.List.{All, list_all}
+use Rattle.std.specs.Prelude.{Some, nat_eq, nat_le, nat_lt, ◌&&◌, codes, decimal, slice_index_or, if◌then◌else◌}
+use Rattle.rv_base.specs.Digits.{digit, hex}
+use Rattle.rv_base.specs.Lines.{lines, split, without_return}
+use Rattle.rv_base.specs.Numbers.{value, hex_digit, byte_of}
+use Rattle.rv_base.specs.Numbers as read
+use Rattle.rv_base.specs.Words.{words, is_blank, begins_comment}
+use Rattle.rv_lists.specs.declared.input.Input.{Input}
+use Rattle.rv_lists.specs.declared.input.Input.TheVariants.{Rx, Line}
+use Rattle.rv_lists.specs.declared.input.TimedInput.{TimedInput}
+use Rattle.rv_lists.specs.Reading.{is_input}
+use Rattle.rv_lists.specs.Text.{input_text, line_text, list_text, HasSteps, ReadsAs}
+use Rattle.rv_lists.specs.Timed.{all_of, step_of, source_of, inputs_of, said, never_falls, timed}
+use Rattle.rv_lists.proofs.Lines.{said_step}
+
+-- ---- comparisons as tests
+
+lt : (m n : ℕ) → m < n → nat_lt m n ≡ true
+lt m n h = grind (arith, nat_tests)
+
+lt_is : (m n : ℕ) → nat_lt m n ≡ true → m < n
+lt_is m n h = grind (arith, nat_tests)
+
+not_lt_is : (m n : ℕ) → nat_lt m n ≡ false → n ≤ m
+not_lt_is m n h = grind (arith, nat_tests)
+
+le : (m n : ℕ) → m ≤ n → nat_le m n ≡ true
+le m n h = grind (arith, nat_tests)
+
+le_is : (m n : ℕ) → nat_le m n ≡ true → m ≤ n
+le_is m n h = grind (arith, nat_tests)
+
+above : (m n : ℕ) → n < m → nat_le m n ≡ false
+above m n h = grind (arith, nat_tests)
+
+ne_above : (m n : ℕ) → n < m → nat_eq m n ≡ false
+ne_above m n h = grind (arith, nat_tests)
+
+and_left : (a b : Bool) → (a && b) ≡ true → a ≡ true
+and_left true b h = refl
+and_left false b h = h
+
+and_right : (a b : Bool) → (a && b) ≡ true → b ≡ true
+and_right true b h = h
+and_right false b h = absurd cc
+
+pub both : (a b : Bool) → a ≡ true → b ≡ true → (a && b) ≡ true
+both a b p q = rw (p, q) refl
+
+weaker : {A : Type 0} (p q : A → Bool) → ((a : A) → p a ≡ true → q a ≡ true) → (xs : List A)
+    → list_all p xs ≡ true → list_all q xs ≡ true
+weaker p q more [] h = refl
+weaker p q more (x ∷ xs) h = both (q x) (list_all q xs) (more x (and_left (p x) (list_all p xs) h))
+    (weaker p q more xs (and_right (p x) (list_all p xs) h))
+
+-- ---- bytes
+
+-- whether each byte is above a space, as those of a word are
+abbrev graphic : List ℕ → Bool
+graphic word = list_all (λ b. nat_lt 32 b) word
+
+-- whether no byte is below a space, as in a line of words and spaces
+abbrev printed : List ℕ → Bool
+printed line = list_all (λ b. nat_le 32 b) line
+
+graphic_printed : (w : List ℕ) → graphic w ≡ true → printed w ≡ true
+graphic_printed w h = weaker (λ b. nat_lt 32 b) (λ b. nat_le 32 b)
+    (λ b l. let m : 32 < b = lt_is 32 b l in le 32 b (omega arith)) w h
+
+printed_append : (a b : List ℕ) → printed a ≡ true → printed b ≡ true → printed (a ++ b) ≡ true
+printed_append a b h k = list_all-append (λ c. nat_le 32 c) a b ∙ both (printed a) (printed b) h k
+
+no_blank : (b : ℕ) → nat_lt 32 b ≡ true → is_blank b ≡ false
+no_blank b h = let m : 32 < b = lt_is 32 b h in
+    rw (ne_above b 32 (omega arith), ne_above b 9 (omega arith)) refl
+
+no_blanks : (w : List ℕ) → graphic w ≡ true → All (λ b. is_blank b ≡ false) w
+no_blanks w h k d within =
+    no_blank (slice_index_or w k d) (AllPass-from_list_all (λ b. nat_lt 32 b) w h k d within)
+
+-- ---- words
+
+words_then : (w rest : List ℕ) → 0 < length w → graphic w ≡ true → words (w ++ 32 ∷ rest) ≡ w ∷ words rest
+unfolding words
+words_then w rest some h =
+    rw (slice_split_at is_blank w 32 rest (no_blanks w h) refl, lt 0 (length w) some) refl
+
+words_last : (w : List ℕ) → 0 < length w → graphic w ≡ true → words w ≡ w ∷ []
+unfolding words
+words_last w some h = rw (slice_split_none is_blank w (no_blanks w h), lt 0 (length w) some) refl
+
+-- ---- lines
+
+split_line : (line rest : List ℕ) → printed line ≡ true → split (line ++ 10 ∷ rest) ≡ line ∷ split rest
+unfolding split
+split_line [] rest h = refl
+split_line (b ∷ bs) rest h =
+    let m : 32 ≤ b = le_is 32 b (and_left (nat_le 32 b) (printed bs) h) in
+    rw (ne_above b 10 (omega arith), split_line bs rest (and_right (nat_le 32 b) (printed bs) h)) refl
+
+printed_at : (line : List ℕ) (i : ℕ) → printed line ≡ true → i < length line → 32 ≤ get_or line i 0
+printed_at [] i h l = absurd (omega arith)
+printed_at (b ∷ bs) zero h l = le_is 32 b (and_left (nat_le 32 b) (printed bs) h)
+printed_at (b ∷ bs) (suc i) h l = printed_at bs i (and_right (nat_le 32 b) (printed bs) h) (omega arith)
+
+no_return : (line : List ℕ) → 0 < length line → printed line ≡ true → without_return line ≡ line
+no_return line some h =
+    let m : 32 ≤ get_or line (length line - 1) 0 = printed_at line (length line - 1) h (omega arith) in
+    rw (lt 0 (length line) some, ne_above (get_or line (length line - 1) 0) 13 (omega arith)) refl
+
+lines_line : (line rest : List ℕ) → 0 < length line → printed line ≡ true
+    → lines (line ++ 10 ∷ rest) ≡ line ∷ lines rest
+lines_line line rest some h =
+    rw (split_line line rest h) (ap (λ l. l ∷ lines rest) (no_return line some h))
+
+-- ---- decimal digits
+
+abbrev step_value : ℕ → ℕ → ℕ
+step_value v b = 10 * v + (b - 48)
+
+record IsWritten (n : ℕ) (ds : List ℕ) : Type 0 where
+  some : 0 < length ds
+  all : list_all is_ascii_digit ds ≡ true
+  means : value ds ≡ n
+
+is_digit : (n : ℕ) → n < 10 → is_ascii_digit (48 + n) ≡ true
+is_digit n h = rw (le 48 (48 + n) (omega arith), le (48 + n) 57 (omega arith)) refl
+
+one_digit : (n : ℕ) → n < 10 → IsWritten n ((48 + n) ∷ [])
+one_digit n h = record {
+  some = omega arith;
+  all = both (is_ascii_digit (48 + n)) true (is_digit n h) refl;
+  means = omega arith;
+}
+
+more_digits : (n : ℕ) (ds : List ℕ) → 10 ≤ n → IsWritten (n / 10) ds
+    → IsWritten n (ds ++ ((48 + n % 10) ∷ []))
+more_digits n ds h w = record {
+  some = omega (arith, length-append ds ((48 + n % 10) ∷ []));
+  all = list_all-append is_ascii_digit ds ((48 + n % 10) ∷ [])
+      ∙ both (list_all is_ascii_digit ds) _ w.all
+      (both (is_ascii_digit (48 + n % 10)) true (is_digit (n % 10) (omega arith)) refl);
+  means = fold-append step_value 0 ds ((48 + n % 10) ∷ [])
+      ∙ (ap (λ v. 10 * v + ((48 + n % 10) - 48)) w.means ∙ omega arith);
+}
+
+written : (n : ℕ) → n < 2 ^ 64 → IsWritten n (decimal n)
+written n h = decimal_by_steps IsWritten one_digit more_digits n h
+
+read_back : (most n : ℕ) (ds : List ℕ) → IsWritten n ds → n ≤ most → read.decimal most ds ≡ Some n
+unfolding read.decimal
+read_back most n ds w small =
+    let v : nat_le (value ds) most ≡ true = rw w.means (le n most small) in
+    rw (le 1 (length ds) (omega (arith, w.some)), w.all, v) (ap (λ m. Some m) w.means)
+
+graphic_digits : (ds : List ℕ) → list_all is_ascii_digit ds ≡ true → graphic ds ≡ true
+graphic_digits ds h = weaker is_ascii_digit (λ b. nat_lt 32 b)
+    (λ b d. let m : 48 ≤ b = le_is 48 b (and_left (nat_le 48 b) (nat_le b 57) d) in lt 32 b (omega arith)) ds h
+
+no_comment : (ds : List ℕ) → 0 < length ds → list_all is_ascii_digit ds ≡ true → begins_comment ds ≡ false
+no_comment [] some h = absurd (omega arith)
+no_comment (d ∷ ds) some h =
+    let m : 48 ≤ d = le_is 48 d (and_left (nat_le 48 d) (nat_le d 57)
+    (and_left (is_ascii_digit d) (list_all is_ascii_digit ds) h)) in
+    ne_above d 35 (omega arith)
+
+-- ---- hexadecimal digits
+
+digit_by : (n : ℕ) (t : Bool) → n < 16 → nat_lt n 10 ≡ t → hex_digit (digit n) ≡ Some n
+unfolding hex_digit
+digit_by n true h e =
+    let l : n < 10 = lt_is n 10 e in
+    rw (e, le 48 (48 + n) (omega arith), le (48 + n) 57 (omega arith))
+    (let same : (48 + n) - 48 ≡ n = omega arith in ap (λ m. Some m) same)
+digit_by n false h e =
+    let l : 10 ≤ n = not_lt_is n 10 e in
+    rw (
+      e,
+      le 48 (87 + n) (omega arith),
+      above (87 + n) 57 (omega arith),
+      le 65 (87 + n) (omega arith),
+      above (87 + n) 70 (omega arith),
+      le 97 (87 + n) (omega arith),
+      le (87 + n) 102 (omega arith),
+    ) (let same : (87 + n) - 87 ≡ n = omega arith in ap (λ m. Some m) same)
+
+digit_read : (n : ℕ) → n < 16 → hex_digit (digit n) ≡ Some n
+digit_read n h = digit_by n (nat_lt n 10) h refl
+
+graphic_by : (n : ℕ) (t : Bool) → nat_lt n 10 ≡ t → nat_lt 32 (digit n) ≡ true
+graphic_by n true e = rw e (lt 32 (48 + n) (omega arith))
+graphic_by n false e = rw e (lt 32 (87 + n) (omega arith))
+
+graphic_hex : (b : ℕ) → graphic (hex 2 b) ≡ true
+unfolding hex
+graphic_hex b =
+    let high = b / 16 ^ 1 % 16 in
+    let low = b / 16 ^ 0 % 16 in
+    both (nat_lt 32 (digit high)) _ (graphic_by high (nat_lt high 10) refl)
+    (both (nat_lt 32 (digit low)) true (graphic_by low (nat_lt low 10) refl) refl)
+
+length_hex : (b : ℕ) → length (hex 2 b) ≡ 2
+unfolding hex
+length_hex b = refl
+
+byte_read : (b : ℕ) → b < 256 → byte_of (hex 2 b) ≡ Some b
+unfolding hex byte_of
+byte_read b h =
+    let high = b / 16 ^ 1 % 16 in
+    let low = b / 16 ^ 0 % 16 in
+    let sum : 16 * high + low ≡ b = omega arith in
+    rw (digit_read high (omega arith), digit_read low (omega arith)) (ap (λ m. Some m) sum)
+
+-- ---- the line of an input
+
+-- without its line end
+abbrev body : TimedInput → List ℕ
+body x = decimal x.step ++ 32 ∷ input_text x.input
+
+body_line : (x : TimedInput) (rest : List ℕ) → line_text x ++ rest ≡ body x ++ 10 ∷ rest
+body_line x rest = simp append_assoc
+
+-- what the words of an input mean, how long they are, and that they have no line end
+record IsSpelled (input : Input) : Type 0 where
+  means : inputs_of (words (input_text input)) ≡ Some (input ∷ [])
+  short : length (input_text input) ≤ 30
+  plain : printed (input_text input) ≡ true
+
+byte_words : (b : ℕ) → words (input_text (Rx b)) ≡ codes "rx" ∷ hex 2 b ∷ []
+byte_words b =
+    words_then (codes "rx") (hex 2 b) (omega arith) refl
+    ∙ ap (λ ws. codes "rx" ∷ ws) (words_last (hex 2 b) (omega (arith, length_hex b)) (graphic_hex b))
+
+byte_means : (b : ℕ) → b < 256 → inputs_of (codes "rx" ∷ hex 2 b ∷ []) ≡ Some (Rx b ∷ [])
+unfolding inputs_of all_of
+byte_means b h = rw (byte_read b h) refl
+
+spelled_byte : (b : ℕ) → b < 256 → IsSpelled (Rx b)
+spelled_byte b h = record {
+  means = ap inputs_of (byte_words b) ∙ byte_means b h;
+  short = omega (arith, length_hex b);
+  plain = graphic_printed (hex 2 b) (graphic_hex b);
+}
+
+abbrev level_text : Bool → List ℕ
+level_text high = if high then codes "1" else codes "0"
+
+level_graphic : (high : Bool) → graphic (level_text high) ≡ true
+level_graphic true = refl
+level_graphic false = refl
+
+level_length : (high : Bool) → length (level_text high) ≡ 1
+level_length true = refl
+level_length false = refl
+
+module _ (n : ℕ) (high : Bool) (some : 0 < n) (few : n < 32) where
+  number : IsWritten n (decimal n)
+  number = written n (omega arith)
+
+  line_spelled : input_text (Line n high) ≡ codes "line" ++ 32 ∷ (decimal n ++ 32 ∷ level_text high)
+  line_spelled =
+      ap (λ t. codes "line" ++ 32 ∷ t) (append_assoc (decimal n) (32 ∷ []) (level_text high))
+
+  line_words : words (input_text (Line n high)) ≡ codes "line" ∷ decimal n ∷ level_text high ∷ []
+  line_words =
+      ap words line_spelled
+      ∙ words_then (codes "line") (decimal n ++ 32 ∷ level_text high) (omega arith) refl
+      ∙ ap (λ ws. codes "line" ∷ ws)
+      (words_then (decimal n) (level_text high) number.some (graphic_digits (decimal n) number.all))
+      ∙ ap (λ ws. codes "line" ∷ decimal n ∷ ws)
+      (words_last (level_text high) (omega (arith, level_length high)) (level_graphic high))
+
+  source_read : source_of (decimal n) ≡ Some n
+  unfolding source_of
+  source_read = rw (read_back 31 n (decimal n) number (omega arith), le 1 n (omega arith)) refl
+
+  driven_read : (b : Bool) → inputs_of (codes "line" ∷ decimal n ∷ level_text b ∷ []) ≡ Some (Line n b ∷ [])
+  unfolding inputs_of
+  driven_read true = rw source_read refl
+  driven_read false = rw source_read refl
+
+  spelled_line : IsSpelled (Line n high)
+  spelled_line = record {
+    means = ap inputs_of line_words ∙ driven_read high;
+    short = omega (
+      arith,
+      ap length line_spelled,
+      length-append (decimal n) (32 ∷ level_text high),
+      length-decimal-le 2 n (omega arith) (omega arith) (omega arith),
+      level_length high,
+    );
+    plain = ap printed line_spelled ∙ printed_append (decimal n) (32 ∷ level_text high)
+        (graphic_printed (decimal n) (graphic_digits (decimal n) number.all))
+        (graphic_printed (level_text high) (level_graphic high));
+  }
+
+spelled : (input : Input) → is_input input ≡ true → IsSpelled input
+spelled (Rx b) h = spelled_byte b (lt_is b 256 h)
+spelled (Line n high) h =
+    spelled_line n high (lt_is 0 n (and_left (nat_lt 0 n) (nat_lt n 32) h))
+    (lt_is n 32 (and_right (nat_lt 0 n) (nat_lt n 32) h))
+
+module _ (x : TimedInput) (ranges : is_input x.input ≡ true) (small : x.step ≤ 9999999999) where
+  step_written : IsWritten x.step (decimal x.step)
+  step_written = written x.step (omega arith)
+
+  input_spelled : IsSpelled x.input
+  input_spelled = spelled x.input ranges
+
+  ten_digits : length (decimal x.step) ≤ 10
+  ten_digits = length-decimal-le 10 x.step (omega arith) (omega arith) (omega arith)
+
+  step_read : step_of (decimal x.step) ≡ Some x.step
+  unfolding step_of
+  step_read = rw (
+    le (length (decimal x.step)) 10 ten_digits,
+    read_back 9999999999 x.step (decimal x.step) step_written
+        small,
+  ) refl
+
+  body_short : length (body x) ≤ 1024
+  body_short = omega (
+    arith,
+    length-append (decimal x.step) (32 ∷ input_text x.input),
+    ten_digits,
+    input_spelled.short,
+  )
+
+  body_some : 0 < length (body x)
+  body_some = omega (arith, length-append (decimal x.step) (32 ∷ input_text x.input))
+
+  body_printed : printed (body x) ≡ true
+  body_printed = printed_append (decimal x.step) (32 ∷ input_text x.input)
+      (graphic_printed (decimal x.step) (graphic_digits (decimal x.step) step_written.all))
+      input_spelled.plain
+
+  body_said : said (body x) ≡ Some (x ∷ [])
+  body_said =
+      said_step (body x) body_short (decimal x.step) (words (input_text x.input))
+      (words_then (decimal x.step) (input_text x.input) step_written.some
+      (graphic_digits (decimal x.step) step_written.all))
+      (no_comment (decimal x.step) step_written.some step_written.all) x.step step_read
+      ∙ rw input_spelled.means refl
+
+  first_line : (rest : List ℕ) → lines (line_text x ++ rest) ≡ body x ∷ lines rest
+  first_line rest = ap lines (body_line x rest) ∙ lines_line (body x) rest body_some body_printed
+
+-- ---- the text of a list
+
+all_said : (xs : List TimedInput) → list_all (λ x. is_input x.input) xs ≡ true → HasSteps xs
+    → all_of said (lines (list_text xs)) ≡ Some xs
+unfolding list_text all_of split
+all_said [] ranges small = refl
+all_said (x ∷ xs) ranges small =
+    let here = and_left (is_input x.input) (list_all (λ y. is_input y.input) xs) ranges in
+    let more = and_right (is_input x.input) (list_all (λ y. is_input y.input) xs) ranges in
+    let first : x.step ≤ 9999999999 = All-head (λ y. y.step ≤ 9999999999) x xs small in
+    rw (
+      first_line x here first (list_text xs),
+      body_said x here first,
+      all_said xs more (All-tail (λ y. y.step ≤ 9999999999) x xs small),
+    ) refl
+
+pub reads : (xs : List TimedInput) (text : List ℕ) → text ≡ list_text xs
+    → list_all (λ x. is_input x.input) xs ≡ true → never_falls xs ≡ true → HasSteps xs → ReadsAs text xs
+unfolding timed
+reads xs text is ranges rising small = rw (is, all_said xs ranges small, rising) refl
+
+-- ---- line by line
+
+list_text_append : (xs ys : List TimedInput) → list_text (xs ++ ys) ≡ list_text xs ++ list_text ys
+unfolding list_text
+list_text_append [] ys = refl
+list_text_append (x ∷ xs) ys =
+    ap (λ t. line_text x ++ t) (list_text_append xs ys)
+    ∙ sym (append_assoc (line_text x) (list_text xs) (list_text ys))
+
+pub line_more : (xs : List TimedInput) (i : ℕ) (x : TimedInput) (before new : List ℕ) → i < length xs
+    → x ≡ get_or xs i x → before ≡ list_text (take i xs) → new ≡ before ++ line_text x
+    → new ≡ list_text (take (i + 1) xs)
+unfolding list_text
+line_more xs i x before new within at was is =
+    is ∙ (ap (λ t. t ++ line_text x) was
+    ∙ (ap (λ t. list_text (take i xs) ++ t) (sym (append-nil (line_text x)))
+    ∙ (sym (list_text_append (take i xs) (x ∷ []))
+    ∙ ap list_text (ap (λ y. take i xs ++ y ∷ []) at ∙ sym (take_more xs i x within)))))

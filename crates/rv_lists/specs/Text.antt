@@ -1,0 +1,33 @@
+-- To audit: public contracts cite this.
+-- The text of a timed list.
+use Rattle.std.specs.Prelude.{◌≡◌, ℕ, ◌≤◌, List, [], ◌++◌, ◌∷◌, if◌then◌else◌, Some, codes, decimal}
+use Rattle.std.specs.List.{All}
+use Rattle.rv_base.specs.Digits.{hex}
+use Rattle.rv_base.specs.Lines.{lines}
+use Rattle.rv_lists.specs.declared.input.Input.{Input}
+use Rattle.rv_lists.specs.declared.input.Input.TheVariants.{Rx, Line}
+use Rattle.rv_lists.specs.declared.input.TimedInput.{TimedInput}
+use Rattle.rv_lists.specs.Timed.{timed}
+
+-- an input, as it stands after its step
+abbrev pub input_text : Input → List ℕ
+input_text (Rx byte) = codes "rx " ++ hex 2 byte
+input_text (Line source high) =
+    codes "line " ++ decimal source ++ codes " " ++ (if high then codes "1" else codes "0")
+
+-- the line of an input, with its line end
+abbrev pub line_text : TimedInput → List ℕ
+line_text x = decimal x.step ++ codes " " ++ input_text x.input ++ codes "\n"
+
+-- a line for each input
+unfoldable pub list_text : List TimedInput → List ℕ
+list_text [] = []
+list_text (x ∷ xs) = line_text x ++ list_text xs
+
+-- no step is above the largest that a timed list can tell
+abbrev pub HasSteps : List TimedInput → Type 0
+HasSteps xs = All (λ x. x.step ≤ 9999999999) xs
+
+-- a text is read as exactly these inputs
+abbrev pub ReadsAs : List ℕ → List TimedInput → Type 0
+ReadsAs text inputs = timed (lines text) ≡ Some inputs
