@@ -3,3 +3,4 @@ pub mod Lines
 pub mod Whole
 pub mod Inserted
 pub mod Texts
+pub mod StepSizes

@@ -3,7 +3,6 @@ use Rattle.std.proofs.Common.{◌≡◌, ◌∙◌, ℕ, zero, suc, ◌+◌, ◌
 use Rattle.std.proofs.lemmas.List.{take_more}
 use Rattle.std.proofs.lemmas.Bool.Decides.{nat_tests}
 use Rattle.std.proofs.lemmas.Fmt.{decimal_by_steps, length-decimal-le}
-use Rattle.std.proofs.lemmas.List.Elements.{All-head, All-tail}
 use Rattle.std.proofs.lemmas.List.Folds.{list_all-append}
 use Rattle.std.proofs.lemmas.List.Splits.{slice_split_none, slice_split_at}
 use Rattle.std.proofs.lemmas.List.Sums.{AllPass-from_list_all, fold-append}
@@ -364,11 +363,12 @@ all_said [] ranges small = refl
 all_said (x ∷ xs) ranges small =
     let here = and_left (is_input x.input) (list_all (λ y. is_input y.input) xs) ranges in
     let more = and_right (is_input x.input) (list_all (λ y. is_input y.input) xs) ranges in
-    let first : x.step ≤ 9999999999 = All-head (λ y. y.step ≤ 9999999999) x xs small in
+    let first : x.step ≤ 9999999999 = le_is x.step 9999999999 (and_left (nat_le x.step 9999999999)
+    (list_all (λ y. nat_le y.step 9999999999) xs) small) in
     rw (
       first_line x here first (list_text xs),
       body_said x here first,
-      all_said xs more (All-tail (λ y. y.step ≤ 9999999999) x xs small),
+      all_said xs more (and_right (nat_le x.step 9999999999) (list_all (λ y. nat_le y.step 9999999999) xs) small),
     ) refl
 
 pub reads : (xs : List TimedInput) (text : List ℕ) → text ≡ list_text xs

@@ -1,7 +1,7 @@
 -- To audit: public contracts cite this.
 -- The text of a timed list.
-use Rattle.std.specs.Prelude.{◌≡◌, ℕ, ◌≤◌, List, [], ◌++◌, ◌∷◌, if◌then◌else◌, Some, codes, decimal}
-use Rattle.std.specs.List.{All}
+use Rattle.std.specs.Prelude.{true, nat_le, ◌≡◌, ℕ, List, [], ◌++◌, ◌∷◌, if◌then◌else◌, Some, codes, decimal}
+use Rattle.std.specs.List.{list_all}
 use Rattle.rv_base.specs.Digits.{hex}
 use Rattle.rv_base.specs.Lines.{lines}
 use Rattle.rv_lists.specs.declared.input.Input.{Input}
@@ -24,9 +24,9 @@ unfoldable pub list_text : List TimedInput → List ℕ
 list_text [] = []
 list_text (x ∷ xs) = line_text x ++ list_text xs
 
--- no step is above the largest that a timed list can tell
+-- no step has more than ten digits
 abbrev pub HasSteps : List TimedInput → Type 0
-HasSteps xs = All (λ x. x.step ≤ 9999999999) xs
+HasSteps xs = list_all (λ x. nat_le x.step 9999999999) xs ≡ true
 
 -- a text is read as exactly these inputs
 abbrev pub ReadsAs : List ℕ → List TimedInput → Type 0

@@ -49,7 +49,8 @@ fn place_of(inputs: &[TimedInput], step: u64) -> usize
 }
 
 impl Timeline {
-    ghost use Rattle.std.specs.Prelude.{◌≡◌, true, OnOk, OnErr};
+    ghost use Rattle.std.specs.Prelude.{◌≡◌, true, OnOk, OnErr, IfOk};
+    ghost use Rattle.rv_lists.specs.Text.{HasSteps};
     ghost use Rattle.rv_lists.specs.Timed.{never_falls};
 
     /// Reads a timed list, in time linear in its length.
@@ -59,7 +60,8 @@ impl Timeline {
     /// - `BadLine` with the number of the first refused line, counted from 1.
     /// - `OutOfMemory` may come in place of any result.
     pub fn read(alloc: Global, text: &[u8]) -> Result<Timeline, TimelineFault>
-        ensures { IsRead text.now result }
+        ensures list { IsRead text.now result }
+        ensures steps { IfOk result HasSteps }
     {
         let mut inputs = Vec::new(alloc);
         let mut number: usize = 0;

@@ -8,5 +8,5 @@ pub returns-in_err-timeline-clause-err : goal.returns-in_err-timeline-clause-err
 returns-in_err-timeline-clause-err c =
     let e = err_from_is_err_and c.from_residual.result c.from_residual.ensures.1 in
     let why = c.in_err-timeline.field-0.0 in
-    let is = subst (λ (text : List ℕ). IsRead text (Err why)) c.inputs.ensures c.in_err-timeline.ensures in
+    let is = subst (λ (text : List ℕ). IsRead text (Err why)) c.inputs.ensures c.in_err-timeline.ensures.list in
     rw (e.1, e.2) (list_refused c.args.texts.now c.args.options c.args.program why is)

@@ -1,6 +1,7 @@
 use Rattle.std.proofs.Common.{◌≡◌, ◌∙◌, ◌∷◌, length, ap, arith}
 use Rattle.rv_base.specs.Lines.{lines}
 use Rattle.rv_lists.proofs.Whole.{begun, rising, read_more, refused, read_all}
+use Rattle.rv_lists.proofs.StepSizes.{steps_small}
 use Rattle.std.proofs.Common.{take}
 use Rattle.rv_lists.proofs.timeline.Timeline.read.Goals as goal
 
@@ -40,8 +41,8 @@ loop-line-preserved c =
       counted = omega (arith, c.loop-line.invariant.counted, ap length cut);
     }
 
-pub returns-in-Err-BadLine : goal.returns-in-Err-BadLine
-returns-in-Err-BadLine c =
+pub returns-in-Err-BadLine-clause-list : goal.returns-in-Err-BadLine-clause-list
+returns-in-Err-BadLine-clause-list c =
     refused
     (lines c.args.text.now) c.loop-line.line-iterator c.loop-line.number c.loop-line.inputs.items
     c.loop-line.invariant.so_far c.in-Some.line.now c.next.new.self c.in-Some.ensures.steps
@@ -53,8 +54,16 @@ invariant_of-result c =
     (take c.loop-line.number
     (lines c.args.text.now)) c.loop-line.inputs.items c.loop-line.invariant.so_far.inputs_are
 
-pub returns : goal.returns
-returns c =
+pub returns-clause-list : goal.returns-clause-list
+returns-clause-list c =
     read_all
     (lines c.args.text.now) c.loop-line.line-iterator c.loop-line.number c.loop-line.inputs.items
     c.loop-line.invariant.so_far c.in-None.ensures.steps.0
+
+pub returns-clause-steps : goal.returns-clause-steps
+returns-clause-steps c =
+    steps_small
+    (lines c.args.text.now) c.loop-line.inputs.items
+    (read_all
+    (lines c.args.text.now) c.loop-line.line-iterator c.loop-line.number c.loop-line.inputs.items
+    c.loop-line.invariant.so_far c.in-None.ensures.steps.0)
