@@ -7,5 +7,4 @@ pub mod Move
 pub mod PlainSteps
 pub mod RunWhile
 pub mod State
-pub mod Steps
 pub mod UserRun

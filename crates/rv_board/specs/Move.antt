@@ -23,6 +23,10 @@ with_trap ts (Trapped cause epc tval) =
 abbrev pub after_step : BoardState → Machine × Outcome → BoardState
 after_step b (m, o) = record { machine = m; traps = with_trap b.traps o; steps = (b.steps + 1) % 2 ^ 64 }
 
+-- what the next step of a board does, unless it has halted
+abbrev pub step_outcome : BoardState → Outcome
+step_outcome b = (step b.machine).1
+
 -- the board after an event, by its halt code: a halted board stays as it is
 abbrev pub happens : Option ℕ → BoardState → Event → BoardState
 happens (Some code) b e = b
