@@ -1,5 +1,5 @@
 -- Laying out the lines, one by one.
-use Rattle.std.proofs.Common.{◌≡◌, ℕ, zero, suc, ◌+◌, ◌≤◌, Bool, true, false, cond, List, [], ◌∷◌, ◌++◌, ℤ, pos, refl, sym, ◌∙◌, ap, arith, append-nil, append_assoc, add-zero}
+use Rattle.std.proofs.Common.{◌≡◌, ℕ, zero, suc, ◌≤◌, Bool, true, false, cond, List, [], ◌∷◌, ◌++◌, ℤ, pos, refl, sym, ◌∙◌, ap, arith, append-nil, append_assoc, add-zero}
 use Rattle.std.specs.Prelude.{Option, None, Some, is_some, Result, Ok, Err, OnOk, option_and_then}
 use Rattle.std.specs.Option.{option_map, option_or}
 use Rattle.std.specs.List.{All}

@@ -12,5 +12,6 @@ pub mod Labels
 pub mod Laying
 pub mod Listed
 pub mod Reading
+pub mod Takes
 pub mod Whole
 pub mod Nearest

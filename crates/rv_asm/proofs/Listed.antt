@@ -1,7 +1,8 @@
 -- The bytes of the lines, one by one, and their number.
 use Rattle.std.proofs.Common.{◌≡◌, ℕ, zero, suc, ◌+◌, ◌≤◌, Bool, true, false, cond, List, [], ◌∷◌, ◌++◌, length, ℤ, pos, refl, sym, ap, ◌∙◌, arith, append-nil, length-append}
 use Rattle.std.specs.Prelude.{Option, None, Some, Result, Ok, Err, option_and_then, not, ◌&&◌, ◌==◌, ◌%◌, nat_lt}
-use Rattle.std.specs.Option.{option_map, option_or, unwrap_or}
+use Rattle.std.specs.Option.{option_map, option_map_or, option_or, unwrap_or}
+use Rattle.std.specs.Result.{result_err}
 use Rattle.std.proofs.lemmas.Bool.Decides.{nat_tests}
 use Rattle.rv_source.specs.Reading.{Said}
 use Rattle.rv_source.specs.declared.operand.Operand.{Operand}
@@ -11,11 +12,11 @@ use Rattle.rv_program.specs.declared.fault.FaultKind.TheVariants.{DuplicateSymbo
 use Rattle.rv_program.specs.declared.fault.AsmFault.{AsmFault}
 use Rattle.rv_asm.specs.Symbols.{Definitions, operand_value}
 use Rattle.rv_base.specs.Limits.{ram_base, image_limit}
-use Rattle.rv_asm.specs.Layout.{line_at, address, names, names_in, values_on, asked, fails, is_unknown, is_instruction, renames, size_of, size_at, definitions, relabels, statement_fault, phase_two_fault}
+use Rattle.rv_asm.specs.Layout.{line_at, address, names, asked, fails, is_unknown, is_instruction, renames, size_of, size_at, relabels, statement_fault, phase_two_fault}
 use Rattle.rv_asm.specs.Listing.{◌>>=◌, Valuation, statement_bytes}
 use Rattle.rv_asm.specs.Assembly.{first, joined, first_fault}
 use Rattle.rv_asm.specs.Constants.{IsKnown}
-use Rattle.rv_asm.specs.Steps.{Known, Item, values_of, labelled, appended, at_line, run, item_step, item_bytes, image_of, unless, known_before, stated_bytes, AddsOptional, Adds, AddsLine, bytes_by, fault_in, listed, written, Writes}
+use Rattle.rv_asm.specs.Steps.{Known, Item, values_of, labelled, appended, at_line, run, item_step, item_bytes, image_of, unless, known_before, stated_bytes, AddsOptional, Adds, AddsLine, bytes_by, listed, written, Writes}
 use Rattle.rv_asm.proofs.Runs.{run_append}
 use Rattle.rv_asm.proofs.Sizes.{statement_size}
 
@@ -47,7 +48,7 @@ none_before fault n h = left_none (first_fault fault n) _ h
 
 answered : (k : ℕ) (out : List ℕ) (r : Result (List ℕ) FaultKind)
     → at_line k (appended out r) ≡ unless
-    (option_map (λ kind. record { line = suc k; kind = kind }) (fault_in r)) (Ok (out ++ listed r))
+    (option_map (λ kind. record { line = suc k; kind = kind }) (result_err r)) (Ok (out ++ listed r))
 answered k out (Ok bs) = refl
 answered k out (Err kind) = refl
 
@@ -81,7 +82,7 @@ adds_pushed k known statement items item at is ds =
     run_append (item_step ds) [] items (item ∷ []) ∙ pushed (image_of ds items) ds item _ k at (is ds)
 
 module _ (ds : Definitions) (lines : List Said) (n : ℕ) where
-  written_by : (fault : Option AsmFault) → first_fault (λ k. fault_in (bytes_by ds lines k)) n ≡ fault
+  written_by : (fault : Option AsmFault) → first_fault (λ k. result_err (bytes_by ds lines k)) n ≡ fault
       → (written ds lines n >>= λ out. at_line n (appended out (bytes_by ds lines n))) ≡ written ds lines
       (suc n)
   unfolding written first joined
@@ -91,7 +92,7 @@ module _ (ds : Definitions) (lines : List Said) (n : ℕ) where
 
   written_more : (written ds lines n >>= λ out. at_line n (appended out (bytes_by ds lines n)))
       ≡ written ds lines (suc n)
-  written_more = written_by (first_fault (λ k. fault_in (bytes_by ds lines k)) n) refl
+  written_more = written_by (first_fault (λ k. result_err (bytes_by ds lines k)) n) refl
 
 pub writes_none : (lines : List Said) → Writes lines 0 []
 unfolding written first joined run
@@ -133,7 +134,7 @@ passes test None h = absurd cc
 passes test (Some v) h = (refl, unfailing (test v) h)
 
 known_by : (early : Valuation) (o : Option (Operand × (ℤ → Bool)))
-    → elim o as (λ _. Bool) [ None ↦ false | Some a ↦ fails a.1 (early a.0) ] ≡ false
+    → option_map_or (λ a. fails a.1 (early a.0)) o false ≡ false
     → elim o as (λ _. Type 0) [
       | None ↦ constant_by early o ≡ pos 0
       | Some a ↦ (early a.0 ≡ Some (constant_by early o)) × (a.1 (constant_by early o) ≡ true)
@@ -162,14 +163,14 @@ module _ (known : List (List ℕ × ℤ)) (early : Valuation) (here : ℕ) (stat
 -- ---- the size of the image
 
 sized_answer : (r : Result (List ℕ) FaultKind) (n : ℕ) → ((bs : List ℕ) → r ≡ Ok bs → length bs ≡ n) →
-    fault_in r ≡ None → length (listed r) ≡ n
+    result_err r ≡ None → length (listed r) ≡ n
 sized_answer (Ok bs) n h e = h bs refl
 sized_answer (Err kind) n h e = absurd cc
 
 module _ (names : List (List ℕ × ℤ)) (ds : Definitions) (k : ℕ) (known : Known) where
   size_line : (statement : Option Statement)
       → option_and_then (statement_fault names (values_of k known) known.address) statement ≡ None
-      → fault_in (stated_bytes ds k known statement) ≡ None
+      → result_err (stated_bytes ds k known statement) ≡ None
       → length (listed (stated_bytes ds k known statement)) ≡ size_at (values_of k known) known.address
       statement
   size_line None free e = refl
@@ -210,12 +211,12 @@ module _ (lines : List Said) where
 
   -- the bytes of n lines without a fault reach from the base to the address following these lines
   pub size_listed : (ds : Definitions) (n : ℕ) → first_fault (phase_two_fault lines) n ≡ None →
-      first_fault (λ k. fault_in (bytes_by ds lines k)) n ≡ None
+      first_fault (λ k. result_err (bytes_by ds lines k)) n ≡ None
       → ram_base + length (joined (λ k. listed (bytes_by ds lines k)) n) ≡ address lines n
   unfolding joined address
   size_listed ds zero h e = refl
   size_listed ds (suc n) h e =
-      let three = λ (k : ℕ). fault_in (bytes_by ds lines k) in
+      let three = λ (k : ℕ). result_err (bytes_by ds lines k) in
       let before = size_listed ds n (none_before (phase_two_fault lines) n h) (none_before three n e) in
       let last = size_line (here n).definitions.names ds n (here n) (line_at lines n).statement
       (statement_free n (none_last (phase_two_fault lines) n h)) (none_last three n e) in

@@ -24,13 +24,13 @@ written (Ok bs) = bs
 written (Err kind) = []
 
 -- one more after the first n
-pub nops_behind : (out before new : List ℕ) (n : ℕ) (kind : Kind) → before ≡ out ++ bytes (nops n) →
+pub nop_appended : (out before new : List ℕ) (n : ℕ) (kind : Kind) → before ≡ out ++ bytes (nops n) →
     kind ≡ OpImm Addi 0 0 (pos 0)
     → Path (Result (List ℕ) FaultKind) (Ok (before ++ bytes (kind ∷ []))) (Ok new) →
     new ≡ out ++ bytes (nops (n + 1))
-nops_behind out before new n kind b k h =
+nop_appended out before new n kind b k h =
     let w = to_le_bytes w32 (word (OpImm Addi 0 0 (pos 0))) in
     let here : bytes (kind ∷ []) ≡ w = rw k (append-nil w) in
-    let behind : before ++ bytes (kind ∷ []) ≡ out ++ bytes (nops (n + 1)) =
+    let all : before ++ bytes (kind ∷ []) ≡ out ++ bytes (nops (n + 1)) =
     rw (here, b, nops_more, append_assoc) refl in
-    sym (ap written h) ∙ behind
+    sym (ap written h) ∙ all

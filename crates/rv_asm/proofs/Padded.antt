@@ -1,5 +1,5 @@
 -- Padding has the right length: zeros up to a multiple of 4, and whole words from there on.
-use Rattle.std.proofs.Common.{◌≡◌, ◌∙◌, ℕ, zero, suc, ◌+◌, ◌-◌, ◌*◌, ◌/◌, ◌%◌, ◌^◌, ◌<◌, Bool, true, false, ◌==◌, List, [], ◌∷◌, length, replicate, ℤ, pos, negsuc, ap, sym, refl, arith, length-append}
+use Rattle.std.proofs.Common.{◌≡◌, ◌∙◌, ℕ, zero, suc, ◌+◌, ◌-◌, ◌*◌, ◌/◌, ◌%◌, ◌^◌, ◌<◌, Bool, true, false, ◌==◌, List, [], ◌∷◌, length, replicate, ℤ, pos, negsuc, sym, refl, arith, length-append}
 use Rattle.std.specs.Prelude.{◌&&◌, ◌||◌, min, nat_lt}
 use Rattle.std.proofs.lemmas.Int.{ints}
 use Rattle.std.proofs.lemmas.List.{length-replicate}
@@ -18,8 +18,7 @@ length_bytes [] = refl
 length_bytes (k ∷ ks) = let h = length_bytes ks in omega arith
 
 length_nops : (n : ℕ) → length (nops n) ≡ n
-length_nops zero = refl
-length_nops (suc n) = ap suc (length_nops n)
+length_nops n = length-replicate n _
 
 length_padding : (here n : ℕ) → length (padding here n) ≡ min n (gap here 4)
     + 4 * ((n - min n (gap here 4)) / 4)

@@ -1,6 +1,6 @@
 -- Placing a statement.
-use Rattle.std.proofs.Common.{◌≡◌, ℕ, ◌+◌, ◌∙◌, false, List, [], ◌∷◌, ◌++◌, ℤ, refl}
-use Rattle.std.specs.Prelude.{Option, None, Some, is_some, Result, Ok, Err}
+use Rattle.std.proofs.Common.{◌≡◌, ℕ, ◌+◌, false, List, [], ◌∷◌, ◌++◌, ℤ, refl}
+use Rattle.std.specs.Prelude.{Option, None, Some, is_some, Ok}
 use Rattle.rv_source.specs.declared.expression.Term.{Term}
 use Rattle.rv_source.specs.declared.statement.Statement.{Statement}
 use Rattle.rv_program.specs.declared.fault.FaultKind.{FaultKind}
@@ -9,10 +9,10 @@ use Rattle.rv_asm.specs.declared.kept.Kept.TheVariants as kept
 use Rattle.rv_asm.specs.declared.single.Single.{Single}
 use Rattle.rv_asm.specs.Symbols.{Definitions, sum_value, operand_value}
 use Rattle.rv_asm.specs.Layout.{size_of, constant_in}
-use Rattle.rv_asm.specs.Listing.{◌>>=◌, statement_bytes}
+use Rattle.rv_asm.specs.Listing.{statement_bytes}
 use Rattle.rv_asm.specs.Kept.{KindFails}
 use Rattle.rv_asm.specs.Constants.{IsKnown, always}
-use Rattle.rv_asm.specs.Steps.{Known, Item, IsSum, kept_bytes, waiting_bytes, item_bytes, values_of, free, after_statement, stated, Adds}
+use Rattle.rv_asm.specs.Steps.{Known, Item, IsSum, kept_bytes, waiting_bytes, item_bytes, values_of, free, after_statement, Adds}
 use Rattle.rv_asm.proofs.Runs.{kind_fails_bind}
 use Rattle.rv_asm.proofs.Listed.{adds_pushed}
 use Rattle.rv_asm.proofs.Sizes.{same_size, same_constant, same_bytes}

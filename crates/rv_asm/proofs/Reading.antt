@@ -1,7 +1,8 @@
 -- Reading the lines of a source, one by one.
 use Rattle.std.proofs.Common.{◌≡◌, ℕ, zero, suc, ◌+◌, ◌-◌, ◌<◌, ◌≤◌, List, [], ◌∷◌, length, drop, get_or, refl, sym, ap, ◌∙◌, arith, add-one, add-zero, add-suc, inl, inr, length-drop}
 use Rattle.std.specs.Prelude.{Option, None, Some, Result, Ok, Err, IfOk, ◌⊎◌}
-use Rattle.std.specs.List.{All}
+use Rattle.std.specs.Option.{option_map}
+use Rattle.std.specs.Result.{result_err, result_unwrap_or}
 use Rattle.std.proofs.lemmas.List.{get_or-map}
 use Rattle.rv_source.specs.Reading.{Said, said, written, statement_of}
 use Rattle.rv_source.specs.Written.{Written}
@@ -123,8 +124,7 @@ module _ (texts rest : List (List ℕ)) (n : ℕ) (so : SoFar texts rest n) wher
       here = ap said next.item ∙ is
 
       none_here : phase_one_fault texts n ≡ None
-      none_here =
-          ap (λ r. elim r as (λ _. Option FaultKind) [ Ok l ↦ None | Err fault ↦ Some (kind_of fault) ]) here
+      none_here = ap (λ r. option_map kind_of (result_err r)) here
 
       pub read_more : SoFar texts after (n + 1)
       unfolding first
@@ -137,9 +137,8 @@ module _ (texts rest : List (List ℕ)) (n : ℕ) (so : SoFar texts rest n) wher
 
       pub read_line_at : line_at (all_said texts) n ≡ line
       read_line_at =
-          get_or-map (λ t. elim (said t) as (λ _. Said) [ Ok l ↦ l | Err fault ↦ blank ]) texts n [] blank
-          next.below
-          ∙ ap (λ r. elim r as (λ _. Said) [ Ok l ↦ l | Err fault ↦ blank ]) here
+          get_or-map (λ t. result_unwrap_or (said t) blank) texts n [] blank next.below
+          ∙ ap (λ r. result_unwrap_or r blank) here
 
       pub laid_out_more : extended n line (laid_out (all_said texts) n) ≡ laid_out (all_said texts) (n + 1)
       laid_out_more = rw (add-one, ← read_line_at) (extended_line (all_said texts) n)
@@ -152,7 +151,7 @@ module _ (texts rest : List (List ℕ)) (n : ℕ) (so : SoFar texts rest n) wher
       unread_fault is =
           let e : said (get_or texts n []) ≡ Err fault = ap said next.item ∙ is in
           let some : phase_one_fault texts n ≡ Some (kind_of fault) =
-          ap (λ r. elim r as (λ _. Option FaultKind) [ Ok l ↦ None | Err f ↦ Some (kind_of f) ]) e in
+          ap (λ r. option_map kind_of (result_err r)) e in
           rw (so.none, some) refl
 
       unread_all : said text ≡ Err fault → lines_laid_out texts

@@ -1,7 +1,7 @@
 -- The bytes of a statement are as many as its size says.
 use Rattle.std.proofs.Common.{◌≡◌, ◌∙◌, ℕ, suc, ◌*◌, ◌^◌, Bool, true, false, List, [], ◌∷◌, ◌++◌, length, replicate, ℤ, ap, sym, refl, cond, arith, length-append}
 use Rattle.std.specs.Prelude.{Option, Some, None, option_and_then, Result, Ok, Err}
-use Rattle.std.specs.Option.{option_map}
+use Rattle.std.specs.Option.{ok_or, option_map}
 use Rattle.std.proofs.lemmas.List.{length-replicate}
 use Rattle.rv_isa.specs.Number.{modulo}
 use Rattle.rv_isa.specs.Width.{bytes_of}
@@ -25,11 +25,6 @@ use Rattle.rv_asm.proofs.Padded.{length_bytes, padded, power_is_regular, multipl
 abbrev pub count_or : {A : Type 0} → ℕ → Result (List A) FaultKind → ℕ
 count_or n (Ok xs) = length xs
 count_or n (Err kind) = n
-
-words_counted : (n : ℕ) (m : Result (List Kind) FaultKind) → count_or n m ≡ n →
-    count_or (4 * n) (m >>= λ kinds. Ok (bytes kinds)) ≡ 4 * n
-words_counted n (Ok kinds) h = length_bytes kinds ∙ ap (λ k. 4 * k) h
-words_counted n (Err fault) h = refl
 
 length_value : (width : Width) (v : ℤ) → length (value_bytes width v) ≡ bytes_of width
 length_value One v = refl
@@ -75,31 +70,29 @@ filled : (n : ℕ) (m : Result ℕ FaultKind) → count_or n (m >>= λ b. Ok (re
 filled n (Ok b) = length-replicate n b
 filled n (Err fault) = refl
 
-near_counted : (o : Option Kind) (fault : FaultKind) → count_or 1
-    (elim (option_map (λ k. k ∷ []) o) as (λ _. Result (List Kind) FaultKind)
-    [ None ↦ Err fault | Some ks ↦ Ok ks ])
-    ≡ 1
+near_counted : (o : Option Kind) (fault : FaultKind) →
+    count_or 4 (ok_or (option_map (λ k. bytes (k ∷ [])) o) fault) ≡ 4
 near_counted None fault = refl
 near_counted (Some k) fault = refl
 
-pair_counted : (o : Option ℕ) (first : ℕ → Kind) (second : ℕ → Option Kind) (fault : FaultKind) → count_or 2
-    (elim (option_and_then (λ d. option_map (λ k. first d ∷ k ∷ []) (second d)) o)
-    as (λ _. Result (List Kind) FaultKind) [ None ↦ Err fault | Some ks ↦ Ok ks ]) ≡ 2
+pair_counted : (o : Option ℕ) (first : ℕ → Kind) (second : ℕ → Option Kind) (fault : FaultKind) →
+    count_or 8
+    (ok_or (option_and_then (λ d. option_map (λ k. bytes (first d ∷ k ∷ [])) (second d)) o) fault) ≡ 8
 pair_counted None first second fault = refl
 pair_counted (Some d) first second fault = second_counted (second d)
   where
-    second_counted : (o : Option Kind) → count_or 2 (elim (option_map (λ k. first d ∷ k ∷ []) o)
-        as (λ _. Result (List Kind) FaultKind) [ None ↦ Err fault | Some ks ↦ Ok ks ]) ≡ 2
+    second_counted : (o : Option Kind) →
+        count_or 8 (ok_or (option_map (λ k. bytes (first d ∷ k ∷ [])) o) fault) ≡ 8
     second_counted None = refl
     second_counted (Some k) = refl
 
 near_wanted : (here : ℕ) (kind : Kind) (part : Part) (o : Option ℤ) →
-    count_or 1 (wanted (near here kind part) o) ≡ 1
+    count_or 4 (wanted (near here kind part) o) ≡ 4
 near_wanted here kind part None = refl
 near_wanted here kind part (Some v) = near_counted (option_and_then (fill here kind) (part_value part v)) _
 
-pair_wanted : (here scratch : ℕ) (kind : Kind) (o : Option ℤ) → count_or 2
-    (wanted (pair here scratch kind) o) ≡ 2
+pair_wanted : (here scratch : ℕ) (kind : Kind) (o : Option ℤ) → count_or 8
+    (wanted (pair here scratch kind) o) ≡ 8
 pair_wanted here scratch kind None = refl
 pair_wanted here scratch kind (Some v) =
     pair_counted (far here v) (λ d. Auipc scratch (hi d)) (λ d. fill here kind (lo d)) _
@@ -110,8 +103,8 @@ module _ (late : Valuation) (here : ℕ) (c : ℤ) where
       ≡ size_of (always c) here statement
   unfolding statement_bytes IsTaken
   sized (s.Instruction k) t = refl
-  sized (s.WithValue kind e) t = words_counted 1 _ (near_wanted here kind (part_of e) (late e))
-  sized (s.Far scratch kind e) t = words_counted 2 _ (pair_wanted here scratch kind (late e))
+  sized (s.WithValue kind e) t = near_wanted here kind (part_of e) (late e)
+  sized (s.Far scratch kind e) t = pair_wanted here scratch kind (late e)
   sized (s.Li rd e) t = length_bytes (loading rd (modulo c (2 ^ 32)))
   sized (s.Data width values) t = data_counted width late values
   sized (s.Bytes bs) t = refl
@@ -126,62 +119,36 @@ module _ (late : Valuation) (here : ℕ) (c : ℤ) where
 module _ (early : Valuation) (c : ℤ) where
   pub taken : (statement : Statement) → IsKnown early c statement → IsTaken c statement
   unfolding IsKnown IsTaken
-  taken (s.Instruction kind) k = k
-  taken (s.WithValue kind e) k = k
-  taken (s.Far scratch kind e) k = k
   taken (s.Li rd e) k = k.1
-  taken (s.Data width es) k = k
-  taken (s.Bytes bs) k = k
   taken (s.Space size fill) k = k.1
   taken (s.Align power) k = k.1
   taken (s.Balign multiple) k = k.1
   taken (s.Constant name e) k = k.1
-  taken s.Marker k = k
+  taken statement k = k
 
   pub same_size : (here : ℕ) (statement : Statement) → IsKnown early c statement →
       size_of early here statement ≡ size_of (always c) here statement
   unfolding IsKnown
-  same_size here (s.Instruction kind) k = refl
-  same_size here (s.WithValue kind e) k = refl
-  same_size here (s.Far scratch kind e) k = refl
   same_size here (s.Li rd e) k = rw k.0 refl
-  same_size here (s.Data width es) k = refl
-  same_size here (s.Bytes bs) k = refl
   same_size here (s.Space size fill) k = rw k.0 refl
   same_size here (s.Align power) k = rw k.0 refl
   same_size here (s.Balign multiple) k = rw k.0 refl
-  same_size here (s.Constant name e) k = refl
-  same_size here s.Marker k = refl
+  same_size here statement k = refl
 
   pub same_constant : (statement : Statement) → IsKnown early c statement →
       constant_in early statement ≡ constant_in (always c) statement
   unfolding IsKnown
-  same_constant (s.Instruction kind) k = refl
-  same_constant (s.WithValue kind e) k = refl
-  same_constant (s.Far scratch kind e) k = refl
-  same_constant (s.Li rd e) k = refl
-  same_constant (s.Data width es) k = refl
-  same_constant (s.Bytes bs) k = refl
-  same_constant (s.Space size fill) k = refl
-  same_constant (s.Align power) k = refl
-  same_constant (s.Balign multiple) k = refl
   same_constant (s.Constant name e) k = rw k.0 refl
-  same_constant s.Marker k = refl
+  same_constant statement k = refl
 
   pub same_bytes : (late : Valuation) (here : ℕ) (statement : Statement) → IsKnown early c statement →
       statement_bytes early late here statement ≡ statement_bytes (always c) late here statement
   unfolding IsKnown statement_bytes
-  same_bytes late here (s.Instruction kind) k = refl
-  same_bytes late here (s.WithValue kind e) k = refl
-  same_bytes late here (s.Far scratch kind e) k = refl
   same_bytes late here (s.Li rd e) k = rw k.0 refl
-  same_bytes late here (s.Data width es) k = refl
-  same_bytes late here (s.Bytes bs) k = refl
   same_bytes late here (s.Space size fill) k = rw k.0 refl
   same_bytes late here (s.Align power) k = rw k.0 refl
   same_bytes late here (s.Balign multiple) k = rw k.0 refl
-  same_bytes late here (s.Constant name e) k = refl
-  same_bytes late here s.Marker k = refl
+  same_bytes late here statement k = refl
 
   -- the bytes of a statement are as many as its size says
   pub statement_size : (late : Valuation) (here : ℕ) (statement : Statement) (bs : List ℕ) →

@@ -1,7 +1,8 @@
 -- The three phases together give the definition's result.
-use Rattle.std.proofs.Common.{◌≡◌, ℕ, ◌≤◌, List, length, refl, sym, ap, ◌∙◌, arith}
+use Rattle.std.proofs.Common.{◌≡◌, ℕ, ◌≤◌, List, length, refl, arith}
 use Rattle.std.specs.Prelude.{Option, None, Some, Result, Ok, Err}
-use Rattle.std.specs.Option.{option_or}
+use Rattle.std.specs.Option.{option_map_or, option_or}
+use Rattle.std.specs.Result.{result_err}
 use Rattle.std.proofs.lemmas.List.{length-map}
 use Rattle.rv_source.specs.Reading.{Said}
 use Rattle.rv_base.specs.Lines.{lines}
@@ -11,7 +12,7 @@ use Rattle.rv_asm.specs.Symbols.{Definitions}
 use Rattle.rv_asm.specs.Layout.{definitions, phase_two_fault}
 use Rattle.rv_asm.specs.Listing.{◌>>=◌}
 use Rattle.rv_asm.specs.Assembly.{Assembly, joined, first_fault, phase_one_fault, phase_three_fault, all_said, bytes, assembled}
-use Rattle.rv_asm.specs.Steps.{Known, unless, known_before, bytes_by, fault_in, listed, written, laid_out, lines_laid_out}
+use Rattle.rv_asm.specs.Steps.{Known, unless, known_before, bytes_by, listed, written, laid_out, lines_laid_out}
 use Rattle.rv_asm.proofs.Listed.{size_listed, within_limit}
 
 abbrev pub program_of : Definitions → List ℕ → Result Assembly AsmFault
@@ -23,8 +24,7 @@ finished texts known =
     written known.definitions (all_said texts) (length texts) >>= program_of known.definitions
 
 abbrev answer : Option AsmFault → Assembly → Result Assembly AsmFault
-answer fault program =
-    elim fault as (λ _. Result Assembly AsmFault) [ Some fault ↦ Err fault | None ↦ Ok program ]
+answer fault program = option_map_or (λ fault. Err fault) fault (Ok program)
 
 length-said : (texts : List (List ℕ)) → length (all_said texts) ≡ length texts
 length-said texts = length-map texts _
@@ -66,7 +66,7 @@ whole source =
 module _ (ls : List Said) (n : ℕ) where
   size_by : (three : Option AsmFault) (ds : Definitions) (out : List ℕ) →
       first_fault (phase_two_fault ls) n ≡ None
-      → first_fault (λ k. fault_in (bytes_by ds ls k)) n ≡ three
+      → first_fault (λ k. result_err (bytes_by ds ls k)) n ≡ three
       → unless three (Ok (joined (λ k. listed (bytes_by ds ls k)) n)) ≡ Ok out
       → length out ≤ image_limit
   size_by (Some fault) ds out e f h = absurd cc

@@ -95,9 +95,9 @@ module _ (value : Valuation) (width : Width) where
   unfitting out v (Ok vs) h = rw h refl
   unfitting out v (Err kind) h = refl
 
-  behind : (v : ℤ) (r : Result (List ℤ) FaultKind) → out_of_range (r >>= λ vs. Ok (v ∷ vs)) ≡ out_of_range r
-  behind v (Ok vs) = refl
-  behind v (Err kind) = refl
+  same_fault : (v : ℤ) (r : Result (List ℤ) FaultKind) → out_of_range (r >>= λ vs. Ok (v ∷ vs)) ≡ out_of_range r
+  same_fault v (Ok vs) = refl
+  same_fault v (Err kind) = refl
 
   values_known : (e : Operand) (es : List Operand) (v : ℤ) → value e ≡ Some v →
       values_of value (e ∷ es) ≡ (values_of value es >>= λ vs. Ok (v ∷ vs))
@@ -114,7 +114,7 @@ module _ (value : Valuation) (width : Width) where
   one_fits true out e es v known h = ap (λ r. appended out (r >>= λ vs. data_bytes width vs))
       (values_known e es v known) ∙ fitting out v (values_of value es) h
   one_fits false out e es v known h =
-      ap out_of_range (values_known e es v known) ∙ behind v (values_of value es)
+      ap out_of_range (values_known e es v known) ∙ same_fault v (values_of value es)
 
   one_past : (in_range : Bool) (out : List ℕ) (e : Operand) (es : List Operand) (v : ℤ) →
       value e ≡ Some v → fits width v ≡ false
@@ -122,7 +122,7 @@ module _ (value : Valuation) (width : Width) where
   one_past true out e es v known h = ap (λ r. appended out (r >>= λ vs. data_bytes width vs))
       (values_known e es v known) ∙ unfitting out v (values_of value es) h
   one_past false out e es v known h =
-      ap out_of_range (values_known e es v known) ∙ behind v (values_of value es)
+      ap out_of_range (values_known e es v known) ∙ same_fault v (values_of value es)
 
   one_unknown : (in_range : Bool) (out : List ℕ) (e : Operand) (es : List Operand) → value e ≡ None →
       rest_bytes value width in_range out (e ∷ es) ≡ Err Undefined

@@ -1,8 +1,9 @@
 -- The image and the names of a source, or its fault.
 -- To audit: public contracts cite this.
 -- The language is this project's own: docs/ASSEMBLER.md.
-use Rattle.std.specs.Prelude.{ℕ, zero, suc, List, [], ◌++◌, map, length, get_or, Option, Some, None, Result, Ok, Err}
-use Rattle.std.specs.Option.{option_map, option_or}
+use Rattle.std.specs.Prelude.{ℕ, zero, suc, List, [], ◌++◌, map, length, get_or, Option, None, Result, Ok, Err}
+use Rattle.std.specs.Option.{option_map, option_map_or, option_or}
+use Rattle.std.specs.Result.{result_err, result_unwrap_or}
 pub use Rattle.rv_program.specs.Program.{Assembly}
 use Rattle.rv_source.specs.Reading.{Said, said}
 use Rattle.rv_base.specs.Lines.{lines}
@@ -29,35 +30,26 @@ joined f (suc n) = joined f n ++ f n
 
 -- the fault of line k in phase one, if it has one
 abbrev pub phase_one_fault : List (List ℕ) → ℕ → Option FaultKind
-phase_one_fault texts k =
-    elim (said (get_or texts k [])) as (λ _. Option FaultKind) [
-      | Ok line ↦ None
-      | Err fault ↦
-          Some (kind_of fault)
-    ]
+phase_one_fault texts k = option_map kind_of (result_err (said (get_or texts k [])))
 
 -- the lines as read, if each can be read
 abbrev pub all_said : List (List ℕ) → List Said
-all_said texts = map (λ text. elim (said text) as (λ _. Said) [ Ok line ↦ line | Err fault ↦ blank ]) texts
+all_said texts = map (λ text. result_unwrap_or (said text) blank) texts
 
 -- the bytes of line k, once all symbols are known, or its fault in phase three
 abbrev pub line_bytes : List Said → ℕ → Result (List ℕ) FaultKind
-line_bytes lines k = elim (line_at lines k).statement as (λ _. Result (List ℕ) FaultKind) [
-  | None ↦ Ok []
-  | Some statement ↦
-      statement_bytes (values_on lines k) (operand_value (definitions lines) k (address lines k))
-      (address lines k) statement
-]
+line_bytes lines k =
+    let late = operand_value (definitions lines) k (address lines k) in
+    option_map_or (statement_bytes (values_on lines k) late (address lines k))
+    (line_at lines k).statement (Ok [])
 
 -- the fault of line k in phase three, if it has one
 abbrev pub phase_three_fault : List Said → ℕ → Option FaultKind
-phase_three_fault lines k =
-    elim (line_bytes lines k) as (λ _. Option FaultKind) [ Ok bs ↦ None | Err kind ↦ Some kind ]
+phase_three_fault lines k = result_err (line_bytes lines k)
 
 -- the bytes of all lines, if no line has a fault
 abbrev pub bytes : List Said → List ℕ
-bytes lines =
-    joined (λ k. elim (line_bytes lines k) as (λ _. List ℕ) [ Ok bs ↦ bs | Err kind ↦ [] ]) (length lines)
+bytes lines = joined (λ k. result_unwrap_or (line_bytes lines k) []) (length lines)
 
 -- the fault of the first faulty line among n lines; line numbers count from 1
 abbrev pub first_fault : (ℕ → Option FaultKind) → ℕ → Option AsmFault
@@ -75,7 +67,5 @@ fault_of texts =
 unfoldable pub assembled : List ℕ → Result Assembly AsmFault
 assembled source =
     let texts = lines source in
-    elim (fault_of texts) as (λ _. Result Assembly AsmFault) [
-      | Some fault ↦ Err fault
-      | None ↦ Ok (record { bytes = bytes (all_said texts); symbols = (definitions (all_said texts)).names })
-    ]
+    option_map_or (λ fault. Err fault) (fault_of texts)
+    (Ok (record { bytes = bytes (all_said texts); symbols = (definitions (all_said texts)).names }))

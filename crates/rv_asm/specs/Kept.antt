@@ -1,7 +1,7 @@
--- Results whose faults have no line yet, and the lists of local labels.
+-- Results whose faults have no line yet, what instructions wait for, and the lists of local labels.
 -- The language is this project's own: docs/ASSEMBLER.md.
 -- Not to audit: private contracts alone cite this.
-use Rattle.std.specs.Prelude.{◌≡◌, ℕ, List, [], ◌∷◌, ◌++◌, ℤ, pos, ◌+ℤ◌, ◌≤ℤ◌, ◌==◌, if◌then◌else◌, ◌≤◌, ◌<◌, get_or, length, replicate, Option, Result, Ok, Err}
+use Rattle.std.specs.Prelude.{◌≡◌, ℕ, List, [], ◌∷◌, ◌++◌, ℤ, pos, ◌+ℤ◌, ◌≤ℤ◌, ◌==◌, if◌then◌else◌, ◌≤◌, ◌<◌, get_or, length, Option, Result, Ok, Err}
 use Rattle.std.specs.List.{AllByRecursion}
 use Rattle.rv_program.specs.declared.fault.FaultKind.{FaultKind}
 use Rattle.rv_program.specs.declared.fault.FaultKind.TheVariants.{OutOfMemory}
@@ -9,7 +9,11 @@ use Rattle.rv_asm.specs.declared.locals.LocalLabel.{LocalLabel}
 use Rattle.rv_isa.specs.declared.kind.Kind.{Kind}
 use Rattle.rv_asm.specs.declared.fixup.Waiting.{Waiting}
 use Rattle.rv_asm.specs.declared.fixup.Waiting.TheVariants as w
-use Rattle.rv_asm.specs.Listing.{◌>>=◌, near, pair}
+use Rattle.rv_asm.specs.declared.instructions.Instructions.{Instructions}
+use Rattle.rv_asm.specs.declared.instructions.Instructions.TheVariants.{One, Two}
+use Rattle.rv_asm.specs.declared.symbols.Scope.{Scope}
+use Rattle.rv_asm.specs.Symbols.{operand_value}
+use Rattle.rv_asm.specs.Listing.{Valuation, near, pair}
 
 -- ---- results whose fault has no line yet
 
@@ -28,13 +32,17 @@ KindBecomes new (Err kind) meaning = KindFails kind meaning
 
 -- ---- the bytes of a statement
 
-abbrev pub with_value : ℕ → Waiting → ℤ → Option (List Kind)
+-- the values of operands in a scope
+abbrev pub values_in : Scope → Valuation
+values_in s = operand_value s.symbols.now s.line s.here
+
+abbrev pub kinds : Instructions → List Kind
+kinds (One only) = only ∷ []
+kinds (Two first second) = first ∷ second ∷ []
+
+abbrev pub with_value : ℕ → Waiting → ℤ → Option (List ℕ)
 with_value here (w.Near kind part) v = near here kind part v
 with_value here (w.Far scratch kind) v = pair here scratch kind v
-
--- size copies of a byte, unless there is a fault
-abbrev pub filled_with : ℕ → Result ℕ FaultKind → Result (List ℕ) FaultKind
-filled_with size m = m >>= λ b. Ok (replicate size b)
 
 -- ---- lists of local labels
 

@@ -3,7 +3,7 @@
 -- Lines are counted from 0.
 -- The language is this project's own: docs/ASSEMBLER.md.
 use Rattle.std.specs.Prelude.{ℕ, zero, suc, ◌+◌, ◌*◌, ◌^◌, ◌%◌, Bool, true, false, not, ◌||◌, ◌&&◌, List, [], ◌∷◌, ◌++◌, length, get_or, ℤ, pos, nat_lt, ◌==◌, Option, Some, None, option_and_then, is_some, if◌then◌else◌}
-use Rattle.std.specs.Option.{option_or, unwrap_or}
+use Rattle.std.specs.Option.{option_map_or, unwrap_or}
 use Rattle.rv_base.specs.Limits.{ram_base, image_limit}
 use Rattle.rv_isa.specs.Number.{modulo}
 use Rattle.rv_isa.specs.Width.{bytes_of}
@@ -28,17 +28,12 @@ is_multiple v = is_between (pos 1) (pos 4096) v && (4096 % modulo v (2 ^ 32) == 
 
 -- the operand whose value must be known on the line of the statement, and the test that it has to pass
 abbrev pub asked : Statement → Option (Operand × (ℤ → Bool))
-asked (s.Instruction kind) = None
-asked (s.WithValue kind x) = None
-asked (s.Far scratch kind x) = None
 asked (s.Li rd x) = Some (x, is_word)
-asked (s.Data width xs) = None
-asked (s.Bytes bs) = None
 asked (s.Space size fill) = Some (size, is_between (pos 0) (pos image_limit))
 asked (s.Align power) = Some (power, is_between (pos 0) (pos 12))
 asked (s.Balign multiple) = Some (multiple, is_multiple)
 asked (s.Constant name x) = Some (x, is_word)
-asked s.Marker = None
+asked statement = None
 
 -- the number of bytes of a statement at an address
 abbrev pub size_of : Valuation → ℕ → Statement → ℕ
@@ -98,12 +93,10 @@ values_at line k here names locals = operand_value (record {
 }) k here
 
 abbrev pub size_at : Valuation → ℕ → Option Statement → ℕ
-size_at early here None = 0
-size_at early here (Some statement) = size_of early here statement
+size_at early here statement = option_map_or (size_of early here) statement 0
 
 abbrev pub constants_at : Valuation → Option Statement → List (List ℕ × ℤ)
-constants_at early None = []
-constants_at early (Some statement) = constant_in early statement
+constants_at early statement = option_map_or (constant_in early) statement []
 
 -- the address of line k, and the names and the local labels that are defined before it
 unfoldable mutual
@@ -136,11 +129,6 @@ definitions lines = record { names = names lines (length lines); locals = locals
 
 -- ---- phase two
 
--- the first of some faults that applies
-abbrev pub first_of : List (Bool × FaultKind) → Option FaultKind
-first_of [] = None
-first_of (fault ∷ faults) = if fault.0 then Some fault.1 else first_of faults
-
 -- whether the labels of a line define a name that is already defined
 abbrev pub relabels : List (List ℕ × ℤ) → List Label → Bool
 relabels known [] = false
@@ -154,23 +142,20 @@ renames known statement = false
 
 -- whether a value isn't known, or fails a test
 abbrev pub fails : (ℤ → Bool) → Option ℤ → Bool
-fails test None = true
-fails test (Some v) = not (test v)
+fails test v = not (option_map_or test v false)
 
 -- whether the value that must be known isn't known, or fails its test
 abbrev pub is_unknown : Valuation → Statement → Bool
-is_unknown early statement =
-    elim (asked statement) as (λ _. Bool) [ None ↦ false | Some a ↦ fails a.1 (early a.0) ]
+is_unknown early statement = option_map_or (λ a. fails a.1 (early a.0)) (asked statement) false
 
 -- the fault in phase two of a statement at an address, by the names and the values known on its line
 abbrev pub statement_fault : List (List ℕ × ℤ) → Valuation → ℕ → Statement → Option FaultKind
-statement_fault known early here statement = first_of (
-    (renames known statement, DuplicateSymbol)
-    ∷ (is_unknown early statement, NotConstant)
-    ∷ (is_instruction statement && not (here % 4 == 0), Misplaced)
-    ∷ (nat_lt (ram_base + image_limit) (here + size_of early here statement), TooLarge)
-    ∷ []
-    )
+statement_fault known early here statement =
+    if renames known statement then Some DuplicateSymbol
+    else (if is_unknown early statement then Some NotConstant
+    else (if is_instruction statement && not (here % 4 == 0) then Some Misplaced
+    else (if nat_lt (ram_base + image_limit) (here + size_of early here statement) then Some TooLarge
+    else None)))
 
 -- the fault of line k in phase two
 unfoldable pub phase_two_fault : List Said → ℕ → Option FaultKind

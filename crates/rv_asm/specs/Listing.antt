@@ -1,13 +1,13 @@
 -- The bytes of a statement, once the values of its expressions are known.
 -- To audit: public contracts cite this.
 -- The language is this project's own: docs/ASSEMBLER.md.
-use Rattle.std.specs.Prelude.{ℕ, zero, suc, ◌-◌, ◌/◌, ◌^◌, List, [], ◌∷◌, ◌++◌, replicate, min, ℤ, pos, Option, Some, None, option_and_then, Result, Ok, Err, if◌then◌else◌}
-use Rattle.std.specs.Option.{option_map, unwrap_or}
+use Rattle.std.specs.Prelude.{ℕ, ◌-◌, ◌/◌, ◌^◌, List, [], ◌∷◌, ◌++◌, replicate, min, ℤ, pos, Option, Some, None, option_and_then, Result, Ok, Err, if◌then◌else◌}
+use Rattle.std.specs.Option.{ok_or, option_map, unwrap_or}
 use Rattle.std.specs.Int.{to_le_bytes, w8, w16, w32}
 use Rattle.rv_isa.specs.Number.{modulo}
 use Rattle.rv_isa.specs.Word.{word}
 use Rattle.rv_isa.specs.declared.kind.Kind.{Kind}
-use Rattle.rv_isa.specs.declared.kind.Kind.TheVariants.{Lui, Auipc, Jal, Jalr, Branch, Load, Store, OpImm, Shift, Op, Fence, FenceI, Csr, CsrImm, Ecall, Ebreak, Mret, Wfi}
+use Rattle.rv_isa.specs.declared.kind.Kind.TheVariants.{Lui, Auipc, Jal, Jalr, Branch, Load, Store, OpImm, Shift, CsrImm}
 use Rattle.rv_isa.specs.declared.op.ImmOp.TheVariants.{Addi}
 use Rattle.rv_isa.specs.declared.op.Width.{Width}
 use Rattle.rv_isa.specs.declared.op.Width.TheVariants.{One, Two, Four}
@@ -31,9 +31,7 @@ Valuation = Operand → Option ℤ
 
 -- a value put in its place; Undefined if there is none, else OutOfRange if it doesn't fit there
 abbrev pub wanted : {A : Type 0} → (ℤ → Option A) → Option ℤ → Result A FaultKind
-wanted {A = A} place None = Err Undefined
-wanted {A = A} place (Some v) =
-    elim (place v) as (λ _. Result A FaultKind) [ None ↦ Err OutOfRange | Some x ↦ Ok x ]
+wanted place v = ok_or v Undefined >>= λ v. ok_or (place v) OutOfRange
 
 -- ---- instructions
 
@@ -51,24 +49,7 @@ filled here (Store width source base offset) v = option_map (λ x. Store width s
 filled here (OpImm op rd rs1 imm) v = option_map (λ x. OpImm op rd rs1 x) (immediate v)
 filled here (Shift op rd rs1 amount) v = option_map (λ x. Shift op rd rs1 x) (five_bits v)
 filled here (CsrImm op rd imm csr) v = option_map (λ x. CsrImm op rd x csr) (five_bits v)
-filled here (Op op rd rs1 rs2) v = None
-filled here (Fence rd rs1 imm) v = None
-filled here (FenceI rd rs1 imm) v = None
-filled here (Csr op rd rs1 csr) v = None
-filled here Ecall v = None
-filled here Ebreak v = None
-filled here Mret v = None
-filled here Wfi v = None
-
--- one instruction that takes a part of a value
-abbrev pub near : ℕ → Kind → Part → ℤ → Option (List Kind)
-near here kind part v = option_map (λ k. k ∷ []) (option_and_then (filled here kind) (part_value part v))
-
--- two, for the distance to a target: AUIPC, which adds the high part to its own address, and the instruction
--- that takes the low part
-abbrev pub pair : ℕ → ℕ → Kind → ℤ → Option (List Kind)
-pair here scratch kind target = option_and_then
-    (λ d. option_map (λ k. Auipc scratch (hi d) ∷ k ∷ []) (filled here kind (lo d))) (far here target)
+filled here kind v = None
 
 -- the word of each instruction in four bytes, lowest first
 -- RISC-V Unprivileged ISA 20191213, sections 1.5 and 2.2
@@ -76,8 +57,16 @@ abbrev pub bytes : List Kind → List ℕ
 bytes [] = []
 bytes (k ∷ ks) = to_le_bytes w32 (word k) ++ bytes ks
 
-abbrev pub words : Result (List Kind) FaultKind → Result (List ℕ) FaultKind
-words m = m >>= λ kinds. Ok (bytes kinds)
+-- the bytes of one instruction that takes a part of a value
+abbrev pub near : ℕ → Kind → Part → ℤ → Option (List ℕ)
+near here kind part v =
+    option_map (λ k. bytes (k ∷ [])) (option_and_then (filled here kind) (part_value part v))
+
+-- those of two, for the distance to a target: AUIPC, which adds the high part to its own address, and the
+-- instruction that takes the low part
+abbrev pub pair : ℕ → ℕ → Kind → ℤ → Option (List ℕ)
+pair here scratch kind target = option_and_then
+    (λ d. option_map (λ k. bytes (Auipc scratch (hi d) ∷ k ∷ [])) (filled here kind (lo d))) (far here target)
 
 -- ---- data
 
@@ -90,10 +79,7 @@ value_bytes Four v = to_le_bytes w32 (modulo v (2 ^ 32))
 -- the values of operands; an undefined one is reported before one that is out of range
 abbrev pub values_of : Valuation → List Operand → Result (List ℤ) FaultKind
 values_of value [] = Ok []
-values_of value (x ∷ xs) = elim (value x) as (λ _. Result (List ℤ) FaultKind) [
-  | None ↦ Err Undefined
-  | Some v ↦ values_of value xs >>= λ vs. Ok (v ∷ vs)
-]
+values_of value (x ∷ xs) = ok_or (value x) Undefined >>= λ v. values_of value xs >>= λ vs. Ok (v ∷ vs)
 
 abbrev pub data_bytes : Width → List ℤ → Result (List ℕ) FaultKind
 data_bytes width [] = Ok []
@@ -111,8 +97,7 @@ fill_of value (Some x) = wanted (λ v. if fits One v then Some (modulo v (2 ^ 8)
 
 -- n instructions `nop`
 abbrev pub nops : ℕ → List Kind
-nops zero = []
-nops (suc n) = OpImm Addi 0 0 (pos 0) ∷ nops n
+nops n = replicate n (OpImm Addi 0 0 (pos 0))
 
 -- n bytes of padding: zeros up to a multiple of 4 or the end of the padding, then `nop` instructions
 abbrev pub padding : ℕ → ℕ → List ℕ
@@ -124,13 +109,13 @@ padding here n = let zeros = min n (gap here 4) in replicate zeros 0 ++ bytes (n
 abbrev pub known : Valuation → Operand → ℕ
 known early x = modulo (unwrap_or (early x) (pos 0)) (2 ^ 32)
 
--- The bytes of a statement at an address, or its fault in phase three. What the number of bytes depends on, and
--- the value of `li`, go by the symbols that are defined on the line of the statement; all else by those of the
--- whole source.
+-- The bytes of a statement at an address, or its fault in phase three. What the number of bytes depends on,
+-- and the value of `li`, go by the symbols that are defined on the line of the statement; all else by those
+-- of the whole source.
 unfoldable pub statement_bytes : Valuation → Valuation → ℕ → Statement → Result (List ℕ) FaultKind
 statement_bytes early late here (s.Instruction kind) = Ok (bytes (kind ∷ []))
-statement_bytes early late here (s.WithValue kind x) = words (wanted (near here kind (part_of x)) (late x))
-statement_bytes early late here (s.Far scratch kind x) = words (wanted (pair here scratch kind) (late x))
+statement_bytes early late here (s.WithValue kind x) = wanted (near here kind (part_of x)) (late x)
+statement_bytes early late here (s.Far scratch kind x) = wanted (pair here scratch kind) (late x)
 statement_bytes early late here (s.Li rd x) = Ok (bytes (loading rd (known early x)))
 statement_bytes early late here (s.Data width xs) = sums_bytes late width xs
 statement_bytes early late here (s.Bytes bs) = Ok bs

@@ -1,7 +1,8 @@
 -- The states of the assembler from line to line. proofs/ proves that they add up to Assembly.antt.
 -- Not to audit: private contracts alone cite this.
-use Rattle.std.specs.Prelude.{◌≡◌, ◌<◌, ◌≤◌, ℕ, suc, ◌+◌, List, [], ◌∷◌, ◌++◌, length, ℤ, pos, true, Option, Some, None, is_some, if◌then◌else◌, Result, Ok, Err}
-use Rattle.std.specs.Option.{option_map}
+use Rattle.std.specs.Prelude.{◌≡◌, ◌<◌, ◌≤◌, ℕ, suc, ◌+◌, List, [], ◌∷◌, ◌++◌, length, ℤ, pos, Option, Some, None, is_some, if◌then◌else◌, Result, Ok, Err}
+use Rattle.std.specs.Option.{option_map, option_map_or}
+use Rattle.std.specs.Result.{result_err, result_unwrap_or}
 use Rattle.rv_base.specs.Limits.{ram_base, image_limit}
 use Rattle.rv_source.specs.Reading.{Said}
 use Rattle.rv_source.specs.declared.expression.Atom.{Atom}
@@ -18,10 +19,10 @@ use Rattle.rv_asm.specs.declared.kept.Kept.TheVariants as kept
 use Rattle.rv_asm.specs.declared.single.Single.{Single}
 use Rattle.rv_asm.specs.Symbols.{Definitions, value_of, atom_value, sum_value, operand_value, added}
 use Rattle.rv_asm.specs.Layout.{line_at, address, names, locals, names_in, locals_in, size_at, constants_at, statement_fault, phase_two_fault}
-use Rattle.rv_asm.specs.Listing.{◌>>=◌, Valuation, wanted, words, bytes, statement_bytes}
+use Rattle.rv_asm.specs.Listing.{◌>>=◌, Valuation, wanted, bytes, statement_bytes}
 use Rattle.rv_asm.specs.Assembly.{first_fault, phase_one_fault, all_said, joined}
 use Rattle.rv_asm.specs.Constants.{always, KeptLine, stated_in}
-use Rattle.rv_asm.specs.Kept.{with_value}
+use Rattle.rv_asm.specs.Kept.{kinds, with_value}
 
 -- the address following the largest image
 abbrev pub image_end : ℕ
@@ -36,7 +37,8 @@ Ends (Some e) end = (e ≡ end) × (e ≤ image_end)
 
 abbrev pub single_value : Definitions → ℕ → ℕ → Single → Option ℤ
 single_value ds line here s =
-    option_map (λ v. added v s.negative (pos s.number)) (atom_value ds line here s.atom)
+    option_map (λ v. added (added (pos 0) s.negated v) s.negative (pos s.number))
+    (atom_value ds line here s.atom)
 
 -- an atom is a number
 abbrev pub IsNumber : Atom → ℕ → Type 0
@@ -48,14 +50,14 @@ IsSum terms s = (ds : Definitions) → (line here : ℕ) → sum_value ds line h
     here s
 
 abbrev pub waiting_bytes : ℕ → Waiting → Option ℤ → Result (List ℕ) FaultKind
-waiting_bytes here waiting value = words (wanted (with_value here waiting) value)
+waiting_bytes here waiting value = wanted (with_value here waiting) value
 
 abbrev pub line_text_bytes : Definitions → ℕ → ℕ → KeptLine → Result (List ℕ) FaultKind
 line_text_bytes ds line here text =
     statement_bytes (always text.constant) (operand_value ds line here) here (stated_in text.bytes)
 
 unfoldable pub kept_bytes : Definitions → ℕ → ℕ → Kept → Result (List ℕ) FaultKind
-kept_bytes ds line here (kept.Instructions kinds) = Ok (bytes kinds)
+kept_bytes ds line here (kept.Instructions instructions) = Ok (bytes (kinds instructions))
 kept_bytes ds line here (kept.Waiting waiting value) = waiting_bytes here waiting
     (single_value ds line here value)
 kept_bytes ds line here (kept.Line text) = line_text_bytes ds line here text
@@ -159,10 +161,8 @@ after_line k known line = all_labelled k known line.labels >>= λ s. after_optio
 
 -- the bytes of the statement of line k, once all symbols are known
 abbrev pub stated_bytes : Definitions → ℕ → Known → Option Statement → Result (List ℕ) FaultKind
-stated_bytes ds k known statement = elim statement as (λ _. Result (List ℕ) FaultKind) [
-  | None ↦ Ok []
-  | Some s ↦ statement_bytes (values_of k known) (operand_value ds k known.address) known.address s
-]
+stated_bytes ds k known statement = option_map_or
+    (statement_bytes (values_of k known) (operand_value ds k known.address) known.address) statement (Ok [])
 
 -- items have, in addition, the bytes of a statement of line k, once the labels of the line are defined
 abbrev pub AddsOptional : ℕ → Known → Option Statement → List Item → List Item → Type 0
@@ -210,15 +210,12 @@ abbrev pub bytes_by : Definitions → List Said → ℕ → Result (List ℕ) Fa
 bytes_by ds lines k =
     stated_bytes ds k (labelled k (known_before lines k) (line_at lines k).labels) (line_at lines k).statement
 
-abbrev pub fault_in : Result (List ℕ) FaultKind → Option FaultKind
-fault_in r = elim r as (λ _. Option FaultKind) [ Ok bs ↦ None | Err kind ↦ Some kind ]
-
 abbrev pub listed : Result (List ℕ) FaultKind → List ℕ
-listed r = elim r as (λ _. List ℕ) [ Ok bs ↦ bs | Err kind ↦ [] ]
+listed r = result_unwrap_or r []
 
 -- the bytes of the first n lines, or their first fault in phase three
 unfoldable pub written : Definitions → List Said → ℕ → Result (List ℕ) AsmFault
-written ds lines n = unless (first_fault (λ k. fault_in (bytes_by ds lines k)) n)
+written ds lines n = unless (first_fault (λ k. result_err (bytes_by ds lines k)) n)
     (Ok (joined (λ k. listed (bytes_by ds lines k)) n))
 
 abbrev pub Writes : List Said → ℕ → List Item → Type 0

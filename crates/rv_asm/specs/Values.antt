@@ -72,8 +72,3 @@ loading rd w =
 -- the number of bytes from an address to the next multiple
 abbrev pub gap : ℕ → ℕ → ℕ
 gap here multiple = (multiple - here % multiple) % multiple
-
--- the list of an optional instruction
-abbrev pub listed_if : Option Kind → List Kind
-listed_if None = []
-listed_if (Some kind) = kind ∷ []

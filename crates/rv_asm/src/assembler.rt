@@ -1,10 +1,10 @@
 //! The phases of assembly, from a source to its image.
-ghost use Rattle.std.specs.Prelude.{◌≡◌, ◌≤◌, ◌<◌, [], None, Result, Ok, IfOk, IfErr, OnOk, length};
+ghost use Rattle.std.specs.Prelude.{◌≡◌, ◌+◌, ◌≤◌, ◌<◌, [], None, Result, Ok, IfOk, IfErr, OnOk, length};
 ghost use Rattle.std.specs.List.{All};
 ghost use Rattle.rv_base.specs.Lines.{lines};
 ghost use Rattle.rv_source.specs.Reading.{said, written};
 ghost use Rattle.rv_program.specs.declared.fault.AsmFault.{AsmFault};
-ghost use Rattle.rv_program.specs.Faults.{Gives};
+ghost use Rattle.rv_program.specs.Faults.{Gives, IsFaultAt, kind_of};
 ghost use Rattle.rv_asm.specs.Assembly.{all_said, assembled};
 ghost use Rattle.rv_asm.specs.Steps.{Known as KnownValue, AddsLine, Writes, start, extended, lines_laid_out, image_of};
 ghost use Rattle.rv_asm.specs.Taken.{so_far, Without, IsUnread, Takes};
@@ -14,66 +14,20 @@ use crate::placement::PlacedStatement;
 use crate::symbols::Symbols;
 use crate::{AsmFault, FaultKind, Program};
 use rv_base::cut_lines;
-use rv_source::{Label, Line, Statement, read_line};
+use rv_source::{Label, LineFault, Statement, read_line};
 use std::alloc::Global;
 
-/// Reads a line in phase one.
-#[tactic(auto, using(crate::proofs::Reading::unread_line))]
-fn read<'a>(alloc: Global, number: usize, text: &'a [u8]) -> Result<Line<'a>, AsmFault>
+/// Returns the fault of a line that can't be read.
+fn unread(number: usize, fault: LineFault) -> AsmFault
     requires { number < 0xffffffffffffffff }
-    ensures ok { IfOk result (λ line. written text.now ≡ Ok line) }
-    ensures err { IfErr result (IsUnread number text.now) }
+    ensures { IsFaultAt (number + 1) (kind_of fault) result }
 {
-    match read_line(alloc, text) {
-        Ok(line) => Ok(line),
-        Err(fault) => Err(AsmFault::at(number + 1, FaultKind::from(fault))),
-    }
+    AsmFault::at(number + 1, FaultKind::from(fault))
 }
 
-/// Returns the statement of a line in phase one.
-#[tactic(auto, using(crate::proofs::Reading::unread_statement, crate::proofs::Reading::read_statement))]
-fn statement_of<'t, 'a>(
-    number: usize,
-    text: &[u8],
-    line: &'t Line<'a>,
-) -> Result<Option<Statement<'t, 'a>>, AsmFault>
-    requires counted { number < 0xffffffffffffffff }
-    requires written { written text.now ≡ Ok line.now }
-    ensures ok { IfOk result (λ s. said text.now ≡ Ok (record { labels = line.now.labels; statement = s })) }
-    ensures err { IfErr result (IsUnread number text.now) }
-{
-    match line.statement() {
-        Ok(statement) => Ok(statement),
-        Err(fault) => Err(AsmFault::at(number + 1, FaultKind::from(fault))),
-    }
-}
-
-/// Lays out one more line in phase two, unless a line before it had a fault there.
-fn add<'a>(
-    alloc: Global,
-    number: usize,
-    text: &'a [u8],
-    labels: &[Label],
-    statement: &Option<Statement<'_, 'a>>,
-    known: &mut Known,
-    items: &mut Vec<PlacedStatement<'a>>,
-    fault: &mut Option<AsmFault>,
-)
-    requires up_to { IfOk (so_far fault.old known.old) (λ l. All (λ d. d.line ≤ number) l.definitions.locals) }
-    requires counted { number < 0xffffffffffffffff }
-    requires read { said text.now ≡ Ok (record { labels = labels.now; statement = statement.now }) }
-    ensures known { (m : Result KnownValue AsmFault) → Gives (λ l. l) (so_far fault.old known.old) m → Gives (λ l. l) (so_far fault.new known.new) (extended number (record { labels = labels.now; statement = statement.now }) m) }
-    ensures items { Without fault.new ((fault.old ≡ None) × AddsLine number known.old (record { labels = labels.now; statement = statement.now }) items.old.items items.new.items) }
-{
-    if fault.is_some() {
-        return;
-    }
-    if let Err(kind) = known.add(alloc, number, text, labels, statement, items) {
-        *fault = Some(AsmFault::at(number + 1, kind));
-    }
-}
-
-/// Performs phases one and two on one more line.
+/// Performs phases one and two on one more line, or phase one alone if a line before it had a fault in phase
+/// two.
+#[tactic(auto, using(crate::proofs::Reading::unread_line, crate::proofs::Reading::unread_statement, crate::proofs::Reading::read_statement))]
 fn take<'a>(
     alloc: Global,
     number: usize,
@@ -87,26 +41,21 @@ fn take<'a>(
     ensures ok { OnOk result (Takes number text.now fault.old known.old items.old.items fault.new known.new items.new.items) }
     ensures err { IfErr result (IsUnread number text.now) }
 {
-    let line = match read(alloc, number, text) {
+    let line = match read_line(alloc, text) {
         Ok(line) => line,
-        Err(unread) => return Err(unread),
+        Err(cause) => return Err(unread(number, cause)),
     };
-    match statement_of(number, text, &line) {
-        Ok(statement) => {
-            add(
-                alloc,
-                number,
-                text,
-                line.labels(),
-                &statement,
-                known,
-                items,
-                fault,
-            );
-            Ok(())
-        }
-        Err(unread) => Err(unread),
+    let statement = match line.statement() {
+        Ok(statement) => statement,
+        Err(cause) => return Err(unread(number, cause)),
+    };
+    if fault.is_some() {
+        return Ok(());
     }
+    if let Err(kind) = known.add(alloc, number, text, line.labels(), &statement, items) {
+        *fault = Some(AsmFault::at(number + 1, kind));
+    }
+    Ok(())
 }
 
 /// Performs phases one and two line by line. A fault of phase two is kept until all lines are read, since a

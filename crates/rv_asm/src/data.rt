@@ -10,7 +10,6 @@ use crate::FaultKind;
 use crate::instructions::{addi, write_instr, zero};
 use crate::values::{bits, gap};
 use rv_isa::Width;
-use rv_source::Strings;
 use std::alloc::AllocError;
 
 /// Appends the low bytes of a value, as many as the width has, lowest first.
@@ -54,20 +53,4 @@ pub fn pad(here: u32, multiple: u32, out: &mut Vec<u8>) -> Result<(), FaultKind>
     let zeros = count.min(gap(here, 4));
     fill(zeros, 0, out)?;
     write_nops((count - zeros) / 4, out)
-}
-
-/// Appends bytes.
-pub fn append(bytes: &[u8], out: &mut Vec<u8>) -> Result<(), FaultKind>
-    ensures { KindBecomes out.new.items result (Ok (out.old.items ++ bytes.now)) }
-{
-    out.extend_from_slice(bytes)?;
-    Ok(())
-}
-
-/// Appends the bytes of strings.
-pub fn append_strings(strings: &Strings, out: &mut Vec<u8>) -> Result<(), FaultKind>
-    ensures { KindBecomes out.new.items result (Ok (out.old.items ++ strings.now)) }
-{
-    strings.append_to(out)?;
-    Ok(())
 }

@@ -3,16 +3,14 @@ ghost use Rattle.std.specs.Prelude.{◌≡◌, ◌==◌, ◌&&◌, ◌%◌, ◌�
 ghost use Rattle.rv_isa.specs.Width.{bytes_of};
 ghost use Rattle.rv_source.specs.declared.statement.Statement.{Statement};
 ghost use Rattle.rv_asm.specs.Values.{is_between};
-ghost use Rattle.rv_asm.specs.Symbols.{operand_value};
 ghost use Rattle.rv_asm.specs.Layout.{is_instruction, is_multiple, fails, is_unknown, renames, size_of};
-ghost use Rattle.rv_asm.specs.Kept.{KindGives};
+ghost use Rattle.rv_asm.specs.Kept.{KindGives, values_in};
 ghost use Rattle.rv_asm.specs.Constants.{IsKnown, IsTaken, always};
 ghost use Rattle.rv_asm.specs.Steps.{Ends, image_end, free};
 
 use crate::FaultKind;
-use crate::emission::Scope;
 use crate::instructions::loading;
-use crate::symbols::Symbols;
+use crate::symbols::{Scope, Symbols};
 use crate::values::{bits, gap, is_between};
 use rv_base::{IMAGE_LIMIT, RAM_BASE};
 use rv_isa::Width;
@@ -53,29 +51,19 @@ fn multiple(value: Option<i64>) -> Option<i64>
 /// depends on it. Other statements have the constant 0. None if the value isn't known there, or isn't in the
 /// range of the statement.
 #[tactic(auto, unfolding(crate::specs::Constants::IsKnown))]
-fn constant(symbols: &Symbols, line: usize, here: u32, statement: &Statement) -> Option<i64>
-    ensures unknown { is_unknown (operand_value symbols.now line here) statement.now ≡ not (is_some result) }
-    ensures known { IfSome result (λ c. IsKnown (operand_value symbols.now line here) c statement.now) }
+fn constant(scope: Scope, statement: &Statement) -> Option<i64>
+    ensures unknown { is_unknown (values_in scope.entry) statement.now ≡ not (is_some result) }
+    ensures known { IfSome result (λ c. IsKnown (values_in scope.entry) c statement.now) }
 {
     match statement {
         Statement::Li { value, .. } | Statement::Constant { value, .. } => {
-            between(
-                -0x8000_0000,
-                0xffff_ffff,
-                symbols.value(value.operand(), line, here),
-            )
+            between(-0x8000_0000, 0xffff_ffff, scope.value(value.operand()))
         }
-        Statement::Space { size, .. } => between(
-            0,
-            IMAGE_LIMIT as i64,
-            symbols.value(size.operand(), line, here),
-        ),
-        Statement::Align { power } => between(0, 12, symbols.value(power.operand(), line, here)),
-        Statement::Balign { multiple: value } => multiple(symbols.value(
-            value.operand(),
-            line,
-            here,
-        )),
+        Statement::Space { size, .. } => {
+            between(0, IMAGE_LIMIT as i64, scope.value(size.operand()))
+        }
+        Statement::Align { power } => between(0, 12, scope.value(power.operand())),
+        Statement::Balign { multiple: value } => multiple(scope.value(value.operand())),
         _ => Some(0),
     }
 }
@@ -85,11 +73,7 @@ fn data_size(width: Width, count: usize) -> u32
     ensures { result ≡ min (bytes_of width * count) 0xffffffff }
 {
     let count = count.min(0xffff_ffff) as u32;
-    match width {
-        Width::One => count,
-        Width::Two => count.saturating_mul(2),
-        Width::Four => count.saturating_mul(4),
-    }
+    count.saturating_mul(width.bytes())
 }
 
 /// Returns the size in bytes of a statement at the address `here`, saturated at 2^32 - 1.
@@ -120,8 +104,7 @@ fn end_of(here: u32, constant: i64, statement: &Statement) -> Option<u32>
     (end <= RAM_BASE + IMAGE_LIMIT).then_some(end)
 }
 
-/// Returns whether a statement is assembled to instructions, whose address has to be a multiple of 4, and isn't at
-/// one.
+/// Returns whether a statement is assembled to instructions, but its address isn't a multiple of 4.
 fn is_misplaced(here: u32, statement: &Statement) -> bool
     ensures { result ≡ (is_instruction statement.now && not (here % 4 == 0)) }
 {
@@ -149,27 +132,22 @@ fn renames(symbols: &Symbols, statement: &Statement) -> bool
 #[tactic(auto, using(crate::proofs::Sizes::taken, crate::proofs::Extents::past, crate::proofs::Extents::within), unfolding(crate::specs::Steps::free))]
 pub fn extent_of(scope: Scope, statement: &Statement) -> Result<Extent, FaultKind>
     ensures fault { KindGives (λ _. tt) result (free scope.entry.symbols.now scope.entry.line scope.entry.here statement.now) }
-    ensures known { IfOk result (λ e. IsKnown (operand_value scope.entry.symbols.now scope.entry.line scope.entry.here) e.constant statement.now) }
+    ensures known { IfOk result (λ e. IsKnown (values_in scope.entry) e.constant statement.now) }
     ensures end { IfOk result (λ e. e.end ≡ scope.entry.here + size_of (always e.constant) scope.entry.here statement.now) }
     ensures within { IfOk result (λ e. e.end ≤ image_end) }
     ensures renames { IfOk result (λ _. renames scope.entry.symbols.now.names statement.now ≡ false) }
 {
-    let Scope {
-        symbols,
-        line,
-        here,
-    } = scope;
-    if renames(symbols, statement) {
+    if renames(scope.symbols, statement) {
         return Err(FaultKind::DuplicateSymbol);
     }
-    let Some(constant) = constant(symbols, line, here, statement) else {
+    let Some(constant) = constant(scope, statement) else {
         return Err(FaultKind::NotConstant);
     };
-    if is_misplaced(here, statement) {
+    if is_misplaced(scope.here, statement) {
         return Err(FaultKind::Misplaced);
     }
-    let Some(end) = end_of(here, constant, statement) else {
-        return Err(FaultKind::TooLarge);
-    };
-    Ok(Extent { constant, end })
+    match end_of(scope.here, constant, statement) {
+        Some(end) => Ok(Extent { constant, end }),
+        None => Err(FaultKind::TooLarge),
+    }
 }

@@ -1,10 +1,8 @@
 //! Fixups: instructions that wait for a value.
-ghost use Rattle.std.specs.Prelude.{◌≡◌, Some, ◌++◌};
-ghost use Rattle.std.specs.Option.{ok_or};
-ghost use Rattle.rv_program.specs.declared.fault.FaultKind.TheVariants.{OutOfRange};
-ghost use Rattle.rv_asm.specs.Listing.{filled, near, pair, wanted};
-ghost use Rattle.rv_asm.specs.Kept.{with_value};
-ghost use Rattle.rv_source.specs.Operands.{part_of};
+ghost use Rattle.std.specs.Prelude.{◌≡◌, ◌++◌};
+ghost use Rattle.std.specs.Option.{option_map};
+ghost use Rattle.rv_asm.specs.Listing.{bytes, filled, near, pair};
+ghost use Rattle.rv_asm.specs.Kept.{kinds};
 
 use crate::FaultKind;
 use crate::instructions::{Instructions, auipc};
@@ -14,87 +12,44 @@ use crate::values::{
 use rv_isa::{Instr, Kind, Reg};
 use rv_source::{Form, Operand, Part};
 
-/// Fills the fixup of an instruction: returns it with a value in the field of its immediate. None if the value
-/// isn't in the range of the field, or there is no such field.
+/// Fills the fixup of an instruction: returns it with a value in the field of its immediate, or None if the
+/// value isn't in the range of the field, or there is no such field.
 #[tactic(auto, unfolding(crate::specs::Listing::filled))]
 fn fill(here: u32, instr: Instr, value: i64) -> Option<Instr>
     ensures { result ≡ filled here instr value }
 {
-    match instr.kind() {
-        Kind::Lui { rd, .. } => {
-            let imm = upper_immediate(value)?;
-            Some(Instr::of(Kind::Lui { rd, imm }))
-        }
-        Kind::Auipc { rd, .. } => {
-            let imm = upper_immediate(value)?;
-            Some(Instr::of(Kind::Auipc { rd, imm }))
-        }
-        Kind::Jal { rd, .. } => {
-            let offset = jump_distance(here, value)?;
-            Some(Instr::of(Kind::Jal { rd, offset }))
-        }
-        Kind::Jalr { rd, base, .. } => {
-            let offset = immediate(value)?;
-            Some(Instr::of(Kind::Jalr { rd, base, offset }))
-        }
-        Kind::Branch { cond, rs1, rs2, .. } => {
-            let offset = branch_distance(here, value)?;
-            Some(Instr::of(Kind::Branch {
-                cond,
-                rs1,
-                rs2,
-                offset,
-            }))
-        }
-        Kind::Load { op, rd, base, .. } => {
-            let offset = immediate(value)?;
-            Some(Instr::of(Kind::Load {
-                op,
-                rd,
-                base,
-                offset,
-            }))
-        }
-        Kind::Store {
-            width,
-            source,
-            base,
-            ..
-        } => {
-            let offset = immediate(value)?;
-            Some(Instr::of(Kind::Store {
-                width,
-                source,
-                base,
-                offset,
-            }))
-        }
-        Kind::OpImm { op, rd, rs1, .. } => {
-            let imm = immediate(value)?;
-            Some(Instr::of(Kind::OpImm { op, rd, rs1, imm }))
-        }
-        Kind::Shift { op, rd, rs1, .. } => {
-            let amount = five_bits(value)?;
-            Some(Instr::of(Kind::Shift {
-                op,
-                rd,
-                rs1,
-                amount,
-            }))
-        }
-        Kind::CsrImm { op, rd, csr, .. } => {
-            let imm = five_bits(value)?;
-            Some(Instr::of(Kind::CsrImm { op, rd, imm, csr }))
-        }
-        Kind::Op { .. }
-        | Kind::Fence { .. }
-        | Kind::FenceI { .. }
-        | Kind::Csr { .. }
-        | Kind::Ecall
-        | Kind::Ebreak
-        | Kind::Mret
-        | Kind::Wfi => None,
+    let mut kind = instr.kind();
+    match &mut kind {
+        Kind::Lui { imm, .. } => *imm = upper_immediate(value)?,
+        Kind::Auipc { imm, .. } => *imm = upper_immediate(value)?,
+        Kind::Jal { offset, .. } => *offset = jump_distance(here, value)?,
+        Kind::Jalr { offset, .. } => *offset = immediate(value)?,
+        Kind::Branch { offset, .. } => *offset = branch_distance(here, value)?,
+        Kind::Load { offset, .. } => *offset = immediate(value)?,
+        Kind::Store { offset, .. } => *offset = immediate(value)?,
+        Kind::OpImm { imm, .. } => *imm = immediate(value)?,
+        Kind::Shift { amount, .. } => *amount = five_bits(value)?,
+        Kind::CsrImm { imm, .. } => *imm = five_bits(value)?,
+        _ => return None,
     }
+    Some(Instr::of(kind))
+}
+
+/// Returns an instruction that takes a part of a value.
+fn near(here: u32, instr: Instr, part: Part, value: i64) -> Option<Instructions>
+    ensures { option_map (λ i. bytes (kinds i)) result ≡ near here instr part value }
+{
+    let part = part_value(part, value)?;
+    Some(Instructions::One(fill(here, instr, part)?))
+}
+
+/// Returns AUIPC with the high part of the distance to a target, and the instruction that takes the low part.
+fn pair(here: u32, scratch: Reg, instr: Instr, target: i64) -> Option<Instructions>
+    ensures { option_map (λ i. bytes (kinds i)) result ≡ pair here scratch instr target }
+{
+    let distance = far(here, target)?;
+    let second = fill(here, instr, i64::from(lo(distance)))?;
+    Some(Instructions::Two(auipc(scratch, hi(distance)), second))
 }
 
 /// Instructions that wait for one value.
@@ -102,63 +57,36 @@ fn fill(here: u32, instr: Instr, value: i64) -> Option<Instr>
 pub enum Waiting {
     /// An instruction that takes a part of the value.
     Near { instr: Instr, part: Part },
-    /// AUIPC into `scratch` with the high part of the distance to the value, and an instruction that takes the
-    /// low part.
+    /// AUIPC into `scratch` with the high part of the distance to the value, and an instruction that takes
+    /// the low part.
     Far { scratch: Reg, instr: Instr },
 }
 
-/// Returns the part of its value that an operand stands for.
-fn part_of(operand: &Operand) -> Part
-    ensures { result ≡ part_of operand.now }
-{
-    match &operand.form {
-        Form::Value { part, .. } => *part,
-        Form::Text(_) => Part::Whole,
-    }
-}
-
-/// Returns an instruction that takes a part of a value.
-fn near(here: u32, instr: Instr, part: Part, value: i64) -> Option<Instructions>
-    ensures { result ≡ near here instr part value }
-{
-    let part = part_value(part, value)?;
-    match fill(here, instr, part) {
-        Some(instr) => Some(Instructions::one(instr)),
-        None => None,
-    }
-}
-
-/// Returns AUIPC with the high part of the distance to a target, and the instruction that takes the low part.
-fn pair(here: u32, scratch: Reg, instr: Instr, target: i64) -> Option<Instructions>
-    ensures { result ≡ pair here scratch instr target }
-{
-    let distance = far(here, target)?;
-    match fill(here, instr, i64::from(lo(distance))) {
-        Some(second) => Some(Instructions::two(auipc(scratch, hi(distance)), second)),
-        None => None,
-    }
-}
-
 impl Waiting {
-    ghost use Rattle.std.specs.Prelude.{◌≡◌, Some};
-    ghost use Rattle.std.specs.Option.{ok_or};
-    ghost use Rattle.rv_asm.specs.Listing.{wanted};
-    ghost use Rattle.rv_asm.specs.Kept.{with_value};
-    ghost use Rattle.rv_asm.specs.declared.fixup.Waiting.TheVariants as w;
+    ghost use Rattle.std.specs.Prelude.{◌≡◌};
     ghost use Rattle.rv_source.specs.Operands.{part_of};
+    ghost use Rattle.rv_asm.specs.Kept.{KindBecomes};
+    ghost use Rattle.rv_asm.specs.Steps.{appended, waiting_bytes};
+    ghost use Rattle.rv_asm.specs.declared.fixup.Waiting.TheVariants as w;
 
     /// Makes an instruction that waits for the part of a value that an operand stands for.
     pub fn near(instr: Instr, operand: &Operand) -> Waiting
         ensures { result ≡ w.Near instr (part_of operand.now) }
     {
-        let part = part_of(operand);
+        let part = match &operand.form {
+            Form::Value { part, .. } => *part,
+            Form::Text(_) => Part::Whole,
+        };
         Waiting::Near { instr, part }
     }
 
-    /// Returns the instructions with their value. The fault is `Undefined` if there is no value, and
-    /// `OutOfRange` if it doesn't fit.
-    pub fn with_value(self, here: u32, value: Option<i64>) -> Result<Instructions, FaultKind>
-        ensures { result ≡ wanted (with_value here self) value }
+    /// Appends the words of the instructions at the address `here` with their value.
+    ///
+    /// # Errors
+    ///
+    /// `Undefined` if there is no value, and `OutOfRange` if it doesn't fit into its fields.
+    pub fn write(self, here: u32, value: Option<i64>, out: &mut Vec<u8>) -> Result<(), FaultKind>
+        ensures { KindBecomes out.new.items result (appended out.old.items (waiting_bytes here self value)) }
     {
         let Some(value) = value else {
             return Err(FaultKind::Undefined);
@@ -168,7 +96,7 @@ impl Waiting {
             Waiting::Far { scratch, instr } => pair(here, scratch, instr, value),
         };
         match instructions {
-            Some(instructions) => Ok(instructions),
+            Some(instructions) => instructions.write(out),
             None => Err(FaultKind::OutOfRange),
         }
     }

@@ -3,82 +3,46 @@ ghost use Rattle.std.specs.Prelude.{◌≡◌, ◌<◌, ◌^◌, ◌++◌, [], �
 ghost use Rattle.rv_isa.specs.Number.{IsWithin};
 ghost use Rattle.rv_isa.specs.declared.kind.Kind.TheVariants.{Lui, Auipc, OpImm};
 ghost use Rattle.rv_isa.specs.declared.op.ImmOp.TheVariants.{Addi};
-ghost use Rattle.rv_asm.specs.Kept.{KindBecomes};
+ghost use Rattle.rv_asm.specs.Kept.{KindBecomes, kinds};
 ghost use Rattle.rv_asm.specs.Listing.{bytes};
 ghost use Rattle.rv_asm.specs.Values.{loading};
 
 use crate::FaultKind;
-use crate::data::append;
 use crate::values::{hi, lo};
 use rv_isa::{ImmOp, Instr, Kind, Reg, encode};
-use std::marker::Model;
 
-/// The instructions of a statement: at most two.
-pub struct Instructions {
-    first: Option<Instr>,
-    second: Option<Instr>,
-}
-
-// Hand-written: a derived `Drop` would be proved anew at each exit (docs/PROVING.md).
-impl Drop for Instructions {
-    fn drop(self) {
-        let Instructions {
-            first: _,
-            second: _,
-        } = self;
-    }
-}
-
-impl Model for Instructions {
-    ghost use Rattle.std.specs.Prelude.{List, ◌++◌};
-    ghost use Rattle.rv_isa.specs.declared.kind.Kind.{Kind};
-    ghost use Rattle.rv_asm.specs.Values.{listed_if};
-
-    ghost Value = { List Kind };
-
-    ghost view = { λ i. listed_if i.first ++ listed_if i.second };
+/// The instructions of a statement: one or two.
+#[derive(Clone, Copy)]
+pub enum Instructions {
+    One(Instr),
+    Two(Instr, Instr),
 }
 
 impl Instructions {
-    ghost use Rattle.std.specs.Prelude.{◌≡◌, ◌++◌, ◌*◌, length, [], ◌∷◌, Ok};
-    ghost use Rattle.rv_asm.specs.Kept.{KindBecomes};
+    ghost use Rattle.std.specs.Prelude.{◌≡◌, ◌++◌, ◌*◌, length, Ok};
+    ghost use Rattle.rv_asm.specs.Kept.{KindBecomes, kinds};
     ghost use Rattle.rv_asm.specs.Listing.{bytes};
 
-    pub fn one(first: Instr) -> Self
-        ensures { result ≡ first ∷ [] }
-    {
-        Instructions {
-            first: Some(first),
-            second: None,
-        }
-    }
-
-    pub fn two(first: Instr, second: Instr) -> Self
-        ensures { result ≡ first ∷ second ∷ [] }
-    {
-        Instructions {
-            first: Some(first),
-            second: Some(second),
-        }
-    }
-
     /// Returns the size of the instructions in bytes.
-    pub fn size(&self) -> u32
-        ensures { result ≡ 4 * length self.now }
+    pub fn size(self) -> u32
+        ensures { result ≡ 4 * length (kinds self) }
     {
-        4 * (u32::from(self.first.is_some()) + u32::from(self.second.is_some()))
+        match self {
+            Instructions::One(_) => 4,
+            Instructions::Two(..) => 8,
+        }
     }
 
     /// Appends the words of the instructions, each with its lowest byte first.
-    pub fn write(&self, out: &mut Vec<u8>) -> Result<(), FaultKind>
-        ensures { KindBecomes out.new.items result (Ok (out.old.items ++ bytes self.now)) }
+    pub fn write(self, out: &mut Vec<u8>) -> Result<(), FaultKind>
+        ensures { KindBecomes out.new.items result (Ok (out.old.items ++ bytes (kinds self))) }
     {
-        if let Some(first) = self.first {
-            write_instr(first, out)?;
-        }
-        match self.second {
-            Some(second) => write_instr(second, out),
-            None => Ok(()),
+        match self {
+            Instructions::One(only) => write_instr(only, out),
+            Instructions::Two(first, second) => {
+                write_instr(first, out)?;
+                write_instr(second, out)
+            }
         }
     }
 }
@@ -87,7 +51,8 @@ impl Instructions {
 pub fn write_instr(instr: Instr, out: &mut Vec<u8>) -> Result<(), FaultKind>
     ensures { KindBecomes out.new.items result (Ok (out.old.items ++ bytes (instr ∷ []))) }
 {
-    append(&encode(instr).to_le_bytes(), out)
+    out.extend_from_slice(&encode(instr).to_le_bytes())?;
+    Ok(())
 }
 
 /// Returns the register x0.
@@ -127,16 +92,16 @@ pub fn addi(rd: Reg, rs1: Reg, imm: i32) -> Instr
 /// Returns the one or two instructions that load a word into a register.
 #[tactic(auto, unfolding(crate::specs::Values::loading))]
 pub fn loading(rd: Reg, word: u32) -> Instructions
-    ensures { result ≡ loading rd word }
+    ensures { kinds result ≡ loading rd word }
 {
     let value = word.cast_signed();
     if value >= -2048 && value <= 2047 {
-        return Instructions::one(addi(rd, zero(), value));
+        return Instructions::One(addi(rd, zero(), value));
     }
     let upper = lui(rd, hi(word));
     if word % 4096 == 0 {
-        Instructions::one(upper)
+        Instructions::One(upper)
     } else {
-        Instructions::two(upper, addi(rd, rd, lo(word)))
+        Instructions::Two(upper, addi(rd, rd, lo(word)))
     }
 }

@@ -4,7 +4,8 @@ use crate::instructions::Instructions;
 use crate::single::Single;
 use std::marker::Model;
 
-/// The text of a line, which is read again where its bytes are written, and the value that was known on the line.
+/// The text of a line, which is read again where its bytes are written, and the value that was known on the
+/// line.
 #[derive(Drop)]
 pub struct LineText<'a> {
     pub bytes: &'a [u8],
@@ -21,8 +22,8 @@ impl<'a> Model for LineText<'a> {
     ghost invariant = { λ t. IsTaken t.constant (stated_in t.bytes.now) };
 }
 
-/// What is kept of a statement until all symbols are known. The statement itself isn't kept, since its lists would
-/// take many times the memory of its text.
+/// What is kept of a statement until all symbols are known. The statement itself isn't kept, since its lists
+/// would take many times the memory of its text.
 #[derive(Drop)]
 pub enum Kept<'a> {
     /// Instructions that wait for nothing.

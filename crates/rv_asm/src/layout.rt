@@ -2,11 +2,10 @@
 ghost use Rattle.std.specs.Prelude.{◌≡◌, ◌++◌, ◌∷◌, [], OnOk};
 
 use crate::FaultKind;
-use crate::emission::Scope;
 use crate::extent::extent_of;
 use crate::locals::LocalLabel;
 use crate::placement::PlacedStatement;
-use crate::symbols::Symbols;
+use crate::symbols::{Scope, Symbols};
 use rv_base::RAM_BASE;
 use rv_program::Names;
 use rv_source::{Label, Statement};
@@ -21,10 +20,8 @@ fn push<'a>(
 ) -> Result<(), AllocError>
     ensures { OnOk result (items.new.items ≡ items.old.items ++ item.entry ∷ []) }
 {
-    match items.push(item) {
-        Ok(()) => Ok(()),
-        Err(_) => Err(AllocError),
-    }
+    items.push(item)?;
+    Ok(())
 }
 
 /// The state between two statements: the address of the next one, and the symbols defined so far.
@@ -71,10 +68,8 @@ impl Known {
                     return Err(FaultKind::DuplicateSymbol);
                 }
                 let address = i64::from(self.address);
-                match self.symbols.names.define(alloc, name.bytes(), address) {
-                    Ok(()) => Ok(()),
-                    Err(_) => Err(FaultKind::OutOfMemory),
-                }
+                self.symbols.names.define(alloc, name.bytes(), address)?;
+                Ok(())
             }
             Label::Local(number) => {
                 let label = LocalLabel {
@@ -131,14 +126,12 @@ impl Known {
         self.symbols
             .define_constant(alloc, extent.constant, statement)?;
         self.address = extent.end;
-        match push(items, item) {
-            Ok(()) => Ok(()),
-            Err(_) => Err(FaultKind::OutOfMemory),
-        }
+        push(items, item)?;
+        Ok(())
     }
 
-    /// Lays out one more line: defines its labels and places its statement. `text` is the line as written, and
-    /// `number` counts from 0.
+    /// Lays out one more line: defines its labels and places its statement. `text` is the line as written,
+    /// and `number` counts from 0.
     #[tactic(auto, unfolding(crate::specs::Steps::after_line))]
     pub fn add<'a>(
         &mut self,

@@ -18,22 +18,12 @@ pub struct LocalLabel {
     pub number: u16,
 }
 
-/// Returns the number of definitions on this line or before it.
+/// Returns the number of definitions on a line or before it.
 fn count_up_to(labels: &[LocalLabel], line: usize) -> usize
     requires { Rises labels.now }
     ensures { IsCut labels.now line result }
 {
-    let mut low = 0;
-    let mut high = labels.len();
-    while low < high {
-        let middle = low + (high - low) / 2;
-        if labels[middle].line <= line {
-            low = middle + 1;
-        } else {
-            high = middle;
-        }
-    }
-    low
+    labels.partition_point(|label| label.line <= line)
 }
 
 /// The definitions of one number, in order of lines.
@@ -68,9 +58,7 @@ impl Repeated {
         ensures ok { OnOk result (self.new ≡ self.old ++ label ∷ []) }
         ensures err { OnErr result (self.new ≡ self.old) }
     {
-        if self.labels.push(label).is_err() {
-            return Err(AllocError);
-        }
+        self.labels.push(label)?;
         Ok(())
     }
 
@@ -104,9 +92,7 @@ fn make_room(alloc: Global, lists: &mut Vec<Repeated>, number: usize) -> Result<
     ensures room { OnOk result (number < length lists.new.items) }
 {
     while lists.len() <= number {
-        if lists.push(Repeated::new(alloc)).is_err() {
-            return Err(AllocError);
-        }
+        lists.push(Repeated::new(alloc))?;
     }
     Ok(())
 }

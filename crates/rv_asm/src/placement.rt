@@ -7,12 +7,11 @@ ghost use Rattle.rv_asm.specs.Kept.{KindBecomes};
 ghost use Rattle.rv_asm.specs.Steps.{kept_bytes, waiting_bytes, line_text_bytes, appended};
 
 use crate::FaultKind;
-use crate::emission::{Scope, write_with_value};
 use crate::fixup::Waiting;
 use crate::instructions::{Instructions, loading};
 use crate::kept::{Kept, LineText};
 use crate::single::as_single;
-use crate::symbols::Symbols;
+use crate::symbols::{Scope, Symbols};
 use crate::values::bits;
 use rv_source::{Form, Operand, Statement, read_line};
 use std::alloc::Global;
@@ -54,12 +53,12 @@ fn write_line(
     };
     match line.statement() {
         Ok(Some(statement)) => scope.write(text.constant, &statement, out),
-        Ok(None) => Ok(()),
-        Err(_) => Ok(()),
+        _ => Ok(()),
     }
 }
 
-/// Returns what is kept of a statement that waits for the value of an operand.
+/// Returns what is kept of instructions that wait for the value of an operand, or None if it isn't that of a
+/// single symbol.
 #[tactic(auto, using(crate::proofs::Placing::waiting_kept))]
 fn waiting<'a>(waiting: Waiting, operand: &Operand<'a>) -> Option<Kept<'a>>
     ensures { IfSome result (λ k. (ds : Definitions) → (line here : ℕ) → kept_bytes ds line here k ≡ waiting_bytes here waiting (operand_value ds line here operand.now)) }
@@ -71,13 +70,13 @@ fn waiting<'a>(waiting: Waiting, operand: &Operand<'a>) -> Option<Kept<'a>>
     Some(Kept::Waiting { waiting, value })
 }
 
-/// Returns what is kept of a statement of one or two instructions, unless its text is.
+/// Returns what is kept of a statement of one or two instructions, or None if its text has to be kept.
 #[tactic(auto, unfolding(crate::specs::Listing::statement_bytes, crate::specs::Steps::kept_bytes))]
 fn short<'a>(constant: i64, statement: &Statement<'_, 'a>) -> Option<Kept<'a>>
     ensures { IfSome result (λ k. (ds : Definitions) → (line here : ℕ) → kept_bytes ds line here k ≡ statement_bytes (always constant) (operand_value ds line here) here statement.now) }
 {
     match statement {
-        Statement::Instruction(instr) => Some(Kept::Instructions(Instructions::one(*instr))),
+        Statement::Instruction(instr) => Some(Kept::Instructions(Instructions::One(*instr))),
         Statement::Li { rd, .. } => Some(Kept::Instructions(loading(*rd, bits(constant)))),
         Statement::WithValue { instr, value } => {
             waiting(Waiting::near(*instr, value.operand()), value.operand())
@@ -119,14 +118,10 @@ impl<'a> PlacedStatement<'a> {
     {
         let kept = match short(constant, statement) {
             Some(kept) => kept,
-            None => {
-                let bytes = text;
-                return PlacedStatement {
-                    line,
-                    address,
-                    kept: Kept::Line(LineText { bytes, constant }),
-                };
-            }
+            None => Kept::Line(LineText {
+                bytes: text,
+                constant,
+            }),
         };
         PlacedStatement {
             line,
@@ -161,8 +156,7 @@ impl<'a> PlacedStatement<'a> {
         match &self.kept {
             Kept::Instructions(instructions) => instructions.write(out),
             Kept::Waiting { waiting, value } => {
-                let value = value.value(scope);
-                write_with_value(self.address, *waiting, value, out)
+                waiting.write(self.address, value.value(scope), out)
             }
             Kept::Line(text) => write_line(alloc, scope, text, out),
         }

@@ -1,9 +1,9 @@
 //! The symbols of a source, and the values of expressions.
 ghost use Rattle.std.specs.Prelude.{◌≡◌, ◌^◌, ◌++◌, true, false, [], Ok, IfSome};
-ghost use Rattle.rv_asm.specs.Symbols.{atom_value, sum_value, operand_value, added};
+ghost use Rattle.rv_asm.specs.Symbols.{atom_value, sum_value, added};
 ghost use Rattle.rv_asm.specs.Layout.{renames, constant_in};
 ghost use Rattle.rv_asm.specs.Constants.{IsTaken, always};
-ghost use Rattle.rv_asm.specs.Kept.{KindBecomes, IsNear};
+ghost use Rattle.rv_asm.specs.Kept.{KindBecomes, IsNear, values_in};
 ghost use Rattle.rv_asm.specs.Values.{is_word};
 
 use crate::FaultKind;
@@ -58,48 +58,57 @@ impl Symbols {
             _ => Ok(()),
         }
     }
+}
 
+/// The scope in which the expressions of a statement are evaluated: the symbols, the line, counted from 0,
+/// and the address of the statement.
+#[derive(Clone, Copy)]
+pub struct Scope<'a> {
+    pub symbols: &'a Symbols,
+    pub line: usize,
+    pub here: u32,
+}
+
+impl<'a> Scope<'a> {
     /// Returns the value of an atom, or None if its symbol isn't defined.
-    pub fn atom(&self, atom: &Atom, line: usize, here: u32) -> Option<i64>
-        ensures value { result ≡ atom_value self.now line here atom.now }
+    pub fn atom(&self, atom: &Atom) -> Option<i64>
+        ensures value { result ≡ atom_value self.now.symbols.now self.now.line self.now.here atom.now }
         ensures word { IfSome result (λ v. is_word v ≡ true) }
     {
+        let symbols = self.symbols;
         match atom {
             Atom::Number(n) => Some(i64::from(*n)),
             Atom::Character(b) => Some(i64::from(*b)),
-            Atom::Symbol(name) => self.names.value(name.bytes()),
+            Atom::Symbol(name) => symbols.names.value(name.bytes()),
             Atom::Local { number, direction } => {
-                match self.locals.nearest(*number, *direction, line) {
-                    Some(address) => Some(i64::from(address)),
-                    None => None,
-                }
+                let address = symbols.locals.nearest(*number, *direction, self.line)?;
+                Some(i64::from(address))
             }
-            Atom::Here => Some(i64::from(here)),
+            Atom::Here => Some(i64::from(self.here)),
         }
     }
 
-    /// Returns the value of an expression on a line, counted from 0, in a statement at the address `here`.
-    /// None if one of its symbols isn't defined.
-    fn sum(&self, expression: &Expression, line: usize, here: u32) -> Option<i64>
-        ensures { result ≡ sum_value self.now line here expression.now }
+    /// Returns the value of an expression, or None if one of its symbols isn't defined.
+    fn sum(&self, expression: &Expression) -> Option<i64>
+        ensures { result ≡ sum_value self.now.symbols.now self.now.line self.now.here expression.now }
     {
         let (first, more) = expression.terms();
-        let value = self.atom(&first.atom, line, here)?;
+        let value = self.atom(&first.atom)?;
         let mut sum = added(0, first.negative, value);
         for term in more {
-            let value = self.atom(&term.atom, line, here)?;
+            let value = self.atom(&term.atom)?;
             sum = added(sum, term.negative, value);
         }
         Some(sum)
     }
 
-    /// Returns the value of an operand on a line, in the same way.
+    /// Returns the value of an operand, in the same way.
     #[tactic(auto, unfolding(crate::specs::Symbols::sum_value))]
-    pub fn value(&self, operand: &Operand, line: usize, here: u32) -> Option<i64>
-        ensures { result ≡ operand_value self.now line here operand.now }
+    pub fn value(&self, operand: &Operand) -> Option<i64>
+        ensures { result ≡ values_in self.now operand.now }
     {
         match &operand.form {
-            Form::Value { sum, .. } => self.sum(sum, line, here),
+            Form::Value { sum, .. } => self.sum(sum),
             Form::Text(_) => Some(0),
         }
     }

@@ -7,6 +7,7 @@ ghost use Rattle.rv_asm.specs.Values.{is_between, is_word, fits, immediate, uppe
 use rv_isa::Width;
 use rv_source::Part;
 
+/// Returns whether a value lies between two bounds, both included.
 pub fn is_between(low: i64, high: i64, value: i64) -> bool
     ensures { result ≡ is_between low high value }
 {
@@ -42,11 +43,7 @@ pub fn bits(value: i64) -> u32
 pub fn byte(value: i64) -> Option<u8>
     ensures { result ≡ (if fits One value then Some (modulo value (2 ^ 8)) else None) }
 {
-    if fits(Width::One, value) {
-        Some(value.rem_euclid(0x100) as u8)
-    } else {
-        None
-    }
+    fits(Width::One, value).then_some(value.rem_euclid(0x100) as u8)
 }
 
 /// Converts a value to the immediate of an I-type or S-type instruction, if it fits.
@@ -68,11 +65,7 @@ pub fn upper_immediate(value: i64) -> Option<u32>
     ensures value { result ≡ upper_immediate value }
     ensures within { IfSome result (λ imm. imm < 2 ^ 20) }
 {
-    if is_between(-524_288, 1_048_575, value) {
-        Some(value.rem_euclid(0x10_0000) as u32)
-    } else {
-        None
-    }
+    is_between(-524_288, 1_048_575, value).then_some(value.rem_euclid(0x10_0000) as u32)
 }
 
 /// Converts a value to a shift amount, or to the immediate of a control register instruction, if it fits.
@@ -80,11 +73,7 @@ pub fn five_bits(value: i64) -> Option<u8>
     ensures value { result ≡ five_bits value }
     ensures within { IfSome result (λ n. n < 32) }
 {
-    if is_between(0, 31, value) {
-        Some(value as u8)
-    } else {
-        None
-    }
+    is_between(0, 31, value).then_some(value.rem_euclid(32) as u8)
 }
 
 /// Returns a distance if it is even and lies between two bounds.

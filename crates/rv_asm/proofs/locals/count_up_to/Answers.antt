@@ -1,37 +1,24 @@
-use Rattle.std.proofs.Common.{◌+◌, ◌-◌, ◌/◌, arith}
+use Rattle.std.proofs.Common.{ℕ, List, leb, leb-true, leb-false, le-leb, arith, rules}
+use Rattle.std.specs.List.Sorted.{IsPartitionedBy}
+use Rattle.std.proofs.lemmas.List.Sorted.{IsPartitionPoint-from_clause}
+use Rattle.rv_asm.specs.declared.locals.LocalLabel.{LocalLabel}
+use Rattle.rv_asm.specs.Kept.{Rises}
 use Rattle.rv_asm.proofs.Nearest.{rises_at}
 use Rattle.rv_asm.proofs.locals.count_up_to.Goals as goal
 
-pub loop-low-preserved-then-labels-middle : goal.loop-low-preserved-then-labels-middle
-loop-low-preserved-then-labels-middle c =
-    let i = c.loop-low.invariant in
-    let test = c.loop-low-test.true in
-    let o = i.ordered in
-    let w = i.within in
-    let t = c.if-labels-middle.true in
-    record {
-      ordered = omega arith;
-      within = w;
-      before = λ k d p.
-          let r = rises_at c.args.labels.now k (c.loop-low.low + (c.loop-low.high - c.loop-low.low) / 2) d
-          (record { number = 0; line = 0; address = 0 }) c.requires (omega arith) (omega arith) in
-          omega (arith, r, t);
-      after = i.after;
-    }
+parted : (ds : List LocalLabel) (line : ℕ) → Rises ds → IsPartitionedBy (λ d. leb d.line line) ds
+parted ds line r i j d p q t =
+    let below = rises_at ds i j d d r p q in
+    let last = leb-true _ line t in le-leb _ line (omega (arith, below, last))
 
-pub loop-low-preserved : goal.loop-low-preserved
-loop-low-preserved c =
-    let i = c.loop-low.invariant in
-    let test = c.loop-low-test.true in
-    let o = i.ordered in
-    let w = i.within in
-    let t = c.if-labels-middle.false in
+pub returns : goal.returns
+returns c =
+    let line = c.args.line in
+    let point = IsPartitionPoint-from_clause (λ (d : LocalLabel). leb d.line line) _ _
+    c.partition_point.ensures.partitioned (parted c.args.labels.now line c.requires)
+    (λ a r q k. search rules) in
     record {
-      ordered = omega arith;
-      within = omega arith;
-      before = i.before;
-      after = λ k d p q.
-          let r = rises_at c.args.labels.now (c.loop-low.low + (c.loop-low.high - c.loop-low.low) / 2) k
-          (record { number = 0; line = 0; address = 0 }) d c.requires p q in
-          omega (arith, r, t);
+      within = c.partition_point.ensures.bound;
+      before = λ k d p. leb-true _ _ (point.0 k d (omega arith) p);
+      after = λ k d p q. leb-false _ _ (point.1 k d p q);
     }

@@ -3,8 +3,8 @@ use Rattle.rv_asm.specs.Symbols.{operand_value}
 use Rattle.rv_asm.specs.Values.{fits}
 use Rattle.rv_asm.specs.Listing.{value_bytes}
 use Rattle.rv_asm.proofs.Writing.{data_fits, data_past, data_unknown, data_whole, data_out_of_range}
-use Rattle.rv_asm.proofs.emission.Scope.write_values.Goals.{then-fits+in_ok-write_value, else-fits}
-use Rattle.rv_asm.proofs.emission.Scope.write_values.Goals as goal
+use Rattle.rv_asm.proofs.symbols.Scope.write_values.Goals.{then-fits+in_ok-write_value, else-fits}
+use Rattle.rv_asm.proofs.symbols.Scope.write_values.Goals as goal
 
 pub returns-in_default : goal.returns-in_default
 returns-in_default c =

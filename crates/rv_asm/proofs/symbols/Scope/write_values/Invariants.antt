@@ -3,7 +3,7 @@ use Rattle.rv_asm.specs.Symbols.{operand_value}
 use Rattle.rv_asm.specs.Listing.{sums_bytes}
 use Rattle.rv_asm.specs.Steps.{appended}
 use Rattle.rv_asm.proofs.Writing.{rest_bytes}
-use Rattle.rv_asm.proofs.emission.Scope.write_values.Given as goal
+use Rattle.rv_asm.proofs.symbols.Scope.write_values.Given as goal
 
 abbrev pub invariant-loop-operand : goal.invariant-loop-operand
 invariant-loop-operand l =

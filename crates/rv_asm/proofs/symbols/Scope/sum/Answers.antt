@@ -5,15 +5,15 @@ use mir.Syntax.{w64}
 use mir.Val.{to_z, of_z, SFits}
 use Rattle.rv_asm.specs.Symbols.{atom_value, added}
 use Rattle.rv_asm.proofs.Sums.{sum_begun, first_none, sum_more, sum_none, sum_whole}
-use Rattle.rv_asm.proofs.symbols.Symbols.sum.Goals as goal
+use Rattle.rv_asm.proofs.symbols.Scope.sum.Goals as goal
 
 pub loop-term-init : goal.loop-term-init
 loop-term-init c =
     let first = c.terms.result.0.now in
     let v = c.in_ok-value.value in
-    let e : atom_value c.args.self.now c.args.line c.args.here first.atom ≡ Some v =
+    let e : atom_value c.args.self.now.symbols.now c.args.self.now.line c.args.self.now.here first.atom ≡ Some v =
     sym c.atom.ensures.value ∙ c.in_ok-value.was in
-    let begun = sum_begun c.args.self.now c.args.line c.args.here c.args.expression.now
+    let begun = sum_begun c.args.self.now.symbols.now c.args.self.now.line c.args.self.now.here c.args.expression.now
     c.terms.result.1.now first c.terms.ensures.value v e c.in_ok-value.ensures.word in
     let f : SFits w64 v = search rules in
     let sum_is : c.added-sum.result ≡ added (pos 0) first.negative v = simp to_z-of_z at
@@ -30,9 +30,9 @@ loop-term-preserved c =
     let all = c.args.expression.now in
     let is : term ≡ get_or c.terms.result.1.now i term = c.term-item.is in
     let within : i < length c.terms.result.1.now = c.loop-term-test.true in
-    let e : atom_value c.args.self.now c.args.line c.args.here term.atom ≡ Some v =
+    let e : atom_value c.args.self.now.symbols.now c.args.self.now.line c.args.self.now.here term.atom ≡ Some v =
     sym c.atom-in-loop-term.ensures.value ∙ c.in_ok-value-2.was in
-    let more = sum_more c.args.self.now c.args.line c.args.here all c.terms.result.1.now i term
+    let more = sum_more c.args.self.now.symbols.now c.args.self.now.line c.args.self.now.here all c.terms.result.1.now i term
     (to_z w64 c.loop-term.sum-bits) v within c.loop-term.invariant
     (rw (← is) e) c.in_ok-value-2.ensures.word in
     let f : SFits w64 v = search rules in
@@ -46,9 +46,9 @@ loop-term-preserved c =
 pub returns-in_err-value : goal.returns-in_err-value
 returns-in_err-value c =
     let first = c.terms.result.0.now in
-    let e : atom_value c.args.self.now c.args.line c.args.here first.atom ≡ None =
+    let e : atom_value c.args.self.now.symbols.now c.args.self.now.line c.args.self.now.here first.atom ≡ None =
     sym c.atom.ensures.value ∙ c.in_err-value.was in
-    c.from_residual.ensures ∙ first_none c.args.self.now c.args.line c.args.here c.args.expression.now
+    c.from_residual.ensures ∙ first_none c.args.self.now.symbols.now c.args.self.now.line c.args.self.now.here c.args.expression.now
     c.terms.result.1.now first c.terms.ensures.value e
 
 pub returns-in_err-value-2 : goal.returns-in_err-value-2
@@ -58,9 +58,9 @@ returns-in_err-value-2 c =
     let all = c.args.expression.now in
     let is : term ≡ get_or c.terms.result.1.now i term = c.term-item.is in
     let within : i < length c.terms.result.1.now = c.loop-term-test.true in
-    let e : atom_value c.args.self.now c.args.line c.args.here term.atom ≡ None =
+    let e : atom_value c.args.self.now.symbols.now c.args.self.now.line c.args.self.now.here term.atom ≡ None =
     sym c.atom-in-loop-term.ensures.value ∙ c.in_err-value-2.was in
-    c.from_residual-in_err-value-2.ensures ∙ sum_none c.args.self.now c.args.line c.args.here all
+    c.from_residual-in_err-value-2.ensures ∙ sum_none c.args.self.now.symbols.now c.args.self.now.line c.args.self.now.here all
     c.terms.result.1.now i term
     (to_z w64 c.loop-term.sum-bits) within c.loop-term.invariant (rw (← is) e)
 
@@ -69,5 +69,5 @@ returns c =
     let all = c.args.expression.now in
     let past : length c.terms.result.1.now ≤ c.loop-term.term-index =
     c.loop-term-test.false in
-    sum_whole c.args.self.now c.args.line c.args.here all c.terms.result.1.now c.loop-term.term-index
+    sum_whole c.args.self.now.symbols.now c.args.self.now.line c.args.self.now.here all c.terms.result.1.now c.loop-term.term-index
     (to_z w64 c.loop-term.sum-bits) past c.loop-term.invariant

@@ -1,0 +1,45 @@
+-- One more line in the first two phases.
+use Rattle.std.proofs.Common.{◌≡◌, ℕ, ◌+◌, List, true, false, refl}
+use Rattle.std.specs.Prelude.{Option, None, Some, is_some, Ok}
+use Rattle.rv_source.specs.Reading.{Said, said}
+use Rattle.rv_program.specs.declared.fault.FaultKind.{FaultKind}
+use Rattle.rv_program.specs.declared.fault.AsmFault.{AsmFault}
+use Rattle.rv_program.specs.Faults.{IsFaultAt}
+use Rattle.rv_asm.specs.Kept.{KindFails}
+use Rattle.rv_asm.specs.Steps.{Known, Item, after_line, AddsLine}
+use Rattle.rv_asm.specs.Taken.{Takes}
+use Rattle.rv_asm.proofs.Runs.{fails_bind, fails_at_line}
+
+module _ (k : ℕ) (text : List ℕ) (line : Said) (read : said text ≡ Ok line) (known : Known)
+    (items : List Item) where
+  -- following a fault
+  pub takes_nothing : (old : Option AsmFault) → is_some old ≡ true → Takes k text old known items old known items
+  takes_nothing (Some fault) is = record {
+    line = line;
+    read = read;
+    state = λ m h. fails_bind fault.kind fault m _ h;
+    adds = tt;
+  }
+  takes_nothing None is = absurd cc
+
+  module _ (after : Known) (more : List Item) where
+    pub takes_line : (old : Option AsmFault) → is_some old ≡ false → after_line k known line ≡ Ok after →
+        AddsLine k known line items more → Takes k text old known items old after more
+    takes_line None is e adds = record {
+      line = line;
+      read = read;
+      state = λ m h. rw (h, e) refl;
+      adds = (refl, adds);
+    }
+    takes_line (Some fault) is e adds = absurd cc
+
+    pub takes_fault : (old : Option AsmFault) (kind : FaultKind) (fault : AsmFault) → is_some old ≡ false →
+        KindFails kind (after_line k known line) → IsFaultAt (k + 1) kind fault →
+        Takes k text old known items (Some fault) after more
+    takes_fault None kind fault is fails at = record {
+      line = line;
+      read = read;
+      state = λ m h. rw h (fails_at_line k kind fault (after_line k known line) fails at);
+      adds = tt;
+    }
+    takes_fault (Some before) kind fault is fails at = absurd cc
