@@ -1,3 +1,4 @@
 pub mod Pieces
 pub mod Ranges
 pub mod Sums
+mod WordRows

@@ -1,13 +1,18 @@
 -- The rows of the program's tables, and labels that are read.
 -- Not to audit: private contracts alone cite this.
-use Rattle.std.specs.Prelude.{ℕ, List, ◌++◌, map, Option}
-use Rattle.std.specs.Option.{option_map}
+use Rattle.std.specs.Prelude.{ℕ, Bool, false, List, [], ◌∷◌, ◌++◌, ◌==◌, map, Option, Result, if◌then◌else◌}
+use Rattle.std.specs.Option.{option_map, ok_or}
 use Rattle.std.specs.Borrow.{Bor}
 use Rattle.rv_tokens.specs.declared.token.Token.{Token}
+use Rattle.rv_tokens.specs.declared.fault.LineFault.{LineFault}
+use Rattle.rv_tokens.specs.declared.fault.LineFault.TheVariants.{BadOperands}
+use Rattle.rv_source.specs.Operands.{is_nothing}
+use Rattle.rv_source.specs.declared.operand.Operand.{Operand}
+use Rattle.rv_source.specs.declared.statement.Statement.{Statement}
 use Rattle.rv_source.specs.declared.line.Label.{Label}
 use Rattle.rv_source.specs.declared.row.Row.{Row as Written}
 use Rattle.rv_source.specs.declared.row.Row.TheVariants as row
-use Rattle.rv_source.specs.Table.{Row, These, Each}
+use Rattle.rv_source.specs.Table.{Row, These, Each, first_fit}
 
 -- a row of the program, as a row of the language
 abbrev pub row_of : Written → Row
@@ -17,6 +22,15 @@ row_of (row.Each role template) = Each role template
 -- a table of the program, with its words as bytes
 abbrev pub rows : List (Bor (List ℕ) × Written) → List (List ℕ × Row)
 rows table = map (λ entry. (entry.0.now, row_of entry.1)) table
+
+-- the statement of the first of these rows that takes the operands, or a fault: this one if there are no rows
+abbrev pub fitted_or : LineFault → List Operand → List Row → Result Statement LineFault
+fitted_or unless xs rows = ok_or (first_fit xs rows) (if is_nothing rows then unless else BadOperands)
+
+-- whether a word begins with `.`
+abbrev pub has_dot : List ℕ → Bool
+has_dot [] = false
+has_dot (b ∷ bs) = b == 46
 
 -- labels in front of others, and the tokens after them all
 abbrev pub with_labels : List Label → Option (List Label × List Token) → Option (List Label × List Token)

@@ -100,9 +100,8 @@ of_kind op _ = near op [] ∷ []
 abbrev pub alike : List (List ℕ) → Row → List (List ℕ × Row)
 alike names row = map (λ name. (name, row)) names
 
--- the pseudo-instructions, and the directives that take operands
-unfoldable pub words : List (List ℕ × Row)
-words =
+unfoldable pub pseudo_instructions : List (List ℕ × Row)
+pseudo_instructions =
     (codes "nop", near o.Addi [])
     ∷ (codes "mv", near o.Addi (r.Rd ∷ r.Rs1 ∷ []))
     ∷ (codes "not", These (r.Rd ∷ r.Rs1 ∷ []) (t.Near o.Xori) g.Ones)
@@ -134,9 +133,12 @@ words =
     ∷ (codes "li", These (r.Rd ∷ r.Value ∷ []) t.Li g.Zeros)
     ∷ (codes "call", These (r.Value ∷ []) (t.Far o.Jalr) g.Call)
     ∷ (codes "tail", These (r.Value ∷ []) (t.Far o.Jalr) g.Tail)
-    ∷ []
-    ++ alike (codes "la" ∷ codes "lla" ∷ []) (far o.Addi (r.Both ∷ r.Value ∷ []))
-    ++ alike (codes ".word" ∷ codes ".long" ∷ codes ".4byte" ∷ []) (Each r.Value (t.Data width.Four))
+    ∷ alike (codes "la" ∷ codes "lla" ∷ []) (far o.Addi (r.Both ∷ r.Value ∷ []))
+
+-- the directives that take operands
+unfoldable pub directives : List (List ℕ × Row)
+directives =
+    alike (codes ".word" ∷ codes ".long" ∷ codes ".4byte" ∷ []) (Each r.Value (t.Data width.Four))
     ++ alike (codes ".half" ∷ codes ".short" ∷ codes ".2byte" ∷ []) (Each r.Value (t.Data width.Two))
     ++ alike (codes ".byte" ∷ []) (Each r.Value (t.Data width.One))
     ++ alike (codes ".ascii" ∷ []) (Each r.Text (t.Text false))
@@ -146,6 +148,9 @@ words =
     ++ alike (codes ".align" ∷ codes ".p2align" ∷ []) (These (r.Value ∷ []) t.Align g.Zeros)
     ++ alike (codes ".balign" ∷ []) (These (r.Value ∷ []) t.Balign g.Zeros)
     ++ alike (codes ".equ" ∷ codes ".set" ∷ []) (These (r.Symbol ∷ r.Second ∷ []) t.Constant g.Zeros)
+
+abbrev pub words : List (List ℕ × Row)
+words = pseudo_instructions ++ directives
 
 -- the directives without effect
 unfoldable pub markers : List (List ℕ)
@@ -165,13 +170,17 @@ abbrev pub of_word : List ℕ → List (List ℕ × Row) → List Row
 of_word word [] = []
 of_word word (row ∷ rows) = if bytes_eq row.0 word then row.1 ∷ of_word word rows else of_word word rows
 
--- the statement of the first row that takes the operands, or E5
-abbrev pub fitted : List Operand → List Row → Result Statement LineFault
-fitted xs rows = ok_or (first_fit xs rows) BadOperands
-
--- the statement of a word with these operands; E4 if it is neither a mnemonic nor a directive
-unfoldable pub meaning : List ℕ → List Operand → Result Statement LineFault
-meaning word xs = elim (named word) as (λ _. Result Statement LineFault) [
-  | Some op ↦ fitted xs (of_kind op (blank op))
-  | None ↦ if is_nothing (of_word word words) then Err UnknownWord else fitted xs (of_word word words)
+-- the rows of a word: of an operation, or of a pseudo-instruction or a directive
+abbrev pub rows_of : List ℕ → List Row
+rows_of word = elim (named word) as (λ _. List Row) [
+  | Some op ↦ of_kind op (blank op)
+  | None ↦ of_word word words
 ]
+
+-- the statement of the first of these rows that takes the operands; E4 if there are no rows, else E5
+abbrev pub fitted : List Operand → List Row → Result Statement LineFault
+fitted xs rows = ok_or (first_fit xs rows) (if is_nothing rows then UnknownWord else BadOperands)
+
+-- the statement of a word with these operands
+unfoldable pub meaning : List ℕ → List Operand → Result Statement LineFault
+meaning word xs = fitted xs (rows_of word)

@@ -3,14 +3,13 @@ ghost use Rattle.std.specs.Prelude.{◌≡◌, ◌∷◌, [], map};
 ghost use Rattle.std.specs.List.{list_any};
 ghost use Rattle.std.specs.Str.{bytes_eq};
 ghost use Rattle.rv_isa.specs.Mnemonics.{blank};
-ghost use Rattle.rv_source.specs.Operands.{is_nothing};
-ghost use Rattle.rv_source.specs.Partial.{row_of, rows};
-ghost use Rattle.rv_source.specs.Table.{constant, filled, first_fit, is_marker, jalr_rows, meaning, meant, of_kind, of_word, words, waiting, near, far};
+ghost use Rattle.rv_source.specs.Partial.{fitted_or, has_dot, row_of, rows};
+ghost use Rattle.rv_source.specs.Table.{constant, filled, first_fit, fitted, is_marker, jalr_rows, meaning, meant, of_kind, of_word, words, waiting, near, far};
 
 use crate::field::{Fields, given, in_role, in_roles, instruction, name};
 use crate::row::Role::{After, Before, Both, Csr, Imm, Memory, Rd, Rs1, Rs2, Upper, Value};
 use crate::row::{Given, Role, Row, Template};
-use crate::words::{MARKERS, WORDS};
+use crate::words::{DIRECTIVES, MARKERS, PSEUDO_INSTRUCTIONS};
 use crate::{LineFault, Operand, Statement, Strings, Values};
 use rv_isa::{Instr, Kind, Operation, operation_named};
 
@@ -28,10 +27,8 @@ fn waiting<'t, 'a>(instr: Instr, value: Option<crate::Value<'t, 'a>>) -> Stateme
 fn constant<'t, 'a>(fields: Fields<'t, 'a>) -> Option<Statement<'t, 'a>>
     ensures { result ≡ constant fields.entry }
 {
-    let Fields { value, second, .. } = fields;
-    let symbol = value?;
-    let name = name(symbol.operand())?;
-    let value = second?;
+    let name = name(fields.value?.operand())?;
+    let value = fields.second?;
     Some(Statement::Constant { name, value })
 }
 
@@ -47,17 +44,11 @@ fn fill<'t, 'a>(
     match template {
         Template::Near(operation) => {
             let instr = instruction(operation, &fields);
-            let Fields { value, .. } = fields;
-            Some(waiting(instr, value))
+            Some(waiting(instr, fields.value))
         }
         Template::Far(operation) => {
             let instr = instruction(operation, &fields);
-            let Fields {
-                rs1: scratch,
-                value,
-                ..
-            } = fields;
-            let target = value?;
+            let (scratch, target) = (fields.rs1, fields.value?);
             Some(Statement::Far {
                 scratch,
                 instr,
@@ -65,8 +56,7 @@ fn fill<'t, 'a>(
             })
         }
         Template::Li => {
-            let Fields { rd, value, .. } = fields;
-            let value = value?;
+            let (rd, value) = (fields.rd, fields.value?);
             Some(Statement::Li { rd, value })
         }
         Template::Data(width) => {
@@ -74,26 +64,18 @@ fn fill<'t, 'a>(
             Some(Statement::Data { width, values })
         }
         Template::Text { terminated } => {
-            let strings = Strings::new(terminated, operands);
-            Some(Statement::Bytes(strings))
+            Some(Statement::Bytes(Strings::new(terminated, operands)))
         }
         Template::Space => {
-            let Fields {
-                value,
-                second: fill,
-                ..
-            } = fields;
-            let size = value?;
+            let (size, fill) = (fields.value?, fields.second);
             Some(Statement::Space { size, fill })
         }
         Template::Align => {
-            let Fields { value, .. } = fields;
-            let power = value?;
+            let power = fields.value?;
             Some(Statement::Align { power })
         }
         Template::Balign => {
-            let Fields { value, .. } = fields;
-            let multiple = value?;
+            let multiple = fields.value?;
             Some(Statement::Balign { multiple })
         }
         Template::Constant => constant(fields),
@@ -211,32 +193,50 @@ fn of_operation<'t, 'a>(op: Operation, operands: &'t [Operand<'a>]) -> Option<St
 // ---- words
 
 /// Returns the statement of the first row of a word that takes the operands.
+///
+/// # Errors
+///
+/// `unless` if the word has no row, else `BadOperands`.
 fn of_word<'t, 'a>(
     table: &[(&str, Row)],
     word: &[u8],
     operands: &'t [Operand<'a>],
-) -> Option<Statement<'t, 'a>>
-    ensures { result ≡ first_fit operands.now (of_word word.now (rows table.now)) }
+    unless: LineFault,
+) -> Result<Statement<'t, 'a>, LineFault>
+    ensures { result ≡ fitted_or unless operands.now (of_word word.now (rows table.now)) }
 {
     let [entry, rest @ ..] = table else {
-        return None;
+        return Err(unless);
     };
-    if entry.0.as_bytes() == word {
-        if let Some(statement) = meant(entry.1, operands) {
-            return Some(statement);
-        }
+    if entry.0.as_bytes() != word {
+        return of_word(rest, word, operands, unless);
     }
-    of_word(rest, word, operands)
+    match meant(entry.1, operands) {
+        Some(statement) => Ok(statement),
+        None => of_word(rest, word, operands, LineFault::BadOperands),
+    }
 }
 
-/// Returns whether a word has no row in a table.
-fn has_none(table: &[(&str, Row)], word: &[u8]) -> bool
-    ensures { result ≡ is_nothing (of_word word.now (rows table.now)) }
+/// Returns whether a word begins with `.`, as those of the directives do.
+fn has_dot(word: &[u8]) -> bool
+    ensures { result ≡ has_dot word.now }
 {
-    let [entry, rest @ ..] = table else {
-        return true;
-    };
-    entry.0.as_bytes() != word && has_none(rest, word)
+    word.starts_with(b".")
+}
+
+/// Returns the statement of a word that is no mnemonic of an instruction, by the table that may have it.
+#[tactic(auto, using(crate::proofs::WordRows::of_directive, crate::proofs::WordRows::of_other), unfolding(crate::specs::Table::directives, crate::specs::Table::pseudo_instructions))]
+fn of_other_word<'t, 'a>(
+    word: &[u8],
+    operands: &'t [Operand<'a>],
+) -> Result<Statement<'t, 'a>, LineFault>
+    ensures { result ≡ fitted operands.now (of_word word.now words) }
+{
+    if has_dot(word) {
+        of_word(&DIRECTIVES, word, operands, LineFault::UnknownWord)
+    } else {
+        of_word(&PSEUDO_INSTRUCTIONS, word, operands, LineFault::UnknownWord)
+    }
 }
 
 /// Returns whether a word is one of these.
@@ -247,11 +247,11 @@ fn is_among(names: &[&str], word: &[u8]) -> bool
 }
 
 /// Returns whether a word is a directive without effect.
-#[tactic(auto, unfolding(crate::specs::Table::markers))]
+#[tactic(auto, using(crate::proofs::WordRows::no_marker), unfolding(crate::specs::Table::markers))]
 pub fn is_marker(word: &[u8]) -> bool
     ensures { result ≡ is_marker word.now }
 {
-    is_among(&MARKERS, word)
+    has_dot(word) && is_among(&MARKERS, word)
 }
 
 /// Returns the statement of a word with these operands.
@@ -260,18 +260,15 @@ pub fn is_marker(word: &[u8]) -> bool
 ///
 /// `UnknownWord` if the word is neither a mnemonic nor a directive, else `BadOperands` if it doesn't take the
 /// operands.
-#[tactic(auto, unfolding(crate::specs::Table::meaning, crate::specs::Table::words))]
+#[tactic(auto, using(crate::proofs::WordRows::has_rows), unfolding(crate::specs::Table::meaning))]
 pub fn meaning<'t, 'a>(
     word: &[u8],
     operands: &'t [Operand<'a>],
 ) -> Result<Statement<'t, 'a>, LineFault>
     ensures { result ≡ meaning word.now operands.now }
 {
-    if let Some(operation) = operation_named(word) {
-        return of_operation(operation, operands).ok_or(LineFault::BadOperands);
+    match operation_named(word) {
+        Some(operation) => of_operation(operation, operands).ok_or(LineFault::BadOperands),
+        None => of_other_word(word, operands),
     }
-    if has_none(&WORDS, word) {
-        return Err(LineFault::UnknownWord);
-    }
-    of_word(&WORDS, word, operands).ok_or(LineFault::BadOperands)
 }

@@ -9,8 +9,8 @@ use rv_isa::Operation::{
 };
 use rv_isa::Width;
 
-/// The pseudo-instructions, and the directives that take operands.
-pub static WORDS: [(&str, Row); 54] = [
+/// The pseudo-instructions.
+pub static PSEUDO_INSTRUCTIONS: [(&str, Row); 33] = [
     ("nop", These(&[], Near(Addi), Zeros)),
     ("mv", These(&[Rd, Rs1], Near(Addi), Zeros)),
     ("not", These(&[Rd, Rs1], Near(Xori), Ones)),
@@ -44,6 +44,10 @@ pub static WORDS: [(&str, Row); 54] = [
     ("tail", These(&[Value], Far(Jalr), Tail)),
     ("la", These(&[Both, Value], Far(Addi), Zeros)),
     ("lla", These(&[Both, Value], Far(Addi), Zeros)),
+];
+
+/// The directives that take operands.
+pub static DIRECTIVES: [(&str, Row); 21] = [
     (".word", Each(Value, Data(Width::Four))),
     (".long", Each(Value, Data(Width::Four))),
     (".4byte", Each(Value, Data(Width::Four))),

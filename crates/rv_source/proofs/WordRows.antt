@@ -1,0 +1,106 @@
+-- The rows of a word: those of one that begins with a dot and of one that doesn't, and those of an operation.
+use Rattle.std.proofs.Common.{◌≡◌, ℕ, Bool, true, false, List, [], ◌∷◌, ◌++◌, not, refl, arith}
+use Rattle.std.specs.Prelude.{◌==◌, ◌&&◌}
+use Rattle.std.specs.List.{list_all, list_any}
+use Rattle.std.specs.Str.{bytes_eq}
+use Rattle.std.proofs.lemmas.Bool.Decides.{nat_tests}
+use Rattle.std.proofs.lemmas.List.{append-nil}
+use Rattle.std.specs.Option.{ok_or}
+use Rattle.rv_isa.specs.declared.fields.Operation.{Operation}
+use Rattle.rv_isa.specs.declared.kind.Kind.{Kind}
+use Rattle.rv_isa.specs.declared.kind.Kind.TheVariants.{Lui}
+use Rattle.rv_tokens.specs.declared.fault.LineFault.TheVariants.{BadOperands}
+use Rattle.rv_source.specs.declared.operand.Operand.{Operand}
+use Rattle.rv_source.specs.Partial.{has_dot}
+use Rattle.rv_source.specs.Table.{Row, directives, first_fit, fitted, of_kind, is_marker, markers, of_word, pseudo_instructions, words}
+
+first_bytes : (x y : ℕ) → (x == 46) ≡ true → (y == 46) ≡ false → (x == y) ≡ false
+first_bytes x y e f = grind (arith, nat_tests)
+
+first_bytes_too : (x y : ℕ) → (x == 46) ≡ false → (y == 46) ≡ true → (x == y) ≡ false
+first_bytes_too x y e f = grind (arith, nat_tests)
+
+-- two texts of which one begins with a dot
+dot_alone : (a b : List ℕ) → has_dot a ≡ true → has_dot b ≡ false → bytes_eq a b ≡ false
+dot_alone [] b e f = cc
+dot_alone (x ∷ xs) [] e f = refl
+dot_alone (x ∷ xs) (y ∷ ys) e f = rw (first_bytes x y e f) refl
+
+alone_dot : (a b : List ℕ) → has_dot a ≡ false → has_dot b ≡ true → bytes_eq a b ≡ false
+alone_dot a [] e f = cc
+alone_dot [] (y ∷ ys) e f = refl
+alone_dot (x ∷ xs) (y ∷ ys) e f = rw (first_bytes_too x y e f) refl
+
+-- ---- rows
+
+either_part : (b c : Bool) → (b && c) ≡ true → (b ≡ true) × (c ≡ true)
+either_part true true e = (refl, refl)
+either_part true false e = cc
+either_part false c e = cc
+
+with_row : (word : List ℕ) (x : List ℕ × Row) (xs ys : List (List ℕ × Row)) (b : Bool) → bytes_eq x.0 word ≡ b
+    → of_word word (xs ++ ys) ≡ of_word word xs ++ of_word word ys
+    → of_word word (x ∷ xs ++ ys) ≡ of_word word (x ∷ xs) ++ of_word word ys
+with_row word x xs ys true e h = rw (e, h) refl
+with_row word x xs ys false e h = rw (e, h) refl
+
+of_words : (word : List ℕ) (xs ys : List (List ℕ × Row)) →
+    of_word word (xs ++ ys) ≡ of_word word xs ++ of_word word ys
+of_words word [] ys = refl
+of_words word (x ∷ xs) ys = with_row word x xs ys (bytes_eq x.0 word) refl (of_words word xs ys)
+
+is_not : (b : Bool) → not b ≡ true → b ≡ false
+is_not true e = cc
+is_not false e = refl
+
+all_dots : (word : List ℕ) (rows : List (List ℕ × Row)) → list_all (λ row. has_dot row.0) rows ≡ true →
+    has_dot word ≡ false → of_word word rows ≡ []
+all_dots word [] e f = refl
+all_dots word (row ∷ rows) e f =
+    let parts = either_part (has_dot row.0) _ e in
+    rw (dot_alone row.0 word parts.0 f) (all_dots word rows parts.1 f)
+
+no_dots : (word : List ℕ) (rows : List (List ℕ × Row)) → list_all (λ row. not (has_dot row.0)) rows ≡ true →
+    has_dot word ≡ true → of_word word rows ≡ []
+no_dots word [] e f = refl
+no_dots word (row ∷ rows) e f =
+    let parts = either_part (not (has_dot row.0)) _ e in
+    rw (alone_dot row.0 word (is_not (has_dot row.0) parts.0) f) (no_dots word rows parts.1 f)
+
+plain : list_all (λ row. not (has_dot row.0)) pseudo_instructions ≡ true
+unfolding pseudo_instructions
+plain = refl
+
+dotted : list_all (λ row. has_dot row.0) directives ≡ true
+unfolding directives
+dotted = refl
+
+pub of_directive : (word : List ℕ) → has_dot word ≡ true → of_word word words ≡ of_word word directives
+of_directive word e =
+    rw (of_words word pseudo_instructions directives, no_dots word pseudo_instructions plain e) refl
+
+pub of_other : (word : List ℕ) → has_dot word ≡ false → of_word word words ≡ of_word word pseudo_instructions
+of_other word e =
+    rw (of_words word pseudo_instructions directives, all_dots word directives dotted e)
+    (append-nil (of_word word pseudo_instructions))
+
+-- ---- markers
+
+none_among : (word : List ℕ) (names : List (List ℕ)) → list_all has_dot names ≡ true →
+    has_dot word ≡ false → list_any (λ name. bytes_eq name word) names ≡ false
+none_among word [] e f = refl
+none_among word (name ∷ names) e f =
+    let parts = either_part (has_dot name) _ e in
+    rw (dot_alone name word parts.0 f) (none_among word names parts.1 f)
+
+pub no_marker : (word : List ℕ) → has_dot word ≡ false → is_marker word ≡ false
+unfolding markers
+no_marker word e = none_among word markers refl e
+
+-- ---- operations
+
+pub has_rows : (op : Operation) (k : Kind) (xs : List Operand) →
+    fitted xs (of_kind op k) ≡ ok_or (first_fit xs (of_kind op k)) BadOperands
+unfolding of_kind
+has_rows op (Lui _ _) xs = refl
+has_rows op k xs = refl
