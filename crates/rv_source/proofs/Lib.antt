@@ -1,3 +1,4 @@
+mod OneValue
 pub mod Pieces
 pub mod Ranges
 pub mod Sums

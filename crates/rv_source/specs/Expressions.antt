@@ -1,7 +1,7 @@
 -- The expressions that tokens spell: atoms joined by signs.
 -- To audit: public contracts cite this.
 -- The language is this project's own: docs/ASSEMBLER.md.
-use Rattle.std.specs.Prelude.{ℕ, Bool, true, false, not, List, [], ◌∷◌, map, Option, Some, None, if◌then◌else◌, codes}
+use Rattle.std.specs.Prelude.{◌≡◌, ◌↔◌, ℕ, Bool, true, false, not, List, [], ◌∷◌, ◌++◌, map, Option, Some, None, if◌then◌else◌, codes}
 use Rattle.std.specs.Option.{option_map}
 use Rattle.std.specs.Str.{bytes_eq}
 use Rattle.rv_tokens.specs.declared.token.Token.{Token}
@@ -34,9 +34,12 @@ piece_of _ = p.Other
 abbrev pub times : Bool → Bool → Bool
 times sign other = if sign then not other else other
 
+abbrev pub term : Bool → Atom → Term
+term sign atom = record { negative = sign; atom = atom }
+
 -- a term in front of others
 abbrev pub with_term : Bool → Atom → Option (List Term) → Option (List Term)
-with_term sign atom terms = option_map (λ ts. record { negative = sign; atom = atom } ∷ ts) terms
+with_term sign atom terms = option_map (λ ts. term sign atom ∷ ts) terms
 
 -- the terms after the first: each has one sign or two before it
 unfoldable pub further : List Piece → Option (List Term)
@@ -54,3 +57,16 @@ sum _ = None
 -- E: the expression that the tokens as a whole spell
 unfoldable pub value : List Token → Option (List Term)
 value ts = sum (map piece_of ts)
+
+-- The same as a grammar: a sum is an atom with one sign or none, or a sum, one sign or two, and an atom.
+pub data IsSum : List Piece → List Term → Type 0 where
+  Alone : (x : Atom) → IsSum (p.Atom x ∷ []) (term false x ∷ [])
+  Signed : (s : Bool) (x : Atom) → IsSum (p.Sign s ∷ p.Atom x ∷ []) (term s x ∷ [])
+  OneSign : (ps : List Piece) (ts : List Term) (s : Bool) (x : Atom) → IsSum ps ts
+      → IsSum (ps ++ p.Sign s ∷ p.Atom x ∷ []) (ts ++ term s x ∷ [])
+  TwoSigns : (ps : List Piece) (ts : List Term) (s r : Bool) (x : Atom) → IsSum ps ts
+      → IsSum (ps ++ p.Sign s ∷ p.Sign r ∷ p.Atom x ∷ []) (ts ++ term (times s r) x ∷ [])
+
+-- tokens are exactly the sum that `value` says, and no sum where it says none
+abbrev pub OneValue : Type 0
+OneValue = (ts : List Token) (terms : List Term) → IsSum (map piece_of ts) terms ↔ (value ts ≡ Some terms)

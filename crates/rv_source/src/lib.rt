@@ -20,3 +20,4 @@ pub use operand::{Form, Operand, Part};
 pub use reader::read_line;
 pub use rv_tokens::{Direction, LineFault, Name, Text};
 pub use statement::{Statement, Strings, Value, Values};
+pub use terms::one_value;

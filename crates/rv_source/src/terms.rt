@@ -1,7 +1,7 @@
 //! Reads expressions.
 ghost use Rattle.std.specs.Prelude.{◌≡◌, ◌<◌, ◌≤◌, ◌+◌, ◌++◌, ◌∷◌, Some, None, IfOk, length, map, if◌then◌else◌};
 ghost use Rattle.std.specs.Option.{option_map};
-ghost use Rattle.rv_source.specs.Expressions.{is_symbol, name_atom, piece_of, times, further, value};
+ghost use Rattle.rv_source.specs.Expressions.{OneValue, is_symbol, name_atom, piece_of, times, further, value};
 
 use crate::{Atom, Expression, Term};
 use rv_tokens::{Name, Token};
@@ -157,3 +157,8 @@ pub fn read_value<'a>(
         Piece::Other => Ok(None),
     }
 }
+
+/// A law: tokens have at most one reading as a sum of terms, and `read_value` gives it.
+pub fn one_value()
+    ensures { OneValue }
+{}

@@ -1,0 +1,102 @@
+-- Expressions as a grammar: the tokens of one have one reading.
+use Rattle.std.proofs.Common.{◌≡◌, Bool, true, false, List, [], ◌∷◌, ◌++◌, refl, sym, subst, append_assoc}
+use Rattle.std.specs.Prelude.{◌↔◌, map, Option, Some, None}
+use Rattle.std.proofs.lemmas.List.{append-nil}
+use Rattle.rv_tokens.specs.declared.token.Token.{Token}
+use Rattle.rv_source.specs.declared.expression.Term.{Term}
+use Rattle.rv_source.specs.declared.expression.Atom.{Atom}
+use Rattle.rv_source.specs.declared.terms.Piece.{Piece}
+use Rattle.rv_source.specs.declared.terms.Piece.TheVariants as p
+use Rattle.rv_source.specs.Expressions.{IsSum, Alone, Signed, OneSign, TwoSigns, OneValue, further, piece_of, sum, term, times, value, with_term}
+
+-- ---- a sum of the grammar is what `sum` reads
+
+front_more : (s : Bool) (x : Atom) (o r : Option (List Term)) (ts us : List Term) → with_term s x o ≡ Some ts
+    → ((vs : List Term) → o ≡ Some vs → r ≡ Some (vs ++ us)) → with_term s x r ≡ Some (ts ++ us)
+front_more s x None r ts us e h = cc
+front_more s x (Some vs) r ts us e h = let is : term s x ∷ vs ≡ ts = cc in rw (h vs refl, ← is) refl
+
+further_more : (ps qs : List Piece) (ts us : List Term) → further ps ≡ Some ts → further qs ≡ Some us →
+    further (ps ++ qs) ≡ Some (ts ++ us)
+unfolding further
+further_more [] qs ts us e f = let is : [] ≡ ts = cc in rw (← is) f
+further_more (p.Sign s ∷ p.Atom x ∷ ps) qs ts us e f =
+    front_more s x (further ps) (further (ps ++ qs)) ts us e (λ vs i. further_more ps qs vs us i f)
+further_more (p.Sign s ∷ p.Sign r ∷ p.Atom x ∷ ps) qs ts us e f =
+    front_more (times s r) x (further ps) (further (ps ++ qs)) ts us e (λ vs i. further_more ps qs vs us i f)
+further_more (p.Sign s ∷ p.Sign r ∷ p.Sign q ∷ ps) qs ts us e f = cc
+further_more (p.Sign s ∷ p.Sign r ∷ p.Other ∷ ps) qs ts us e f = cc
+further_more (p.Sign s ∷ p.Sign r ∷ []) qs ts us e f = cc
+further_more (p.Sign s ∷ p.Other ∷ ps) qs ts us e f = cc
+further_more (p.Sign s ∷ []) qs ts us e f = cc
+further_more (p.Atom x ∷ ps) qs ts us e f = cc
+further_more (p.Other ∷ ps) qs ts us e f = cc
+
+sum_more : (ps qs : List Piece) (ts us : List Term) → sum ps ≡ Some ts → further qs ≡ Some us →
+    sum (ps ++ qs) ≡ Some (ts ++ us)
+unfolding sum
+sum_more [] qs ts us e f = cc
+sum_more (p.Atom x ∷ ps) qs ts us e f =
+    front_more false x (further ps) (further (ps ++ qs)) ts us e (λ vs i. further_more ps qs vs us i f)
+sum_more (p.Sign s ∷ p.Atom x ∷ ps) qs ts us e f =
+    front_more s x (further ps) (further (ps ++ qs)) ts us e (λ vs i. further_more ps qs vs us i f)
+sum_more (p.Sign s ∷ p.Sign r ∷ ps) qs ts us e f = cc
+sum_more (p.Sign s ∷ p.Other ∷ ps) qs ts us e f = cc
+sum_more (p.Sign s ∷ []) qs ts us e f = cc
+sum_more (p.Other ∷ ps) qs ts us e f = cc
+
+reads : (ps : List Piece) (ts : List Term) → IsSum ps ts → sum ps ≡ Some ts
+unfolding sum further
+reads _ _ (Alone x) = refl
+reads _ _ (Signed s x) = refl
+reads _ _ (OneSign ps ts s x h) = sum_more ps (p.Sign s ∷ p.Atom x ∷ []) ts (term s x ∷ []) (reads ps ts h) refl
+reads _ _ (TwoSigns ps ts s r x h) =
+    sum_more ps (p.Sign s ∷ p.Sign r ∷ p.Atom x ∷ []) ts (term (times s r) x ∷ []) (reads ps ts h) refl
+
+-- ---- what `sum` reads is a sum of the grammar
+
+front_of : (s : Bool) (x : Atom) (o : Option (List Term)) (us : List Term) (P : List Term → Type 0)
+    → with_term s x o ≡ Some us → ((vs : List Term) → o ≡ Some vs → P (term s x ∷ vs)) → P us
+front_of s x None us P e h = absurd (cc)
+front_of s x (Some vs) us P e h = let is : term s x ∷ vs ≡ us = cc in subst P is (h vs refl)
+
+grows : (ps qs : List Piece) (ts us : List Term) → IsSum ps ts → further qs ≡ Some us → IsSum (ps ++ qs) (ts ++ us)
+unfolding further
+grows ps [] ts us h e = let is : [] ≡ us = cc in rw (← is, append-nil, append-nil) h
+grows ps (p.Sign s ∷ p.Atom x ∷ qs) ts us h e =
+    front_of s x (further qs) us (λ vs. IsSum (ps ++ p.Sign s ∷ p.Atom x ∷ qs) (ts ++ vs)) e
+    (λ vs i. subst (λ rs. IsSum rs (ts ++ term s x ∷ vs)) (append_assoc ps (p.Sign s ∷ p.Atom x ∷ []) qs)
+    (subst (λ ws. IsSum ((ps ++ p.Sign s ∷ p.Atom x ∷ []) ++ qs) ws) (append_assoc ts (term s x ∷ []) vs)
+    (grows (ps ++ p.Sign s ∷ p.Atom x ∷ []) qs (ts ++ term s x ∷ []) vs (OneSign ps ts s x h) i)))
+grows ps (p.Sign s ∷ p.Sign r ∷ p.Atom x ∷ qs) ts us h e =
+    front_of (times s r) x (further qs) us
+    (λ vs. IsSum (ps ++ p.Sign s ∷ p.Sign r ∷ p.Atom x ∷ qs) (ts ++ vs)) e
+    (λ vs i. subst (λ rs. IsSum rs (ts ++ term (times s r) x ∷ vs))
+    (append_assoc ps (p.Sign s ∷ p.Sign r ∷ p.Atom x ∷ []) qs)
+    (subst (λ ws. IsSum ((ps ++ p.Sign s ∷ p.Sign r ∷ p.Atom x ∷ []) ++ qs) ws)
+    (append_assoc ts (term (times s r) x ∷ []) vs)
+    (grows (ps ++ p.Sign s ∷ p.Sign r ∷ p.Atom x ∷ []) qs (ts ++ term (times s r) x ∷ []) vs
+    (TwoSigns ps ts s r x h) i)))
+grows ps (p.Sign s ∷ p.Sign r ∷ p.Sign q ∷ qs) ts us h e = absurd (cc)
+grows ps (p.Sign s ∷ p.Sign r ∷ p.Other ∷ qs) ts us h e = absurd (cc)
+grows ps (p.Sign s ∷ p.Sign r ∷ []) ts us h e = absurd (cc)
+grows ps (p.Sign s ∷ p.Other ∷ qs) ts us h e = absurd (cc)
+grows ps (p.Sign s ∷ []) ts us h e = absurd (cc)
+grows ps (p.Atom x ∷ qs) ts us h e = absurd (cc)
+grows ps (p.Other ∷ qs) ts us h e = absurd (cc)
+
+is_sum : (ps : List Piece) (ts : List Term) → sum ps ≡ Some ts → IsSum ps ts
+unfolding sum
+is_sum [] ts e = absurd (cc)
+is_sum (p.Atom x ∷ ps) ts e = front_of false x (further ps) ts (λ us. IsSum (p.Atom x ∷ ps) us) e
+    (λ vs i. grows (p.Atom x ∷ []) ps (term false x ∷ []) vs (Alone x) i)
+is_sum (p.Sign s ∷ p.Atom x ∷ ps) ts e = front_of s x (further ps) ts (λ us. IsSum (p.Sign s ∷ p.Atom x ∷ ps) us) e
+    (λ vs i. grows (p.Sign s ∷ p.Atom x ∷ []) ps (term s x ∷ []) vs (Signed s x) i)
+is_sum (p.Sign s ∷ p.Sign r ∷ ps) ts e = absurd (cc)
+is_sum (p.Sign s ∷ p.Other ∷ ps) ts e = absurd (cc)
+is_sum (p.Sign s ∷ []) ts e = absurd (cc)
+is_sum (p.Other ∷ ps) ts e = absurd (cc)
+
+pub has_one_value : OneValue
+unfolding value
+has_one_value ts terms = (reads (map piece_of ts) terms, is_sum (map piece_of ts) terms)
