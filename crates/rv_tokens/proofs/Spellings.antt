@@ -59,18 +59,18 @@ bytes_of_some (b ∷ bs) x zero e =
     let l = longest_found (string_byte_in (b ∷ bs)) (length (b ∷ bs)) 0 x e in absurd (omega (arith, l.some))
 bytes_of_some (b ∷ bs) x (suc n) e = rw e (ap (option_map (λ cs. x ∷ cs)) (bytes_after_drop bs n))
 
-behind_one : (done : List ℕ) (x : ℕ) (o : Option (List ℕ))
+one_more : (done : List ℕ) (x : ℕ) (o : Option (List ℕ))
     → option_map (λ cs. done ++ cs) (option_map (λ cs. x ∷ cs) o)
     ≡ option_map (λ cs. (done ++ x ∷ []) ++ cs) o
-behind_one done x None = refl
-behind_one done x (Some cs) = ap (λ ys. Some ys) (sym (append_assoc done (x ∷ []) cs))
+one_more done x None = refl
+one_more done x (Some cs) = ap (λ ys. Some ys) (sym (append_assoc done (x ∷ []) cs))
 
 -- one more byte of a string
 pub append_more : (done all text : List ℕ) (x n : ℕ) → first_byte text ≡ Some (x, n)
     → option_map (λ cs. done ++ cs) (bytes_of text) ≡ Some all
     → option_map (λ cs. (done ++ x ∷ []) ++ cs) (bytes_of (drop n text)) ≡ Some all
 append_more done all text x n e h =
-    sym (behind_one done x (bytes_of (drop n text)))
+    sym (one_more done x (bytes_of (drop n text)))
     ∙ (ap (option_map (λ cs. done ++ cs)) (sym (bytes_of_some text x n e)) ∙ h)
 
 some_same : (xs ys : List ℕ) → Some xs ≡ Some ys → xs ≡ ys

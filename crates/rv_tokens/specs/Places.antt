@@ -12,7 +12,7 @@ nth [] n = None
 nth (x ∷ xs) zero = Some x
 nth (x ∷ xs) (suc n) = nth xs n
 
--- the places of the tokens that `cut` cuts from the rest of a line of so many bytes, after its first n bytes
+-- the places of the tokens that `cut` cuts from the rest of a line of `total` bytes, after the first n bytes of it
 unfoldable pub places_in : ℕ → List ℕ → ℕ → List Place
 places_in total [] n = []
 places_in total (b ∷ bs) (suc n) = places_in total bs n

@@ -1,4 +1,4 @@
-use Rattle.std.proofs.Common.{rules, length, sym, arith}
+use Rattle.std.proofs.Common.{length, sym, arith}
 use Rattle.rv_tokens.specs.Tokens.{token_in}
 use Rattle.rv_tokens.proofs.Longest.{longest_found}
 use Rattle.rv_tokens.proofs.Placing.{place_after}
