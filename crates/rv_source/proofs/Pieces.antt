@@ -1,7 +1,7 @@
 -- Splitting operands, one by one.
 use Rattle.std.proofs.Common.{◌≡◌, ℕ, suc, ◌+◌, ◌<◌, ◌≤◌, Bool, true, false, cond, List, [], ◌∷◌, length, take, drop, refl, sym, ap, ◌∙◌, arith, add-one, append_assoc}
 use Rattle.std.proofs.Math.Numerals.{one-add}
-use Rattle.std.specs.Prelude.{◌==◌, ◌++◌, Option, Some, None, nat_lt, option_and_then}
+use Rattle.std.specs.Prelude.{◌++◌, Option, Some, None, nat_lt, option_and_then}
 use Rattle.std.specs.Option.{option_map}
 use Rattle.std.proofs.lemmas.List.{length-take-le}
 use Rattle.std.specs.List.{position_or_len, position}

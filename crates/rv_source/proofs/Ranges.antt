@@ -1,5 +1,5 @@
 -- The instructions of rows are in range.
-use Rattle.std.proofs.Common.{ℕ, ◌+◌, ◌*◌, ◌%◌, ◌^◌, ◌<◌, arith, rules}
+use Rattle.std.proofs.Common.{◌+◌, ◌*◌, ◌%◌, ◌^◌, ◌<◌, arith, rules}
 use Rattle.rv_isa.specs.Fields.{kind_of}
 use Rattle.rv_isa.specs.Mnemonics.{blank, with_fields}
 use Rattle.rv_isa.specs.Number.{IsWithin}

@@ -12,7 +12,6 @@ use Rattle.rv_isa.specs.declared.kind.Kind.{Kind}
 use Rattle.rv_isa.specs.declared.kind.Kind.TheVariants as k
 use Rattle.rv_source.specs.declared.expression.Atom.{Atom}
 use Rattle.rv_source.specs.declared.expression.Atom.TheVariants as a
-use Rattle.rv_source.specs.declared.operand.Part.{Part}
 use Rattle.rv_source.specs.declared.operand.Part.TheVariants.{Whole, High, Low}
 use Rattle.rv_source.specs.declared.operand.Form.{Form}
 use Rattle.rv_source.specs.declared.operand.Form.TheVariants as f

@@ -1,7 +1,7 @@
 -- The tables of the language, and the statement of a word with its operands.
 -- To audit: public contracts cite this.
 -- The language is this project's own: docs/ASSEMBLER.md.
-use Rattle.std.specs.Prelude.{ℕ, Bool, true, false, List, map, [], ◌∷◌, ◌++◌, Option, Some, None, option_and_then, if◌then◌else◌, Result, Ok, Err, codes}
+use Rattle.std.specs.Prelude.{ℕ, Bool, true, false, List, map, [], ◌∷◌, ◌++◌, Option, Some, None, option_and_then, if◌then◌else◌, Result, codes}
 use Rattle.std.specs.List.{list_any}
 use Rattle.std.specs.Option.{option_map, option_or, ok_or}
 use Rattle.std.specs.Str.{bytes_eq}

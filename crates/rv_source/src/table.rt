@@ -217,6 +217,19 @@ fn of_word<'t, 'a>(
     }
 }
 
+/// Returns the part of a table from the first row of a word on.
+fn from_word<'r>(table: &'r [(&'static str, Row)], word: &[u8]) -> &'r [(&'static str, Row)]
+    ensures { of_word word.now (rows result.now) ≡ of_word word.now (rows table.now) }
+{
+    let [entry, rest @ ..] = table else {
+        return table;
+    };
+    if entry.0.as_bytes() == word {
+        return table;
+    }
+    from_word(rest, word)
+}
+
 /// Returns whether a word begins with `.`, as those of the directives do.
 fn has_dot(word: &[u8]) -> bool
     ensures { result ≡ has_dot word.now }
@@ -233,9 +246,11 @@ fn of_other_word<'t, 'a>(
     ensures { result ≡ fitted operands.now (of_word word.now words) }
 {
     if has_dot(word) {
-        of_word(&DIRECTIVES, word, operands, LineFault::UnknownWord)
+        let rows = from_word(&DIRECTIVES, word);
+        of_word(rows, word, operands, LineFault::UnknownWord)
     } else {
-        of_word(&PSEUDO_INSTRUCTIONS, word, operands, LineFault::UnknownWord)
+        let rows = from_word(&PSEUDO_INSTRUCTIONS, word);
+        of_word(rows, word, operands, LineFault::UnknownWord)
     }
 }
 
