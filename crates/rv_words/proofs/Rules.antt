@@ -12,7 +12,7 @@ use Rattle.clap.specs.declared.builder.value_parser.Reading.{Reading}
 use Rattle.clap.specs.declared.parser.matches.ValueSource.TheVariants.{CommandLine}
 use Rattle.rv_words.specs.Board.{board_app, source_rule, input_rule, commands_rule, steps_rule, pages_rule, slots_rule}
 use Rattle.rv_words.proofs.BoardParse.{board_simple}
-use Rattle.rv_words.specs.Rules.{Part, OptionName, TakenByRules, all_words, apart, are_new, commands, given_by, input, is_allowed, is_plain, is_readable, joined, may_be, name_of, pages, slots, source, steps}
+use Rattle.rv_words.specs.Rules.{Part, OptionName, TakenByRules, all_words, apart, are_new, commands, given_by, input, is_allowed, is_plain, is_readable, joined, may_be, name_of, pages, slots, source, steps, value_in}
 
 -- ---- tests
 
@@ -24,7 +24,7 @@ and_false : (a : Bool) → (a && false) ≡ false
 and_false true = refl
 and_false false = refl
 
-or_false : (a : Bool) → (a || false) ≡ a
+pub or_false : (a : Bool) → (a || false) ≡ a
 or_false true = refl
 or_false false = refl
 
@@ -35,22 +35,22 @@ and_assoc false b c = refl
 -- ---- the command
 
 -- the command as it is built
-shape : Shape
+unfoldable pub shape : Shape
 shape = (built board_app).top
 
 -- the rule of an option, and of the source
-rule_of : OptionName → Rule
+unfoldable pub rule_of : OptionName → Rule
 rule_of input = filled input_rule
 rule_of commands = filled commands_rule
 rule_of steps = filled steps_rule
 rule_of pages = filled pages_rule
 rule_of slots = filled slots_rule
 
-source_rule_built : Rule
+unfoldable pub source_rule_built : Rule
 source_rule_built = with_index 1 (filled source_rule)
 
 -- the walk between two parts
-abbrev between : Held → ℕ → Walk
+abbrev pub between : Held → ℕ → Walk
 between h position =
     record { held = h; waiting = idle; position = position; is_trailing = false; stopped = None }
 
@@ -71,7 +71,7 @@ passes_more w word words =
 abbrev is_settled : Held → Bool
 is_settled h = settle_passes shape.rules false h
 
-abbrev rows_in : Held → List Row
+abbrev pub rows_in : Held → List Row
 rows_in h = (settled shape.rules h).rows
 
 abbrev use_of : Rule → Text → List Row → Bool
@@ -89,7 +89,7 @@ joined_turn steps value h position = refl
 joined_turn pages value h position = refl
 joined_turn slots value h position = refl
 
-joined_walked : (o : OptionName) (value : Text) (h : Held) (position : ℕ)
+pub joined_walked : (o : OptionName) (value : Text) (h : Held) (position : ℕ)
     → walked shape.rules [] (between h position) (codes "--" ++ (name_of o ++ (codes "=" ++ value)))
     ≡ between (reacted shape.rules (rule_of o) (value ∷ []) h) position
 unfolding shape board_app rule_of walked
@@ -100,12 +100,12 @@ joined_walked pages value h position = refl
 joined_walked slots value h position = refl
 
 -- an option whose value is a word of its own
-abbrev waiting_for : OptionName → Held → ℕ → Walk
+abbrev pub waiting_for : OptionName → Held → ℕ → Walk
 waiting_for o h position =
     record (between (record (settled shape.rules h) { pending = Some (name_of o, []) }) position)
     { waiting = option (name_of o) }
 
-abbrev holding : OptionName → Text → Held → Held
+abbrev pub holding : OptionName → Text → Held → Held
 holding o value h = record (settled shape.rules h) { pending = Some (name_of o, value ∷ []) }
 
 name_turn : (o : OptionName) (h : Held) (position : ℕ)
@@ -117,7 +117,7 @@ name_turn steps h position = refl
 name_turn pages h position = refl
 name_turn slots h position = refl
 
-name_walked : (o : OptionName) (h : Held) (position : ℕ)
+pub name_walked : (o : OptionName) (h : Held) (position : ℕ)
     → walked shape.rules [] (between h position) (codes "--" ++ name_of o) ≡ waiting_for o h position
 unfolding shape board_app walked
 name_walked input h position = refl
@@ -127,10 +127,10 @@ name_walked pages h position = refl
 name_walked slots h position = refl
 
 -- a word that is no option is none to clap
-record IsNoFlag (word : Text) : Type 0 where
-  long : long_of word ≡ None
-  short : short_of word ≡ None
-  dashes : bytes_eq word (45 ∷ 45 ∷ []) ≡ false
+pub record IsNoFlag (word : Text) : Type 0 where
+  pub long : long_of word ≡ None
+  pub short : short_of word ≡ None
+  pub dashes : bytes_eq word (45 ∷ 45 ∷ []) ≡ false
 
 no_flag_alone : (x : ℕ) (t : Bool) → (x == 45) ≡ t → IsNoFlag (x ∷ [])
 no_flag_alone x true is = record { long = rw is refl; short = rw is refl; dashes = rw is refl }
@@ -140,7 +140,7 @@ no_flag_by : (x y : ℕ) (more : Text) (t : Bool) → (x == 45) ≡ t → not t 
 no_flag_by x y more true is plain = absurd cc
 no_flag_by x y more false is plain = record { long = rw is refl; short = rw is refl; dashes = rw is refl }
 
-no_flag : (word : Text) → is_plain word ≡ true → IsNoFlag word
+pub no_flag : (word : Text) → is_plain word ≡ true → IsNoFlag word
 no_flag [] plain = record { long = refl; short = refl; dashes = refl }
 no_flag (x ∷ []) plain = no_flag_alone x (x == 45) refl
 no_flag (x ∷ y ∷ more) plain = no_flag_by x y more (x == 45) refl plain
@@ -154,7 +154,7 @@ value_turn steps value h position plain = rw (plain.dashes, plain.long, plain.sh
 value_turn pages value h position plain = rw (plain.dashes, plain.long, plain.short) refl
 value_turn slots value h position plain = rw (plain.dashes, plain.long, plain.short) refl
 
-value_walked : (o : OptionName) (value : Text) (h : Held) (position : ℕ) → IsNoFlag value
+pub value_walked : (o : OptionName) (value : Text) (h : Held) (position : ℕ) → IsNoFlag value
     → walked shape.rules [] (waiting_for o h position) value ≡ between (holding o value h) position
 unfolding shape board_app walked
 value_walked input value h position plain = rw (plain.dashes, plain.long, plain.short) refl
@@ -172,7 +172,7 @@ holding_settled steps value h = refl
 holding_settled pages value h = refl
 holding_settled slots value h = refl
 
-holding_rows : (o : OptionName) (value : Text) (h : Held)
+pub holding_rows : (o : OptionName) (value : Text) (h : Held)
     → rows_in (holding o value h) ≡ used (rule_of o) (value ∷ []) (rows_in h)
 unfolding shape board_app rule_of
 holding_rows input value h = refl
@@ -182,7 +182,7 @@ holding_rows pages value h = refl
 holding_rows slots value h = refl
 
 -- a source, of which there is one
-abbrev holding_source : Text → Held → Held
+abbrev pub holding_source : Text → Held → Held
 holding_source text h = record (settled shape.rules h) { pending = Some (codes "source", text ∷ []) }
 
 source_turn : (text : Text) (h : Held) → IsNoFlag text
@@ -192,7 +192,7 @@ source_turn text h plain =
     rw (plain.dashes, plain.long, plain.short)
     (ap (λ t. t || is_settled h) (and_false (is_pending (with_index 1 (filled source_rule)) h.pending)))
 
-source_walked : (text : Text) (h : Held) → IsNoFlag text
+pub source_walked : (text : Text) (h : Held) → IsNoFlag text
     → walked shape.rules [] (between h 1) text ≡ between (holding_source text h) 2
 unfolding shape board_app walked
 source_walked text h plain =
@@ -209,14 +209,14 @@ source_settled : (text : Text) (h : Held)
 unfolding shape board_app source_rule_built
 source_settled text h = refl
 
-source_rows : (text : Text) (h : Held)
+pub source_rows : (text : Text) (h : Held)
     → rows_in (holding_source text h) ≡ used source_rule_built (text ∷ []) (rows_in h)
 unfolding shape board_app source_rule_built
 source_rows text h = refl
 
 -- ---- all parts
 
-abbrev position_of : Bool → ℕ
+abbrev pub position_of : Bool → ℕ
 position_of false = 1
 position_of true = 2
 
@@ -232,7 +232,7 @@ uses_pass (apart o value ∷ more) rows given =
 uses_pass (joined o value ∷ more) rows given =
     use_of (rule_of o) value rows && uses_pass more (used (rule_of o) (value ∷ []) rows) given
 
-both : (a b : Bool) → (a && b) ≡ true → (a ≡ true) × (b ≡ true)
+pub both : (a b : Bool) → (a && b) ≡ true → (a ≡ true) × (b ≡ true)
 both true b is = (refl, is)
 both false b is = absurd cc
 
@@ -294,17 +294,12 @@ walk_parts (joined o value ∷ more) h given readable =
 
 -- ---- the rows of parts
 
-abbrev value_in : Part → Text
-value_in (source text) = text
-value_in (apart o value) = value
-value_in (joined o value) = value
-
-abbrev rule_for : Part → Rule
+abbrev pub rule_for : Part → Rule
 rule_for (source text) = source_rule_built
 rule_for (apart o value) = rule_of o
 rule_for (joined o value) = rule_of o
 
-abbrev row_as : Text → Reading → Text → Row
+abbrev pub row_as : Text → Reading → Text → Row
 row_as id how value = record {
   id = id;
   values = value ∷ [];
@@ -313,10 +308,10 @@ row_as id how value = record {
   reading = how;
 }
 
-abbrev row_for : Part → Row
+abbrev pub row_for : Part → Row
 row_for part = row_as (given_by part) (reading_by (rule_for part)) (value_in part)
 
-has_rows : (id : Text) (before : List Part)
+pub has_rows : (id : Text) (before : List Part)
     → has_row id (map row_for before) ≡ list_any (λ other. bytes_eq (given_by other) id) before
 has_rows id [] = refl
 has_rows id (part ∷ more) = ap (λ t. bytes_eq (given_by part) id || t) (has_rows id more)
@@ -328,7 +323,7 @@ absent_by : (id : Text) (change : Row → List Row) (missing : List Row) (r : Ro
 absent_by id change missing r rows true is none rest = absurd cc
 absent_by id change missing r rows false is none rest = rw is (ap (λ rs. r ∷ rs) (rest none))
 
-absent : (id : Text) (change : Row → List Row) (missing rows : List Row) → has_row id rows ≡ false
+pub absent : (id : Text) (change : Row → List Row) (missing rows : List Row) → has_row id rows ≡ false
     → at_row id change missing rows ≡ rows ++ missing
 absent id change missing [] none = refl
 absent id change missing (r ∷ rows) none =
@@ -360,7 +355,7 @@ option_use steps value rows = refl
 option_use pages value rows = refl
 option_use slots value rows = refl
 
-source_used : (text : Text) (rows : List Row) → has_row (codes "source") rows ≡ false
+pub source_used : (text : Text) (rows : List Row) → has_row (codes "source") rows ≡ false
     → used source_rule_built (text ∷ []) rows
     ≡ rows ++ row_as (codes "source") (reading_by source_rule_built) text ∷ []
 unfolding source_rule_built
@@ -373,10 +368,11 @@ source_use text rows = refl
 
 -- ---- in the words of the rules
 
-abbrev has_source : List Part → Bool
+abbrev pub has_source : List Part → Bool
 has_source before = list_any (λ other. bytes_eq (given_by other) (codes "source")) before
 
-any_more : (p : Part → Bool) (xs : List Part) (x : Part) → list_any p (xs ++ x ∷ []) ≡ (list_any p xs || p x)
+pub any_more : (p : Part → Bool) (xs : List Part) (x : Part)
+    → list_any p (xs ++ x ∷ []) ≡ (list_any p xs || p x)
 any_more p [] x = or_false (p x)
 any_more p (y ∷ ys) x = ap (λ t. p y || t) (any_more p ys x) ∙ or_assoc (p y) (list_any p ys) (p x)
   where
@@ -384,7 +380,7 @@ any_more p (y ∷ ys) x = ap (λ t. p y || t) (any_more p ys x) ∙ or_assoc (p 
     or_assoc true b c = refl
     or_assoc false b c = refl
 
-not_source : (o : OptionName) → bytes_eq (name_of o) (codes "source") ≡ false
+pub not_source : (o : OptionName) → bytes_eq (name_of o) (codes "source") ≡ false
 not_source input = refl
 not_source commands = refl
 not_source steps = refl
@@ -394,7 +390,7 @@ not_source slots = refl
 -- an option more
 module _ (o : OptionName) (value : Text) (part : Part) (more before : List Part)
     (row_is : row_for part ≡ row_as (name_of o) (reading_by (rule_of o)) value) where
-  row_added : has_row (name_of o) (map row_for before) ≡ false
+  pub row_added : has_row (name_of o) (map row_for before) ≡ false
       → used (rule_of o) (value ∷ []) (map row_for before) ≡ map row_for (before ++ part ∷ [])
   row_added none =
       option_used o value (map row_for before) none
@@ -432,11 +428,11 @@ source_step text more before allowed fresh false is rest =
     (source_used text (map row_for before) none ∙ sym (map-append row_for before (source text ∷ [])))
     ∙ rest)
 
-or_true : (a : Bool) → (a || true) ≡ true
+pub or_true : (a : Bool) → (a || true) ≡ true
 or_true true = refl
 or_true false = refl
 
-uses_are : (parts before : List Part)
+pub uses_are : (parts before : List Part)
     → uses_pass parts (map row_for before) (has_source before)
     ≡ (list_all is_allowed parts && are_new before parts)
 uses_are [] before = refl
@@ -507,11 +503,11 @@ built_is words =
     ∙ (ap (λ t. t && level (is_some (entered (built board_app) stop))) (no_subcommand stop)
     ∙ (ap level (not_entered stop) ∙ level_is words))
 
-arguments : (program : Text) (words : List Text) → argument_words board_app (program ∷ words) ≡ words
+pub arguments : (program : Text) (words : List Text) → argument_words board_app (program ∷ words) ≡ words
 unfolding board_app
 arguments program words = refl
 
-takes_is : (program : Text) (words : List Text)
+pub takes_is : (program : Text) (words : List Text)
     → takes board_app (program ∷ words) ≡ passes (between nothing_held 1) words
 takes_is program words =
     ap (λ t. t && built_takes (built board_app) nothing_held (argument_words board_app (program ∷ words)))

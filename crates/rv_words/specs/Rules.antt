@@ -1,14 +1,16 @@
 -- The words of the command line as rules: what they may say, and when they are taken (this project's own:
 -- docs/BOARD.md).
 -- To audit: public contracts cite this.
-use Rattle.std.specs.Prelude.{◌≡◌, pos, ◌==◌, ◌&&◌, Bool, true, not, List, [], ◌∷◌, ◌++◌, codes}
+use Rattle.std.specs.Prelude.{◌≡◌, ℕ, pos, ◌==◌, ◌&&◌, Bool, true, not, List, [], ◌∷◌, ◌++◌, Option, Some, codes, find, option_map, unwrap_or}
 use Rattle.std.specs.List.{list_all, list_any}
 use Rattle.std.specs.Str.{bytes_eq}
+use Rattle.std.specs.Str.Parse.{digits_value, without_leading_plus}
 use Rattle.clap.specs.Faults.{is_simple_and_free}
 use Rattle.clap.specs.ValueTests.{is_signed_in}
-use Rattle.clap.specs.Words.{Text, fault_of, takes}
+use Rattle.clap.specs.Words.{Row, Text, fault_of, first_of, matches_of, takes, without_minus}
 use Rattle.clap.specs.declared.error.kind.ErrorKind.TheVariants.{DisplayHelp}
 use Rattle.rv_words.specs.Board.{board_app}
+use Rattle.rv_words.specs.Read.{number_of}
 
 -- the command is one of those of which `clap`'s meaning says the matches and the errors
 abbrev pub HasMeaning : Type 0
@@ -94,6 +96,42 @@ abbrev pub TakenByRules : Type 0
 TakenByRules =
     (program : Text) (parts : List Part) → list_all is_readable parts ≡ true
     → takes board_app (program ∷ all_words parts) ≡ (list_all is_allowed parts && are_new [] parts)
+
+-- ---- what they then mean
+
+-- the text that a part gives
+abbrev pub value_in : Part → Text
+value_in (source text) = text
+value_in (apart name value) = value
+value_in (joined name value) = value
+
+-- the text that is given for an argument, if any part gives one
+abbrev pub given : Text → List Part → Option Text
+given id parts = option_map value_in (find (λ part. bytes_eq (given_by part) id) parts)
+
+-- the number of a value, which may have a sign
+abbrev pub number_in : Text → ℕ
+number_in value = digits_value 10 (without_leading_plus (without_minus value))
+
+-- the source, the files and the numbers that parts give, with the default of each that no part gives
+pub record ReadsAs (parts : List Part) (rows : List Row) : Type 0 where
+  pub source : first_of (codes "source") rows ≡ Some (unwrap_or (given (codes "source") parts) (codes "-"))
+  pub input : first_of (codes "input") rows ≡ given (codes "input") parts
+  pub commands : first_of (codes "commands") rows ≡ given (codes "commands") parts
+  pub steps : number_of (codes "steps") rows
+      ≡ number_in (unwrap_or (given (codes "steps") parts) (codes "1000000"))
+  pub pages : number_of (codes "pages") rows
+      ≡ number_in (unwrap_or (given (codes "pages") parts) (codes "256"))
+  pub slots : number_of (codes "slots") rows
+      ≡ number_in (unwrap_or (given (codes "slots") parts) (codes "1024"))
+
+-- the words of readable parts that are taken mean what the parts give: `read_words` reads its fields from
+-- these matches
+abbrev pub ReadByRules : Type 0
+ReadByRules =
+    (program : Text) (parts : List Part) → list_all is_readable parts ≡ true
+    → takes board_app (program ∷ all_words parts) ≡ true
+    → ReadsAs parts (matches_of board_app (program ∷ all_words parts))
 
 -- ---- help
 
