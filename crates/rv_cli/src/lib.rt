@@ -3,12 +3,14 @@
 #![tactic(auto)]
 
 mod fault;
+mod laws;
 mod print;
 mod run;
 mod session;
 mod status;
 
 pub use fault::{CliFault, Ending, exit_status, fault_line, file_or_fault};
+pub use laws::one_output;
 pub use run::run_text;
 pub use rv_texts::{
     FileIn, FileOut, InFailed, MemoryIn, MemoryOut, OutFailed, ReadFault, TextIn, TextName, TextOut,
