@@ -8,7 +8,7 @@ use Rattle.rv_tokens.specs.declared.token.Direction.{Direction}
 use Rattle.rv_tokens.specs.declared.token.Direction.TheVariants.{Backward, Forward}
 use Rattle.rv_asm.specs.declared.locals.LocalLabel.{LocalLabel}
 use Rattle.rv_asm.specs.Symbols.{nearest_before, nearest_after, nearest}
-use Rattle.rv_asm.specs.Kept.{of_number, AreOf, Rises, IsCut, AreListed}
+use Rattle.rv_asm.specs.Kept.{of_number, address_at, AreOf, Rises, IsCut, AreListed}
 
 -- ---- definitions of other numbers don't matter
 
@@ -98,55 +98,52 @@ cut_none d ds line c = record {
 }
 
 -- the last of the first i definitions
-abbrev pub last_of : List LocalLabel → ℕ → LocalLabel → Option ℕ
-last_of ds zero z = None
-last_of ds (suc k) z = Some (get_or ds k z).address
+abbrev pub last_of : List LocalLabel → ℕ → Option ℕ
+last_of ds zero = None
+last_of ds (suc k) = address_at ds k
 
-one_more : (d : LocalLabel) (ds : List LocalLabel) (i : ℕ) (z : LocalLabel) →
-    option_or (last_of ds i z) (Some d.address) ≡ last_of (d ∷ ds) (suc i) z
-one_more d ds zero z = refl
-one_more d ds (suc k) z = refl
+or_there : (ds : List LocalLabel) (k : ℕ) (o : Option ℕ) → k < length ds →
+    option_or (address_at ds k) o ≡ address_at ds k
+or_there [] k o h = absurd (omega arith)
+or_there (d ∷ ds) zero o h = refl
+or_there (d ∷ ds) (suc k) o h = or_there ds k o (omega arith)
 
-pub cut_before : (ds : List LocalLabel) (n line i : ℕ) (z : LocalLabel) → AreOf n ds → IsCut ds line i →
-    nearest_before ds n line ≡ last_of ds i z
-cut_before [] n line zero z a c = refl
-cut_before [] n line (suc i) z a c = let w = c.within in absurd (omega (arith, w))
-cut_before (d ∷ ds) n line zero z a c =
+one_more : (d : LocalLabel) (ds : List LocalLabel) (i : ℕ) → i ≤ length ds →
+    option_or (last_of ds i) (Some d.address) ≡ last_of (d ∷ ds) (suc i)
+one_more d ds zero h = refl
+one_more d ds (suc k) h = or_there ds k (Some d.address) (omega arith)
+
+pub cut_before : (ds : List LocalLabel) (n line i : ℕ) → AreOf n ds → IsCut ds line i →
+    nearest_before ds n line ≡ last_of ds i
+cut_before [] n line zero a c = refl
+cut_before [] n line (suc i) a c = let w = c.within in absurd (omega (arith, w))
+cut_before (d ∷ ds) n line zero a c =
     let t : (d.number == n) ≡ true = let is = a.0 in grind (arith, nat_tests) in
-    let p : line < d.line = c.after zero z (omega arith) (omega arith) in
+    let p : line < d.line = c.after zero d (omega arith) (omega arith) in
     let f : nat_le d.line line ≡ false = grind (arith, nat_tests) in
     ap (λ o. option_or o (cond ((d.number == n) && nat_le d.line line) (Some d.address) None))
-    (cut_before ds n line zero z a.1 (cut_none d ds line c)) ∙ (rw (t, f) refl)
-cut_before (d ∷ ds) n line (suc i) z a c =
+    (cut_before ds n line zero a.1 (cut_none d ds line c)) ∙ (rw (t, f) refl)
+cut_before (d ∷ ds) n line (suc i) a c =
     let t : (d.number == n) ≡ true = let is = a.0 in grind (arith, nat_tests) in
-    let p : d.line ≤ line = c.before zero z (omega arith) in
+    let p : d.line ≤ line = c.before zero d (omega arith) in
     let f : nat_le d.line line ≡ true = grind (arith, nat_tests) in
+    let w = c.within in
     ap (λ o. option_or o (cond ((d.number == n) && nat_le d.line line) (Some d.address) None))
-    (cut_before ds n line i z a.1 (cut_rest d ds line i c)) ∙ (rw (t, f) (one_more d ds i z))
+    (cut_before ds n line i a.1 (cut_rest d ds line i c)) ∙ (rw (t, f) (one_more d ds i (omega (arith, w))))
 
-pub cut_after : (ds : List LocalLabel) (n line i : ℕ) (z : LocalLabel) → AreOf n ds → IsCut ds line i →
-    i < length ds → nearest_after ds n line ≡ Some (get_or ds i z).address
-cut_after [] n line i z a c h = absurd (omega arith)
-cut_after (d ∷ ds) n line zero z a c h =
+pub cut_after : (ds : List LocalLabel) (n line i : ℕ) → AreOf n ds → IsCut ds line i →
+    nearest_after ds n line ≡ address_at ds i
+cut_after [] n line i a c = refl
+cut_after (d ∷ ds) n line zero a c =
     let t : (d.number == n) ≡ true = let is = a.0 in grind (arith, nat_tests) in
-    let p : line < d.line = c.after zero z (omega arith) (omega arith) in
+    let p : line < d.line = c.after zero d (omega arith) (omega arith) in
     let f : nat_lt line d.line ≡ true = grind (arith, nat_tests) in
     rw (t, f, nearest_after) refl
-cut_after (d ∷ ds) n line (suc i) z a c h =
+cut_after (d ∷ ds) n line (suc i) a c =
     let t : (d.number == n) ≡ true = let is = a.0 in grind (arith, nat_tests) in
-    let p : d.line ≤ line = c.before zero z (omega arith) in
+    let p : d.line ≤ line = c.before zero d (omega arith) in
     let f : nat_lt line d.line ≡ false = grind (arith, nat_tests) in
-    rw (t, f, nearest_after) (cut_after ds n line i z a.1 (cut_rest d ds line i c) (omega arith))
-
-pub cut_end : (ds : List LocalLabel) (n line i : ℕ) (z : LocalLabel) → AreOf n ds → IsCut ds line i →
-    length ds ≤ i → nearest_after ds n line ≡ None
-cut_end [] n line i z a c h = refl
-cut_end (d ∷ ds) n line zero z a c h = absurd (omega arith)
-cut_end (d ∷ ds) n line (suc i) z a c h =
-    let t : (d.number == n) ≡ true = let is = a.0 in grind (arith, nat_tests) in
-    let p : d.line ≤ line = c.before zero z (omega arith) in
-    let f : nat_lt line d.line ≡ false = grind (arith, nat_tests) in
-    rw (t, f, nearest_after) (cut_end ds n line i z a.1 (cut_rest d ds line i c) (omega arith))
+    rw (t, f, nearest_after) (cut_after ds n line i a.1 (cut_rest d ds line i c))
 
 -- ---- one more definition
 

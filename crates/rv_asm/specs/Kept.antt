@@ -1,7 +1,8 @@
 -- Results whose faults have no line yet, what instructions wait for, and the lists of local labels.
 -- The language is this project's own: docs/ASSEMBLER.md.
 -- Not to audit: private contracts alone cite this.
-use Rattle.std.specs.Prelude.{◌≡◌, ℕ, List, [], ◌∷◌, ◌++◌, ℤ, pos, ◌+ℤ◌, ◌≤ℤ◌, ◌==◌, if◌then◌else◌, ◌≤◌, ◌<◌, get_or, length, Option, Result, Ok, Err}
+use Rattle.std.specs.Prelude.{◌≡◌, ℕ, List, [], ◌∷◌, ◌++◌, ℤ, pos, ◌+ℤ◌, ◌≤ℤ◌, ◌==◌, if◌then◌else◌, ◌≤◌, ◌<◌, get_or, slice_get, length, Option, Result, Ok, Err}
+use Rattle.std.specs.Option.{option_map}
 use Rattle.std.specs.List.{AllByRecursion}
 use Rattle.rv_program.specs.declared.fault.FaultKind.{FaultKind}
 use Rattle.rv_program.specs.declared.fault.FaultKind.TheVariants.{OutOfMemory}
@@ -55,6 +56,10 @@ pub record IsNear (n : ℕ) (v : ℤ) : Type 0 where
 abbrev pub of_number : ℕ → List LocalLabel → List LocalLabel
 of_number n [] = []
 of_number n (d ∷ ds) = if d.number == n then d ∷ of_number n ds else of_number n ds
+
+-- the address of definition i, if there is one
+abbrev pub address_at : List LocalLabel → ℕ → Option ℕ
+address_at ds i = option_map (λ d. d.address) (slice_get ds i)
 
 -- all definitions are of number n
 abbrev pub AreOf : ℕ → List LocalLabel → Type 0

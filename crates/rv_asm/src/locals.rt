@@ -44,7 +44,7 @@ impl Model for Repeated {
 impl Repeated {
     ghost use Rattle.std.specs.Prelude.{◌≡◌, [], ◌∷◌, ◌++◌, OnOk, OnErr};
     ghost use Rattle.rv_asm.specs.Symbols.{nearest};
-    ghost use Rattle.rv_asm.specs.Kept.{Rises, AreOf};
+    ghost use Rattle.rv_asm.specs.Kept.{Rises, AreOf, address_at};
 
     fn new(alloc: Global) -> Self
         ensures { result ≡ [] }
@@ -62,6 +62,14 @@ impl Repeated {
         Ok(())
     }
 
+    /// Returns the address of the definition at an index, if there is one.
+    fn address(&self, index: usize) -> Option<u32>
+        ensures { result ≡ address_at self.now index }
+    {
+        let label = self.labels.get(index).copied()?;
+        Some(label.address)
+    }
+
     /// Returns the address that a reference on a line stands for, or None if there is no such definition.
     fn nearest(&self, number: u16, direction: Direction, line: usize) -> Option<u32>
         requires rises { Rises self.now }
@@ -70,18 +78,9 @@ impl Repeated {
     {
         let count = count_up_to(&self.labels, line);
         match direction {
-            Direction::Backward => {
-                if count == 0 {
-                    return None;
-                }
-                Some(self.labels[count - 1].address)
-            }
-            Direction::Forward => {
-                if count == self.labels.len() {
-                    return None;
-                }
-                Some(self.labels[count].address)
-            }
+            Direction::Backward if count == 0 => None,
+            Direction::Backward => self.address(count - 1),
+            Direction::Forward => self.address(count),
         }
     }
 }
