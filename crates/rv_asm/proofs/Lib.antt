@@ -15,3 +15,5 @@ pub mod Reading
 pub mod Takes
 pub mod Whole
 pub mod Nearest
+pub mod Listings
+pub mod Lined

@@ -35,11 +35,11 @@ unmapped f None h = refl
 unmapped f (Some x) h = cc
 
 -- if n + 1 lines have no fault, neither has the last of them, nor have those before it
-none_last : (fault : ℕ → Option FaultKind) (n : ℕ) → first_fault fault (suc n) ≡ None → fault n ≡ None
+pub none_last : (fault : ℕ → Option FaultKind) (n : ℕ) → first_fault fault (suc n) ≡ None → fault n ≡ None
 unfolding first
 none_last fault n h = unmapped _ (fault n) (right_none (first_fault fault n) _ h)
 
-none_before : (fault : ℕ → Option FaultKind) (n : ℕ) → first_fault fault (suc n) ≡ None →
+pub none_before : (fault : ℕ → Option FaultKind) (n : ℕ) → first_fault fault (suc n) ≡ None →
     first_fault fault n ≡ None
 unfolding first
 none_before fault n h = left_none (first_fault fault n) _ h

@@ -58,7 +58,7 @@ known_by : (ls : List Said) (n : ℕ) (fault : Option AsmFault) (s : Known) →
 known_by ls n (Some fault) s e = absurd cc
 known_by ls n None s e = cc
 
-known_is : (ls : List Said) (n : ℕ) (s : Known) → laid_out ls n ≡ Ok s → s ≡ known_before ls n
+pub known_is : (ls : List Said) (n : ℕ) (s : Known) → laid_out ls n ≡ Ok s → s ≡ known_before ls n
 unfolding laid_out
 known_is ls n s e = known_by ls n (first_fault _ n) s e
 

@@ -26,7 +26,7 @@ finished texts known =
 abbrev answer : Option AsmFault → Assembly → Result Assembly AsmFault
 answer fault program = option_map_or (λ fault. Err fault) fault (Ok program)
 
-length-said : (texts : List (List ℕ)) → length (all_said texts) ≡ length texts
+pub length-said : (texts : List (List ℕ)) → length (all_said texts) ≡ length texts
 length-said texts = length-map texts _
 
 answered : (fault : Option AsmFault) (ds : Definitions) (out : List ℕ) →

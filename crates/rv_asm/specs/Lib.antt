@@ -7,3 +7,5 @@ pub mod Assembly
 pub mod Constants
 pub mod Steps
 pub mod Taken
+pub mod Lines
+pub mod Looked

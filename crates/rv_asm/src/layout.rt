@@ -155,6 +155,13 @@ impl Known {
         }
     }
 
+    /// Returns the address of the next statement.
+    pub fn address(&self) -> u32
+        ensures { result ≡ self.now.address }
+    {
+        self.address
+    }
+
     /// Returns the names, without the local labels.
     pub fn into_names(self) -> Names
         ensures { result ≡ self.definitions.names }

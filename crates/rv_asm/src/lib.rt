@@ -16,6 +16,7 @@ mod fixup;
 mod instructions;
 mod kept;
 mod layout;
+mod listing;
 mod locals;
 mod placement;
 mod single;
@@ -23,5 +24,6 @@ mod symbols;
 mod values;
 
 pub use assembler::assemble;
+pub use listing::{Listing, NearLabel, list};
 pub use locals::LocalLabel;
 pub use rv_program::{AsmFault, FaultKind, Program};

@@ -1,0 +1,32 @@
+use Rattle.std.proofs.lemmas.Result.{err_from_is_err_and}
+use Rattle.rv_asm.specs.Assembly.{assembled}
+use Rattle.rv_asm.specs.Lines.{listed}
+use Rattle.rv_asm.proofs.Runs.{fails_bind}
+use Rattle.rv_asm.proofs.Lined.{accepted, listing_is, lies_whole, are_lines}
+use Rattle.rv_asm.proofs.listing.list.Goals as goal
+
+pub returns-in_err-program-clause-value : goal.returns-in_err-program-clause-value
+unfolding listed
+returns-in_err-program-clause-value c =
+    let p = err_from_is_err_and c.from_residual.result c.from_residual.ensures.1 in
+    let fault = c.in_err-program.field-0.0 in
+    let f = fails_bind fault.kind fault (assembled c.args.source.now) _ c.in_err-program.ensures in
+    rw (p.1, p.2) f
+
+pub new-requires : goal.new-requires
+new-requires c =
+    let ok = accepted c.args.source.now c.in_ok-program.program c.in_ok-program.ensures in
+    rw (c.in-Ok.ensures.addresses, c.in-Ok.ensures.labels) (lies_whole c.args.source.now
+    c.in_ok-program.program ok)
+
+pub returns-in-Ok-clause-value : goal.returns-in-Ok-clause-value
+returns-in-Ok-clause-value c =
+    let ok = accepted c.args.source.now c.in_ok-program.program c.in_ok-program.ensures in
+    rw (c.new.ensures, c.in-Ok.ensures.addresses, c.in-Ok.ensures.labels)
+    (listing_is c.args.source.now c.in_ok-program.program ok c.in_ok-program.ensures)
+
+pub returns-in-Ok-clause-lines : goal.returns-in-Ok-clause-lines
+returns-in-Ok-clause-lines c =
+    let ok = accepted c.args.source.now c.in_ok-program.program c.in_ok-program.ensures in
+    rw (c.new.ensures, c.in-Ok.ensures.addresses, c.in-Ok.ensures.labels)
+    (are_lines c.args.source.now c.in_ok-program.program ok)

@@ -1,0 +1,5 @@
+//! Tests of the listings of sources.
+#![tactic(auto)]
+
+#[cfg(test)]
+mod listings;
