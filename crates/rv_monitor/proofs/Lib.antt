@@ -8,3 +8,4 @@ pub mod Decimals
 pub mod Named
 pub mod Pieces
 pub mod Traps
+pub mod Given

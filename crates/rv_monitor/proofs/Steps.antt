@@ -81,7 +81,7 @@ run_join b xs t k j h =
     ∙ ap (run b) (sym (events_join xs t k j)))
 
 -- steps after inputs that were given ahead of them
-none_due : (xs : List TimedInput) (t : ℕ) → never_falls xs ≡ true →
+pub none_due : (xs : List TimedInput) (t : ℕ) → never_falls xs ≡ true →
     inputs_at (drop (count_before (t + 1) xs) xs) t ≡ []
 unfolding inputs_at
 none_due xs t h =
@@ -158,7 +158,7 @@ after_due s j h =
     (place_late s (s.taken + 1) (s.taken + (1 + j)) (omega arith) h)
     refl
 
-after_rises : (s : TimedState) (k : ℕ) → never_falls s.inputs ≡ true → never_falls (after s k).inputs ≡ true
+pub after_rises : (s : TimedState) (k : ℕ) → never_falls s.inputs ≡ true → never_falls (after s k).inputs ≡ true
 unfolding after
 after_rises s k h = h
 

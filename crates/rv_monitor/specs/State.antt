@@ -8,7 +8,8 @@ use Rattle.std.specs.FinSet.{FinSet}
 use Rattle.rv_program.specs.Program.{Assembly}
 use Rattle.rv_board.specs.State.{BoardState}
 use Rattle.rv_board.specs.Move.{run}
-use Rattle.rv_lists.specs.Timed.{never_falls}
+use Rattle.rv_lists.specs.Timed.{never_falls, inserted}
+use Rattle.rv_lists.specs.declared.input.Input.{Input}
 use Rattle.rv_lists.specs.declared.input.TimedInput.{TimedInput}
 use Rattle.rv_monitor.specs.Events.{inputs_at, events_of}
 
@@ -42,11 +43,15 @@ pub record IsInTime (s : TimedState) : Type 0 where
   pub rising : never_falls s.inputs ≡ true
   pub ahead : list_all (λ x. nat_le s.taken x.step) (rest s) ≡ true
 
+-- a board with its timed inputs before its first step
+abbrev pub begun : BoardState → List TimedInput → TimedState
+begun board inputs = record { board = board; inputs = inputs; place = 0; taken = 0 }
+
 -- a session before its first step
 abbrev pub start : BoardState → List TimedInput → Assembly → ℕ → SessionState
 start board inputs program limit =
     record {
-      timed = record { board = board; inputs = inputs; place = 0; taken = 0 };
+      timed = begun board inputs;
       program = program;
       limit = limit;
       breakpoints = set.empty;
@@ -97,3 +102,8 @@ with_due s = record s {
   board = run s.board (inputs_at (rest s) s.taken);
   place = s.place + count_before (s.taken + 1) (rest s);
 }
+
+-- the state with an input given at once: it comes before the next step, after the other inputs of that step,
+-- and the list has it
+abbrev pub given : TimedState → Input → TimedState
+given s input = with_due (record s { inputs = inserted s.inputs (record { step = s.taken; input = input }) })

@@ -1,13 +1,15 @@
 -- To audit: public contracts cite this.
 -- When a call ends, and the state that it leaves.
-use Rattle.std.specs.Prelude.{◌≡◌, ℕ, ◌-◌, ◌<◌, ◌≤◌, ◌&&◌, true, if◌then◌else◌, nat_lt, Option, Some, None, unwrap_or, is_some}
+use Rattle.std.specs.Prelude.{◌≡◌, ℕ, ◌-◌, ◌<◌, ◌≤◌, ◌&&◌, Bool, true, false, if◌then◌else◌, nat_lt, Option, Some, None, unwrap_or, is_none, is_some, Result, Ok, Err}
 use Rattle.std.specs.FinSet as set
+use Rattle.rv_base.specs.declared.memory.NoMemory.{NoMemory}
+use Rattle.rv_hart.specs.declared.trap.Outcome.{Outcome}
 use Rattle.rv_board.specs.State.{BoardState, halted_of, pc_of}
-use Rattle.rv_board.specs.Move.{writes}
+use Rattle.rv_board.specs.Move.{step_outcome, writes}
 use Rattle.rv_board.specs.declared.event.Event.TheVariants.{Step}
 use Rattle.rv_monitor.specs.declared.stop.Stop.{Stop}
 use Rattle.rv_monitor.specs.declared.stop.Stop.TheVariants.{Halted, Breakpoint, Limit}
-use Rattle.rv_monitor.specs.State.{Addresses, TimedState, after, with_due}
+use Rattle.rv_monitor.specs.State.{Addresses, TimedState, SessionState, after, with_due}
 
 -- the reason why a call ends on a board after `count` of its steps: the board has halted, or else, after the
 -- first step, its next instruction is at a breakpoint
@@ -36,3 +38,20 @@ pub record IsRefused (breakpoints : Addresses) (most : ℕ) (old new : TimedStat
   pub going : (i : ℕ) → i ≤ new.taken - old.taken → stop_after breakpoints (after old i).board i ≡ None
   pub state : new ≡ with_due (after old (new.taken - old.taken))
   pub next_writes : writes new.board Step ≡ true
+
+-- ---- one step
+
+-- whether a session may take a step: its board hasn't halted, and the limit isn't reached
+abbrev pub may_step : SessionState → Bool
+may_step s = is_none (halted_of s.timed.board) && nat_lt s.timed.taken s.limit
+
+-- a call for one step took it, and tells what the step did; or there was none to be taken; or memory ran out
+-- at it, once the inputs before it were given
+abbrev pub TakesStep : SessionState → SessionState → Result (Option Outcome) NoMemory → Type 0
+TakesStep old new (Ok (Some outcome)) =
+    (may_step old ≡ true) × (new ≡ record old { timed = after old.timed 1 })
+    × (outcome ≡ step_outcome (with_due old.timed).board)
+TakesStep old new (Ok None) = (may_step old ≡ false) × (new ≡ old)
+TakesStep old new (Err refused) =
+    (may_step old ≡ true) × (new ≡ record old { timed = with_due old.timed })
+    × (writes new.timed.board Step ≡ true)

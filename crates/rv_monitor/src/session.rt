@@ -1,9 +1,10 @@
 //! Sessions: what a caller may ask of one.
-ghost use Rattle.std.specs.Prelude.{◌≡◌, ◌-◌, ◌≤◌, false, OnOk, OnErr, IfOk};
+ghost use Rattle.std.specs.Prelude.{◌≡◌, ◌-◌, ◌≤◌, true, false, min, OnOk, OnErr, IfOk};
 ghost use Rattle.std.specs.FinSet as set;
-ghost use Rattle.rv_monitor.specs.Laws.{RunsJoin, CallsJoin};
-ghost use Rattle.rv_monitor.specs.State.{TimedState, IsInTime, start, most_of, with_break, without_break};
-ghost use Rattle.rv_monitor.specs.Stops.{HasStopped, IsRefused};
+ghost use Rattle.rv_lists.specs.Timed.{never_falls};
+ghost use Rattle.rv_monitor.specs.Laws.{RunsJoin, CallsJoin, GivenAsListed};
+ghost use Rattle.rv_monitor.specs.State.{TimedState, IsInTime, begun, start, most_of, with_break, without_break, given};
+ghost use Rattle.rv_monitor.specs.Stops.{HasStopped, IsRefused, TakesStep};
 
 use crate::breakpoints::Breakpoints;
 use crate::stop::Stop;
@@ -11,7 +12,8 @@ use crate::timed::TimedBoard;
 use rv_base::NoMemory;
 use rv_board::Board;
 use rv_cache::Decoded;
-use rv_lists::Timeline;
+use rv_hart::Outcome;
+use rv_lists::{Input, TimedInput, Timeline};
 use rv_program::Program;
 use rv_ram::ByteMemory;
 use std::alloc::Global;
@@ -170,6 +172,61 @@ impl<M: ByteMemory, C: Decoded> Session<M, C> {
         let most = n.min(self.limit - self.timed.taken());
         self.timed.advance(most, self.breakpoints.if_any())
     }
+
+    /// Takes one step, past any breakpoint, and returns what it did, or None if the board has halted or the
+    /// limit is reached.
+    ///
+    /// # Errors
+    ///
+    /// As those of [`step`](Session::step).
+    pub fn take_step(&mut self) -> Result<Option<Outcome>, NoMemory>
+        ensures { TakesStep self.old self.new result }
+    {
+        if self.board().halted().is_some() || self.timed.taken() >= self.limit {
+            return Ok(None);
+        }
+        match self.timed.take_step() {
+            Ok(outcome) => Ok(Some(outcome)),
+            Err(NoMemory) => Err(NoMemory),
+        }
+    }
+
+    /// Returns the inputs in their order, those among them that were given by hand.
+    pub fn inputs(&self) -> &[TimedInput]
+        ensures value { result.now ≡ self.now.timed.inputs }
+        ensures rising { never_falls result.now ≡ true }
+    {
+        self.timed.inputs()
+    }
+
+    /// Gives the board an input at once: it comes before the next step, after all other inputs of that step,
+    /// and the session's list has it from now on. A board that has halted takes none.
+    ///
+    /// # Errors
+    ///
+    /// `NoMemory` if memory runs out. Nothing changes then.
+    pub fn give(&mut self, input: Input) -> Result<(), NoMemory>
+        ensures ok { OnOk result (self.new ≡ record self.old { timed = given self.old.timed input }) }
+        ensures err { OnErr result (self.new ≡ self.old) }
+    {
+        self.timed.give(input)
+    }
+
+    /// Puts the session back to where `n` steps end that are taken from a board on, with all of its inputs: as
+    /// [`step`](Session::step) would leave a new session over that board. The breakpoints stay.
+    ///
+    /// # Errors
+    ///
+    /// `NoMemory` if memory runs out at one of these steps. Nothing changes then.
+    pub fn rewind(&mut self, board: Board<M, C>, n: u64) -> Result<Stop, NoMemory>
+        ensures ok { IfOk result
+            (HasStopped set.empty (min n self.old.limit) (begun board self.old.timed.inputs) self.new.timed) }
+        ensures err { OnErr result (self.new ≡ self.old) }
+        ensures others { self.new ≡ record self.old { timed = self.new.timed } }
+    {
+        let most = n.min(self.limit);
+        self.timed.rewind(board, most)
+    }
 }
 
 /// Law: steps may be taken in any number of calls, and the call after one that ran out of memory goes on
@@ -178,4 +235,10 @@ impl<M: ByteMemory, C: Decoded> Session<M, C> {
 pub fn calls_join()
     ensures runs { RunsJoin }
     ensures calls { (s : TimedState) → IsInTime s → CallsJoin s }
+{}
+
+/// Law: an input that is given by hand is the same as one that stood in the list from the start.
+#[tactic(auto, using(crate::proofs::Given::given_as_listed))]
+pub fn given_as_listed()
+    ensures { GivenAsListed }
 {}

@@ -5,7 +5,8 @@ use rv_asm::Program;
 use rv_base::NoMemory;
 use rv_board::Board;
 use rv_cache::{Decoded, NoCache};
-use rv_lists::Timeline;
+use rv_hart::Outcome;
+use rv_lists::{Input, Timeline};
 use rv_monitor::{Next, Session, Stop};
 use rv_ram::{ByteMemory, FlatMemory};
 use std::alloc::Global;
@@ -47,6 +48,51 @@ fn session(
 }
 
 const TIMED: &[u8] = b"0 rx 40\n1 rx 41\n1 rx 42\n2 rx 43";
+
+/// Gives a session a byte by hand.
+fn give<M: ByteMemory, C: Decoded>(
+    session: &mut Session<M, C>,
+    byte: u8,
+) -> Result<(), &'static str> {
+    session
+        .give(Input::Rx(byte))
+        .ok()
+        .ok_or("there is no memory")
+}
+
+/// Puts a session back to after `n` steps.
+fn go_back(
+    alloc: Global,
+    session: &mut Session<RefusingMemory, NoCache>,
+    n: u64,
+) -> Result<(), Fail> {
+    let board = boot(alloc, session.program(), 0)?;
+    session.rewind(board, n).ok().ok_or("there is no memory")?;
+    Ok(())
+}
+
+/// Checks how many steps were taken, how many bytes wait in the board, and how many inputs there are.
+fn check_inputs<M: ByteMemory, C: Decoded>(
+    rt: &impl Abort,
+    session: &Session<M, C>,
+    taken: u64,
+    waiting: usize,
+    inputs: usize,
+) {
+    assert_eq!(rt; session.taken(), taken);
+    assert_eq!(rt; session.board().serial().waiting(), waiting);
+    assert_eq!(rt; session.inputs().len(), inputs);
+}
+
+/// Checks whether one step retires.
+fn check_retires<M: ByteMemory, C: Decoded>(
+    rt: &impl Abort,
+    session: &mut Session<M, C>,
+    retires: bool,
+) {
+    let outcome = session.take_step();
+    assert_eq!(rt; matches!(outcome, Ok(Some(Outcome::Retired))), retires);
+}
 
 /// Checks the highest byte of the word that is stored.
 fn check_stored<M: ByteMemory, C: Decoded>(rt: &impl Abort, session: &Session<M, C>, byte: u8) {
@@ -212,5 +258,21 @@ fn a_session_has_a_limit_a_program_and_breakpoints(rt: HostRuntime) -> Result<()
     check_go(&rt, &mut session, 9, Stop::Breakpoint, 2);
     check_clear(&rt, &mut session, 0x8000_0008, true);
     check_go(&rt, &mut session, 9, Stop::Limit, 3);
+    Ok(())
+}
+
+#[test]
+fn inputs_by_hand_stay_when_a_session_goes_back(rt: HostRuntime) -> Result<(), Fail> {
+    let mut session = session(rt.alloc(), b"1 rx 41", 0)?;
+    give(&mut session, 0x40)?;
+    check_inputs(&rt, &session, 0, 1, 2);
+    check_retires(&rt, &mut session, true);
+    give(&mut session, 0x42)?;
+    check_inputs(&rt, &session, 1, 3, 3);
+    go_back(rt.alloc(), &mut session, 1)?;
+    check_inputs(&rt, &session, 1, 1, 3);
+    check_step(&rt, &mut session, 9, Stop::Limit, 3);
+    check_inputs(&rt, &session, 3, 3, 3);
+    check_retires(&rt, &mut session, false);
     Ok(())
 }

@@ -1,0 +1,438 @@
+-- Inputs that are given by hand, and states that a board comes to by its inputs and its steps.
+use Rattle.std.proofs.Common.{◌≡◌, ◌∙◌, ℕ, zero, suc, ◌+◌, ◌<◌, ◌≤◌, Bool, true, false, cond, List, [], ◌∷◌, ◌++◌, length, take, drop, refl, sym, ap, subst, arith, inl, inr, add-one}
+use Rattle.std.specs.Prelude.{◌⊎◌, nat_eq, nat_le, nat_lt, ◌==◌, ◌&&◌, map, filter, None, Result, Ok, Err, OnOk, OnErr, IfOk}
+use Rattle.std.specs.FinSet as set
+use Rattle.rv_base.specs.declared.memory.NoMemory.{NoMemory}
+use Rattle.rv_hart.specs.declared.trap.Outcome.{Outcome}
+use Rattle.std.specs.List.{list_all}
+use Rattle.std.proofs.lemmas.Bool.Decides.{nat_tests}
+use Rattle.std.proofs.lemmas.List.{map-append}
+use Rattle.rv_board.specs.State.{BoardState, halted_of}
+use Rattle.rv_board.specs.Move.{run}
+use Rattle.rv_board.proofs.Runs.{run_append}
+use Rattle.rv_lists.specs.declared.input.Input.{Input}
+use Rattle.rv_lists.specs.declared.input.TimedInput.{TimedInput}
+use Rattle.rv_lists.specs.Timed.{never_falls, inserted}
+use Rattle.rv_lists.proofs.Inserted.{rises}
+use Rattle.rv_monitor.specs.Events.{event_of, inputs_at, events_of}
+use Rattle.rv_monitor.specs.Stops.{HasStopped, IsRefused}
+use Rattle.rv_monitor.specs.declared.stop.Stop.{Stop}
+use Rattle.rv_monitor.specs.State.{Addresses, TimedState, IsInTime, rest, count_before, begun, after, with_due, given}
+use Rattle.rv_monitor.specs.Laws.{IsReached, GivenAsListed}
+use Rattle.rv_monitor.proofs.Times.{from, of, from_earlier, tail_rises, all_from, drop_from, late_from, late_count, none_of, none_before, from_first}
+use Rattle.rv_monitor.proofs.Steps.{inputs_late, none_due}
+
+-- ---- comparisons as tests
+
+lt : (m n : ℕ) → m < n → nat_lt m n ≡ true
+lt m n h = grind (arith, nat_tests)
+
+lt_is : (m n : ℕ) → nat_lt m n ≡ true → m < n
+lt_is m n h = grind (arith, nat_tests)
+
+not_lt : (m n : ℕ) → n ≤ m → nat_lt m n ≡ false
+not_lt m n h = grind (arith, nat_tests)
+
+not_lt_is : (m n : ℕ) → nat_lt m n ≡ false → n ≤ m
+not_lt_is m n h = grind (arith, nat_tests)
+
+le : (m n : ℕ) → m ≤ n → nat_le m n ≡ true
+le m n h = grind (arith, nat_tests)
+
+ne_above : (m n : ℕ) → n < m → nat_eq m n ≡ false
+ne_above m n h = grind (arith, nat_tests)
+
+same_time : (n : ℕ) → nat_eq n n ≡ true
+same_time n = grind (arith, nat_tests)
+
+and_left : (a b : Bool) → (a && b) ≡ true → a ≡ true
+and_left true b h = refl
+and_left false b h = h
+
+and_right : (a b : Bool) → (a && b) ≡ true → b ≡ true
+and_right true b h = h
+and_right false b h = absurd cc
+
+both : (a b : Bool) → a ≡ true → b ≡ true → (a && b) ≡ true
+both a b p q = rw (p, q) refl
+
+-- ---- a list with one input more
+
+-- an input that a test leaves out
+left_out_by : (p : TimedInput → Bool) (y : TimedInput) (ys : List TimedInput) (x : TimedInput) (b : Bool)
+    → nat_lt x.step y.step ≡ b → p x ≡ false → filter p (inserted ys x) ≡ filter p ys
+    → filter p (inserted (y ∷ ys) x) ≡ filter p (y ∷ ys)
+unfolding inserted
+left_out_by p y ys x true e out more = rw (e, out) refl
+left_out_by p y ys x false e out more = rw (e, more) refl
+
+left_out : (p : TimedInput → Bool) (xs : List TimedInput) (x : TimedInput) → p x ≡ false
+    → filter p (inserted xs x) ≡ filter p xs
+unfolding inserted
+left_out p [] x out = rw out refl
+left_out p (y ∷ ys) x out = left_out_by p y ys x (nat_lt x.step y.step) refl out (left_out p ys x out)
+
+length_by : (y : TimedInput) (ys : List TimedInput) (x : TimedInput) (b : Bool) → nat_lt x.step y.step ≡ b
+    → length (inserted ys x) ≡ length ys + 1 → length (inserted (y ∷ ys) x) ≡ length (y ∷ ys) + 1
+unfolding inserted
+length_by y ys x true e more = rw e (omega arith)
+length_by y ys x false e more = rw e (omega (arith, more))
+
+length_inserted : (xs : List TimedInput) (x : TimedInput) → length (inserted xs x) ≡ length xs + 1
+unfolding inserted
+length_inserted [] x = omega arith
+length_inserted (y ∷ ys) x = length_by y ys x (nat_lt x.step y.step) refl (length_inserted ys x)
+
+-- the inputs from an index on reach no further back
+inserted_from_by : (t : ℕ) (y : TimedInput) (ys : List TimedInput) (x : TimedInput) (n : ℕ) (b : Bool)
+    → nat_lt x.step y.step ≡ b → t ≤ x.step → never_falls (y ∷ ys) ≡ true
+    → from t (drop n (inserted ys x)) ≡ true → from t (drop (suc n) (inserted (y ∷ ys) x)) ≡ true
+unfolding inserted
+inserted_from_by t y ys x n true e k h more =
+    let l : x.step < y.step = lt_is x.step y.step e in
+    rw e (drop_from t n (y ∷ ys) (all_from t y ys h (omega arith)))
+inserted_from_by t y ys x n false e k h more = rw e more
+
+inserted_all_by : (t : ℕ) (y : TimedInput) (ys : List TimedInput) (x : TimedInput) (b : Bool)
+    → nat_lt x.step y.step ≡ b → t ≤ x.step → from t (y ∷ ys) ≡ true → from t (inserted ys x) ≡ true
+    → from t (inserted (y ∷ ys) x) ≡ true
+unfolding inserted
+inserted_all_by t y ys x true e k h more = rw e (both (nat_le t x.step) _ (le t x.step k) h)
+inserted_all_by t y ys x false e k h more =
+    rw e (both (nat_le t y.step) _ (and_left (nat_le t y.step) (from t ys) h) more)
+
+inserted_from : (t : ℕ) (xs : List TimedInput) (x : TimedInput) (n : ℕ) → t ≤ x.step → never_falls xs ≡ true
+    → from t (drop n xs) ≡ true → from t (drop n (inserted xs x)) ≡ true
+unfolding inserted
+inserted_from t [] x zero k h all = both (nat_le t x.step) true (le t x.step k) refl
+inserted_from t [] x (suc zero) k h all = refl
+inserted_from t [] x (suc (suc n)) k h all = refl
+inserted_from t (y ∷ ys) x zero k h all =
+    inserted_all_by t y ys x (nat_lt x.step y.step) refl k all
+    (inserted_from t ys x zero k (tail_rises y ys h) (and_right (nat_le t y.step) (from t ys) all))
+inserted_from t (y ∷ ys) x (suc n) k h all =
+    inserted_from_by t y ys x n (nat_lt x.step y.step) refl k h
+    (inserted_from t ys x n k (tail_rises y ys h) all)
+
+-- the list with the input is in time as well
+pub inserted_in_time : (b : BoardState) (xs : List TimedInput) (place t : ℕ) (x : TimedInput) → t ≤ x.step
+    → IsInTime (record { board = b; inputs = xs; place = place; taken = t })
+    → IsInTime (record { board = b; inputs = inserted xs x; place = place; taken = t })
+inserted_in_time b xs place t x at h = record {
+  within = omega (arith, h.within, length_inserted xs x);
+  rising = rises xs x h.rising;
+  ahead = inserted_from t xs x place at h.rising h.ahead;
+}
+
+-- ---- the inputs of a step, with one more
+
+module _ (t : ℕ) (input : Input) where
+  abbrev new : TimedInput
+  new = record { step = t; input = input }
+
+  -- it stands after the others of its step, and before all later ones
+  here_by : (y : TimedInput) (ys : List TimedInput) (b : Bool) → nat_lt t y.step ≡ b
+      → never_falls (y ∷ ys) ≡ true
+      → drop (count_before (t + 1) ys) (inserted ys new) ≡ new ∷ drop (count_before (t + 1) ys) ys
+      → drop (count_before (t + 1) (y ∷ ys)) (inserted (y ∷ ys) new)
+      ≡ new ∷ drop (count_before (t + 1) (y ∷ ys)) (y ∷ ys)
+  unfolding inserted
+  here_by y ys true e h more =
+      let l : t < y.step = lt_is t y.step e in
+      let none : count_before (t + 1) (y ∷ ys) ≡ 0 =
+      none_before (t + 1) (y ∷ ys) (all_from (t + 1) y ys h (omega arith)) in
+      rw (none, e) refl
+  here_by y ys false e h more =
+      let l : y.step ≤ t = not_lt_is t y.step e in
+      rw (lt y.step (t + 1) (omega arith), e) more
+
+  here : (xs : List TimedInput) → never_falls xs ≡ true
+      → drop (count_before (t + 1) xs) (inserted xs new) ≡ new ∷ drop (count_before (t + 1) xs) xs
+  unfolding inserted
+  here [] h = refl
+  here (y ∷ ys) h = here_by y ys (nat_lt t y.step) refl h (here ys (tail_rises y ys h))
+
+  last_by : (y : TimedInput) (ys : List TimedInput) (b c : Bool) → nat_lt t y.step ≡ b → nat_eq y.step t ≡ c
+      → never_falls (y ∷ ys) ≡ true → of t (inserted ys new) ≡ of t ys ++ new ∷ []
+      → of t (inserted (y ∷ ys) new) ≡ of t (y ∷ ys) ++ new ∷ []
+  unfolding inserted
+  last_by y ys true c e f h more =
+      let l : t < y.step = lt_is t y.step e in
+      let none : of t (y ∷ ys) ≡ [] = none_of t (y ∷ ys) (all_from (t + 1) y ys h (omega arith)) in
+      rw (e, same_time t, none) refl
+  last_by y ys false true e f h more = rw (e, f, more) refl
+  last_by y ys false false e f h more = rw (e, f, more) refl
+
+  last : (xs : List TimedInput) → never_falls xs ≡ true → of t (inserted xs new) ≡ of t xs ++ new ∷ []
+  unfolding inserted
+  last [] h = rw (same_time t) refl
+  last (y ∷ ys) h = last_by y ys (nat_lt t y.step) (nat_eq y.step t) refl refl h (last ys (tail_rises y ys h))
+
+  count_by : (y : TimedInput) (ys : List TimedInput) (b : Bool) → nat_lt t y.step ≡ b
+      → count_before (t + 1) (inserted ys new) ≡ count_before (t + 1) ys + 1
+      → count_before (t + 1) (inserted (y ∷ ys) new) ≡ count_before (t + 1) (y ∷ ys) + 1
+  unfolding inserted
+  count_by y ys true e more = rw (e, lt t (t + 1) (omega arith)) (omega arith)
+  count_by y ys false e more =
+      let l : y.step ≤ t = not_lt_is t y.step e in
+      rw (e, lt y.step (t + 1) (omega arith)) (omega (arith, more))
+
+  count_more : (xs : List TimedInput) → count_before (t + 1) (inserted xs new) ≡ count_before (t + 1) xs + 1
+  unfolding inserted
+  count_more [] = rw (lt t (t + 1) (omega arith)) refl
+  count_more (y ∷ ys) = count_by y ys (nat_lt t y.step) refl (count_more ys)
+
+  module _ (xs : List TimedInput) (rising : never_falls xs ≡ true) where
+    -- the events of the steps before are the same
+    before : (u : ℕ) → u < t → inputs_at (inserted xs new) u ≡ inputs_at xs u
+    unfolding inputs_at
+    before u k =
+        ap (map (λ x. event_of x.input)) (left_out (λ x. x.step == u) xs new (ne_above t u k))
+
+    pub events_before : (k : ℕ) → k ≤ t → events_of (inserted xs new) 0 k ≡ events_of xs 0 k
+    unfolding events_of
+    events_before zero h = refl
+    events_before (suc k) h = rw (events_before k (omega arith), before (0 + k) (omega arith)) refl
+
+    count_same : (u : ℕ) → u ≤ t → count_before u (inserted xs new) ≡ count_before u xs
+    count_same u k = ap length (left_out (λ x. nat_lt x.step u) xs new (not_lt t u k))
+
+    -- the event of the input comes last
+    inputs_more : inputs_at (inserted xs new) t ≡ inputs_at xs t ++ event_of input ∷ []
+    unfolding inputs_at
+    inputs_more =
+        ap (map (λ x. event_of x.input)) (last xs rising)
+        ∙ map-append (λ x. event_of x.input) (of t xs) (new ∷ [])
+
+    abbrev late : List TimedInput
+    late = drop (count_before (t + 1) xs) xs
+
+    no_more : of t late ≡ []
+    no_more = none_of t late (late_from (t + 1) xs rising)
+
+    one_left : inputs_at (drop (count_before (t + 1) xs) (inserted xs new)) t ≡ event_of input ∷ []
+    unfolding inputs_at
+    one_left = rw (here xs rising, same_time t, no_more) refl
+
+    one_counted : count_before (t + 1) (drop (count_before (t + 1) xs) (inserted xs new)) ≡ 1
+    one_counted =
+        let none : count_before (t + 1) late ≡ 0 = none_before (t + 1) late (late_from (t + 1) xs rising) in
+        let now : nat_lt t (t + 1) ≡ true = lt t (t + 1) (omega arith) in
+        rw (here xs rising, now, none) refl
+
+-- ---- states that are reached
+
+same : (b c : BoardState) (xs : List TimedInput) (p q t u : ℕ) → b ≡ c → p ≡ q → t ≡ u
+    → ◌≡◌ {A = TimedState} (record { board = b; inputs = xs; place = p; taken = t })
+    (record { board = c; inputs = xs; place = q; taken = u })
+same b c xs p q t u e f g = cc
+
+zero_more : (n : ℕ) → 0 + n ≡ n
+zero_more n = omega arith
+
+-- a board with timed inputs after its first steps, by its fields
+module _ (board : BoardState) (xs : List TimedInput) where
+  abbrev after_steps : ℕ → TimedState
+  after_steps k = record { board = run board (events_of xs 0 k); inputs = xs; place = count_before k xs; taken = k }
+
+  abbrev after_inputs : ℕ → TimedState
+  after_inputs k = record {
+    board = run (run board (events_of xs 0 k)) (inputs_at xs k);
+    inputs = xs;
+    place = count_before (k + 1) xs;
+    taken = k;
+  }
+
+  pub after_begun : (k : ℕ) → after (begun board xs) k ≡ after_steps k
+  unfolding after
+  after_begun k = same _ _ xs _ _ _ _ refl
+      (zero_more (count_before (0 + k) xs) ∙ ap (λ n. count_before n xs) (zero_more k)) (zero_more k)
+
+  module _ (rising : never_falls xs ≡ true) (k : ℕ) where
+    due_steps : with_due (after_steps k) ≡ after_inputs k
+    unfolding with_due
+    due_steps = same _ _ xs _ _ _ _
+        (ap (run (run board (events_of xs 0 k))) (inputs_late xs k k (omega arith) rising))
+        (late_count k (k + 1) (omega arith) xs rising) refl
+
+    pub due_begun : with_due (after (begun board xs) k) ≡ after_inputs k
+    due_begun = ap with_due (after_begun k) ∙ due_steps
+
+    due_again : with_due (after_inputs k) ≡ after_inputs k
+    unfolding with_due
+    due_again =
+        let late = drop (count_before (k + 1) xs) xs in
+        let none : count_before (k + 1) late ≡ 0 = none_before (k + 1) late (late_from (k + 1) xs rising) in
+        same _ _ xs _ _ _ _
+        (ap (run (run (run board (events_of xs 0 k)) (inputs_at xs k))) (none_due xs k rising))
+        (omega (arith, none)) refl
+
+    -- inputs are given once
+    pub due_twice : with_due (with_due (after (begun board xs) k)) ≡ with_due (after (begun board xs) k)
+    due_twice = ap with_due due_begun ∙ (due_again ∙ sym due_begun)
+
+-- ---- an input by hand
+
+module _ (board : BoardState) (xs : List TimedInput) (rising : never_falls xs ≡ true) (t : ℕ) (input : Input) where
+  abbrev longer : List TimedInput
+  longer = inserted xs (new t input)
+
+  with_longer : TimedState → TimedState
+  with_longer s = record s { inputs = longer }
+
+  -- before the other inputs of its step
+  steps_before : (k : ℕ) → k ≤ t → with_longer (after_steps board xs k) ≡ after_steps board longer k
+  unfolding with_longer
+  steps_before k h =
+      same _ _ longer _ _ _ _ (ap (run board) (sym (events_before t input xs rising k h)))
+      (sym (count_same t input xs rising k h)) refl
+
+  running_before : (k : ℕ) → k ≤ t
+      → halted_of (after (begun board longer) k).board ≡ halted_of (after (begun board xs) k).board
+  unfolding with_longer
+  running_before k h =
+      ap (λ s. halted_of s.board) (after_begun board longer k ∙ sym (steps_before k h))
+      ∙ ap (λ s. halted_of s.board) (sym (after_begun board xs k))
+
+  first : (s : TimedState) → s ≡ after (begun board xs) t
+      → with_due (with_longer s) ≡ with_due (after (begun board longer) t)
+  first s e =
+      ap (λ u. with_due (with_longer u)) (e ∙ after_begun board xs t)
+      ∙ (ap with_due (steps_before t (omega arith)) ∙ ap with_due (sym (after_begun board longer t)))
+
+  -- after them
+  after_others : with_due (with_longer (after_inputs board xs t)) ≡ after_inputs board longer t
+  unfolding with_due with_longer
+  after_others =
+      let here = run (run board (events_of xs 0 t)) (inputs_at xs t) in
+      same _ _ longer _ _ _ _
+      (ap (run here) (one_left t input xs rising)
+      ∙ (sym (run_append (run board (events_of xs 0 t)) (inputs_at xs t) (event_of input ∷ []))
+      ∙ (ap (run (run board (events_of xs 0 t))) (sym (inputs_more t input xs rising))
+      ∙ ap (λ es. run (run board es) (inputs_at longer t)) (sym (events_before t input xs rising t (omega arith))))))
+      (ap (λ n. count_before (t + 1) xs + n) (one_counted t input xs rising)
+      ∙ sym (count_more t input xs)) refl
+
+  second : (s : TimedState) → s ≡ with_due (after (begun board xs) t)
+      → with_due (with_longer s) ≡ with_due (after (begun board longer) t)
+  second s e =
+      ap (λ u. with_due (with_longer u)) (e ∙ due_begun board xs rising t)
+      ∙ (after_others ∙ sym (due_begun board longer (rises xs (new t input) rising) t))
+
+-- a state by its inputs and steps
+pub reached_steps : (board : BoardState) (xs : List TimedInput) (k : ℕ) (s : TimedState)
+    → never_falls xs ≡ true → s ≡ after (begun board xs) k
+    → ((i : ℕ) → i < k → halted_of (after (begun board xs) i).board ≡ None) → IsReached board s
+unfolding after
+reached_steps board xs k s h e goes =
+    let from_here : s.inputs ≡ xs = ap (λ u. u.inputs) e in
+    let time : s.taken ≡ k = ap (λ u. u.taken) e ∙ zero_more k in
+    record {
+      rising = ap never_falls from_here ∙ h;
+      state = inl (e ∙ (ap (λ ys. after (begun board ys) k) (sym from_here)
+          ∙ ap (λ n. after (begun board s.inputs) n) (sym time)));
+      running = λ i l. ap (λ ys. halted_of (after (begun board ys) i).board) from_here ∙ goes i (omega arith);
+    }
+
+pub reached_due : (board : BoardState) (xs : List TimedInput) (k : ℕ) (s : TimedState)
+    → never_falls xs ≡ true → s ≡ with_due (after (begun board xs) k)
+    → ((i : ℕ) → i < k → halted_of (after (begun board xs) i).board ≡ None) → IsReached board s
+unfolding after with_due
+reached_due board xs k s h e goes =
+    let from_here : s.inputs ≡ xs = ap (λ u. u.inputs) e in
+    let time : s.taken ≡ k = ap (λ u. u.taken) e ∙ zero_more k in
+    record {
+      rising = ap never_falls from_here ∙ h;
+      state = inr (e ∙ (ap (λ ys. with_due (after (begun board ys) k)) (sym from_here)
+          ∙ ap (λ n. with_due (after (begun board s.inputs) n)) (sym time)));
+      running = λ i l. ap (λ ys. halted_of (after (begun board ys) i).board) from_here ∙ goes i (omega arith);
+    }
+
+given_listed : (board : BoardState) (s : TimedState) (input : Input) → never_falls s.inputs ≡ true
+    → (s ≡ after (begun board s.inputs) s.taken) ⊎ (s ≡ with_due (after (begun board s.inputs) s.taken))
+    → given s input ≡ with_due (after (begun board (inserted s.inputs (new s.taken input))) s.taken)
+unfolding with_longer
+given_listed board s input h (inl e) = first board s.inputs h s.taken input s e
+given_listed board s input h (inr e) = second board s.inputs h s.taken input s e
+
+pub given_stands : (board : BoardState) (s : TimedState) (input : Input) → IsReached board s
+    → IsReached board (given s input)
+given_stands board s input r =
+    reached_due board (inserted s.inputs (new s.taken input)) s.taken (given s input)
+    (rises s.inputs (new s.taken input) r.rising) (given_listed board s input r.rising r.state)
+    (λ i l. running_before board s.inputs r.rising s.taken input i (omega arith) ∙ r.running i l)
+
+pub given_as_listed : GivenAsListed
+given_as_listed board s input r = (given_stands board s input r, given_listed board s input r.rising r.state)
+
+-- ---- the calls that give an input, take a step and go back, by their fields
+
+pub grown_in_time : (b : BoardState) (xs ys : List TimedInput) (place t : ℕ) (x : TimedInput)
+    → ys ≡ inserted xs x → t ≤ x.step
+    → IsInTime (record { board = b; inputs = xs; place = place; taken = t })
+    → IsInTime (record { board = b; inputs = ys; place = place; taken = t }) × (from t (drop place ys) ≡ true)
+grown_in_time b xs ys place t x is le h =
+    let grown = inserted_in_time b xs place t x le h in (
+      subst (λ zs. IsInTime (record { board = b; inputs = zs; place = place; taken = t })) (sym is) grown,
+      ap (λ zs. from t (drop place zs)) is ∙ grown.ahead,
+    )
+
+pub stepped_in_time : (b c : BoardState) (xs : List TimedInput) (place t later : ℕ) (s : TimedState)
+    → record { board = b; inputs = xs; place = place; taken = t } ≡ s
+    → IsInTime (record { board = b; inputs = xs; place = place; taken = t }) → from later (rest s) ≡ true
+    → s.taken < later → IsInTime (record { board = c; inputs = xs; place = place; taken = t + 1 })
+stepped_in_time b c xs place t later s e h quiet after_now =
+    let time : t ≡ s.taken = ap (λ u. u.taken) e in
+    record {
+      within = h.within;
+      rising = h.rising;
+      ahead = from_earlier (t + 1) later (drop place xs) (ap (λ u. from later (rest u)) e ∙ quiet) (omega arith);
+    }
+
+pub restored : (b c : BoardState) (xs ys : List TimedInput) (place t n : ℕ) → ys ≡ xs
+    → IsInTime (record { board = b; inputs = xs; place = place; taken = t }) × (from n (drop place xs) ≡ true)
+    → IsInTime (record { board = c; inputs = ys; place = place; taken = t }) × (from n (drop place ys) ≡ true)
+restored b c xs ys place t n e h =
+    let time = h.0 in (
+      record {
+        within = omega (arith, ap length e, time.within);
+        rising = ap never_falls e ∙ time.rising;
+        ahead = ap (λ zs. from t (drop place zs)) e ∙ time.ahead;
+      },
+      ap (λ zs. from n (drop place zs)) e ∙ h.1,
+    )
+
+pub restored_is : (b c : BoardState) (xs ys : List TimedInput) (place t : ℕ) (s : TimedState)
+    → record { board = b; inputs = xs; place = place; taken = t } ≡ s → c ≡ b → ys ≡ xs
+    → record { board = c; inputs = ys; place = place; taken = t } ≡ s
+restored_is b c xs ys place t s e f g = rw (f, g) e
+
+pub same_inputs : (a : Addresses) (most : ℕ) (old new : TimedState) → IsRefused a most old new
+    → new.inputs ≡ old.inputs
+unfolding after with_due
+same_inputs a most old new r = ap (λ u. u.inputs) r.state
+
+-- the steps taken stay within the limit
+due_taken : (old new : TimedState) → new ≡ with_due old → new.taken ≡ old.taken
+unfolding with_due
+due_taken old new e = ap (λ u. u.taken) e
+
+one_taken : (old new : TimedState) → new ≡ after old 1 → new.taken ≡ old.taken + 1
+unfolding after
+one_taken old new e = ap (λ u. u.taken) e
+
+pub give_within : (r : Result Unit NoMemory) (old new : TimedState) (input : Input) (limit : ℕ)
+    → OnOk r (new ≡ given old input) → OnErr r (new ≡ old) → old.taken ≤ limit → new.taken ≤ limit
+give_within (Ok u) old new input limit ok err h = omega (arith, due_taken _ new ok)
+give_within (Err e) old new input limit ok err h = omega (arith, ap (λ u. u.taken) err)
+
+pub step_within : (r : Result Outcome NoMemory) (old new : TimedState) (limit : ℕ)
+    → OnOk r (new ≡ after old 1) → OnErr r (new ≡ with_due old) → old.taken < limit → new.taken ≤ limit
+step_within (Ok u) old new limit ok err h = omega (arith, one_taken old new ok)
+step_within (Err e) old new limit ok err h = omega (arith, due_taken old new err)
+
+pub rewound_within : (r : Result Stop NoMemory) (old new : TimedState) (board : BoardState) (most limit : ℕ)
+    → IfOk r (HasStopped set.empty most (begun board old.inputs) new) → OnErr r (new ≡ old) → most ≤ limit
+    → old.taken ≤ limit → new.taken ≤ limit
+rewound_within (Ok stop) old new board most limit ok err k h = omega (arith, ok.count.within)
+rewound_within (Err e) old new board most limit ok err k h = omega (arith, ap (λ u. u.taken) err)
