@@ -1,0 +1,388 @@
+//! The commands: their table, and the reading of a command line.
+use crate::answer::Answer;
+use crate::nearest::Nearest;
+use rv_base::{LINE_LIMIT, begins_comment, first_word, look_up};
+use std::alloc::Global;
+
+/// What a line asks for.
+#[derive(Clone, Copy, PartialEq, Eq, Debug)]
+pub(crate) enum Command {
+    Step,
+    Go,
+    Over,
+    Finish,
+    Until,
+    Trace,
+    Back,
+    Where,
+    List,
+    Break,
+    Clear,
+    Registers,
+    ControlRegister,
+    Memory,
+    Instruction,
+    Traps,
+    Edges,
+    Why,
+    Devices,
+    Receive,
+    Line,
+    Save,
+    Monitor,
+    Help,
+    Quit,
+    /// An empty line: the last step or list command again.
+    Again,
+    /// A comment, or a line that was refused.
+    Nothing,
+}
+
+impl Command {
+    /// Returns what an empty line repeats after this command.
+    pub(crate) fn if_repeated(self, last: Command) -> Command {
+        match self {
+            Command::Step | Command::Over | Command::List => self,
+            Command::Again => last,
+            _ => Command::Nothing,
+        }
+    }
+}
+
+/// A command with its help.
+#[derive(Clone, Copy)]
+pub(crate) struct Row {
+    /// The command.
+    pub(crate) command: Command,
+    /// The command with its operands.
+    pub(crate) form: &'static str,
+    /// What it does.
+    pub(crate) does: &'static str,
+    /// An example.
+    pub(crate) example: &'static str,
+}
+
+/// The commands by their words, in the order of the help.
+pub(crate) static COMMANDS: [(&str, Row); 25] = [
+    (
+        "s",
+        Row {
+            command: Command::Step,
+            form: "s [N]",
+            does: "takes N steps, or one",
+            example: "s 5",
+        },
+    ),
+    (
+        "c",
+        Row {
+            command: Command::Go,
+            form: "c [N]",
+            does: "goes on up to a breakpoint, for N steps at most (1000000 without N)",
+            example: "c 500",
+        },
+    ),
+    (
+        "next",
+        Row {
+            command: Command::Over,
+            form: "next",
+            does: "takes a step, and a call as one step",
+            example: "next",
+        },
+    ),
+    (
+        "finish",
+        Row {
+            command: Command::Finish,
+            form: "finish",
+            does: "goes on until the present function or handler has returned",
+            example: "finish",
+        },
+    ),
+    (
+        "until",
+        Row {
+            command: Command::Until,
+            form: "until WHAT",
+            does: "goes on until `trap`, `console`, a line or an address, `REG` or `[ADDR]` changes, or `REG = V` (also != < <= > >=) holds",
+            example: "until [0x80001000] != 0",
+        },
+    ),
+    (
+        "trace",
+        Row {
+            command: Command::Trace,
+            form: "trace [N]",
+            does: "takes N steps (10 without N), and tells each: its line, and what it changed",
+            example: "trace 20",
+        },
+    ),
+    (
+        "u",
+        Row {
+            command: Command::Back,
+            form: "u [N]",
+            does: "goes N steps back, or back to before the last command",
+            example: "u 3",
+        },
+    ),
+    (
+        "w",
+        Row {
+            command: Command::Where,
+            form: "w",
+            does: "tells where the program is",
+            example: "w",
+        },
+    ),
+    (
+        "l",
+        Row {
+            command: Command::List,
+            form: "l [WHERE] [N]",
+            does: "lists N lines of the source (11 without N) round a line, an address or a name, or here",
+            example: "l main 5",
+        },
+    ),
+    (
+        "b",
+        Row {
+            command: Command::Break,
+            form: "b [WHERE]",
+            does: "sets a breakpoint at a line, an address or a name, or lists them",
+            example: "b 12",
+        },
+    ),
+    (
+        "d",
+        Row {
+            command: Command::Clear,
+            form: "d WHERE",
+            does: "clears a breakpoint",
+            example: "d 12",
+        },
+    ),
+    (
+        "r",
+        Row {
+            command: Command::Registers,
+            form: "r [REG]",
+            does: "shows the registers, with a star where the last command changed one",
+            example: "r sp",
+        },
+    ),
+    (
+        "p",
+        Row {
+            command: Command::ControlRegister,
+            form: "p CSR",
+            does: "shows a control register, and what its bits say",
+            example: "p mstatus",
+        },
+    ),
+    (
+        "m",
+        Row {
+            command: Command::Memory,
+            form: "m WHERE [N] [w|t]",
+            does: "shows N bytes of memory (64 without N, at most 4096), N words with `w`, the text with `t`",
+            example: "m sp 8 w",
+        },
+    ),
+    (
+        "i",
+        Row {
+            command: Command::Instruction,
+            form: "i [WHERE]",
+            does: "shows an instruction",
+            example: "i 0x80000010",
+        },
+    ),
+    (
+        "t",
+        Row {
+            command: Command::Traps,
+            form: "t",
+            does: "shows the last traps with their lines",
+            example: "t",
+        },
+    ),
+    (
+        "e",
+        Row {
+            command: Command::Edges,
+            form: "e N",
+            does: "shows how many edges of source N are pending",
+            example: "e 24",
+        },
+    ),
+    (
+        "why",
+        Row {
+            command: Command::Why,
+            form: "why",
+            does: "explains the first trap that met no handler, or else the last trap",
+            example: "why",
+        },
+    ),
+    (
+        "dev",
+        Row {
+            command: Command::Devices,
+            form: "dev",
+            does: "shows timer, serial port, interrupts and protection",
+            example: "dev",
+        },
+    ),
+    (
+        "rx",
+        Row {
+            command: Command::Receive,
+            form: "rx TEXT|HH ..",
+            does: "has the serial port receive a text between quotes, or bytes in hexadecimal, now",
+            example: "rx \"hi\\n\"",
+        },
+    ),
+    (
+        "line",
+        Row {
+            command: Command::Line,
+            form: "line N V",
+            does: "makes the line of interrupt source N high (V is 1) or low (V is 0), now",
+            example: "line 5 1",
+        },
+    ),
+    (
+        "save",
+        Row {
+            command: Command::Save,
+            form: "save [NAME]",
+            does: "shows what was done as a timed list and commands for rvboard, or writes them to NAME.input and NAME.commands",
+            example: "save lesson",
+        },
+    ),
+    (
+        "monitor",
+        Row {
+            command: Command::Monitor,
+            form: "monitor LINE",
+            does: "does a command exactly as rvboard's monitor does",
+            example: "monitor m 0x80000000 16",
+        },
+    ),
+    (
+        "help",
+        Row {
+            command: Command::Help,
+            form: "help [COMMAND]",
+            does: "shows the commands, or one with an example",
+            example: "help until",
+        },
+    ),
+    (
+        "q",
+        Row {
+            command: Command::Quit,
+            form: "q",
+            does: "ends the lab",
+            example: "q",
+        },
+    ),
+];
+
+/// Other words for commands, as other tools have them.
+static OTHERS: [(&str, &str); 24] = [
+    ("step", "s"),
+    ("si", "s"),
+    ("continue", "c"),
+    ("run", "c"),
+    ("go", "c"),
+    ("n", "next"),
+    ("ni", "next"),
+    ("fin", "finish"),
+    ("undo", "u"),
+    ("back", "u"),
+    ("where", "w"),
+    ("list", "l"),
+    ("break", "b"),
+    ("delete", "d"),
+    ("clear", "d"),
+    ("reg", "r"),
+    ("regs", "r"),
+    ("registers", "r"),
+    ("mem", "m"),
+    ("x", "m"),
+    ("traps", "t"),
+    ("h", "help"),
+    ("exit", "q"),
+    ("quit", "q"),
+];
+
+/// Returns the row of a command's word.
+pub(crate) fn row_of(word: &[u8]) -> Option<Row> {
+    match look_up(&OTHERS, word) {
+        Some(other) => look_up(&COMMANDS, other.as_bytes()),
+        None => look_up(&COMMANDS, word),
+    }
+}
+
+/// A command line: its command, and the text of its operands.
+#[derive(Clone, Copy)]
+pub(crate) struct CommandLine<'a> {
+    pub(crate) command: Command,
+    pub(crate) operands: &'a [u8],
+}
+
+/// Says that a word is no command, and which is the nearest.
+fn refuse_word(word: &[u8], nearest: &mut Nearest<'_>, answer: &mut Answer) {
+    answer.say("`");
+    answer.put(word);
+    answer.say("` is no command");
+    for (name, _) in &OTHERS {
+        nearest.offer(name.as_bytes());
+    }
+    for (name, _) in &COMMANDS {
+        nearest.offer(name.as_bytes());
+    }
+    nearest.append(answer);
+    answer.say("; `help` shows them all\n");
+}
+
+/// Reads a command line. One that is no command is answered, and reads as `Nothing`.
+pub(crate) fn read_command<'a>(
+    line: &'a [u8],
+    alloc: Global,
+    answer: &mut Answer,
+) -> CommandLine<'a> {
+    if line.len() > LINE_LIMIT {
+        answer.say("a line has at most 1024 bytes\n");
+        return CommandLine {
+            command: Command::Nothing,
+            operands: b"",
+        };
+    }
+    let Some((word, operands)) = first_word(line) else {
+        return CommandLine {
+            command: Command::Again,
+            operands: b"",
+        };
+    };
+    let command = if begins_comment(word) {
+        Command::Nothing
+    } else {
+        command_of(word, alloc, answer)
+    };
+    CommandLine { command, operands }
+}
+
+/// Returns the command of a word, or `Nothing` where it is no command, which is answered.
+fn command_of(word: &[u8], alloc: Global, answer: &mut Answer) -> Command {
+    match row_of(word) {
+        Some(row) => row.command,
+        None => {
+            refuse_word(word, &mut Nearest::new(alloc, word), answer);
+            Command::Nothing
+        }
+    }
+}

@@ -1,0 +1,78 @@
+//! The execution of a command.
+use crate::answer::Answer;
+use crate::command::Command;
+use crate::lab::{Lab, Next};
+use rv_base::NoMemory;
+
+impl Lab {
+    /// Executes a command, and appends its answer.
+    pub(crate) fn execute(
+        &mut self,
+        command: Command,
+        operands: &[u8],
+        answer: &mut Answer,
+    ) -> Result<Next, NoMemory> {
+        match command {
+            Command::Step => self.step_command(operands, answer),
+            Command::Go => self.go_command(operands, answer),
+            Command::Over => self.over_command(answer),
+            Command::Finish => self.finish_command(answer),
+            Command::Until => self.until_command(operands, answer),
+            Command::Trace => self.trace_command(operands, answer),
+            Command::Back => self.back_command(operands, answer),
+            Command::Again => self.repeat(answer),
+            _ => self.change(command, operands, answer),
+        }
+    }
+
+    /// Executes the last step or list command again.
+    fn repeat(&mut self, answer: &mut Answer) -> Result<Next, NoMemory> {
+        match self.last.command {
+            Command::Step => self.run_steps(self.last.count, answer),
+            Command::Over => self.over_command(answer),
+            Command::List => {
+                self.list_more(answer);
+                Ok(Next::More)
+            }
+            _ => Ok(Next::More),
+        }
+    }
+
+    /// Executes a command that takes no step.
+    fn change(
+        &mut self,
+        command: Command,
+        operands: &[u8],
+        answer: &mut Answer,
+    ) -> Result<Next, NoMemory> {
+        match command {
+            Command::List => self.list_command(operands, answer),
+            Command::Break => return self.break_command(operands, answer),
+            Command::Clear => self.clear_command(operands, answer),
+            Command::Receive => return self.receive_command(operands, answer),
+            Command::Line => return self.line_command(operands, answer),
+            Command::Monitor => return self.monitor_command(operands, answer),
+            Command::Save => return Ok(self.save_command(operands, answer)),
+            Command::Quit => return Ok(Next::Quit),
+            _ => self.look(command, operands, answer),
+        }
+        Ok(Next::More)
+    }
+
+    /// Executes a command that only looks.
+    fn look(&self, command: Command, operands: &[u8], answer: &mut Answer) {
+        match command {
+            Command::Where => self.where_command(answer),
+            Command::Registers => self.registers_command(operands, answer),
+            Command::ControlRegister => self.control_register_command(operands, answer),
+            Command::Memory => self.memory_command(operands, answer),
+            Command::Instruction => self.instruction_command(operands, answer),
+            Command::Traps => self.traps_command(answer),
+            Command::Edges => self.edges_command(operands, answer),
+            Command::Why => self.why_command(answer),
+            Command::Devices => self.devices_command(answer),
+            Command::Help => self.help_command(operands, answer),
+            _ => {}
+        }
+    }
+}

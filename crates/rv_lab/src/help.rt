@@ -1,0 +1,49 @@
+//! Help.
+use crate::answer::Answer;
+use crate::command::{COMMANDS, row_of};
+use crate::lab::Lab;
+use crate::operands::only_word;
+use rv_base::has_word;
+
+/// The width of a command's form in the list.
+const FORM_WIDTH: usize = 20;
+
+impl Lab {
+    /// Appends the list of all commands.
+    fn append_commands(&self, answer: &mut Answer) {
+        for (_, row) in &COMMANDS {
+            answer.padded(row.form.as_bytes(), FORM_WIDTH);
+            answer.say(row.does);
+            answer.end();
+        }
+        answer.say(
+            "An empty line repeats the last step or list command. WHERE is a line's number, 0x and a number, ",
+        );
+        answer.say(
+            "a name\nof the source, a register or pc, also with +N or -N. Only events change the board: there is ",
+        );
+        answer.say("no command\nthat sets a register or memory.\n");
+    }
+
+    /// Executes `help`.
+    pub(crate) fn help_command(&self, operands: &[u8], answer: &mut Answer) {
+        if !has_word(operands) {
+            return self.append_commands(answer);
+        }
+        match row_of(only_word(operands).unwrap_or(b"")) {
+            Some(row) => {
+                answer.say(row.form);
+                answer.say(": ");
+                answer.say(row.does);
+                answer.say("\n  example: ");
+                answer.say(row.example);
+                answer.end();
+            }
+            None => {
+                answer.say("help: `");
+                answer.put(operands);
+                answer.say("` is no command; `help` shows them all\n");
+            }
+        }
+    }
+}

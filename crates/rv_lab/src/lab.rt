@@ -1,0 +1,208 @@
+//! The lab: what a caller may ask of it.
+use crate::answer::Answer;
+use crate::command::{Command, CommandLine, read_command};
+use crate::listing::{Listing, list};
+use crate::plan::Plan;
+use crate::recording::Recording;
+use crate::registers::Registers;
+use rv_asm::{AsmFault, FaultKind, Program};
+use rv_base::{NoMemory, cut_lines};
+use rv_board::{BootFault, BootedBoard};
+use rv_lists::TimelineFault;
+use std::alloc::Global;
+
+/// The sizes of a board.
+#[derive(Clone, Copy, Debug, PartialEq, Eq)]
+pub struct Sizes {
+    /// The pages of memory, of 4096 bytes each: 1 to 4096.
+    pub pages: u16,
+    /// The slots of the cache of decoded instructions: a power of two from 64 to 4096.
+    pub slots: u16,
+}
+
+/// Why a lab isn't opened.
+#[derive(Clone, Copy, Debug, PartialEq, Eq)]
+pub enum OpenFault {
+    /// The source has this fault.
+    Source(AsmFault),
+    /// This line of the timed list, counted from 1, is refused.
+    Input(usize),
+    /// The board doesn't boot.
+    Board(BootFault),
+    /// Memory ran out.
+    OutOfMemory,
+}
+
+impl From<AsmFault> for OpenFault {
+    fn from(fault: AsmFault) -> Self {
+        match fault.kind {
+            FaultKind::OutOfMemory => OpenFault::OutOfMemory,
+            _ => OpenFault::Source(fault),
+        }
+    }
+}
+
+impl From<TimelineFault> for OpenFault {
+    fn from(fault: TimelineFault) -> Self {
+        match fault {
+            TimelineFault::BadLine(line) => OpenFault::Input(line),
+            TimelineFault::OutOfMemory => OpenFault::OutOfMemory,
+        }
+    }
+}
+
+impl From<BootFault> for OpenFault {
+    fn from(fault: BootFault) -> Self {
+        match fault {
+            BootFault::OutOfMemory => OpenFault::OutOfMemory,
+            _ => OpenFault::Board(fault),
+        }
+    }
+}
+
+/// What follows a command.
+#[derive(Clone, Copy, Debug, PartialEq, Eq)]
+pub enum Next {
+    /// The next command follows.
+    More,
+    /// The run isn't over: `go_on` goes on with it. Another command ends it.
+    Running,
+    /// What was done is to be saved under the name that `saved_name` reads in the command.
+    Save,
+    /// No command follows.
+    Quit,
+}
+
+/// What the last command left.
+#[derive(Clone, Copy)]
+pub(crate) struct Last {
+    /// The registers before the last command that moved the board.
+    pub(crate) registers: Registers,
+    /// The number of steps that the board had taken before it.
+    pub(crate) steps: u64,
+    /// How many bytes of the console were told.
+    pub(crate) told: usize,
+    /// What an empty line repeats.
+    pub(crate) command: Command,
+    /// The number of steps of the last `s`.
+    pub(crate) count: u64,
+    /// The line that follows those of the last `l`.
+    pub(crate) listed: usize,
+    /// The run that isn't over, if there is one.
+    pub(crate) plan: Option<Plan>,
+}
+
+/// A board with its source, whose state is asked for and moved by command lines.
+pub struct Lab {
+    pub(crate) alloc: Global,
+    pub(crate) listing: Listing,
+    pub(crate) recording: Recording,
+    pub(crate) last: Last,
+}
+
+// Hand-written: a derived `Drop` would be proved anew at each exit (docs/PROVING.md).
+impl Drop for Lab {
+    fn drop(self) {
+        let Lab {
+            alloc: _,
+            listing: _,
+            recording: _,
+            last: _,
+        } = self;
+    }
+}
+
+impl Lab {
+    /// Assembles a source, and boots its image on a board that gets the inputs of a timed list.
+    ///
+    /// # Errors
+    ///
+    /// The first fault of the source, the timed list and the board, in this order; `OutOfMemory` may come in place of
+    /// any result.
+    pub fn open(
+        alloc: Global,
+        source: &[u8],
+        inputs: &[u8],
+        sizes: Sizes,
+    ) -> Result<Lab, OpenFault> {
+        let listing = list(alloc, source)?;
+        let recording = Recording::open(alloc, source, inputs, sizes)?;
+        let last = Last {
+            registers: Registers::of(recording.session().board()),
+            steps: 0,
+            told: 0,
+            command: Command::Nothing,
+            count: 1,
+            listed: 0,
+            plan: None,
+        };
+        Ok(Lab {
+            alloc,
+            listing,
+            recording,
+            last,
+        })
+    }
+
+    /// Returns the board.
+    pub fn board(&self) -> &BootedBoard {
+        self.recording.session().board()
+    }
+
+    /// Returns the number of steps that the board has taken.
+    pub fn steps(&self) -> u64 {
+        self.recording.steps()
+    }
+
+    /// Returns the program of the source.
+    pub(crate) fn program(&self) -> &Program {
+        self.listing.program()
+    }
+
+    /// Returns the text of a line of the source, counted from 1.
+    pub(crate) fn line(&self, number: usize) -> Option<&[u8]> {
+        let mut count: usize = 0;
+        for line in cut_lines(self.recording.source()) {
+            count = count.saturating_add(1);
+            if count == number {
+                return Some(line);
+            }
+        }
+        None
+    }
+
+    /// Appends the source's name and size, and where the board stands.
+    pub fn greet(&self, name: &str, answer: &mut Answer) {
+        answer.say(name);
+        answer.say(": ");
+        answer.count(self.listing.len() as u64, "line");
+        answer.say(", ");
+        answer.count(self.program().bytes().len() as u64, "byte");
+        answer.say(" from 80000000; `help` shows the commands\n");
+        self.append_here(answer);
+    }
+
+    /// Appends the progress of a long run.
+    pub fn append_progress(&self, answer: &mut Answer) {
+        answer.say("running: step ");
+        answer.number(self.steps());
+        answer.end();
+    }
+
+    /// Executes a command line, and appends its answer.
+    ///
+    /// # Errors
+    ///
+    /// `NoMemory` if memory runs out. The lab is as after some of the command's steps then, or as it was.
+    pub fn command(&mut self, line: &[u8], answer: &mut Answer) -> Result<Next, NoMemory> {
+        let CommandLine { command, operands } = read_command(line, self.alloc, answer);
+        self.last.plan = None;
+        let again = self.last.command;
+        self.last.command = command.if_repeated(again);
+        let next = self.execute(command, operands, answer)?;
+        if answer.is_cut() {
+            return Err(NoMemory);
+        }
+        Ok(next)
+    }
+}

@@ -1,0 +1,34 @@
+//! The lab: a board with its source, whose state is asked for and moved by command lines. There are no files and no
+//! terminal in it.
+#![tactic(auto)]
+
+mod answer;
+mod breaks;
+mod causes;
+mod command;
+mod control;
+mod devices;
+mod diagnosis;
+mod execute;
+mod help;
+mod inputs;
+mod lab;
+mod listing;
+mod memory;
+mod nearest;
+mod operands;
+mod plan;
+mod protection;
+mod recording;
+mod registers;
+mod run;
+mod shows;
+mod source;
+mod tell;
+mod until;
+mod why;
+
+pub use answer::Answer;
+pub use diagnosis::append_diagnosis;
+pub use inputs::saved_name;
+pub use lab::{Lab, Next, OpenFault, Sizes};

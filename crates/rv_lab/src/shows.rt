@@ -1,0 +1,207 @@
+//! Commands that show registers, memory and traps.
+use crate::answer::Answer;
+use crate::causes::append_cause;
+use crate::control::append_bits;
+use crate::lab::Lab;
+use crate::memory::{append_bytes, append_instruction, append_text, append_words};
+use crate::nearest::Nearest;
+use crate::operands::{count_or, only_word, register};
+use crate::registers::{Registers, append_register, append_registers};
+use rv_base::{decimal, first_word, has_word, low_word};
+use rv_board::TrapRecord;
+use rv_isa::csr_named;
+use rv_plic::Source;
+use rv_pmp::Mode;
+
+/// The most bytes that `m` shows.
+const MOST_BYTES: u64 = 4096;
+
+/// How the bytes of memory are shown.
+#[derive(Clone, Copy, PartialEq, Eq, Debug)]
+enum Format {
+    Bytes,
+    Words,
+    Text,
+}
+
+/// The operands of `m` following the address.
+#[derive(Clone, Copy)]
+struct Extent {
+    count: u64,
+    format: Format,
+}
+
+/// Reads how many bytes or words `m` shows, and how.
+fn read_extent(operands: &[u8]) -> Option<Extent> {
+    let (count, rest) = match first_word(operands) {
+        Some((word, rest)) => match decimal(MOST_BYTES, word) {
+            Some(count) => (Some(count), rest),
+            None => (None, operands),
+        },
+        None => (None, operands),
+    };
+    let format = if has_word(rest) {
+        match only_word(rest)? {
+            b"w" => Format::Words,
+            b"t" => Format::Text,
+            b"b" => Format::Bytes,
+            _ => return None,
+        }
+    } else {
+        Format::Bytes
+    };
+    let usual = if format == Format::Words { 16 } else { 64 };
+    Some(Extent {
+        count: count.unwrap_or(usual),
+        format,
+    })
+}
+
+/// Reads the number of an edge source, 24 to 31.
+fn edge_source(operands: &[u8]) -> Option<Source> {
+    match count_or(operands, 0, 31)? {
+        source @ 24..=31 => Source::new(source as u8),
+        _ => None,
+    }
+}
+
+impl Lab {
+    /// Appends the pc and the mode.
+    fn append_pc(&self, answer: &mut Answer) {
+        answer.say("  pc   ");
+        answer.word(self.board().pc());
+        self.append_label(self.board().pc(), answer);
+        answer.say(match self.board().mode() {
+            Mode::Machine => "  machine mode\n",
+            Mode::User => "  user mode\n",
+        });
+    }
+
+    /// Executes `r`.
+    pub(crate) fn registers_command(&self, operands: &[u8], answer: &mut Answer) {
+        if !has_word(operands) {
+            let now = Registers::of(self.board());
+            append_registers(&self.last.registers, &now, answer);
+            return self.append_pc(answer);
+        }
+        let Some(register) = register(only_word(operands).unwrap_or(b"")) else {
+            answer.say("r: `");
+            answer.put(operands);
+            answer.say("` is no register; `p` shows a control register\n");
+            return;
+        };
+        append_register(register, self.board().reg(register), answer);
+        answer.end();
+    }
+
+    /// Executes `p`.
+    pub(crate) fn control_register_command(&self, operands: &[u8], answer: &mut Answer) {
+        let name = only_word(operands).unwrap_or(b"");
+        let Some(csr) = csr_named(name) else {
+            answer.say("p: `");
+            answer.put(operands);
+            answer.say("` is no control register");
+            let mut nearest = Nearest::new(self.alloc, name);
+            for known in &crate::control::NAMES {
+                nearest.offer(known.as_bytes());
+            }
+            nearest.append(answer);
+            answer.say("; docs/BOARD.md has them all\n");
+            return;
+        };
+        answer.put(name);
+        answer.say(" = ");
+        match self.board().csr(csr) {
+            Some(word) => {
+                answer.word(word);
+                append_bits(csr, word, answer);
+            }
+            None => answer.say("--------"),
+        }
+        answer.end();
+    }
+
+    /// Executes `m`.
+    pub(crate) fn memory_command(&self, operands: &[u8], answer: &mut Answer) {
+        let Some(address) = self.first_address("m", operands, answer) else {
+            return;
+        };
+        let rest = match first_word(operands) {
+            Some((_, rest)) => rest,
+            None => operands,
+        };
+        let Some(Extent { count, format }) = read_extent(rest) else {
+            return answer.say(
+                "m: a number from 0 to 4096 is wanted, and w, b or t; `help m` has an example\n",
+            );
+        };
+        let count = low_word(count);
+        match format {
+            Format::Bytes => append_bytes(self.board(), address, count, answer),
+            Format::Words => append_words(self.board(), address, count, answer),
+            Format::Text => append_text(self.board(), address, count, answer),
+        }
+    }
+
+    /// Executes `i`.
+    pub(crate) fn instruction_command(&self, operands: &[u8], answer: &mut Answer) {
+        let address = if has_word(operands) {
+            self.first_address("i", operands, answer)
+        } else {
+            Some(self.board().pc())
+        };
+        let Some(address) = address else {
+            return;
+        };
+        answer.word(address);
+        self.append_label(address, answer);
+        answer.say("  ");
+        append_instruction(self.board(), address, answer);
+        answer.end();
+    }
+
+    /// Executes `t`.
+    pub(crate) fn traps_command(&self, answer: &mut Answer) {
+        let board = self.board();
+        if board.trap_count() == 0 {
+            answer.say("no trap so far\n");
+        }
+        let mut times: u64 = 0;
+        for index in 0..board.trap_count() {
+            times = times.saturating_add(1);
+            if let Some(trap) = board.trap(index)
+                && board.trap(index + 1) != Some(trap)
+            {
+                self.append_record(trap, times, answer);
+                times = 0;
+            }
+        }
+    }
+
+    /// Appends a trap that was taken some times in a row.
+    fn append_record(&self, trap: TrapRecord, times: u64, answer: &mut Answer) {
+        answer.say("trap ");
+        append_cause(trap.cause, answer);
+        answer.say(", mtval ");
+        answer.word(trap.tval);
+        answer.say(", at");
+        self.append_short_place(trap.epc, answer);
+        if times > 1 {
+            answer.say(", ");
+            answer.count(times, "time");
+        }
+        answer.end();
+    }
+
+    /// Executes `e`.
+    pub(crate) fn edges_command(&self, operands: &[u8], answer: &mut Answer) {
+        let Some(source) = edge_source(operands) else {
+            return answer.say("e: a source from 24 to 31 is wanted; `dev` shows the others\n");
+        };
+        answer.say("source ");
+        answer.number(u64::from(source.number()));
+        answer.say(": ");
+        answer.count(u64::from(self.board().plic().edges(source)), "pending edge");
+        answer.end();
+    }
+}

@@ -1,0 +1,122 @@
+//! The source with addresses and words.
+use crate::answer::Answer;
+use crate::lab::Lab;
+use crate::memory::word_at;
+use crate::operands::{count_or, line_number};
+use rv_base::{cut_lines, first_word};
+
+/// How many lines `l` lists where no number is given.
+const USUAL_LINES: u64 = 11;
+
+/// The most lines that `l` lists.
+const MOST_LINES: u64 = 1000;
+
+impl Lab {
+    /// Appends the marks of a line: `>` at pc, `*` at a breakpoint.
+    fn append_marks(&self, line: usize, answer: &mut Answer) {
+        let size = self.listing.size(line);
+        let Some(address) = self.listing.address(line) else {
+            return answer.say("  ");
+        };
+        let is_here = self.board().pc().wrapping_sub(address) < size;
+        answer.say(if is_here { ">" } else { " " });
+        let is_marked = size > 0 && self.recording.session().has_break(address);
+        answer.say(if is_marked { "*" } else { " " });
+    }
+
+    /// Appends the address of a line and the first word there, or blanks where the line has no bytes.
+    fn append_word_of(&self, line: usize, answer: &mut Answer) {
+        let size = self.listing.size(line);
+        match self.listing.address(line) {
+            Some(address) if size > 0 => {
+                answer.word(address);
+                answer.say("  ");
+                match word_at(self.board(), address) {
+                    Some(word) if size >= 4 => answer.word(word),
+                    _ => answer.spaces(8),
+                }
+                answer.say(if size > 4 { "+ " } else { "  " });
+            }
+            _ => answer.spaces(20),
+        }
+    }
+
+    /// Appends a line of the source.
+    fn append_source_line(&self, number: usize, text: &[u8], answer: &mut Answer) {
+        self.append_marks(number, answer);
+        self.append_word_of(number, answer);
+        answer.line_number(number);
+        answer.put(text);
+        answer.end();
+    }
+
+    /// Appends `count` lines of the source from a line on, and returns the line that follows them.
+    fn append_lines(&self, first: usize, count: usize, answer: &mut Answer) -> usize {
+        let end = first.saturating_add(count);
+        let mut number: usize = 0;
+        for text in cut_lines(self.recording.source()) {
+            number = number.saturating_add(1);
+            if number >= first && number < end {
+                self.append_source_line(number, text, answer);
+            }
+        }
+        end.min(self.listing.len().saturating_add(1))
+    }
+
+    /// Returns the line that a word stands for: its number, or the line at an address. Where there is none, that is
+    /// answered.
+    fn line_of(&self, word: &[u8], answer: &mut Answer) -> Option<usize> {
+        if let Some(line) = line_number(word) {
+            return Some(line as usize);
+        }
+        let Some(address) = self.address(word) else {
+            self.refuse_address("l", word, answer);
+            return None;
+        };
+        let line = self.listing.line_at(address);
+        if line.is_none() {
+            answer.say("l: no line of the source is at ");
+            answer.word(address);
+            answer.end();
+        }
+        line
+    }
+
+    /// Lists lines round a line.
+    fn list_round(&mut self, line: usize, count: u64, answer: &mut Answer) {
+        let count = count as usize;
+        let first = line.saturating_sub(count / 2).max(1);
+        let end = self.append_lines(first, count, answer);
+        self.last.listed = end;
+        if first > self.listing.len() {
+            answer.say("the source has ");
+            answer.count(self.listing.len() as u64, "line");
+            answer.end();
+        }
+    }
+
+    /// Executes `l`.
+    pub(crate) fn list_command(&mut self, operands: &[u8], answer: &mut Answer) {
+        let Some((word, rest)) = first_word(operands) else {
+            let here = self.listing.line_at(self.board().pc());
+            return self.list_round(here.unwrap_or(1), USUAL_LINES, answer);
+        };
+        let Some(line) = self.line_of(word, answer) else {
+            return;
+        };
+        match count_or(rest, USUAL_LINES, MOST_LINES) {
+            Some(count) => self.list_round(line, count, answer),
+            None => answer.say("l: the number of lines is from 0 to 1000\n"),
+        }
+    }
+
+    /// Lists the lines that follow those of the last list.
+    pub(crate) fn list_more(&mut self, answer: &mut Answer) {
+        let first = self.last.listed.max(1);
+        if first > self.listing.len() {
+            return answer.say("that was the last line\n");
+        }
+        let end = self.append_lines(first, USUAL_LINES as usize, answer);
+        self.last.listed = end;
+    }
+}

@@ -1,0 +1,256 @@
+//! Where the program is, and what a command did.
+use crate::answer::Answer;
+use crate::causes::append_cause;
+use crate::lab::Lab;
+use crate::memory::{append_escaped, append_instruction};
+use crate::plan::{End, Goal, Watched};
+use crate::registers::{Registers, append_changes, append_register, append_value};
+use crate::run::watched_value;
+use rv_hart::Outcome;
+use rv_pmp::Mode;
+
+impl Lab {
+    /// Appends the nearest label before an address with its distance, as `<loop+8>`, if the address is in the
+    /// image.
+    pub(crate) fn append_label(&self, address: u32, answer: &mut Answer) {
+        if self.listing.line_at(address).is_none() {
+            return;
+        }
+        let Some(near) = self.listing.label_before(address) else {
+            return;
+        };
+        answer.say(" <");
+        answer.put(near.name);
+        if near.distance > 0 {
+            answer.say("+");
+            answer.number(u64::from(near.distance));
+        }
+        answer.say(">");
+    }
+
+    /// Appends an address with its label, its line's number and the line's text.
+    pub(crate) fn append_place(&self, address: u32, answer: &mut Answer) {
+        answer.word(address);
+        self.append_label(address, answer);
+        answer.say("  ");
+        let Some(line) = self.listing.line_at(address) else {
+            return append_instruction(self.board(), address, answer);
+        };
+        answer.line_number(line);
+        answer.put(self.line(line).unwrap_or(b""));
+    }
+
+    /// Appends the line of the next instruction.
+    pub(crate) fn append_here(&self, answer: &mut Answer) {
+        self.append_place(self.board().pc(), answer);
+        answer.end();
+    }
+
+    /// Appends the registers that changed since the last command that moved the board, in a line, if any did.
+    fn append_changed(&self, answer: &mut Answer) {
+        let now = Registers::of(self.board());
+        if append_changes(&self.last.registers, &now, answer) > 0 {
+            answer.end();
+        }
+    }
+
+    /// Appends what a step did: a trap, or the registers that it changed.
+    pub(crate) fn append_outcome(&self, outcome: Outcome, before: &Registers, answer: &mut Answer) {
+        if let Outcome::Trapped { cause, tval, .. } = outcome {
+            answer.say("  trap ");
+            append_cause(cause, answer);
+            answer.say(", mtval ");
+            answer.word(tval);
+        }
+        append_changes(before, &Registers::of(self.board()), answer);
+    }
+
+    /// Appends the bytes that the console got and that weren't told, marked by a bar. A line that isn't ended yet
+    /// ends with a backslash.
+    pub(crate) fn tell_console(&mut self, answer: &mut Answer) {
+        let console = self.recording.session().board().console();
+        let (_, new) = console.split_at(self.last.told.min(console.len()));
+        append_console(new, answer);
+        self.last.told = console.len();
+    }
+
+    /// Appends that the board halted, if it did.
+    pub(crate) fn tell_halt(&self, answer: &mut Answer) {
+        if let Some(code) = self.board().halted() {
+            answer.say("halted with code ");
+            answer.number(u64::from(code));
+            answer.say(" after ");
+            answer.count(self.steps(), "step");
+            answer.end();
+        }
+    }
+
+    /// Appends why the board takes no step.
+    pub(crate) fn tell_stuck(&self, answer: &mut Answer) {
+        if self.board().halted().is_some() {
+            return self.tell_halt(answer);
+        }
+        answer.say("the lab takes no more than 9999999999 steps\n");
+    }
+
+    /// Appends the number of steps that the last command took.
+    fn append_taken(&self, answer: &mut Answer) {
+        answer.count(self.steps().saturating_sub(self.last.steps), "step");
+    }
+
+    /// Appends what a single step did, and where the program is.
+    pub(crate) fn tell_step(&mut self, outcome: Option<Outcome>, answer: &mut Answer) {
+        self.tell_console(answer);
+        let Some(outcome) = outcome else {
+            return self.tell_stuck(answer);
+        };
+        answer.say("step ");
+        answer.number(self.steps());
+        self.append_outcome(outcome, &self.last.registers, answer);
+        answer.end();
+        self.tell_rest(answer);
+    }
+
+    /// Appends that the board halted, or where the program is.
+    fn tell_rest(&self, answer: &mut Answer) {
+        if self.board().halted().is_some() {
+            return self.tell_halt(answer);
+        }
+        if self.board().ram(self.board().pc()).is_none() {
+            answer.say("no memory is at pc: the last trap met no handler; type `why`\n");
+        }
+        self.append_here(answer);
+    }
+
+    /// Appends the goal that was reached.
+    fn append_goal(&self, goal: Goal, answer: &mut Answer) {
+        match goal {
+            Goal::Changed { watched, .. } | Goal::Compares { watched, .. } => {
+                answer.say(": ");
+                self.append_watched(watched, answer);
+            }
+            Goal::Trap => self.append_last_trap(answer),
+            _ => {}
+        }
+    }
+
+    /// Appends the cause of the last trap.
+    fn append_last_trap(&self, answer: &mut Answer) {
+        let count = self.board().trap_count();
+        if let Some(trap) = self.board().trap(count.saturating_sub(1)) {
+            answer.say(": trap ");
+            append_cause(trap.cause, answer);
+            answer.say(", mtval ");
+            answer.word(trap.tval);
+            answer.say(", at");
+            self.append_short_place(trap.epc, answer);
+        }
+    }
+
+    /// Appends an address with the number of its line.
+    pub(crate) fn append_short_place(&self, address: u32, answer: &mut Answer) {
+        if let Some(line) = self.listing.line_at(address) {
+            answer.say(" line ");
+            answer.number(line as u64);
+        }
+        self.append_label(address, answer);
+        answer.say(" (");
+        answer.word(address);
+        answer.say(")");
+    }
+
+    /// Appends what is watched, with its value.
+    fn append_watched(&self, watched: Watched, answer: &mut Answer) {
+        match watched {
+            Watched::Register(register) => {
+                append_register(register, self.board().reg(register), answer);
+            }
+            Watched::Word(address) => {
+                answer.say("[");
+                answer.word(address);
+                answer.say("] = ");
+                match watched_value(self.board(), watched) {
+                    Some(word) => append_value(word, answer),
+                    None => answer.say("--------"),
+                }
+            }
+        }
+    }
+
+    /// Appends why a run is over, what it changed, and where the program is.
+    pub(crate) fn tell_end(&mut self, goal: Goal, end: End, answer: &mut Answer) {
+        self.tell_console(answer);
+        match end {
+            End::Halted => {}
+            End::Stuck => return self.tell_stuck(answer),
+            End::Breakpoint => {
+                answer.say("breakpoint after ");
+                self.append_taken(answer);
+                if !matches!(goal, Goal::Break) {
+                    answer.say(", before the goal is reached");
+                }
+                answer.end();
+            }
+            End::Reached => {
+                answer.say("stopped after ");
+                self.append_taken(answer);
+                self.append_goal(goal, answer);
+                answer.end();
+            }
+            End::Limit => self.tell_limit(goal, answer),
+        }
+        self.append_changed(answer);
+        self.tell_rest(answer);
+    }
+
+    /// Appends that as many steps were taken as were asked for.
+    fn tell_limit(&self, goal: Goal, answer: &mut Answer) {
+        match goal {
+            Goal::Count => answer.say("stopped after "),
+            Goal::Break => answer.say("still running after "),
+            _ => answer.say("not reached after "),
+        }
+        self.append_taken(answer);
+        if !matches!(goal, Goal::Count) {
+            answer.say("; c goes on");
+        }
+        answer.end();
+    }
+
+    /// Executes `w`.
+    pub(crate) fn where_command(&self, answer: &mut Answer) {
+        answer.say("step ");
+        answer.number(self.steps());
+        answer.say(match self.board().mode() {
+            Mode::Machine => ", machine mode",
+            Mode::User => ", user mode",
+        });
+        answer.end();
+        self.tell_halt(answer);
+        self.append_here(answer);
+        let pc = self.board().pc();
+        answer.say("  ");
+        append_instruction(self.board(), pc, answer);
+        answer.end();
+    }
+}
+
+/// Appends bytes of the console, each of their lines after a bar. A byte that isn't printed is escaped, and a
+/// backslash ends a line that isn't ended yet.
+fn append_console(bytes: &[u8], answer: &mut Answer) {
+    let mut is_open = false;
+    for byte in bytes {
+        if !is_open {
+            answer.say("| ");
+        }
+        is_open = *byte != b'\n';
+        match *byte {
+            b'\n' => answer.end(),
+            b'"' => answer.say("\""),
+            byte => append_escaped(byte, answer),
+        }
+    }
+    if is_open {
+        answer.say("\\\n");
+    }
+}

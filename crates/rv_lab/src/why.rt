@@ -1,0 +1,239 @@
+//! Why the first trap that met no handler came.
+use crate::answer::Answer;
+use crate::causes::append_cause;
+use crate::control::{MSTATUS, MTVEC, has_bit};
+use crate::lab::Lab;
+use crate::memory::{append_instruction, instruction_at};
+use crate::protection::{append_region, entry_at, read_region};
+use crate::recording::Recording;
+use crate::registers::register_name;
+use rv_base::NoMemory;
+use rv_board::{BootedBoard, TrapRecord};
+use rv_hart::Outcome;
+use rv_isa::{Operation, Reg, decode};
+
+/// How many steps are looked at.
+const MOST_STEPS: u64 = 20_000_000;
+
+/// Returns whether the board, which has just trapped, comes to no instruction of a handler.
+fn has_no_handler(board: &BootedBoard) -> bool {
+    instruction_at(board, board.pc()).is_none()
+}
+
+/// Takes steps until a trap meets no handler, and returns it.
+fn run_to_trap(run: &mut Recording, most: u64) -> Result<Option<TrapRecord>, NoMemory> {
+    for _ in 0..most {
+        match run.step_once()? {
+            None => return Ok(None),
+            Some(Outcome::Trapped { cause, epc, tval }) => {
+                if has_no_handler(run.session().board()) {
+                    return Ok(Some(TrapRecord { cause, epc, tval }));
+                }
+            }
+            Some(Outcome::Retired | Outcome::Halted) => {}
+        }
+    }
+    Ok(None)
+}
+
+/// Returns what is at an address.
+fn place_name(address: u32) -> &'static str {
+    match address {
+        0x0010_0000 => "the halt register, which takes 4 bytes",
+        0x0200_0000..=0x0200_ffff =>
+            "the timer, whose registers take 4 bytes at 0, 0x4000, 0x4004, 0xbff8 and 0xbffc",
+        0x0c00_0000..=0x0fff_ffff => "the interrupt controller, which takes 4 bytes",
+        0x1000_0000..=0x1000_000b => "the serial port, with registers at 0, 4 and 8",
+        0x8000_0000.. => "past the end of the memory",
+        _ => "nothing",
+    }
+}
+
+/// Appends a base register and an offset, from which an address came.
+fn append_sum(board: &BootedBoard, base: Reg, offset: i32, answer: &mut Answer) {
+    answer.say(": ");
+    answer.say(register_name(base));
+    answer.say(" is ");
+    answer.word(board.reg(base));
+    if offset != 0 {
+        answer.say(", and the offset ");
+        answer.signed(offset);
+    }
+    if base.number() == 2 && board.reg(base) >= 0xffff_0000 {
+        answer.say("; sp is 0 at reset, and was never set");
+    }
+}
+
+/// Appends from which register the address of a load or store came.
+fn append_base(board: &BootedBoard, epc: u32, answer: &mut Answer) {
+    let Some(instr) = instruction_at(board, epc) else {
+        return;
+    };
+    let fields = instr.fields();
+    match fields.operation {
+        Operation::Jalr
+        | Operation::Lb
+        | Operation::Lh
+        | Operation::Lw
+        | Operation::Lbu
+        | Operation::Lhu
+        | Operation::Sb
+        | Operation::Sh
+        | Operation::Sw => append_sum(board, fields.rs1, fields.imm, answer),
+        _ => {}
+    }
+}
+
+/// Appends which entry of protection refused an access to memory.
+fn append_refusal(board: &BootedBoard, address: u32, answer: &mut Answer) {
+    match entry_at(board, address) {
+        Some(entry) => {
+            answer.say("  protection refused it: ");
+            append_region(entry, &read_region(board, entry), answer);
+            answer.end();
+        }
+        None => answer.say(
+            "  protection refused it: no entry has the address, so user mode gets nothing there\n",
+        ),
+    }
+}
+
+/// Appends why an access to an address was refused.
+fn append_access(board: &BootedBoard, address: u32, answer: &mut Answer) {
+    if board.ram(address).is_some() {
+        return append_refusal(board, address, answer);
+    }
+    answer.say("  at ");
+    answer.word(address);
+    answer.say(" is ");
+    answer.say(place_name(address));
+    answer.end();
+    let was_user = !has_bit(board.csr(MSTATUS).unwrap_or(0), 11);
+    if was_user {
+        append_refusal(board, address, answer);
+    }
+}
+
+/// Appends what an illegal instruction is.
+fn append_illegal(board: &BootedBoard, word: u32, answer: &mut Answer) {
+    answer.say("  the word ");
+    answer.word(word);
+    match decode(word) {
+        Some(instr) => {
+            answer.say(" is ");
+            answer.instruction(instr);
+            let was_user = !has_bit(board.csr(MSTATUS).unwrap_or(0), 11);
+            answer.say(if was_user {
+                ", which user mode may not do\n"
+            } else {
+                ", whose control register doesn't exist or can't be written\n"
+            });
+        }
+        None => answer.say(" is no instruction: did the program run on into data?\n"),
+    }
+}
+
+/// Appends what mtval says for a cause.
+fn append_reason(board: &BootedBoard, trap: TrapRecord, answer: &mut Answer) {
+    match trap.cause {
+        0 => {
+            answer.say("  the target is ");
+            answer.word(trap.tval);
+            append_base(board, trap.epc, answer);
+            answer.end();
+        }
+        4 | 6 => {
+            answer.say("  the address ");
+            answer.word(trap.tval);
+            answer.say(" is no multiple of the access's size");
+            append_base(board, trap.epc, answer);
+            answer.end();
+        }
+        5 | 7 => {
+            answer.say("  the address is ");
+            answer.word(trap.tval);
+            append_base(board, trap.epc, answer);
+            answer.end();
+            append_access(board, trap.tval, answer);
+        }
+        1 => append_access(board, trap.tval, answer),
+        2 => append_illegal(board, trap.tval, answer),
+        _ => {}
+    }
+}
+
+impl Lab {
+    /// Appends a trap at a step, its source line, and why it came.
+    fn append_trap(&self, step: u64, trap: TrapRecord, board: &BootedBoard, answer: &mut Answer) {
+        answer.say("step ");
+        answer.number(step);
+        answer.say(": trap ");
+        append_cause(trap.cause, answer);
+        answer.end();
+        answer.say("  ");
+        self.append_place(trap.epc, answer);
+        answer.end();
+        if self.listing.line_at(trap.epc).is_some() {
+            answer.say("  ");
+            append_instruction(board, trap.epc, answer);
+            answer.end();
+        }
+        append_reason(board, trap, answer);
+    }
+
+    /// Appends that a trap met no handler.
+    fn append_no_handler(&self, board: &BootedBoard, answer: &mut Answer) {
+        answer.say("  it met no handler: mtvec is ");
+        answer.word(board.csr(MTVEC).unwrap_or(0));
+        answer.say(", where ");
+        answer.say(if board.ram(board.pc()).is_some() {
+            "no instruction is"
+        } else {
+            "no memory is"
+        });
+        answer.say(", so each further step trapped as well\n");
+    }
+
+    /// Explains the first trap that met no handler, and returns whether there was one.
+    fn explain_first(&self, answer: &mut Answer) -> Result<bool, NoMemory> {
+        let mut inputs = Answer::new(self.alloc);
+        self.append_saved_inputs(&mut inputs);
+        let sizes = self.recording.sizes();
+        let opened = Recording::open(self.alloc, self.recording.source(), inputs.bytes(), sizes);
+        let Ok(mut run) = opened else {
+            return Err(NoMemory);
+        };
+        let Some(trap) = run_to_trap(&mut run, self.steps().min(MOST_STEPS))? else {
+            return Ok(false);
+        };
+        let board = run.session().board();
+        self.append_trap(run.steps(), trap, board, answer);
+        self.append_no_handler(board, answer);
+        Ok(true)
+    }
+
+    /// Explains the last trap, whose handler is there.
+    fn explain_last(&self, answer: &mut Answer) {
+        let board = self.board();
+        let Some(trap) = board.trap(board.trap_count().saturating_sub(1)) else {
+            return answer.say("no trap so far\n");
+        };
+        answer.say("each trap met a handler; the last one:\n  trap ");
+        append_cause(trap.cause, answer);
+        answer.say(", mtval ");
+        answer.word(trap.tval);
+        answer.say("\n  ");
+        self.append_place(trap.epc, answer);
+        answer.end();
+        append_reason(board, trap, answer);
+    }
+
+    /// Executes `why`.
+    pub(crate) fn why_command(&self, answer: &mut Answer) {
+        match self.explain_first(answer) {
+            Ok(true) => {}
+            Ok(false) => self.explain_last(answer),
+            Err(NoMemory) => answer.say("out of memory\n"),
+        }
+    }
+}
