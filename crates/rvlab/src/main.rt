@@ -1,0 +1,133 @@
+//! The program of the lab: `rvlab SOURCE [--input F] [--pages P] [--slots S]`.
+//!
+//! Opens a lab of the source, and answers the commands of the standard input on the standard output, one after
+//! another. Where the standard input is no terminal, each command is written before its answer.
+#![tactic(auto)]
+
+mod save;
+mod talk;
+mod words;
+
+use crate::talk::{TalkFault, print, talk};
+use crate::words::{Words, read_words};
+use rv_base::TEXT_LIMIT;
+use rv_lab::{Answer, Lab, OpenFault, append_diagnosis};
+use rv_words::NoRun;
+use std::alloc::AllocError;
+use std::io::{self, Write};
+use std::process::ExitCode;
+use std::{env, fs};
+
+/// The exit status where the source, the timed list or the words are refused.
+const REFUSED: u8 = 3;
+
+/// The exit status where a file can't be read or written, or memory ran out.
+const FAILED: u8 = 4;
+
+/// Writes a line to the standard error.
+fn report(rt: &HostRuntime, line: &[u8]) {
+    let _ = rt.stderr().write_all(line);
+}
+
+/// Reads a file of at most 16,777,216 bytes.
+fn read_file(rt: &HostRuntime, path: &str) -> Option<Vec<u8>> {
+    let text = fs::read(rt, path).ok()?;
+    if text.len() > TEXT_LIMIT {
+        None
+    } else {
+        Some(text)
+    }
+}
+
+/// Reports why there is no lab, and returns the exit status.
+fn refuse(rt: &HostRuntime, words: &Words<'_>, source: &[u8], fault: OpenFault) -> u8 {
+    let mut text = Answer::new(rt.alloc());
+    append_diagnosis(words.source, source, fault, &mut text);
+    report(rt, text.bytes());
+    match fault {
+        OpenFault::OutOfMemory => FAILED,
+        _ => REFUSED,
+    }
+}
+
+/// Greets, and talks until no command follows. Returns the exit status.
+fn run_lab(rt: &HostRuntime, name: &str, lab: &mut Lab) -> u8 {
+    let mut answer = Answer::new(rt.alloc());
+    lab.greet(name, &mut answer);
+    let greeted = print(rt, answer.bytes());
+    answer.clear();
+    let ended = match greeted {
+        Ok(()) => talk(rt, lab, &mut answer),
+        Err(fault) => Err(fault),
+    };
+    match ended {
+        Ok(()) => 0,
+        Err(TalkFault::Read) => {
+            report(rt, b"cannot read commands\n");
+            FAILED
+        }
+        Err(TalkFault::Write) => FAILED,
+    }
+}
+
+/// Opens a lab of a source with a timed list, and talks. Returns the exit status.
+fn open(rt: &HostRuntime, words: &Words<'_>, source: &[u8], inputs: &[u8]) -> u8 {
+    match Lab::open(rt.alloc(), source, inputs, words.sizes) {
+        Ok(mut lab) => run_lab(rt, words.source, &mut lab),
+        Err(fault) => refuse(rt, words, source, fault),
+    }
+}
+
+/// Reads the files that the words name, and talks. Returns the exit status.
+fn run(rt: &HostRuntime, words: &Words<'_>) -> u8 {
+    let Some(source) = read_file(rt, words.source) else {
+        report(rt, b"cannot read source\n");
+        return FAILED;
+    };
+    let Some(path) = words.input else {
+        return open(rt, words, source.as_slice(), b"");
+    };
+    let Some(inputs) = read_file(rt, path) else {
+        report(rt, b"cannot read input\n");
+        return FAILED;
+    };
+    open(rt, words, source.as_slice(), inputs.as_slice())
+}
+
+/// Prints the help that was asked for, or why the words are refused, and returns the exit status.
+fn refuse_words(rt: &HostRuntime, error: &clap::Error) -> u8 {
+    let why = NoRun::from(error);
+    match why {
+        NoRun::OutOfMemory => report(rt, b"out of memory\n"),
+        NoRun::Help | NoRun::Refused => {
+            let _ = error.print(rt);
+        }
+    }
+    why.status()
+}
+
+/// Reads the words, does what they ask for, and returns the exit status.
+fn run_words(rt: &HostRuntime, all: &[String]) -> Result<u8, AllocError> {
+    let list: Vec<&str> = all.iter().map(|word| word.as_str()).collect(rt.alloc())?;
+    Ok(match read_words(rt.alloc(), list.as_slice()) {
+        Ok(words) => run(rt, &words),
+        Err(error) => refuse_words(rt, &error),
+    })
+}
+
+/// Returns the words of the command line, the program's name first.
+fn all_words(rt: &HostRuntime) -> io::Result<Vec<String>> {
+    let all = env::args(rt)?.collect(rt.alloc())?;
+    Ok(all)
+}
+
+fn main(rt: HostRuntime) -> ExitCode {
+    let status = match all_words(&rt) {
+        Ok(all) => run_words(&rt, all.as_slice()).unwrap_or(FAILED),
+        Err(_) => {
+            report(&rt, b"error: a word is not UTF-8\n");
+            REFUSED
+        }
+    };
+    ExitCode::from(status)
+}

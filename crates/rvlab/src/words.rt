@@ -1,0 +1,103 @@
+//! The words of the command line, read with `clap`: `rvlab SOURCE [--input F] [--pages P] [--slots S]`.
+use clap::builder::ValueParser;
+use clap::{Arg, ArgAction, ArgMatches, Command, Error, value_parser};
+use rv_lab::Sizes;
+use std::alloc::{AllocError, Global};
+
+/// What the words of the command line ask for.
+#[derive(Clone, Copy)]
+pub struct Words<'a> {
+    /// The path of the source.
+    pub source: &'a str,
+    /// The path of the timed list, if one is given.
+    pub input: Option<&'a str>,
+    /// The sizes of the board.
+    pub sizes: Sizes,
+}
+
+/// Returns the positional argument SOURCE.
+fn source_arg<'a>(alloc: Global) -> Arg<'a> {
+    Arg::new(alloc, "source")
+        .value_name("SOURCE")
+        .help("the assembly source")
+        .required(true)
+        .action(ArgAction::Set)
+}
+
+/// Returns the option `--input`.
+fn input_arg<'a>(alloc: Global) -> Arg<'a> {
+    Arg::new(alloc, "input")
+        .long("input")
+        .value_name("F")
+        .help("the timed serial bytes and interrupt lines, a file")
+        .action(ArgAction::Set)
+}
+
+/// Returns the option `--name`, which takes a number in a range and has a default.
+fn number_arg<'a>(
+    alloc: Global,
+    name: &'a str,
+    value_name: &'a str,
+    help: &'a str,
+    default: &'a str,
+    range: ValueParser<'a>,
+) -> Arg<'a> {
+    Arg::new(alloc, name)
+        .long(name)
+        .value_name(value_name)
+        .help(help)
+        .action(ArgAction::Set)
+        .default_value(default)
+        .value_parser(range)
+}
+
+/// Returns the arguments of the command, in their order.
+fn lab_args<'a>(alloc: Global) -> Result<Vec<Arg<'a>>, AllocError> {
+    let pages = "the pages of RAM of 4096 bytes each, 1 to 4096";
+    let page_counts = value_parser!(u16).range(1..=4096);
+    let slots = "the slots of the instruction cache, a power of two from 64 to 4096";
+    let slot_counts = value_parser!(u16).range(64..=4096);
+    Ok(vec![in alloc;
+        source_arg(alloc),
+        input_arg(alloc),
+        number_arg(alloc, "pages", "P", pages, "256", page_counts),
+        number_arg(alloc, "slots", "S", slots, "1024", slot_counts),
+    ]?)
+}
+
+/// Parses the words.
+fn parse<'a>(alloc: Global, words: &'a [&'a str]) -> Result<ArgMatches<'a>, Error> {
+    let args = lab_args(alloc)?;
+    let command = Command::new(alloc, "rvlab")
+        .about("assembles a program and asks a small RISC-V board about it, command by command")
+        .args(args)?;
+    command.try_get_matches_from(words)
+}
+
+/// Returns the number of an option, or `usual` where it has none that can be read.
+fn number(matches: &ArgMatches<'_>, name: &str, usual: u16) -> u16 {
+    match matches.get_str(name) {
+        Some(text) => text.parse::<u16>().unwrap_or(usual),
+        None => usual,
+    }
+}
+
+/// Reads the words, of which the first is the program's name.
+///
+/// # Errors
+///
+/// The error that `clap` gives refused words, or `ErrorKind::OutOfMemory`. Where help was asked for, it is its text.
+pub fn read_words<'a>(alloc: Global, words: &'a [&'a str]) -> Result<Words<'a>, Error> {
+    let matches = parse(alloc, words)?;
+    let source = matches.get_str("source").unwrap_or("");
+    let input = matches.get_str("input");
+    let sizes = Sizes {
+        pages: number(&matches, "pages", 256),
+        slots: number(&matches, "slots", 1024),
+    };
+    Ok(Words {
+        source,
+        input,
+        sizes,
+    })
+}
