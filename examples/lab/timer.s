@@ -1,0 +1,20 @@
+# A timer that never comes: interrupts are let in, and the timer is set, but its bit of mie is not.
+
+        .equ    HALT,0x100000
+        .equ    MTIMECMP,0x2004000
+
+        la      t0,tick
+        csrw    mtvec,t0
+        li      t0,MTIMECMP
+        li      t1,50                   # an interrupt at time 50
+        sw      t1,(t0)
+        sw      zero,4(t0)
+        li      t0,8                    # the timer interrupt of machine mode
+        csrw    mie,t0
+        csrsi   mstatus,8               # interrupts on
+wait:   wfi
+        j       wait
+
+tick:   li      t0,HALT
+        li      t1,0x5555               # halt with code 0
+        sw      t1,(t0)
