@@ -1,6 +1,7 @@
 //! The values that instructions compute, other than by the operations of `rv_isa`: addresses, loaded values,
 //! values of control registers, and traps.
-ghost use Rattle.std.specs.Prelude.{◌≡◌, Err};
+ghost use Rattle.std.specs.Prelude.{◌≡◌, ◌+◌, ◌%◌, ◌^◌, Err};
+ghost use Rattle.rv_isa.specs.Number.{modulo};
 ghost use Rattle.rv_isa.specs.Word as spec;
 ghost use Rattle.rv_hart.specs.Effect.{plus, target_check, load_value, is_write, csr_value, csr_written, call_from};
 
@@ -10,7 +11,8 @@ use rv_pmp::Mode;
 
 /// Returns the address `offset` bytes from `base`, modulo 2^32.
 pub(crate) fn offset_by(base: u32, offset: i32) -> u32
-    ensures { result ≡ plus base offset }
+    ensures value { result ≡ plus base offset }
+    ensures sum { result ≡ (base + modulo offset (2 ^ 32)) % 2 ^ 32 }
 {
     base.wrapping_add(offset.cast_unsigned())
 }
