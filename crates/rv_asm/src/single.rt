@@ -8,8 +8,8 @@ use rv_source::{Atom, Expression, Term};
 /// The value of an atom or its negative, with a number added to it, or subtracted from it.
 #[derive(Drop)]
 pub struct Single<'a> {
-    negated: bool,
     atom: Atom<'a>,
+    negated: bool,
     negative: bool,
     number: u32,
 }
@@ -61,8 +61,8 @@ impl<'a> Single<'a> {
         ensures { result ≡ record { negated = first.now.negative; atom = first.now.atom; negative = negative; number = number } }
     {
         Single {
-            negated: first.negative,
             atom: again(&first.atom),
+            negated: first.negative,
             negative,
             number,
         }
