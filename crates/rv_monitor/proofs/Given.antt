@@ -1,10 +1,9 @@
 -- Inputs that are given by hand, and states that a board comes to by its inputs and its steps.
-use Rattle.std.proofs.Common.{◌≡◌, ◌∙◌, ℕ, zero, suc, ◌+◌, ◌<◌, ◌≤◌, Bool, true, false, cond, List, [], ◌∷◌, ◌++◌, length, take, drop, refl, sym, ap, subst, arith, inl, inr, add-one}
+use Rattle.std.proofs.Common.{◌≡◌, ◌∙◌, ℕ, zero, suc, ◌+◌, ◌<◌, ◌≤◌, Bool, true, false, List, [], ◌∷◌, ◌++◌, length, drop, refl, sym, ap, subst, arith, inl, inr}
 use Rattle.std.specs.Prelude.{◌⊎◌, nat_eq, nat_le, nat_lt, ◌==◌, ◌&&◌, map, filter, None, Result, Ok, Err, OnOk, OnErr, IfOk}
 use Rattle.std.specs.FinSet as set
 use Rattle.rv_base.specs.declared.memory.NoMemory.{NoMemory}
 use Rattle.rv_hart.specs.declared.trap.Outcome.{Outcome}
-use Rattle.std.specs.List.{list_all}
 use Rattle.std.proofs.lemmas.Bool.Decides.{nat_tests}
 use Rattle.std.proofs.lemmas.List.{map-append}
 use Rattle.rv_board.specs.State.{BoardState, halted_of}
@@ -19,7 +18,7 @@ use Rattle.rv_monitor.specs.Stops.{HasStopped, IsRefused}
 use Rattle.rv_monitor.specs.declared.stop.Stop.{Stop}
 use Rattle.rv_monitor.specs.State.{Addresses, TimedState, IsInTime, rest, count_before, begun, after, with_due, given}
 use Rattle.rv_monitor.specs.Laws.{IsReached, GivenAsListed}
-use Rattle.rv_monitor.proofs.Times.{from, of, from_earlier, tail_rises, all_from, drop_from, late_from, late_count, none_of, none_before, from_first}
+use Rattle.rv_monitor.proofs.Times.{from, of, from_earlier, tail_rises, all_from, drop_from, late_from, late_count, none_of, none_before}
 use Rattle.rv_monitor.proofs.Steps.{inputs_late, none_due}
 
 -- ---- comparisons as tests

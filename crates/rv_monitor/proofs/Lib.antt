@@ -9,3 +9,4 @@ pub mod Named
 pub mod Pieces
 pub mod Traps
 pub mod Given
+pub mod Reached

@@ -1,0 +1,167 @@
+-- States that a board comes to by its inputs and its steps: what calls leave is one.
+use Rattle.std.proofs.Common.{◌≡◌, ◌∙◌, ℕ, zero, suc, ◌+◌, ◌-◌, ◌<◌, ◌≤◌, Bool, true, false, cond, List, refl, sym, ap, subst, arith, inl, inr, ⊎_elim}
+use Rattle.std.specs.Prelude.{◌⊎◌, Option, Some, None, is_some, nat_lt, ◌&&◌}
+use Rattle.std.specs.FinSet as set
+use Rattle.std.proofs.lemmas.Bool.{cases_lt, false≢true}
+use Rattle.rv_board.specs.State.{BoardState, halted_of, pc_of}
+use Rattle.rv_lists.specs.declared.input.TimedInput.{TimedInput}
+use Rattle.rv_lists.specs.Timed.{never_falls}
+use Rattle.rv_monitor.specs.declared.stop.Stop.{Stop}
+use Rattle.rv_monitor.specs.declared.stop.Stop.TheVariants.{Halted, Breakpoint}
+use Rattle.rv_monitor.specs.State.{Addresses, TimedState, IsInTime, begun, after, with_due}
+use Rattle.rv_monitor.specs.Stops.{stop_after, HasStopped, IsRefused}
+use Rattle.rv_monitor.specs.Laws.{IsReached}
+use Rattle.rv_monitor.proofs.Sets.{no_member}
+use Rattle.rv_monitor.proofs.Times.{from_first}
+use Rattle.rv_monitor.proofs.Steps.{after_none, after_more, after_due, after_rises, halted_due, in_time_due, in_time_after}
+use Rattle.rv_monitor.proofs.Given.{reached_steps, reached_due, due_twice}
+
+-- ---- a call that goes on has not halted
+
+running_by : (breakpoints : Addresses) (b : BoardState) (count : ℕ) (h : Option ℕ)
+    → cond (is_some h) (Some Halted)
+    (cond (nat_lt 0 count && set.contains breakpoints (pc_of b)) (Some Breakpoint) None) ≡ None
+    → h ≡ None
+running_by breakpoints b count None e = refl
+running_by breakpoints b count (Some code) e = absurd cc
+
+running : (breakpoints : Addresses) (b : BoardState) (count : ℕ) → stop_after breakpoints b count ≡ None
+    → halted_of b ≡ None
+unfolding stop_after
+running breakpoints b count e = running_by breakpoints b count (halted_of b) e
+
+-- ---- more steps
+
+begun_in_time : (board : BoardState) (xs : List TimedInput) → never_falls xs ≡ true → IsInTime (begun board xs)
+begun_in_time board xs h = record { within = omega arith; rising = h; ahead = from_first xs }
+
+-- the board before its first step
+pub begun_stands : (board : BoardState) (xs : List TimedInput) → never_falls xs ≡ true
+    → IsReached board (begun board xs)
+begun_stands board xs h =
+    reached_steps board xs 0 (begun board xs) h (sym (after_none (begun board xs) (begun_in_time board xs h)))
+    (λ i l. absurd (omega arith))
+
+in_time_by : (board : BoardState) (s : TimedState) (xs : List TimedInput) (k : ℕ) → never_falls xs ≡ true
+    → (s ≡ after (begun board xs) k) ⊎ (s ≡ with_due (after (begun board xs) k)) → IsInTime s
+in_time_by board s xs k h (inl e) =
+    subst IsInTime (sym e) (in_time_after (begun board xs) k (begun_in_time board xs h))
+in_time_by board s xs k h (inr e) =
+    subst IsInTime (sym e)
+    (in_time_due (after (begun board xs) k) (in_time_after (begun board xs) k (begun_in_time board xs h)))
+
+pub in_time : (board : BoardState) (s : TimedState) → IsReached board s → IsInTime s
+in_time board s r = in_time_by board s s.inputs s.taken r.rising r.state
+
+module _ (board : BoardState) (s : TimedState) (r : IsReached board s) where
+  h : IsInTime s
+  h = in_time board s r
+
+  abbrev first : TimedState
+  first = begun board s.inputs
+
+  more : s ≡ after first s.taken → (n : ℕ) → after s n ≡ after first (s.taken + n)
+  more e n = ap (λ u. after u n) e ∙ after_more first s.taken n h.rising
+
+  more_due : s ≡ with_due (after first s.taken) → (j : ℕ) → after s (1 + j) ≡ after first (s.taken + (1 + j))
+  more_due e j =
+      ap (λ u. after u (1 + j)) e
+      ∙ (after_due (after first s.taken) j (after_rises first s.taken h.rising)
+      ∙ after_more first s.taken (1 + j) h.rising)
+
+  halted_same : (s ≡ after first s.taken) ⊎ (s ≡ with_due (after first s.taken)) → (j : ℕ)
+      → halted_of (after s j).board ≡ halted_of (after first (s.taken + j)).board
+  halted_same (inl e) j = ap (λ u. halted_of u.board) (more e j)
+  halted_same (inr e) zero =
+      let none : s.taken ≡ s.taken + 0 = omega arith in
+      ap (λ u. halted_of u.board) (after_none s h ∙ e)
+      ∙ (halted_due (after first s.taken) ∙ ap (λ n. halted_of (after first n).board) none)
+  halted_same (inr e) (suc j) =
+      let one : suc j ≡ 1 + j = omega arith in
+      ap (λ n. halted_of (after s n).board) one
+      ∙ (ap (λ u. halted_of u.board) (more_due e j)
+      ∙ ap (λ n. halted_of (after first (s.taken + n)).board) (sym one))
+
+  module _ (n : ℕ) (goes : (j : ℕ) → j < n → halted_of (after s j).board ≡ None) where
+    goes_on : (i : ℕ) → i < s.taken + n → halted_of (after first i).board ≡ None
+    goes_on i l = ⊎_elim
+        (λ earlier. r.running i earlier)
+        (λ later.
+        let sum : i ≡ s.taken + (i - s.taken) = omega arith in
+        ap (λ k. halted_of (after first k).board) sum
+        ∙ (sym (halted_same r.state (i - s.taken)) ∙ goes (i - s.taken) (omega arith)))
+        (cases_lt i s.taken)
+
+  after_stands_by : (s ≡ after first s.taken) ⊎ (s ≡ with_due (after first s.taken))
+      → (n : ℕ) → ((j : ℕ) → j < n → halted_of (after s j).board ≡ None) → IsReached board (after s n)
+  after_stands_by (inl e) n goes =
+      reached_steps board s.inputs (s.taken + n) (after s n) r.rising (more e n) (goes_on n goes)
+  after_stands_by (inr e) zero goes =
+      reached_due board s.inputs s.taken (after s zero) r.rising (after_none s h ∙ e) r.running
+  after_stands_by (inr e) (suc j) goes =
+      let one : suc j ≡ 1 + j = omega arith in
+      reached_steps board s.inputs (s.taken + suc j) (after s (suc j)) r.rising
+      (ap (after s) one ∙ (more_due e j ∙ ap (λ n. after first (s.taken + n)) (sym one)))
+      (goes_on (suc j) goes)
+
+  pub after_stands : (n : ℕ) → ((j : ℕ) → j < n → halted_of (after s j).board ≡ None)
+      → IsReached board (after s n)
+  after_stands n goes = after_stands_by r.state n goes
+
+  due_stands_by : (s ≡ after first s.taken) ⊎ (s ≡ with_due (after first s.taken))
+      → IsReached board (with_due s)
+  due_stands_by (inl e) = reached_due board s.inputs s.taken (with_due s) r.rising (ap with_due e) r.running
+  due_stands_by (inr e) =
+      reached_due board s.inputs s.taken (with_due s) r.rising
+      (ap with_due e ∙ due_twice board s.inputs r.rising s.taken) r.running
+
+  pub due_stands : IsReached board (with_due s)
+  due_stands = due_stands_by r.state
+
+-- ---- what calls leave
+
+module _ (board : BoardState) (old new : TimedState) (r : IsReached board old) where
+  pub stopped_stands : (a : Addresses) (most : ℕ) (stop : Stop) → HasStopped a most old new stop
+      → IsReached board new
+  stopped_stands a most stop s =
+      let n = new.taken - old.taken in
+      subst (IsReached board) (sym s.state)
+      (after_stands board old r n (λ j l. running a (after old j).board j (s.count.going j l)))
+
+  pub refused_stands : (a : Addresses) (most : ℕ) → IsRefused a most old new → IsReached board new
+  refused_stands a most s =
+      let n = new.taken - old.taken in
+      subst (IsReached board) (sym s.state)
+      (due_stands board (after old n)
+      (after_stands board old r n (λ j l. running a (after old j).board j (s.going j (omega arith)))))
+
+  pub step_stands : halted_of old.board ≡ None → new ≡ after old 1 → IsReached board new
+  step_stands halt is =
+      subst (IsReached board) (sym is)
+      (after_stands board old r 1 (λ j l.
+      let none : j ≡ 0 = omega arith in
+      ap (λ i. halted_of (after old i).board) none ∙ (ap (λ u. halted_of u.board) (after_none old (in_time board old r)) ∙ halt)))
+
+  pub due_is_reached : new ≡ with_due old → IsReached board new
+  due_is_reached is = subst (IsReached board) (sym is) (due_stands board old r)
+
+-- ---- going back
+
+and_false : (t : Bool) → cond (t && false) (Some Breakpoint) None ≡ None
+and_false true = refl
+and_false false = refl
+
+goes_without : (b : BoardState) (n : ℕ) → halted_of b ≡ None → stop_after set.empty b n ≡ None
+unfolding stop_after
+goes_without b n e = rw (e, ← no_member (pc_of b)) (and_false (nat_lt 0 n))
+
+-- so many steps are taken again, since the board hadn't halted before any of them
+pub rewound : (board : BoardState) (old new : TimedState) (n : ℕ) (stop : Stop) → IsReached board old
+    → n ≤ old.taken → HasStopped set.empty n (begun board old.inputs) new stop → new.taken ≡ n
+rewound board old new n stop r below s = ⊎_elim
+    (λ less.
+    let k = new.taken - 0 in
+    let none = goes_without (after (begun board old.inputs) k).board k (r.running k (omega arith)) in
+    absurd (false≢true (ap is_some (sym none) ∙ s.count.least (omega arith))))
+    (λ enough. omega (arith, s.count.within))
+    (cases_lt new.taken n)

@@ -1,0 +1,284 @@
+-- What the calls of a session leave is a recording as well.
+use Rattle.std.proofs.Common.{◌≡◌, ◌∙◌, ℕ, ◌-◌, ◌≤◌, Bool, true, false, List, [], ◌∷◌, length, refl, sym, ap, subst, arith, inl, inr}
+use Rattle.std.proofs.lemmas.Bool.Decides.{nat_tests}
+use Rattle.std.specs.FinSet as set
+use Rattle.std.specs.List.{list_all}
+use Rattle.std.specs.Prelude.{◌⊎◌, ◌&&◌, nat_le, nat_lt, is_none, min, Option, Some, None, Result, Ok, Err, OnOk, OnErr, IfOk, OnOk}
+use Rattle.rv_base.specs.declared.memory.NoMemory.{NoMemory}
+use Rattle.rv_hart.specs.declared.trap.Outcome.{Outcome}
+use Rattle.rv_board.specs.Boot.{boot_fault, start}
+use Rattle.rv_board.specs.State.{BoardState, halted_of}
+use Rattle.rv_board.proofs.Runs.{run_append}
+use Rattle.rv_lists.specs.Text.{HasSteps}
+use Rattle.rv_lists.specs.Timed.{never_falls, inserted}
+use Rattle.rv_lists.specs.declared.input.Input.{Input}
+use Rattle.rv_lists.specs.declared.input.TimedInput.{TimedInput}
+use Rattle.rv_program.specs.Program.{Assembly}
+use Rattle.rv_commands.specs.declared.command.Command.{Command}
+use Rattle.rv_commands.specs.declared.command.Command.TheVariants.{Step, Go, SetBreak, ClearBreak, Registers, ControlRegister, Memory, Instruction, Traps, Edges, Quit, Nothing}
+use Rattle.rv_monitor.specs.Commands.{WasRefused, HadNoRoom, Leaves, LeavesRefused, going_for}
+use Rattle.rv_monitor.specs.Events.{events_of, inputs_at}
+use Rattle.rv_monitor.specs.Laws.{IsReached}
+use Rattle.rv_monitor.specs.State.{Addresses, SessionState, TimedState, begun, after, with_due, given, most_of, with_break, without_break}
+use Rattle.rv_monitor.specs.State as monitor
+use Rattle.rv_monitor.specs.Stops.{HasStopped, IsRefused, TakesStep}
+use Rattle.rv_monitor.specs.declared.stop.Stop.{Stop}
+use Rattle.rv_monitor.proofs.Given.{after_begun, due_begun, given_stands}
+use Rattle.rv_monitor.proofs.Reached.{begun_stands, stopped_stands, refused_stands, step_stands, due_is_reached, rewound}
+use Rattle.rv_recording.specs.Recording.{RecordingState, IsRun, IsRecorded, gone_back, opened}
+
+le : (m n : ℕ) → m ≤ n → nat_le m n ≡ true
+le m n h = grind (arith, nat_tests)
+
+both : (a b : Bool) → a ≡ true → b ≡ true → (a && b) ≡ true
+both a b p q = rw (p, q) refl
+
+and_left : (a b : Bool) → (a && b) ≡ true → a ≡ true
+and_left true b h = refl
+and_left false b h = h
+
+and_right : (a b : Bool) → (a && b) ≡ true → b ≡ true
+and_right true b h = h
+and_right false b h = absurd cc
+
+none_is : {A : Type 0} (x : Option A) → is_none x ≡ true → x ≡ None
+none_is None h = refl
+none_is (Some a) h = absurd cc
+
+-- ---- the run of the recorded events
+
+run_by : (first : BoardState) (s : TimedState) → never_falls s.inputs ≡ true
+    → (s ≡ after (begun first s.inputs) s.taken) ⊎ (s ≡ with_due (after (begun first s.inputs) s.taken))
+    → IsRun first s
+run_by first s h (inl e) = inl (ap (λ u. u.board) (e ∙ after_begun first s.inputs s.taken))
+run_by first s h (inr e) =
+    inr (ap (λ u. u.board) (e ∙ due_begun first s.inputs h s.taken)
+    ∙ sym (run_append first (events_of s.inputs 0 s.taken) (inputs_at s.inputs s.taken)))
+
+pub is_run : (first : BoardState) (s : TimedState) → IsReached first s → IsRun first s
+is_run first s r = run_by first s r.rising r.state
+
+-- ---- the recording before its first step
+
+pub opened_stands : (program : Assembly) (inputs : List TimedInput) (pages slots : ℕ)
+    → boot_fault (length program.bytes) pages slots ≡ None → never_falls inputs ≡ true → HasSteps inputs
+    → IsRecorded (opened program inputs pages slots)
+opened_stands program inputs pages slots b h small = record {
+  boots = b;
+  reached = begun_stands (start program.bytes pages) inputs h;
+  steps = small;
+  limit = refl;
+}
+
+pub opened_is : (s : SessionState) (board : BoardState) (program : Assembly) (inputs : List TimedInput)
+    (p q : ℕ) → s ≡ monitor.start board inputs program 9999999999 → board ≡ start program.bytes p
+    → boot_fault (length program.bytes) p q ≡ None → never_falls inputs ≡ true → HasSteps inputs
+    → IsRecorded (record { session = s; pages = p; slots = q })
+opened_is s board program inputs p q is booted b h small =
+    subst (λ (u : SessionState). IsRecorded (record { session = u; pages = p; slots = q }))
+    (sym (is ∙ ap (λ (c : BoardState). monitor.start c inputs program 9999999999) booted))
+    (opened_stands program inputs p q b h small)
+
+-- ---- what calls leave
+
+inputs_kept : (a : Addresses) (most : ℕ) (old new : TimedState) (n : ℕ) → new ≡ after old n
+    → new.inputs ≡ old.inputs
+unfolding after
+inputs_kept a most old new n e = ap (λ u. u.inputs) e
+
+due_kept : (old new : TimedState) → new ≡ with_due old → new.inputs ≡ old.inputs
+unfolding with_due
+due_kept old new e = ap (λ u. u.inputs) e
+
+refused_kept : (old new : TimedState) (n : ℕ) → new ≡ with_due (after old n) → new.inputs ≡ old.inputs
+unfolding after with_due
+refused_kept old new n e = ap (λ u. u.inputs) e
+
+steps_by : (y : TimedInput) (ys : List TimedInput) (x : TimedInput) (b : Bool) → nat_lt x.step y.step ≡ b
+    → HasSteps (y ∷ ys) → nat_le x.step 9999999999 ≡ true → HasSteps (inserted ys x)
+    → HasSteps (inserted (y ∷ ys) x)
+unfolding inserted
+steps_by y ys x true e h k more = rw e (both (nat_le x.step 9999999999) _ k h)
+steps_by y ys x false e h k more =
+    rw e (both (nat_le y.step 9999999999) _
+    (and_left (nat_le y.step 9999999999) (list_all (λ z. nat_le z.step 9999999999) ys) h) more)
+
+steps_inserted : (xs : List TimedInput) (x : TimedInput) → HasSteps xs → nat_le x.step 9999999999 ≡ true
+    → HasSteps (inserted xs x)
+unfolding inserted
+steps_inserted [] x h k = both (nat_le x.step 9999999999) true k refl
+steps_inserted (y ∷ ys) x h k =
+    steps_by y ys x (nat_lt x.step y.step) refl h k
+    (steps_inserted ys x
+    (and_right (nat_le y.step 9999999999) (list_all (λ z. nat_le z.step 9999999999) ys) h) k)
+
+given_steps : (t : TimedState) (input : Input) → HasSteps t.inputs → t.taken ≤ 9999999999
+    → HasSteps (given t input).inputs
+unfolding with_due
+given_steps t input h k =
+    steps_inserted t.inputs (record { step = t.taken; input = input }) h (le t.taken 9999999999 k)
+
+module _ (s new : SessionState) (p q : ℕ) (h : IsRecorded (record { session = s; pages = p; slots = q })) where
+  abbrev first : BoardState
+  first = start s.program.bytes p
+
+  abbrev after_call : RecordingState
+  after_call = record { session = new; pages = p; slots = q }
+
+  stands : new.program ≡ s.program → new.limit ≡ s.limit → IsReached first new.timed
+      → HasSteps new.timed.inputs → IsRecorded after_call
+  stands same limit r small = record {
+    boots = rw same h.boots;
+    reached = rw same r;
+    steps = small;
+    limit = limit ∙ h.limit;
+  }
+
+  timed_stands : new ≡ record s { timed = new.timed } → IsReached first new.timed
+      → new.timed.inputs ≡ s.timed.inputs → IsRecorded after_call
+  timed_stands e r same =
+      stands (ap (λ u. u.program) e) (ap (λ u. u.limit) e) r (subst HasSteps (sym same) h.steps)
+
+  same_timed : new.program ≡ s.program → new.limit ≡ s.limit → new.timed ≡ s.timed → IsRecorded after_call
+  same_timed same limit e =
+      stands same limit (subst (IsReached first) (sym e) h.reached)
+      (subst (λ (t : TimedState). HasSteps t.inputs) (sym e) h.steps)
+
+  unchanged : new ≡ s → IsRecorded after_call
+  unchanged e = same_timed (ap (λ u. u.program) e) (ap (λ u. u.limit) e) (ap (λ u. u.timed) e)
+
+  pub stopped : (a : Addresses) (most : ℕ) (stop : Stop) → HasStopped a most s.timed new.timed stop
+      → new ≡ record s { timed = new.timed } → IsRecorded after_call
+  stopped a most stop st e =
+      timed_stands e (stopped_stands first s.timed new.timed h.reached a most stop st)
+      (inputs_kept a most s.timed new.timed _ st.state)
+
+  pub refused : (a : Addresses) (most : ℕ) → IsRefused a most s.timed new.timed
+      → new ≡ record s { timed = new.timed } → IsRecorded after_call
+  refused a most re e =
+      timed_stands e (refused_stands first s.timed new.timed h.reached a most re)
+      (refused_kept s.timed new.timed _ re.state)
+
+  pub called : (a : Addresses) (most : ℕ) (r : Result Stop NoMemory)
+      → IfOk r (HasStopped a most s.timed new.timed) → OnErr r (IsRefused a most s.timed new.timed)
+      → new ≡ record s { timed = new.timed } → IsRecorded after_call
+  called a most (Ok stop) ok err e = stopped a most stop ok e
+  called a most (Err refusal) ok err e = refused a most err e
+
+  pub one_step : (r : Result (Option Outcome) NoMemory) → TakesStep s new r → IsRecorded after_call
+  one_step (Ok (Some outcome)) t =
+      let timed = ap (λ u. u.timed) t.1 in
+      let running = none_is (halted_of s.timed.board) (and_left _ _ t.0) in
+      timed_stands (t.1 ∙ ap (λ (u : TimedState). record s { timed = u }) (sym timed))
+      (step_stands first s.timed new.timed h.reached running timed) (inputs_kept set.empty 1 s.timed new.timed 1 timed)
+  one_step (Ok None) t = unchanged t.1
+  one_step (Err refusal) t =
+      let timed = ap (λ u. u.timed) t.1 in
+      timed_stands (t.1 ∙ ap (λ (u : TimedState). record s { timed = u }) (sym timed))
+      (due_is_reached first s.timed new.timed h.reached timed) (due_kept s.timed new.timed timed)
+
+  -- ---- commands
+
+  pub left : (c : Option Command) → Leaves c s new → IsRecorded after_call
+  left None e = unchanged e
+  left (Some (Step n)) t = stopped set.empty (most_of s n) _ t.stopped t.others
+  left (Some (Go n)) t = stopped s.breakpoints (most_of s (going_for s n)) _ t.stopped t.others
+  left (Some (SetBreak addr)) e =
+      same_timed (ap (λ u. u.program) e) (ap (λ u. u.limit) e) (ap (λ u. u.timed) e)
+  left (Some (ClearBreak addr)) e =
+      same_timed (ap (λ u. u.program) e) (ap (λ u. u.limit) e) (ap (λ u. u.timed) e)
+  left (Some Registers) e = unchanged e
+  left (Some (ControlRegister name csr)) e = unchanged e
+  left (Some (Memory addr count)) e = unchanged e
+  left (Some (Instruction addr)) e = unchanged e
+  left (Some Traps) e = unchanged e
+  left (Some (Edges source)) e = unchanged e
+  left (Some Quit) e = unchanged e
+  left (Some Nothing) e = unchanged e
+
+  step_refused : (a : Addresses) (n asked room : ℕ) → HadNoRoom asked room s new ⊎ WasRefused a n s new
+      → IsRecorded after_call
+  step_refused a n asked room (inl f) = unchanged f.state
+  step_refused a n asked room (inr w) = refused a (most_of s n) w.refused w.others
+
+  pub left_refused : (c : Option Command) (room : ℕ) → LeavesRefused c room s new → IsRecorded after_call
+  left_refused None room f = unchanged f.state
+  left_refused (Some (Step n)) room f = step_refused set.empty n 58 room f
+  left_refused (Some (Go n)) room f = step_refused s.breakpoints (going_for s n) 58 room f
+  left_refused (Some (SetBreak addr)) room f = unchanged f.state
+  left_refused (Some (ClearBreak addr)) room f = unchanged f.state
+  left_refused (Some Registers) room f = unchanged f.state
+  left_refused (Some (ControlRegister name csr)) room f = unchanged f.state
+  left_refused (Some (Memory addr count)) room f = unchanged f.state
+  left_refused (Some (Instruction addr)) room f = unchanged f.state
+  left_refused (Some Traps) room f = unchanged f.state
+  left_refused (Some (Edges source)) room f = unchanged f.state
+  left_refused (Some Quit) room f = absurd f
+  left_refused (Some Nothing) room f = absurd f
+
+  pub commanded : {A : Type 0} (c : Option Command) (room : ℕ) (r : Result A NoMemory)
+      → OnOk r (Leaves c s new) → OnErr r (LeavesRefused c room s new) → IsRecorded after_call
+  commanded c room (Ok a) ok err = left c ok
+  commanded c room (Err refusal) ok err = left_refused c room err
+
+  -- ---- breakpoints
+
+  pub broken : (r : Result Unit NoMemory) (addr : ℕ) → OnOk r (new ≡ with_break s addr) → OnErr r (new ≡ s)
+      → IsRecorded after_call
+  broken (Ok u) addr e err = same_timed (ap (λ u. u.program) e) (ap (λ u. u.limit) e) (ap (λ u. u.timed) e)
+  broken (Err refusal) addr ok e = unchanged e
+
+  pub cleared : (addr : ℕ) → new ≡ without_break s addr → IsRecorded after_call
+  cleared addr e = same_timed (ap (λ u. u.program) e) (ap (λ u. u.limit) e) (ap (λ u. u.timed) e)
+
+  -- ---- inputs
+
+  pub gave : (r : Result Unit NoMemory) (input : Input) → s.timed.taken ≤ s.limit
+      → OnOk r (new ≡ record s { timed = given s.timed input }) → OnErr r (new ≡ s) → IsRecorded after_call
+  gave (Ok u) input most e err =
+      let timed : new.timed ≡ given s.timed input = ap (λ u. u.timed) e in
+      stands (ap (λ u. u.program) e) (ap (λ u. u.limit) e)
+      (subst (IsReached first) (sym timed) (given_stands first s.timed input h.reached))
+      (subst (λ (t : TimedState). HasSteps t.inputs) (sym timed)
+      (given_steps s.timed input h.steps (omega (arith, h.limit))))
+  gave (Err refusal) input most ok e = unchanged e
+
+  -- ---- going back
+
+  module _ (board : BoardState) (booted : board ≡ first) (n : ℕ) (below : n ≤ s.timed.taken)
+      (within : s.timed.taken ≤ s.limit) where
+    same_most : min n s.limit ≡ n
+    same_most = omega arith
+
+    module _ (stop : Stop)
+        (st : HasStopped set.empty (min n s.limit) (begun board s.timed.inputs) new.timed stop) where
+      st_first : HasStopped set.empty n (begun first s.timed.inputs) new.timed stop
+      st_first = subst (λ (b : BoardState). HasStopped set.empty n (begun b s.timed.inputs) new.timed stop) booted
+          (subst (λ (m : ℕ). HasStopped set.empty m (begun board s.timed.inputs) new.timed stop) same_most st)
+
+      all_taken : new.timed.taken ≡ n
+      all_taken = rewound first s.timed new.timed n stop h.reached below st_first
+
+      back_is : new.timed ≡ after (begun first s.timed.inputs) n
+      back_is =
+          let k : new.timed.taken - 0 ≡ n = omega (arith, all_taken) in
+          st_first.state ∙ ap (after (begun first s.timed.inputs)) k
+
+      pub back_stands : new ≡ record s { timed = new.timed } → IsRecorded after_call
+      back_stands e =
+          timed_stands e
+          (stopped_stands first (begun first s.timed.inputs) new.timed
+          (begun_stands first s.timed.inputs h.reached.rising) set.empty n stop st_first)
+          (inputs_kept set.empty n (begun first s.timed.inputs) new.timed n back_is)
+
+      pub went_back : new ≡ record s { timed = new.timed }
+          → after_call ≡ gone_back (record { session = s; pages = p; slots = q }) n
+      went_back e =
+          ap (λ (u : SessionState). record { session = u; pages = p; slots = q })
+          (e ∙ ap (λ (t : TimedState). record s { timed = t }) back_is)
+
+    pub back_any : (r : Result Stop NoMemory)
+        → IfOk r (HasStopped set.empty (min n s.limit) (begun board s.timed.inputs) new.timed)
+        → OnErr r (new ≡ s) → new ≡ record s { timed = new.timed } → IsRecorded after_call
+    back_any (Ok stop) ok err e = back_stands stop ok e
+    back_any (Err refusal) ok err e = unchanged err

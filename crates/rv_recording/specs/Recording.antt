@@ -1,0 +1,58 @@
+-- To audit: public contracts cite this.
+-- A session that can be run again: its board is the run of the recorded events from reset on.
+use Rattle.std.specs.Prelude.{◌≡◌, ◌⊎◌, ℕ, ◌++◌, List, length, None}
+use Rattle.rv_board.specs.Boot.{boot_fault, start}
+use Rattle.rv_board.specs.Move.{run}
+use Rattle.rv_board.specs.State.{BoardState}
+use Rattle.rv_lists.specs.Text.{HasSteps}
+use Rattle.rv_lists.specs.declared.input.TimedInput.{TimedInput}
+use Rattle.rv_monitor.specs.Events.{events_of, inputs_at}
+use Rattle.rv_monitor.specs.Laws.{IsReached}
+use Rattle.rv_monitor.specs.State.{SessionState, TimedState, begun, after}
+use Rattle.rv_monitor.specs.State as monitor
+use Rattle.rv_program.specs.Program.{Assembly}
+
+-- a session, and the pages and slots of its board
+pub record RecordingState : Type 0 where
+  pub session : SessionState
+  pub pages : ℕ
+  pub slots : ℕ
+
+-- the most steps of a recording: the largest step of a timed list
+abbrev pub last_step : ℕ
+last_step = 9999999999
+
+-- the recording of a program before its first step
+abbrev pub opened : Assembly → List TimedInput → ℕ → ℕ → RecordingState
+opened program inputs pages slots =
+    record {
+      session = monitor.start (start program.bytes pages) inputs program last_step;
+      pages = pages;
+      slots = slots;
+    }
+
+-- the board at reset
+abbrev pub first_board : RecordingState → BoardState
+first_board r = start r.session.program.bytes r.pages
+
+-- the recording with its board, inputs and steps replaced
+abbrev pub with_timed : RecordingState → TimedState → RecordingState
+with_timed r timed = record r { session = record r.session { timed = timed } }
+
+-- the recording after its first n steps
+abbrev pub gone_back : RecordingState → ℕ → RecordingState
+gone_back r n = with_timed r (after (begun (first_board r) r.session.timed.inputs) n)
+
+-- the board is the run of the recorded events: those of the steps taken, each after the inputs of its time, and
+-- then the inputs of the next step, or none of them
+abbrev pub IsRun : BoardState → TimedState → Type 0
+IsRun first s =
+    (s.board ≡ run first (events_of s.inputs 0 s.taken))
+    ⊎ (s.board ≡ run first (events_of s.inputs 0 s.taken ++ inputs_at s.inputs s.taken))
+
+-- what holds of every recording
+pub record IsRecorded (r : RecordingState) : Type 0 where
+  pub boots : boot_fault (length r.session.program.bytes) r.pages r.slots ≡ None
+  pub reached : IsReached (first_board r) r.session.timed
+  pub steps : HasSteps r.session.timed.inputs
+  pub limit : r.session.limit ≡ last_step

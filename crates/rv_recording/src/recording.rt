@@ -1,0 +1,269 @@
+//! Recordings.
+ghost use Rattle.std.specs.Prelude.{◌≡◌, ◌≢◌, ◌-◌, ◌++◌, ◌≤◌, true, false, length, min, None, Some, OnOk, OnErr, IfOk, IfErr, vec_capacity, vec_len};
+ghost use Rattle.std.specs.FinSet as set;
+ghost use Rattle.rv_board.specs.Boot.{boot_fault};
+ghost use Rattle.rv_board.specs.declared.event.BootFault.{BootFault};
+ghost use Rattle.rv_lists.specs.Text.{list_text, HasSteps, ReadsAs};
+ghost use Rattle.rv_lists.specs.Timed.{never_falls};
+ghost use Rattle.rv_monitor.specs.Commands.{Leaves, LeavesRefused, answer, command_in, next_of};
+ghost use Rattle.rv_monitor.specs.Laws.{IsReached};
+ghost use Rattle.rv_monitor.specs.State.{given, most_of, with_break, without_break};
+ghost use Rattle.rv_monitor.specs.Stops.{HasStopped, IsRefused, TakesStep};
+ghost use Rattle.rv_recording.specs.Recording.{IsRun, first_board, gone_back, opened, with_timed};
+
+use rv_base::NoMemory;
+use rv_board::{BootFault, BootedBoard};
+use rv_cache::DecodeCache;
+use rv_hart::Outcome;
+use rv_lists::{Input, TimedInput, Timeline, list_text};
+use rv_monitor::{Next, Session, Stop};
+use rv_program::Program;
+use rv_ram::PagedRam;
+use std::alloc::Global;
+use std::marker::Model;
+
+/// The most steps that a recording takes: the largest step of a timed list.
+pub const LAST_STEP: u64 = 9_999_999_999;
+
+/// A session of a booted board, with what is needed to run it again.
+pub struct Recording {
+    alloc: Global,
+    session: Session<PagedRam, DecodeCache>,
+    pages: u32,
+    slots: u32,
+}
+
+// Hand-written: a derived `Drop` would be proved anew at each exit (docs/PROVING.md).
+impl Drop for Recording {
+    fn drop(self) {
+        let Recording {
+            alloc: _,
+            session: _,
+            pages: _,
+            slots: _,
+        } = self;
+    }
+}
+
+impl Model for Recording {
+    ghost use Rattle.std.specs.Coded.{codes, coded_ℕ};
+    ghost use Rattle.std.specs.FinSet as set;
+    ghost use Rattle.std.specs.Ordering.{nat_cmp};
+    ghost use Rattle.rv_plic.specs.Codes.{plic_code};
+    ghost use Rattle.rv_recording.specs.Recording.{RecordingState, IsRecorded};
+
+    ghost Value = { RecordingState };
+
+    ghost coded = { Prim.hlevel (codes, plic_code, set.code {R = nat_cmp} coded_ℕ) };
+
+    ghost view = { λ r. record { session = r.session; pages = r.pages; slots = r.slots } };
+
+    ghost invariant = { λ r. IsRecorded (record { session = r.session; pages = r.pages; slots = r.slots }) };
+}
+
+impl Recording {
+    /// Boots a program on a board with a timed list, and returns the recording before its first step. It may
+    /// take [`LAST_STEP`] steps.
+    ///
+    /// # Errors
+    ///
+    /// The first fault for which the board isn't booted; out of memory only if no other applies.
+    pub fn open(
+        alloc: Global,
+        program: Program,
+        timeline: Timeline,
+        pages: u32,
+        slots: u32,
+    ) -> Result<Recording, BootFault>
+        requires { HasSteps timeline }
+        ensures ok { IfOk result (λ r. r ≡ opened program timeline pages slots) }
+        ensures err { IfErr result (λ e. e ≢ BootFault.OutOfMemory
+            → boot_fault (length program.bytes) pages slots ≡ Some e) }
+        ensures memory { IfErr result (λ e. e ≡ BootFault.OutOfMemory
+            → boot_fault (length program.bytes) pages slots ≡ None) }
+    {
+        let board = match BootedBoard::boot(alloc, &program, pages, slots) {
+            Ok(board) => board,
+            Err(fault) => return Err(fault),
+        };
+        // It tells that the steps of a timed list never fall.
+        let _inputs = timeline.inputs();
+        Ok(Recording {
+            alloc,
+            session: Session::new(alloc, board, timeline, program, LAST_STEP),
+            pages,
+            slots,
+        })
+    }
+
+    /// Returns the session. Whatever was done, its board is the run of the recorded events from reset on.
+    pub fn session(&self) -> &Session<PagedRam, DecodeCache>
+        ensures value { result.now ≡ self.now.session }
+        ensures run { IsRun (first_board self.now) self.now.session.timed }
+        ensures reached { IsReached (first_board self.now) self.now.session.timed }
+    {
+        &self.session
+    }
+
+    /// Returns the number of pages of memory.
+    pub fn pages(&self) -> u32
+        ensures { result ≡ self.now.pages }
+    {
+        self.pages
+    }
+
+    /// Returns the number of slots of the decoded cache.
+    pub fn slots(&self) -> u32
+        ensures { result ≡ self.now.slots }
+    {
+        self.slots
+    }
+
+    /// Returns how many steps were taken.
+    pub fn steps(&self) -> u64
+        ensures { result ≡ self.now.session.timed.taken }
+    {
+        self.session.taken()
+    }
+
+    /// Returns the recorded inputs in their order: those of the timed list, and those that were given by hand.
+    pub fn inputs(&self) -> &[TimedInput]
+        ensures value { result.now ≡ self.now.session.timed.inputs }
+        ensures rising { never_falls result.now ≡ true }
+    {
+        self.session.inputs()
+    }
+
+    /// Returns the recorded inputs as a text that is read as a timed list of exactly these inputs.
+    ///
+    /// # Errors
+    ///
+    /// `NoMemory` if memory runs out.
+    pub fn inputs_text(&self, alloc: Global) -> Result<Vec<u8>, NoMemory>
+        ensures text { IfOk result (λ text. text.items ≡ list_text self.now.session.timed.inputs) }
+        ensures read { IfOk result (λ text. ReadsAs text.items self.now.session.timed.inputs) }
+    {
+        let inputs = self.session.inputs();
+        list_text(alloc, inputs)
+    }
+
+    /// Takes `n` steps, as [`Session::step`] does.
+    ///
+    /// # Errors
+    ///
+    /// As those of [`Session::step`].
+    pub fn step(&mut self, n: u64) -> Result<Stop, NoMemory>
+        ensures ok { IfOk result (HasStopped set.empty (most_of self.old.session n)
+            self.old.session.timed self.new.session.timed) }
+        ensures err { OnErr result (IsRefused set.empty (most_of self.old.session n)
+            self.old.session.timed self.new.session.timed) }
+        ensures others { self.new ≡ with_timed self.old self.new.session.timed }
+    {
+        self.session.step(n)
+    }
+
+    /// Takes up to `n` steps, up to a breakpoint, as [`Session::go`] does.
+    ///
+    /// # Errors
+    ///
+    /// As those of [`Session::step`].
+    pub fn go(&mut self, n: u64) -> Result<Stop, NoMemory>
+        ensures ok { IfOk result (HasStopped self.old.session.breakpoints (most_of self.old.session n)
+            self.old.session.timed self.new.session.timed) }
+        ensures err { OnErr result (IsRefused self.old.session.breakpoints (most_of self.old.session n)
+            self.old.session.timed self.new.session.timed) }
+        ensures others { self.new ≡ with_timed self.old self.new.session.timed }
+    {
+        self.session.go(n)
+    }
+
+    /// Takes one step, and returns what it did, or None if the board has halted or the last step is taken.
+    ///
+    /// # Errors
+    ///
+    /// As those of [`Session::step`].
+    pub fn take_step(&mut self) -> Result<Option<Outcome>, NoMemory>
+        ensures step { TakesStep self.old.session self.new.session result }
+        ensures others { self.new ≡ record self.old { session = self.new.session } }
+    {
+        self.session.take_step()
+    }
+
+    /// Gives the board an input at once, and records it: it comes before the next step, after all other inputs
+    /// of that step. A board that has halted takes none.
+    ///
+    /// # Errors
+    ///
+    /// `NoMemory` if memory runs out. Nothing changes then.
+    pub fn give(&mut self, input: Input) -> Result<(), NoMemory>
+        ensures ok { OnOk result (self.new ≡ with_timed self.old (given self.old.session.timed input)) }
+        ensures err { OnErr result (self.new ≡ self.old) }
+    {
+        // It tells that no step has more than ten digits.
+        let _steps = self.session.taken();
+        self.session.give(input)
+    }
+
+    /// Goes back to after the first `steps` steps, by taking them again from reset on, if more were taken. All
+    /// inputs and breakpoints stay; the inputs of the next step are to be given.
+    ///
+    /// # Errors
+    ///
+    /// `NoMemory` if memory runs out. Nothing changes then.
+    pub fn go_back(&mut self, steps: u64) -> Result<(), NoMemory>
+        ensures ok { OnOk result (self.new ≡ gone_back self.old (min steps self.old.session.timed.taken)) }
+        ensures err { OnErr result (self.new ≡ self.old) }
+    {
+        let count = steps.min(self.session.taken());
+        let program = self.session.program();
+        let Ok(board) = BootedBoard::boot(self.alloc, program, self.pages, self.slots) else {
+            return Err(NoMemory);
+        };
+        match self.session.rewind(board, count) {
+            Ok(_) => Ok(()),
+            Err(NoMemory) => Err(NoMemory),
+        }
+    }
+
+    /// Makes an address a breakpoint.
+    ///
+    /// # Errors
+    ///
+    /// As those of [`Session::set_break`].
+    pub fn set_break(&mut self, address: u32) -> Result<(), NoMemory>
+        ensures ok { OnOk result
+            (self.new ≡ record self.old { session = with_break self.old.session address }) }
+        ensures err { OnErr result (self.new ≡ self.old) }
+        ensures absent { OnErr result (set.contains self.old.session.breakpoints address ≡ false) }
+        ensures room { OnErr result (self.old.session.room ≡ 0) }
+    {
+        self.session.set_break(address)
+    }
+
+    /// Removes a breakpoint, and returns whether it was there.
+    pub fn clear_break(&mut self, address: u32) -> bool
+        ensures was { result ≡ set.contains self.old.session.breakpoints address }
+        ensures gone { self.new ≡ record self.old { session = without_break self.old.session address } }
+    {
+        self.session.clear_break(address)
+    }
+
+    /// Executes a command line of the monitor, and appends its answer to `text`, as [`Session::command`] does.
+    ///
+    /// # Errors
+    ///
+    /// As those of [`Session::command`].
+    pub fn command(&mut self, line: &[u8], text: &mut Vec<u8>) -> Result<Next, NoMemory>
+        ensures next { IfOk result (λ next. next ≡ next_of (command_in line.now self.old.session)) }
+        ensures ok { OnOk result
+            (Leaves (command_in line.now self.old.session) self.old.session self.new.session) }
+        ensures text { OnOk result (text.new.items ≡ text.old.items
+            ++ answer (command_in line.now self.old.session) self.old.session self.new.session) }
+        ensures err { OnErr result (LeavesRefused (command_in line.now self.old.session)
+            (vec_capacity text.old - vec_len text.old) self.old.session self.new.session) }
+        ensures unwritten { OnErr result (text.new.items ≡ text.old.items) }
+        ensures others { self.new ≡ record self.old { session = self.new.session } }
+    {
+        self.session.command(line, text)
+    }
+}
