@@ -1,11 +1,12 @@
 //! A filter that rules out most addresses as breakpoints.
-ghost use Rattle.std.specs.Prelude.{◌≡◌, ◌/◌, ◌%◌, ◌<◌, ℕ, true};
+ghost use Rattle.std.specs.Prelude.{◌≡◌, ◌%◌, ◌<◌, ℕ, true};
 ghost use Rattle.rv_monitor.specs.Filter.{may_contain};
 
-/// The number of flags.
-const FLAGS: usize = 64;
+/// The number of flags: one for each low byte of an address, so that a flag is found with few instructions,
+/// though only every fourth is used.
+const FLAGS: usize = 256;
 
-/// A flag for each of 64 groups of addresses: those of words whose numbers have the same low six bits.
+/// A flag for each group of addresses that have the same low byte.
 ///
 /// An address whose flag is off is no breakpoint.
 #[derive(Clone, Copy)]
@@ -15,10 +16,10 @@ pub(crate) struct BreakpointFilter {
 
 /// Returns the index of an address's flag.
 fn flag_index(address: u32) -> usize
-    ensures value { result ≡ address / 4 % 64 }
-    ensures below { result < 64 }
+    ensures value { result ≡ address % 256 }
+    ensures below { result < 256 }
 {
-    (address / 4) as usize % FLAGS
+    address as usize % FLAGS
 }
 
 impl BreakpointFilter {
