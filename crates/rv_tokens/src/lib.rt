@@ -12,6 +12,6 @@ mod token;
 
 pub use fault::LineFault;
 pub use name::Name;
-pub use place::{Place, place_of};
+pub use place::{Place, place_of, stuck_at};
 pub use scan::{cut_line, one_cut};
 pub use token::{Direction, Text, Token};

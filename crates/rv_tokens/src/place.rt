@@ -1,5 +1,5 @@
 //! Where the tokens of a line stand.
-ghost use Rattle.std.specs.Prelude.{◌≡◌, ◌≤◌, length};
+ghost use Rattle.std.specs.Prelude.{◌≡◌, ◌+◌, ◌≤◌, ◌<◌, length, IfSome};
 ghost use Rattle.rv_tokens.specs.Places.{nth, places_in, places};
 
 use crate::scan::{front, is_comment};
@@ -18,7 +18,8 @@ pub struct Place {
 #[tactic(auto, unfolding(crate::specs::Places::places_in))]
 fn place_in(total: usize, rest: &[u8], index: usize) -> Option<Place>
     requires { length rest.now ≤ total }
-    ensures { result ≡ nth (places_in total rest.now 0) index }
+    ensures value { result ≡ nth (places_in total rest.now 0) index }
+    ensures within { IfSome result (λ p. p.column + p.len ≤ total) }
 {
     let [first, others @ ..] = rest else {
         return None;
@@ -40,7 +41,35 @@ fn place_in(total: usize, rest: &[u8], index: usize) -> Option<Place>
 /// Returns the place of the token with an index, counted from 0, in a line without its line end; `None` if fewer
 /// tokens can be cut from the line.
 pub fn place_of(line: &[u8], index: usize) -> Option<Place>
-    ensures { result ≡ nth (places line.now) index }
+    ensures value { result ≡ nth (places line.now) index }
+    ensures within { IfSome result (λ p. p.column + p.len ≤ length line.now) }
 {
     place_in(line.len(), line, index)
+}
+
+/// Returns the column of the first byte at which no token begins, in the rest of a line that has `total` bytes.
+fn stuck_in(total: usize, rest: &[u8]) -> Option<usize>
+    requires { length rest.now ≤ total }
+    ensures { IfSome result (λ column. column < total) }
+{
+    let [first, others @ ..] = rest else {
+        return None;
+    };
+    if is_blank(*first) {
+        return stuck_in(total, others);
+    }
+    if is_comment(rest) {
+        return None;
+    }
+    match front(rest) {
+        Some((_, len)) => stuck_in(total, rest.split_at(len).1),
+        None => Some(total - rest.len()),
+    }
+}
+
+/// Returns the number of bytes before the first byte of a line at which no token begins, if there is one.
+pub fn stuck_at(line: &[u8]) -> Option<usize>
+    ensures { IfSome result (λ column. column < length line.now) }
+{
+    stuck_in(line.len(), line)
 }

@@ -17,12 +17,18 @@ place_in-requires-2 t c =
     let h = c.split_at.ensures.back_len in
     (search (arith, l.some, l.within), omega (arith, h, l.within, c.requires))
 
-pub returns : goal.returns
-returns t c =
+pub returns-clause-value : goal.returns-clause-value
+returns-clause-value t c =
     let l = longest_found (token_in c.args.rest.now) (length c.args.rest.now) c.in_ok-len.len
     c.in_ok-len.field-0-0 (sym c.in_ok-len.ensures) in
     rw (
       place_after c.args.total c.args.rest.now c.in_ok-len.field-0-0 c.in_ok-len.len c.args.index (omega arith)
           (sym c.if-is_blank.ensures) (sym c.if-is_comment.ensures) (sym c.in_ok-len.ensures) l.some (omega arith),
       ← c.split_at.ensures.back,
-    ) c.place_in-2.ensures
+    ) c.place_in-2.ensures.value
+
+pub returns-then-index-eq0-clause-within : goal.returns-then-index-eq0-clause-within
+returns-then-index-eq0-clause-within t c =
+    let l = longest_found (token_in c.args.rest.now) (length c.args.rest.now) c.in_ok-len.len
+    c.in_ok-len.field-0-0 (sym c.in_ok-len.ensures) in
+    omega (arith, l.within, c.requires)
