@@ -248,7 +248,7 @@ fn value_in<'t, 'a>(
 
 /// Returns the fields with an operand in its role.
 #[tactic(auto, unfolding(crate::specs::Fields::put))]
-fn put<'t, 'a>(
+pub fn put<'t, 'a>(
     role: Role,
     operand: &'t Operand<'a>,
     fields: Fields<'t, 'a>,

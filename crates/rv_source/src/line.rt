@@ -97,6 +97,13 @@ impl<'a> Line<'a> {
         self.labels.as_slice()
     }
 
+    /// Returns what follows the labels.
+    pub fn body(&self) -> &Body<'a>
+        ensures { result.now ≡ self.now.body }
+    {
+        &self.body
+    }
+
     /// Returns the statement, if the line has one. It takes no memory.
     ///
     /// # Errors

@@ -15,7 +15,7 @@ use rv_tokens::{Token, cut_line};
 use std::alloc::{AllocError, Global};
 
 /// Reads a token before a colon as a label.
-fn label_of<'a>(token: &Token<'a>) -> Option<Label<'a>>
+pub fn label_of<'a>(token: &Token<'a>) -> Option<Label<'a>>
     ensures { result ≡ label_of token.now }
 {
     match token {
