@@ -15,5 +15,6 @@ pub mod Reading
 pub mod Takes
 pub mod Whole
 pub mod Nearest
+pub mod Diagnoses
 pub mod Listings
 pub mod Lined

@@ -9,3 +9,4 @@ pub mod Steps
 pub mod Taken
 pub mod Lines
 pub mod Looked
+pub mod Diagnosed

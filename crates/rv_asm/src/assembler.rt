@@ -60,7 +60,7 @@ fn take<'a>(
 
 /// Performs phases one and two line by line. A fault of phase two is kept until all lines are read, since a
 /// fault of phase one on a later line takes precedence.
-fn lay_out<'a>(
+pub fn lay_out<'a>(
     alloc: Global,
     source: &'a [u8],
     known: &mut Known,

@@ -83,7 +83,7 @@ impl Known {
     }
 
     /// Defines the labels of a line, from left to right.
-    fn labels(&mut self, alloc: Global, line: usize, labels: &[Label]) -> Result<(), FaultKind>
+    pub fn labels(&mut self, alloc: Global, line: usize, labels: &[Label]) -> Result<(), FaultKind>
         requires { All (λ d. d.line ≤ line) self.old.definitions.locals }
         ensures { KindBecomes self.new result (all_labelled line self.old labels.now) }
     {

@@ -10,8 +10,11 @@
 
 mod assembler;
 mod data;
+mod diagnosis;
 mod emission;
 mod extent;
+mod faults;
+mod finding;
 mod fixup;
 mod instructions;
 mod kept;
@@ -24,6 +27,8 @@ mod symbols;
 mod values;
 
 pub use assembler::assemble;
+pub use diagnosis::{Detail, Diagnosis, Field};
+pub use faults::diagnose_first;
 pub use listing::{Listing, NearLabel, list};
 pub use locals::LocalLabel;
 pub use rv_program::{AsmFault, FaultKind, Program};

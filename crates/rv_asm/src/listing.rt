@@ -20,7 +20,7 @@ use std::marker::Model;
 
 /// A name that a line defines as a label, with its address.
 #[derive(Drop)]
-struct PlacedName {
+pub struct PlacedName {
     name: Vec<u8>,
     address: u32,
 }
@@ -57,7 +57,7 @@ fn push_names(
 /// Lays out a line of an accepted source, and appends its labels. That such a line has no fault isn't used: one
 /// would be answered as out of memory.
 #[tactic(auto, using(crate::proofs::Reading::read_statement))]
-fn pass(
+pub fn pass(
     alloc: Global,
     number: usize,
     text: &[u8],

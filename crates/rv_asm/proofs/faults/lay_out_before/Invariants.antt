@@ -1,0 +1,17 @@
+use Rattle.std.proofs.Common.{◌≡◌, ◌≤◌, ◌+◌, length}
+use Rattle.std.specs.Prelude.{Ok}
+use Rattle.rv_base.specs.Lines.{lines}
+use Rattle.rv_asm.specs.Assembly.{all_said}
+use Rattle.rv_asm.specs.Steps.{laid_out}
+use Rattle.rv_asm.proofs.Reading.{SoFar}
+use Rattle.rv_asm.proofs.faults.lay_out_before.Given as goal
+
+abbrev pub invariant-loop-text : goal.invariant-loop-text
+invariant-loop-text l =
+    record {
+      can_next : (goal.iterator-loop-text).can_next l.text-iterator;
+      is_finite : (goal.iterator-loop-text).is_finite l.text-iterator;
+      read : SoFar (lines l.source) l.text-iterator l.number;
+      layout : laid_out (all_said (lines l.source)) l.number ≡ Ok l.known;
+      counted : l.number + length l.text-iterator ≤ length l.source;
+    }
