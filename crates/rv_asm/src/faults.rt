@@ -174,8 +174,8 @@ fn diagnosed(alloc: Global, source: &[u8], fault: AsmFault) -> Result<Diagnosis,
     })
 }
 
-/// Returns what is wrong with a source that `assemble` refuses, and where: the diagnosis of its fault; `None` for one
-/// that it accepts.
+/// Returns what is wrong with a source that `assemble` refuses, and where: the diagnosis of its fault; `None`
+/// for one that it accepts.
 ///
 /// # Errors
 ///

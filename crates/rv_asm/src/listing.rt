@@ -54,8 +54,8 @@ fn push_names(
     push_names(alloc, address, rest, out)
 }
 
-/// Lays out a line of an accepted source, and appends its labels. That such a line has no fault isn't used: one
-/// would be answered as out of memory.
+/// Lays out a line of an accepted source, and appends its labels. That such a line has no fault isn't used:
+/// one would be answered as out of memory.
 #[tactic(auto, using(crate::proofs::Reading::read_statement))]
 pub fn pass(
     alloc: Global,
@@ -201,8 +201,8 @@ impl Listing {
         self.addresses.len() - 1
     }
 
-    /// Returns the address of what a line stands for; `None` if there is no such line. A line without bytes has
-    /// the address of what follows it.
+    /// Returns the address of what a line stands for; `None` if there is no such line. A line without bytes
+    /// has the address of what follows it.
     pub fn address(&self, line: usize) -> Option<u32>
         ensures { result ≡ address_of self.now line }
     {
@@ -259,8 +259,8 @@ impl Listing {
     }
 }
 
-/// Returns the listing of a source. It assembles the source, and then reads it again: 4 bytes for each line and
-/// some 50 for each label are kept beside the program.
+/// Returns the listing of a source. It assembles the source, and then reads it again: 4 bytes for each line
+/// and some 50 for each label are kept beside the program.
 ///
 /// # Errors
 ///

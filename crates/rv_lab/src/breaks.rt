@@ -8,8 +8,8 @@ use rv_base::{NoMemory, RAM_BASE, has_word};
 const PAGE_WORDS: u32 = 1024;
 
 impl Lab {
-    /// Returns the address of a breakpoint: what an address stands for, where a line without bytes stands for the next
-    /// one that has some. Where there is none, that is answered.
+    /// Returns the address of a breakpoint: what an address stands for, where a line without bytes stands for
+    /// the next one that has some. Where there is none, that is answered.
     fn break_address(&self, command: &str, operands: &[u8], answer: &mut Answer) -> Option<u32> {
         let Some(word) = only_word(operands) else {
             answer.say(command);
@@ -22,7 +22,8 @@ impl Lab {
         }
     }
 
-    /// Returns the address of the first line from this one on that has bytes. Where there is none, that is answered.
+    /// Returns the address of the first line from this one on that has bytes. Where there is none, that is
+    /// answered.
     fn line_with_bytes(&self, from: usize, answer: &mut Answer) -> Option<u32> {
         for line in from..=self.listing.len() {
             if self.listing.size(line) > 0 {

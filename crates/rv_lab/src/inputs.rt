@@ -63,8 +63,8 @@ fn quoted<'a>(operands: &'a [u8]) -> Option<&'a [u8]> {
     Some(&text[1..text.len() - 1])
 }
 
-/// Appends the bytes that words of two hexadecimal digits stand for, and returns whether there is one and each can
-/// be read.
+/// Appends the bytes that words of two hexadecimal digits stand for, and returns whether there is one and
+/// each can be read.
 fn read_digits(operands: &[u8], inputs: &mut Vec<Input>) -> Result<bool, NoMemory> {
     let mut rest = operands;
     for _ in 0..operands.len() {

@@ -117,8 +117,8 @@ impl Lab {
     ///
     /// # Errors
     ///
-    /// The first fault of the source, the timed list and the board, in this order; `OutOfMemory` may come in place of
-    /// any result.
+    /// The first fault of the source, the timed list and the board, in this order; `OutOfMemory` may come in
+    /// place of any result.
     pub fn open(
         alloc: Global,
         source: &[u8],

@@ -1,5 +1,5 @@
-//! The lab: a board with its source, whose state is asked for and moved by command lines. There are no files and no
-//! terminal in it.
+//! The lab: a board with its source, whose state is asked for and moved by command lines. There are no files
+//! and no terminal in it.
 #![tactic(auto)]
 
 mod answer;

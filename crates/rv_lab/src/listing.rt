@@ -1,7 +1,7 @@
 //! Where the lines of a source lie.
 //!
-//! A copy of the source has a label of its own before each line and at the end: the value of a label is the address of
-//! its line. It is assembled once.
+//! A copy of the source has a label of its own before each line and at the end: the value of a label is the
+//! address of its line. It is assembled once.
 use itoa::Buffer;
 use rv_asm::{AsmFault, FaultKind, Program, assemble};
 use rv_base::{RAM_BASE, cut_lines, low_word};

@@ -16,8 +16,8 @@ pub(crate) struct Nearest<'a> {
 const LONGEST: usize = 64;
 
 impl<'a> Nearest<'a> {
-    /// Returns a search for the nearest name to a word. A name is near if fewer than half of the word's bytes are
-    /// edited.
+    /// Returns a search for the nearest name to a word. A name is near if fewer than half of the word's bytes
+    /// are edited.
     pub(crate) fn new(alloc: Global, word: &'a [u8]) -> Nearest<'a> {
         Nearest {
             alloc,

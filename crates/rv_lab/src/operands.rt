@@ -105,8 +105,8 @@ impl Lab {
         Some(self.board().reg(register))
     }
 
-    /// Returns the address that a word stands for: a number in hexadecimal, a name of the source, a register, with
-    /// a number added to it or subtracted; or the number of a line.
+    /// Returns the address that a word stands for: a number in hexadecimal, a name of the source, a register,
+    /// with a number added to it or subtracted; or the number of a line.
     pub(crate) fn address(&self, word: &[u8]) -> Option<u32> {
         if let Some(line) = line_number(word) {
             return self.listing.address(line as usize);

@@ -17,8 +17,8 @@ const LIMIT: u64 = 9_999_999_999;
 /// The words of memory in a page.
 const PAGE_WORDS: u32 = 1024;
 
-/// The number of the control register that counts instructions that retired, and that of the one that has the address
-/// of the last trap.
+/// The number of the control register that counts instructions that retired, and that of the one that has the
+/// address of the last trap.
 const MINSTRET: u16 = 0xb02;
 
 const MEPC: u16 = 0x341;
@@ -169,8 +169,8 @@ impl Recording {
     ///
     /// # Errors
     ///
-    /// The first fault of the source, the timed list and the board, in this order; `OutOfMemory` may come in place of
-    /// any result.
+    /// The first fault of the source, the timed list and the board, in this order; `OutOfMemory` may come in
+    /// place of any result.
     pub(crate) fn open(
         alloc: Global,
         source: &[u8],
@@ -257,8 +257,8 @@ impl Recording {
         Ok(session)
     }
 
-    /// Gives inputs before the next step, which follow those that come before it already. Returns whether the board
-    /// takes them: one that has halted takes none.
+    /// Gives inputs before the next step, which follow those that come before it already. Returns whether the
+    /// board takes them: one that has halted takes none.
     ///
     /// # Errors
     ///

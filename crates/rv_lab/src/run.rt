@@ -31,8 +31,8 @@ pub(crate) fn watched_value(board: &BootedBoard, watched: Watched) -> Option<u32
     }
 }
 
-/// Returns by how much a jump changes the depth of calls, by the numbers of the register that it writes and of the one
-/// that it reads.
+/// Returns by how much a jump changes the depth of calls, by the numbers of the register that it writes and
+/// of the one that it reads.
 fn jump_change(to: u8, from: u8) -> i64 {
     match (to, from) {
         (1, _) => 1,

@@ -63,8 +63,8 @@ impl Lab {
         end.min(self.listing.len().saturating_add(1))
     }
 
-    /// Returns the line that a word stands for: its number, or the line at an address. Where there is none, that is
-    /// answered.
+    /// Returns the line that a word stands for: its number, or the line at an address. Where there is none,
+    /// that is answered.
     fn line_of(&self, word: &[u8], answer: &mut Answer) -> Option<usize> {
         if let Some(line) = line_number(word) {
             return Some(line as usize);

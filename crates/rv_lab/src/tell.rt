@@ -65,8 +65,8 @@ impl Lab {
         append_changes(before, &Registers::of(self.board()), answer);
     }
 
-    /// Appends the bytes that the console got and that weren't told, marked by a bar. A line that isn't ended yet
-    /// ends with a backslash.
+    /// Appends the bytes that the console got and that weren't told, marked by a bar. A line that isn't ended
+    /// yet ends with a backslash.
     pub(crate) fn tell_console(&mut self, answer: &mut Answer) {
         let console = self.recording.session().board().console();
         let (_, new) = console.split_at(self.last.told.min(console.len()));

@@ -212,8 +212,8 @@ impl<M: ByteMemory, C: Decoded> Session<M, C> {
         self.timed.give(input)
     }
 
-    /// Puts the session back to where `n` steps end that are taken from a board on, with all of its inputs: as
-    /// [`step`](Session::step) would leave a new session over that board. The breakpoints stay.
+    /// Puts the session back to where `n` steps end that are taken from a board on, with all of its inputs:
+    /// as [`step`](Session::step) would leave a new session over that board. The breakpoints stay.
     ///
     /// # Errors
     ///

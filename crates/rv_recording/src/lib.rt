@@ -1,5 +1,5 @@
-//! A session that can be run again: all of its inputs are recorded, those of its timed list and those that were
-//! given by hand, and the board is always the run of the recorded events from reset on.
+//! A session that can be run again: all of its inputs are recorded, those of its timed list and those that
+//! were given by hand, and the board is always the run of the recorded events from reset on.
 #![tactic(auto)]
 
 mod recording;

@@ -126,7 +126,8 @@ impl Recording {
         self.session.taken()
     }
 
-    /// Returns the recorded inputs in their order: those of the timed list, and those that were given by hand.
+    /// Returns the recorded inputs in their order: those of the timed list, and those that were given by
+    /// hand.
     pub fn inputs(&self) -> &[TimedInput]
         ensures value { result.now ≡ self.now.session.timed.inputs }
         ensures rising { never_falls result.now ≡ true }
@@ -189,8 +190,8 @@ impl Recording {
         self.session.take_step()
     }
 
-    /// Gives the board an input at once, and records it: it comes before the next step, after all other inputs
-    /// of that step. A board that has halted takes none.
+    /// Gives the board an input at once, and records it: it comes before the next step, after all other
+    /// inputs of that step. A board that has halted takes none.
     ///
     /// # Errors
     ///
@@ -204,8 +205,8 @@ impl Recording {
         self.session.give(input)
     }
 
-    /// Goes back to after the first `steps` steps, by taking them again from reset on, if more were taken. All
-    /// inputs and breakpoints stay; the inputs of the next step are to be given.
+    /// Goes back to after the first `steps` steps, by taking them again from reset on, if more were taken.
+    /// All inputs and breakpoints stay; the inputs of the next step are to be given.
     ///
     /// # Errors
     ///
@@ -248,7 +249,8 @@ impl Recording {
         self.session.clear_break(address)
     }
 
-    /// Executes a command line of the monitor, and appends its answer to `text`, as [`Session::command`] does.
+    /// Executes a command line of the monitor, and appends its answer to `text`, as [`Session::command`]
+    /// does.
     ///
     /// # Errors
     ///

@@ -108,8 +108,8 @@ impl<'a> Line<'a> {
     ///
     /// # Errors
     ///
-    /// `UnknownWord` if the word is neither a mnemonic nor a directive, else `BadOperands` if it doesn't take the
-    /// operands.
+    /// `UnknownWord` if the word is neither a mnemonic nor a directive, else `BadOperands` if it doesn't take
+    /// the operands.
     pub fn statement<'t>(&'t self) -> Result<Option<Statement<'t, 'a>>, LineFault>
         ensures { result ≡ statement_of self.now.body }
     {

@@ -156,8 +156,8 @@ fn count_in_line(tokens: &[Token]) -> usize
     }
 }
 
-/// Returns the index of the first token of a faulty line that can't stand where it stands, or of the last token if
-/// something is missing after it.
+/// Returns the index of the first token of a faulty line that can't stand where it stands, or of the last
+/// token if something is missing after it.
 pub fn misplaced(tokens: &[Token]) -> usize {
     count_in_line(tokens).min(tokens.len().saturating_sub(1))
 }

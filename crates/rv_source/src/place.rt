@@ -12,8 +12,8 @@ use std::alloc::{AllocError, Global};
 #[derive(Clone, Copy, PartialEq, Eq, Debug)]
 pub struct Spot {
     pub place: Place,
-    /// The number of the operand that the word doesn't take, counted from 1, if operands are wrong: 0 if some are
-    /// missing.
+    /// The number of the operand that the word doesn't take, counted from 1, if operands are wrong: 0 if some
+    /// are missing.
     pub operand: Option<usize>,
 }
 
@@ -118,8 +118,8 @@ fn operands_spot(text: &[u8], line: &Line) -> Spot
     }
 }
 
-/// Returns the place in a line that its fault in phase one means: the byte or the token that can't stand there, the
-/// word, or the operand.
+/// Returns the place in a line that its fault in phase one means: the byte or the token that can't stand
+/// there, the word, or the operand.
 pub fn fault_spot(alloc: Global, text: &[u8], fault: LineFault) -> Result<Spot, AllocError>
     ensures { IfOk result (λ s. s.place.column + s.place.len ≤ length text.now) }
 {

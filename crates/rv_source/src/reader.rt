@@ -103,8 +103,8 @@ fn read_tokens<'a>(alloc: Global, line: &[Token<'a>]) -> Result<Option<Line<'a>>
 ///
 /// # Errors
 ///
-/// `LineTooLong`, `BadByte` or `Syntax` if the line can't be cut into tokens; else `Syntax` if they aren't labels
-/// and a statement. `OutOfMemory` may come in place of any result.
+/// `LineTooLong`, `BadByte` or `Syntax` if the line can't be cut into tokens; else `Syntax` if they aren't
+/// labels and a statement. `OutOfMemory` may come in place of any result.
 #[tactic(auto, unfolding(crate::specs::Reading::written))]
 pub fn read_line<'a>(alloc: Global, text: &'a [u8]) -> Result<Line<'a>, LineFault>
     ensures cut { IsCutInto text.now (tokens text.now) }

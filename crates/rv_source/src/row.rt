@@ -57,7 +57,8 @@ pub enum Template {
     Constant,
 }
 
-/// The fields of an instruction before its operands are read: what isn't said is 0, or the sets `iorw` of a fence.
+/// The fields of an instruction before its operands are read: what isn't said is 0, or the sets `iorw` of a
+/// fence.
 #[derive(Clone, Copy)]
 pub enum Given {
     Zeros,

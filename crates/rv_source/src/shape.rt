@@ -20,7 +20,7 @@ pub enum Shape {
     Each(Role),
 }
 
-/// Returns the roles of each row of an instruction of this kind.
+/// Returns the roles of each row of an instruction of this kind: those that `table.rt` builds its rows with.
 fn roles_of(kind: Kind) -> &'static [&'static [Role]] {
     match kind {
         Kind::Lui { .. } => &[&[Rd, Upper]],
@@ -54,7 +54,8 @@ fn row_in(table: &[(&str, Row)], word: &[u8], index: usize) -> Option<Row> {
     row_in(rest, word, index - 1)
 }
 
-/// Returns what a word takes, as its row with an index, counted from 0, has it. The rows are tried in their order.
+/// Returns what a word takes, as its row with an index, counted from 0, has it. The rows are tried in their
+/// order.
 pub fn shape_of(word: &[u8], index: usize) -> Option<Shape> {
     if let Some(operation) = operation_named(word) {
         let rows = roles_of(operation.kind());
@@ -74,8 +75,8 @@ pub fn shape_of(word: &[u8], index: usize) -> Option<Shape> {
     }
 }
 
-/// Returns the pseudo-instruction or the directive with an index, counted from 0. A word with several rows comes
-/// several times.
+/// Returns the pseudo-instruction or the directive with an index, counted from 0. A word with several rows
+/// comes several times.
 pub fn word_at(index: usize) -> Option<&'static str> {
     if index < PSEUDO_INSTRUCTIONS.len() {
         return Some(PSEUDO_INSTRUCTIONS[index].0);
@@ -175,8 +176,8 @@ fn is_better(one: Fit, other: Fit) -> bool {
     }
 }
 
-/// Returns the operand, counted from 1, that a word doesn't take; 0 if operands are missing. Of the rows of the word
-/// the one is meant that the operands fit best.
+/// Returns the operand, counted from 1, that a word doesn't take; 0 if operands are missing. Of the rows of
+/// the word the one is meant that the operands fit best.
 pub fn wrong_operand(word: &[u8], operands: &[Operand]) -> usize {
     let mut best: Option<Fit> = None;
     for index in 0..MOST_ROWS {

@@ -118,8 +118,8 @@ fn size(terminated: bool, texts: &[Operand]) -> u32
         .saturating_add(size(terminated, rest))
 }
 
-/// The strings of a directive, borrowed from their line. The view is their bytes, each string followed by a byte 0
-/// if they are terminated.
+/// The strings of a directive, borrowed from their line. The view is their bytes, each string followed by a
+/// byte 0 if they are terminated.
 #[derive(Drop)]
 pub struct Strings<'t, 'a> {
     terminated: bool,
@@ -171,8 +171,8 @@ pub enum Statement<'t, 'a> {
         instr: Instr,
         value: Value<'t, 'a>,
     },
-    /// Two instructions that reach a target, however far: AUIPC into `scratch`, which takes the upper part of the
-    /// distance, and one that takes the lower part.
+    /// Two instructions that reach a target, however far: AUIPC into `scratch`, which takes the upper part of
+    /// the distance, and one that takes the lower part.
     Far {
         scratch: Reg,
         instr: Instr,

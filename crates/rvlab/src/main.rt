@@ -1,7 +1,7 @@
 //! The program of the lab: `rvlab SOURCE [--input F] [--pages P] [--slots S]`.
 //!
-//! Opens a lab of the source, and answers the commands of the standard input on the standard output, one after
-//! another. Where the standard input is no terminal, each command is written before its answer.
+//! Opens a lab of the source, and answers the commands of the standard input on the standard output, one
+//! after another. Where the standard input is no terminal, each command is written before its answer.
 #![tactic(auto)]
 
 mod save;

@@ -102,7 +102,8 @@ fn echo(rt: &HostRuntime, line: &[u8], is_terminal: bool) -> Result<(), TalkFaul
     print(rt, b"\n")
 }
 
-/// Reads commands from the standard input up to one that ends the talk, or to the end, and writes their answers.
+/// Reads commands from the standard input up to one that ends the talk, or to the end, and writes their
+/// answers.
 pub fn talk(rt: &HostRuntime, lab: &mut Lab, answer: &mut Answer) -> Result<(), TalkFault> {
     let is_terminal = rt.stdin().is_terminal();
     let mut reader = rt.reader();

@@ -86,7 +86,8 @@ fn number(matches: &ArgMatches<'_>, name: &str, usual: u16) -> u16 {
 ///
 /// # Errors
 ///
-/// The error that `clap` gives refused words, or `ErrorKind::OutOfMemory`. Where help was asked for, it is its text.
+/// The error that `clap` gives refused words, or `ErrorKind::OutOfMemory`. Where help was asked for, it is
+/// its text.
 pub fn read_words<'a>(alloc: Global, words: &'a [&'a str]) -> Result<Words<'a>, Error> {
     let matches = parse(alloc, words)?;
     let source = matches.get_str("source").unwrap_or("");
