@@ -1,9 +1,9 @@
 //! The text of an answer.
-use crate::recording::Recording;
 use itoa::Buffer;
 use rv_base::{NoMemory, byte_digits, word_digits};
 use rv_isa::{Instr, write_instr};
 use rv_monitor::Next;
+use rv_recording::Recording;
 use std::alloc::Global;
 use std::marker::Model;
 
@@ -151,9 +151,10 @@ impl Answer {
     }
 
     /// Appends the timed list of a recording.
-    pub(crate) fn inputs(&mut self, recording: &Recording) {
-        if !self.is_cut {
-            self.is_cut = recording.write_inputs(&mut self.bytes).is_err();
+    pub(crate) fn inputs(&mut self, alloc: Global, recording: &Recording) {
+        match recording.inputs_text(alloc) {
+            Ok(text) => self.put(text.as_slice()),
+            Err(NoMemory) => self.is_cut = true,
         }
     }
 

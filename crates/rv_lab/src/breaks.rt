@@ -26,7 +26,7 @@ impl Lab {
     /// answered.
     fn line_with_bytes(&self, from: usize, answer: &mut Answer) -> Option<u32> {
         for line in from..=self.listing.len() {
-            if self.listing.size(line) > 0 {
+            if self.size(line) > 0 {
                 return self.listing.address(line);
             }
         }
@@ -91,7 +91,7 @@ impl Lab {
     /// Appends the breakpoints in memory.
     fn list_breaks(&self, answer: &mut Answer) {
         let mut count: u32 = 0;
-        for page in 0..u32::from(self.recording.sizes().pages) {
+        for page in 0..self.recording.pages() {
             let first = RAM_BASE.wrapping_add(page.wrapping_mul(4096));
             count = count.wrapping_add(self.list_page(first, answer));
         }

@@ -106,9 +106,12 @@ pub fn saved_name<'a>(line: &'a [u8]) -> Option<&'a [u8]> {
 impl Lab {
     /// Gives the board inputs before the next step, or says that it takes none.
     fn give(&mut self, inputs: &[Input], answer: &mut Answer) -> Result<(), NoMemory> {
-        if !self.recording.give(inputs)? {
+        if self.board().halted().is_some() {
             answer.say("the board has halted, and takes no input\n");
             return Ok(());
+        }
+        for input in inputs {
+            self.recording.give(*input)?;
         }
         answer.count(inputs.len() as u64, "input");
         answer.say(" before step ");
@@ -172,7 +175,7 @@ impl Lab {
 
     /// Appends the inputs so far as a timed list of rvboard.
     pub fn append_saved_inputs(&self, answer: &mut Answer) {
-        answer.inputs(&self.recording);
+        answer.inputs(self.alloc, &self.recording);
     }
 
     /// Appends commands of rvboard's monitor that take as many steps as were taken.
@@ -194,7 +197,7 @@ impl Lab {
         answer.say("--steps ");
         answer.number(self.steps());
         answer.say(" --pages ");
-        answer.number(u64::from(self.recording.sizes().pages));
+        answer.number(u64::from(self.recording.pages()));
     }
 
     /// Appends that what was done is saved under a name, and how rvboard repeats it.

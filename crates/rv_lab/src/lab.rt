@@ -1,14 +1,13 @@
 //! The lab: what a caller may ask of it.
 use crate::answer::Answer;
 use crate::command::{Command, CommandLine, read_command};
-use crate::listing::{Listing, list};
 use crate::plan::Plan;
-use crate::recording::Recording;
 use crate::registers::Registers;
-use rv_asm::{AsmFault, FaultKind, Program};
-use rv_base::{NoMemory, cut_lines};
+use rv_asm::{AsmFault, FaultKind, Listing, Program, assemble, list};
+use rv_base::{NoMemory, cut_lines, low_word};
 use rv_board::{BootFault, BootedBoard};
-use rv_lists::TimelineFault;
+use rv_lists::{Timeline, TimelineFault};
+use rv_recording::Recording;
 use std::alloc::Global;
 
 /// The sizes of a board.
@@ -95,6 +94,7 @@ pub(crate) struct Last {
 /// A board with its source, whose state is asked for and moved by command lines.
 pub struct Lab {
     pub(crate) alloc: Global,
+    pub(crate) source: Vec<u8>,
     pub(crate) listing: Listing,
     pub(crate) recording: Recording,
     pub(crate) last: Last,
@@ -105,11 +105,26 @@ impl Drop for Lab {
     fn drop(self) {
         let Lab {
             alloc: _,
+            source: _,
             listing: _,
             recording: _,
             last: _,
         } = self;
     }
+}
+
+/// Opens a recording of a source's image on a board that gets the inputs of a timed list.
+pub(crate) fn open_recording(
+    alloc: Global,
+    source: &[u8],
+    inputs: &[u8],
+    pages: u32,
+    slots: u32,
+) -> Result<Recording, OpenFault> {
+    let program = assemble(alloc, source)?;
+    let timeline = Timeline::read(alloc, inputs)?;
+    let recording = Recording::open(alloc, program, timeline, pages, slots)?;
+    Ok(recording)
 }
 
 impl Lab {
@@ -126,7 +141,11 @@ impl Lab {
         sizes: Sizes,
     ) -> Result<Lab, OpenFault> {
         let listing = list(alloc, source)?;
-        let recording = Recording::open(alloc, source, inputs, sizes)?;
+        let (pages, slots) = (u32::from(sizes.pages), u32::from(sizes.slots));
+        let recording = open_recording(alloc, source, inputs, pages, slots)?;
+        let Ok(source) = Vec::from_slice(alloc, source) else {
+            return Err(OpenFault::OutOfMemory);
+        };
         let last = Last {
             registers: Registers::of(recording.session().board()),
             steps: 0,
@@ -138,6 +157,7 @@ impl Lab {
         };
         Ok(Lab {
             alloc,
+            source,
             listing,
             recording,
             last,
@@ -159,10 +179,15 @@ impl Lab {
         self.listing.program()
     }
 
+    /// Returns the number of bytes of a line, counted from 1.
+    pub(crate) fn size(&self, line: usize) -> u32 {
+        low_word(self.listing.bytes(line).len() as u64)
+    }
+
     /// Returns the text of a line of the source, counted from 1.
     pub(crate) fn line(&self, number: usize) -> Option<&[u8]> {
         let mut count: usize = 0;
-        for line in cut_lines(self.recording.source()) {
+        for line in cut_lines(&self.source) {
             count = count.saturating_add(1);
             if count == number {
                 return Some(line);

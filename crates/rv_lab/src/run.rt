@@ -95,7 +95,7 @@ impl Lab {
     /// Takes a step towards a goal, and returns why the run is over, if it is.
     fn step_towards(&mut self, plan: &mut Plan) -> Result<Option<End>, NoMemory> {
         let change = depth_change(self.recording.session().board());
-        let Some(outcome) = self.recording.step_once()? else {
+        let Some(outcome) = self.recording.take_step()? else {
             return Ok(Some(End::Stuck));
         };
         let trapped = matches!(outcome, Outcome::Trapped { .. });
@@ -187,7 +187,7 @@ impl Lab {
     /// Takes a step, and tells what it did.
     fn step_once(&mut self, answer: &mut Answer) -> Result<(), NoMemory> {
         self.begin();
-        let outcome = self.recording.step_once()?;
+        let outcome = self.recording.take_step()?;
         self.tell_step(outcome, answer);
         Ok(())
     }
@@ -248,7 +248,7 @@ impl Lab {
     fn trace_step(&mut self, answer: &mut Answer) -> Result<bool, NoMemory> {
         let before = Registers::of(self.recording.session().board());
         let at = self.recording.session().board().pc();
-        let Some(outcome) = self.recording.step_once()? else {
+        let Some(outcome) = self.recording.take_step()? else {
             self.tell_stuck(answer);
             return Ok(false);
         };

@@ -14,7 +14,7 @@ const MOST_LINES: u64 = 1000;
 impl Lab {
     /// Appends the marks of a line: `>` at pc, `*` at a breakpoint.
     fn append_marks(&self, line: usize, answer: &mut Answer) {
-        let size = self.listing.size(line);
+        let size = self.size(line);
         let Some(address) = self.listing.address(line) else {
             return answer.say("  ");
         };
@@ -26,7 +26,7 @@ impl Lab {
 
     /// Appends the address of a line and the first word there, or blanks where the line has no bytes.
     fn append_word_of(&self, line: usize, answer: &mut Answer) {
-        let size = self.listing.size(line);
+        let size = self.size(line);
         match self.listing.address(line) {
             Some(address) if size > 0 => {
                 answer.word(address);
@@ -54,7 +54,7 @@ impl Lab {
     fn append_lines(&self, first: usize, count: usize, answer: &mut Answer) -> usize {
         let end = first.saturating_add(count);
         let mut number: usize = 0;
-        for text in cut_lines(self.recording.source()) {
+        for text in cut_lines(&self.source) {
             number = number.saturating_add(1);
             if number >= first && number < end {
                 self.append_source_line(number, text, answer);

@@ -20,7 +20,7 @@ impl Lab {
             return;
         };
         answer.say(" <");
-        answer.put(near.name);
+        answer.put(near.name.bytes());
         if near.distance > 0 {
             answer.say("+");
             answer.number(u64::from(near.distance));

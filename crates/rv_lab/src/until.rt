@@ -53,7 +53,7 @@ impl Lab {
     fn place_goal(&self, word: &[u8]) -> Option<Goal> {
         let address = self.address(word)?;
         let size = match self.listing.line_at(address) {
-            Some(line) if number(word).is_some() => self.listing.size(line).max(1),
+            Some(line) if number(word).is_some() => self.size(line).max(1),
             _ => 1,
         };
         Some(Goal::At { address, size })

@@ -2,15 +2,15 @@
 use crate::answer::Answer;
 use crate::causes::append_cause;
 use crate::control::{MSTATUS, MTVEC, has_bit};
-use crate::lab::Lab;
+use crate::lab::{Lab, open_recording};
 use crate::memory::{append_instruction, instruction_at};
 use crate::protection::{append_region, entry_at, read_region};
-use crate::recording::Recording;
 use crate::registers::register_name;
 use rv_base::NoMemory;
 use rv_board::{BootedBoard, TrapRecord};
 use rv_hart::Outcome;
 use rv_isa::{Operation, Reg, decode};
+use rv_recording::Recording;
 
 /// How many steps are looked at.
 const MOST_STEPS: u64 = 20_000_000;
@@ -23,7 +23,7 @@ fn has_no_handler(board: &BootedBoard) -> bool {
 /// Takes steps until a trap meets no handler, and returns it.
 fn run_to_trap(run: &mut Recording, most: u64) -> Result<Option<TrapRecord>, NoMemory> {
     for _ in 0..most {
-        match run.step_once()? {
+        match run.take_step()? {
             None => return Ok(None),
             Some(Outcome::Trapped { cause, epc, tval }) => {
                 if has_no_handler(run.session().board()) {
@@ -196,10 +196,9 @@ impl Lab {
 
     /// Explains the first trap that met no handler, and returns whether there was one.
     fn explain_first(&self, answer: &mut Answer) -> Result<bool, NoMemory> {
-        let mut inputs = Answer::new(self.alloc);
-        self.append_saved_inputs(&mut inputs);
-        let sizes = self.recording.sizes();
-        let opened = Recording::open(self.alloc, self.recording.source(), inputs.bytes(), sizes);
+        let inputs = self.recording.inputs_text(self.alloc)?;
+        let (pages, slots) = (self.recording.pages(), self.recording.slots());
+        let opened = open_recording(self.alloc, &self.source, &inputs, pages, slots);
         let Ok(mut run) = opened else {
             return Err(NoMemory);
         };
