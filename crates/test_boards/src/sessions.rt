@@ -217,6 +217,21 @@ fn the_next_call_goes_on_with_the_refused_step(rt: HostRuntime) -> Result<(), Fa
     Ok(())
 }
 
+// Without inputs the steps of a call are one burst, which comes to the store in its second step, and then begins
+// with it.
+#[test]
+fn a_page_refused_in_a_burst_can_be_asked_for_again(rt: HostRuntime) -> Result<(), Fail> {
+    let mut session = session(rt.alloc(), b"", 2)?;
+    check_go_refused(&rt, &mut session, 3, 1);
+    check_board(&rt, &session, 0x8000_0004, 0, 1);
+    check_go_refused(&rt, &mut session, 2, 1);
+    check_stored(&rt, &session, 0);
+    check_go(&rt, &mut session, 9, Stop::Limit, 3);
+    check_board(&rt, &session, 0x8000_0008, 0, 3);
+    check_stored(&rt, &session, 0x80);
+    Ok(())
+}
+
 #[test]
 fn a_step_may_be_refused_again(rt: HostRuntime) -> Result<(), Fail> {
     let mut session = session(rt.alloc(), TIMED, 2)?;
