@@ -17,7 +17,9 @@ use Rattle.rv_pmp.specs.declared.mode.Mode.TheVariants as mode
 use Rattle.rv_pmp.specs.declared.register.PmpRegister.{PmpRegister}
 use Rattle.rv_pmp.specs.declared.register.PmpRegister.TheVariants.{Config, Address}
 use Rattle.rv_csr.specs.State.{CsrState}
-use Rattle.rv_csr.specs.Registers.{may_write, read, write, register_at, with_value, with_value_at}
+use Rattle.rv_csr.specs.Registers.{may_write, read, write}
+use Rattle.rv_csr.specs.RegisterCases.{register_at, with_value, with_value_at}
+use Rattle.rv_csr.proofs.Table.{write_by_cases}
 use Rattle.rv_csr.specs.Traps.{entered, left}
 use Rattle.rv_csr.specs.declared.register.Register.{Register}
 use Rattle.rv_csr.specs.declared.register.Register.TheVariants.{Mstatus}
@@ -217,8 +219,7 @@ module _ (state new : CsrState) (addr word : ℕ) where
   at_register None gives = at_protection (protection.store state.pmp addr word) refl gives
 
   written : (d : Mode) → write state addr d word ≡ Some new → KeepsLocked state.pmp new.pmp
-  unfolding write
-  written d is = by (may_write addr d) is where
+  written d is = by (may_write addr d) (sym (write_by_cases state addr d word) ∙ is) where
     by : (may : Bool) → (if may then with_value_at state addr word (register_at addr) else None) ≡ Some new
         → KeepsLocked state.pmp new.pmp
     by true is = at_register (register_at addr) is

@@ -9,7 +9,9 @@ use Rattle.rv_pmp.specs.Pmp.{PmpState}
 use Rattle.rv_pmp.specs.Pmp as protection
 use Rattle.rv_pmp.specs.declared.mode.Mode.{Mode}
 use Rattle.rv_pmp.specs.declared.mode.Mode.TheVariants.{User}
-use Rattle.rv_csr.specs.Registers.{is_from_to, register_at, may_read, may_write, read, value_at}
+use Rattle.rv_csr.specs.RegisterCases.{register_at, value_at}
+use Rattle.rv_csr.specs.Registers.{is_from_to, may_read, may_write, read}
+use Rattle.rv_csr.proofs.Table.{read_by_cases}
 use Rattle.rv_csr.specs.State.{CsrState}
 use Rattle.rv_csr.specs.declared.register.Register.{Register}
 
@@ -97,8 +99,8 @@ no_store old addr word new mode None may user stores = refl
 
 -- by the definition of a read
 pub nothing_read : (state : CsrState) (addr : ℕ) (lines : InterruptLines) → read state addr User lines ≡ None
-unfolding read protection.load
-nothing_read state addr lines = by_level (may_read addr User) refl
+unfolding protection.load
+nothing_read state addr lines = read_by_cases state addr User lines ∙ by_level (may_read addr User) refl
   where
     by_level : (b : Bool) → may_read addr User ≡ b
         → (if b then value_at state lines addr (register_at addr) else None) ≡ None

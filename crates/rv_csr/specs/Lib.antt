@@ -1,3 +1,4 @@
+pub mod RegisterCases
 pub mod Registers
 pub mod State
 pub mod Traps

@@ -2,7 +2,7 @@
 -- which modes may do either.
 -- RISC-V Privileged Architecture 20211203, section 2.1 for the addresses and 3.1 for the registers.
 -- To audit: public contracts cite this.
-use Rattle.std.specs.Prelude.{◌≡◌, ℕ, ◌+◌, ◌*◌, ◌/◌, ◌%◌, ◌^◌, Bool, false, ◌==◌, ◌&&◌, ◌||◌, not, nat_le, if◌then◌else◌, Option, Some, None}
+use Rattle.std.specs.Prelude.{◌≡◌, ℕ, ◌+◌, ◌*◌, ◌/◌, ◌%◌, ◌^◌, Bool, false, ◌==◌, ◌&&◌, ◌||◌, not, nat_le, if◌then◌else◌, List, [], ◌∷◌, Option, Some, None}
 use Rattle.std.specs.Option.{option_map}
 use Rattle.rv_base.specs.Halves.{with_low, with_high}
 use Rattle.rv_isa.specs.Number.{bit, truth}
@@ -15,6 +15,7 @@ use Rattle.rv_csr.specs.declared.counters.Counters.{Counters}
 use Rattle.rv_csr.specs.declared.register.Register.{Register}
 use Rattle.rv_csr.specs.declared.register.Register.TheVariants.{Mstatus, Misa, Mie, Mtvec, Mscratch, Mepc, Mcause, Mtval, Mip, Mcycle, Mcycleh, Minstret, Minstreth, Zero}
 use Rattle.rv_csr.specs.declared.mstatus.Mstatus as mstatus
+use Rattle.rv_csr.specs.declared.trap.TrapRegisters.{TrapRegisters}
 
 -- ---- the addresses
 
@@ -30,25 +31,6 @@ is_zero addr =
     (addr == 0x306) || (addr == 0x30A) || (addr == 0x310) || (addr == 0x31A) || (addr == 0x320)
     || is_from_to 0x323 0x33F addr
     || is_from_to 0xB03 0xB1F addr || is_from_to 0xB83 0xB9F addr || is_from_to 0xF11 0xF15 addr
-
--- the register at an address, if there is one that isn't of physical memory protection
-unfoldable pub register_at : ℕ → Option Register
-register_at addr =
-    if addr == 0x300 then Some Mstatus
-    else (if addr == 0x301 then Some Misa
-    else (if addr == 0x304 then Some Mie
-    else (if addr == 0x305 then Some Mtvec
-    else (if addr == 0x340 then Some Mscratch
-    else (if addr == 0x341 then Some Mepc
-    else (if addr == 0x342 then Some Mcause
-    else (if addr == 0x343 then Some Mtval
-    else (if addr == 0x344 then Some Mip
-    else (if addr == 0xB00 then Some Mcycle
-    else (if addr == 0xB80 then Some Mcycleh
-    else (if addr == 0xB02 then Some Minstret
-    else (if addr == 0xB82 then Some Minstreth
-    else (if is_zero addr then Some Zero
-    else None)))))))))))))
 
 -- the level of a mode, as MPP and bits 9 and 8 of an address hold it
 abbrev pub level : Mode → ℕ
@@ -108,64 +90,79 @@ aligned word = word / 4 * 4
 abbrev pub without_bit_1 : ℕ → ℕ
 without_bit_1 word = word / 4 * 4 + word % 2
 
--- the value of a register, while the interrupt lines have these levels
-abbrev pub value_of : CsrState → InterruptLines → Register → ℕ
-value_of state lines Mstatus = status_word state.status
-value_of state lines Misa = isa
-value_of state lines Mie = lines_word state.enables
-value_of state lines Mtvec = state.trap.vector
-value_of state lines Mscratch = state.trap.scratch
-value_of state lines Mepc = state.trap.epc
-value_of state lines Mcause = state.trap.cause
-value_of state lines Mtval = state.trap.value
-value_of state lines Mip = lines_word lines
-value_of state lines Mcycle = state.counters.cycles % 2 ^ 32
-value_of state lines Mcycleh = state.counters.cycles / 2 ^ 32
-value_of state lines Minstret = state.counters.retired % 2 ^ 32
-value_of state lines Minstreth = state.counters.retired / 2 ^ 32
-value_of state lines Zero = 0
+-- ---- the table
 
--- the state after a write to a register
-abbrev pub with_value : CsrState → Register → ℕ → CsrState
-with_value state Mstatus word = record state { status = with_status state.status word }
-with_value state Misa word = state
-with_value state Mie word = record state { enables = lines_of word }
-with_value state Mtvec word = record state { trap = record state.trap { vector = without_bit_1 word } }
-with_value state Mscratch word = record state { trap = record state.trap { scratch = word } }
-with_value state Mepc word = record state { trap = record state.trap { epc = aligned word } }
-with_value state Mcause word = record state { trap = record state.trap { cause = word } }
-with_value state Mtval word = record state { trap = record state.trap { value = word } }
-with_value state Mip word = state
-with_value state Mcycle word =
-    record state { counters = record state.counters { cycles = with_low state.counters.cycles word } }
-with_value state Mcycleh word =
-    record state { counters = record state.counters { cycles = with_high state.counters.cycles word } }
-with_value state Minstret word =
-    record state { counters = record state.counters { retired = with_low state.counters.retired word } }
-with_value state Minstreth word =
-    record state { counters = record state.counters { retired = with_high state.counters.retired word } }
-with_value state Zero word = state
+-- a register: its number, the word that a read gives while the interrupt lines have these levels, and the
+-- state after a write of a word
+pub record Row : Type 0 where
+  pub register : Register
+  pub number : ℕ
+  pub value : CsrState → InterruptLines → ℕ
+  pub written : CsrState → ℕ → CsrState
+
+abbrev pub row : Register → ℕ → (CsrState → InterruptLines → ℕ) → (CsrState → ℕ → CsrState) → Row
+row register number value written =
+    record { register = register; number = number; value = value; written = written }
+
+-- a write that changes nothing, one to a register of traps, and one to a counter
+abbrev pub ignored : CsrState → ℕ → CsrState
+ignored state word = state
+
+abbrev pub to_trap : (TrapRegisters → ℕ → TrapRegisters) → CsrState → ℕ → CsrState
+to_trap write state word = record state { trap = write state.trap word }
+
+abbrev pub to_counter : (Counters → ℕ → Counters) → CsrState → ℕ → CsrState
+to_counter write state word = record state { counters = write state.counters word }
+
+-- the registers, but for those of physical memory protection and those that read 0
+unfoldable pub table : List Row
+table =
+    row Mstatus 0x300 (λ s lines. status_word s.status) (λ s w. record s { status = with_status s.status w })
+    ∷ row Misa 0x301 (λ s lines. isa) ignored
+    ∷ row Mie 0x304 (λ s lines. lines_word s.enables) (λ s w. record s { enables = lines_of w })
+    ∷ row Mtvec 0x305 (λ s lines. s.trap.vector) (to_trap (λ t w. record t { vector = without_bit_1 w }))
+    ∷ row Mscratch 0x340 (λ s lines. s.trap.scratch) (to_trap (λ t w. record t { scratch = w }))
+    ∷ row Mepc 0x341 (λ s lines. s.trap.epc) (to_trap (λ t w. record t { epc = aligned w }))
+    ∷ row Mcause 0x342 (λ s lines. s.trap.cause) (to_trap (λ t w. record t { cause = w }))
+    ∷ row Mtval 0x343 (λ s lines. s.trap.value) (to_trap (λ t w. record t { value = w }))
+    ∷ row Mip 0x344 (λ s lines. lines_word lines) ignored
+    ∷ row Mcycle 0xB00 (λ s lines. s.counters.cycles % 2 ^ 32)
+    (to_counter (λ c w. record c { cycles = with_low c.cycles w }))
+    ∷ row Mcycleh 0xB80 (λ s lines. s.counters.cycles / 2 ^ 32)
+    (to_counter (λ c w. record c { cycles = with_high c.cycles w }))
+    ∷ row Minstret 0xB02 (λ s lines. s.counters.retired % 2 ^ 32)
+    (to_counter (λ c w. record c { retired = with_low c.retired w }))
+    ∷ row Minstreth 0xB82 (λ s lines. s.counters.retired / 2 ^ 32)
+    (to_counter (λ c w. record c { retired = with_high c.retired w }))
+    ∷ []
+
+-- the row of a number: one of the table, or else one that reads 0, if there is one
+abbrev pub row_in : List Row → ℕ → Option Row
+row_in [] addr = if is_zero addr then Some (row Zero addr (λ s lines. 0) ignored) else None
+row_in (row ∷ rows) addr = if addr == row.number then Some row else row_in rows addr
 
 -- ---- reads and writes
 
--- the value at an address, and the state after a write there, by the register at the address
-abbrev pub value_at : CsrState → InterruptLines → ℕ → Option Register → Option ℕ
-value_at state lines addr (Some register) = Some (value_of state lines register)
+-- the value at an address, and the state after a write there, by its row: an address without one may be of
+-- physical memory protection
+abbrev pub value_at : CsrState → InterruptLines → ℕ → Option Row → Option ℕ
+value_at state lines addr (Some row) = Some (row.value state lines)
 value_at state lines addr None = protection.load state.pmp addr
 
-abbrev pub with_value_at : CsrState → ℕ → ℕ → Option Register → Option CsrState
-with_value_at state addr word (Some register) = Some (with_value state register word)
-with_value_at state addr word None =
+abbrev pub written_at : CsrState → ℕ → ℕ → Option Row → Option CsrState
+written_at state addr word (Some row) = Some (row.written state word)
+written_at state addr word None =
     option_map (λ pmp. record state { pmp = pmp }) (protection.store state.pmp addr word)
 
 -- the value that a mode reads at an address, while the interrupt lines have these levels; None if it may not
 unfoldable pub read : CsrState → ℕ → Mode → InterruptLines → Option ℕ
-read state addr mode lines = if may_read addr mode then value_at state lines addr (register_at addr) else None
+read state addr mode lines =
+    if may_read addr mode then value_at state lines addr (row_in table addr) else None
 
 -- the state after a mode's write at an address; None if it may not
 unfoldable pub write : CsrState → ℕ → Mode → ℕ → Option CsrState
 write state addr mode word =
-    if may_write addr mode then with_value_at state addr word (register_at addr) else None
+    if may_write addr mode then written_at state addr word (row_in table addr) else None
 
 -- the result of a write, and the state after it: unchanged if the mode may not write
 abbrev pub Writes : CsrState → ℕ → Mode → ℕ → CsrState → Option Unit → Type 0

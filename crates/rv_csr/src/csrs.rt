@@ -1,6 +1,7 @@
 //! The control registers as a whole: reads and writes, interrupts, traps and the return from them.
 ghost use Rattle.std.specs.Prelude.{◌≡◌, ℕ, ◌+◌, ◌%◌, ◌^◌, ◌<◌, ◌≤◌, true, false, None};
-ghost use Rattle.rv_csr.specs.Registers.{value_of, with_value, Writes};
+ghost use Rattle.rv_csr.specs.RegisterCases.{value_of, with_value};
+ghost use Rattle.rv_csr.specs.Registers.{Writes};
 ghost use Rattle.rv_csr.specs.Registers as registers;
 ghost use Rattle.rv_csr.specs.State.{reset};
 ghost use Rattle.rv_csr.specs.Traps as traps;
@@ -91,7 +92,7 @@ impl Csrs {
 
     /// Reads the register at address `addr` in a mode, while the interrupt lines have the levels `lines`.
     /// Returns None if no register is there or the mode may not read it. User mode may read none.
-    #[tactic(auto, using(crate::proofs::Levels::no_load), unfolding(crate::specs::Registers::read))]
+    #[tactic(auto, using(crate::proofs::Levels::no_load, crate::proofs::Table::read_by_cases))]
     pub fn read(&self, addr: u16, mode: Mode, lines: InterruptLines) -> Option<u32>
         ensures value { result ≡ registers.read self.now addr mode lines }
         ensures user { mode ≡ User → result ≡ None }
@@ -130,7 +131,7 @@ impl Csrs {
     /// Writes the register at address `addr` in a mode. The register keeps those bits of the value that it
     /// has. Returns None, and changes nothing, if no register is there, the mode may not access it, or it is
     /// read-only.
-    #[tactic(auto, using(crate::proofs::Levels::no_store), unfolding(crate::specs::Registers::write))]
+    #[tactic(auto, using(crate::proofs::Levels::no_store, crate::proofs::Table::write_by_cases))]
     pub fn write(&mut self, addr: u16, mode: Mode, value: u32) -> Option<()>
         ensures written { Writes self.old addr mode value self.new result }
         ensures user { mode ≡ User → result ≡ None }

@@ -1,0 +1,78 @@
+-- The control registers by cases: the register at an address, its value, and the state after a write to it.
+-- Not to audit: private contracts alone cite this. proofs/ proves that it is what the table says.
+use Rattle.std.specs.Prelude.{ℕ, ◌%◌, ◌/◌, ◌^◌, ◌==◌, if◌then◌else◌, Option, Some, None}
+use Rattle.std.specs.Option.{option_map}
+use Rattle.rv_base.specs.Halves.{with_low, with_high}
+use Rattle.rv_isa.specs.declared.InterruptLines.{InterruptLines}
+use Rattle.rv_pmp.specs.Pmp as protection
+use Rattle.rv_csr.specs.State.{CsrState}
+use Rattle.rv_csr.specs.Registers.{is_zero, status_word, with_status, lines_word, lines_of, isa, aligned, without_bit_1}
+use Rattle.rv_csr.specs.declared.register.Register.{Register}
+use Rattle.rv_csr.specs.declared.register.Register.TheVariants.{Mstatus, Misa, Mie, Mtvec, Mscratch, Mepc, Mcause, Mtval, Mip, Mcycle, Mcycleh, Minstret, Minstreth, Zero}
+
+-- the register at an address, if there is one that isn't of physical memory protection
+unfoldable pub register_at : ℕ → Option Register
+register_at addr =
+    if addr == 0x300 then Some Mstatus
+    else (if addr == 0x301 then Some Misa
+    else (if addr == 0x304 then Some Mie
+    else (if addr == 0x305 then Some Mtvec
+    else (if addr == 0x340 then Some Mscratch
+    else (if addr == 0x341 then Some Mepc
+    else (if addr == 0x342 then Some Mcause
+    else (if addr == 0x343 then Some Mtval
+    else (if addr == 0x344 then Some Mip
+    else (if addr == 0xB00 then Some Mcycle
+    else (if addr == 0xB80 then Some Mcycleh
+    else (if addr == 0xB02 then Some Minstret
+    else (if addr == 0xB82 then Some Minstreth
+    else (if is_zero addr then Some Zero
+    else None)))))))))))))
+
+-- the value of a register, while the interrupt lines have these levels
+abbrev pub value_of : CsrState → InterruptLines → Register → ℕ
+value_of state lines Mstatus = status_word state.status
+value_of state lines Misa = isa
+value_of state lines Mie = lines_word state.enables
+value_of state lines Mtvec = state.trap.vector
+value_of state lines Mscratch = state.trap.scratch
+value_of state lines Mepc = state.trap.epc
+value_of state lines Mcause = state.trap.cause
+value_of state lines Mtval = state.trap.value
+value_of state lines Mip = lines_word lines
+value_of state lines Mcycle = state.counters.cycles % 2 ^ 32
+value_of state lines Mcycleh = state.counters.cycles / 2 ^ 32
+value_of state lines Minstret = state.counters.retired % 2 ^ 32
+value_of state lines Minstreth = state.counters.retired / 2 ^ 32
+value_of state lines Zero = 0
+
+-- the state after a write to a register
+abbrev pub with_value : CsrState → Register → ℕ → CsrState
+with_value state Mstatus word = record state { status = with_status state.status word }
+with_value state Misa word = state
+with_value state Mie word = record state { enables = lines_of word }
+with_value state Mtvec word = record state { trap = record state.trap { vector = without_bit_1 word } }
+with_value state Mscratch word = record state { trap = record state.trap { scratch = word } }
+with_value state Mepc word = record state { trap = record state.trap { epc = aligned word } }
+with_value state Mcause word = record state { trap = record state.trap { cause = word } }
+with_value state Mtval word = record state { trap = record state.trap { value = word } }
+with_value state Mip word = state
+with_value state Mcycle word =
+    record state { counters = record state.counters { cycles = with_low state.counters.cycles word } }
+with_value state Mcycleh word =
+    record state { counters = record state.counters { cycles = with_high state.counters.cycles word } }
+with_value state Minstret word =
+    record state { counters = record state.counters { retired = with_low state.counters.retired word } }
+with_value state Minstreth word =
+    record state { counters = record state.counters { retired = with_high state.counters.retired word } }
+with_value state Zero word = state
+
+-- the value at an address, and the state after a write there, by the register at the address
+abbrev pub value_at : CsrState → InterruptLines → ℕ → Option Register → Option ℕ
+value_at state lines addr (Some register) = Some (value_of state lines register)
+value_at state lines addr None = protection.load state.pmp addr
+
+abbrev pub with_value_at : CsrState → ℕ → ℕ → Option Register → Option CsrState
+with_value_at state addr word (Some register) = Some (with_value state register word)
+with_value_at state addr word None =
+    option_map (λ pmp. record state { pmp = pmp }) (protection.store state.pmp addr word)
