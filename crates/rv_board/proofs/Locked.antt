@@ -25,9 +25,10 @@ use Rattle.rv_csr.specs.declared.register.Register.{Register}
 use Rattle.rv_csr.specs.declared.register.Register.TheVariants.{Mstatus}
 use Rattle.rv_bus.specs.Access.{lines_of}
 use Rattle.rv_hart.specs.State.{Machine}
-use Rattle.rv_hart.specs.Effect.{Effect, effect, csr_effect, csr_value, csr_written, exchange_result, is_write, return_effect, with_result, write_result}
+use Rattle.rv_hart.specs.Effect.{Effect, effect, csr_effect, csr_value, csr_written, is_write, return_effect, with_result}
+use Rattle.rv_hart.specs.EffectParts.{exchange_result, write_result, trap_step}
 use Rattle.rv_hart.specs.Fetch.{fetch_result}
-use Rattle.rv_hart.specs.Step.{step, ticked, step_by, attempt, conclusion, trap_step, counts, enter, interrupt}
+use Rattle.rv_hart.specs.Step.{step, ticked, step_by, attempt, finished, counts, enter, interrupt}
 use Rattle.rv_hart.specs.declared.trap.Trap.{Trap}
 use Rattle.rv_hart.proofs.Rows.{IfRetired, rows}
 use Rattle.rv_board.specs.State.{BoardState, halted_of}
@@ -269,7 +270,7 @@ module _ (m : Machine) where
   unfolding counts enter entered
   traps t = kept m.csrs.pmp
 
-  settles : (wrote : Option ℕ) (e : Effect) → IfRetired (KeptFrom m) e → KeptFrom m (conclusion m wrote e).0
+  settles : (wrote : Option ℕ) (e : Effect) → IfRetired (KeptFrom m) e → KeptFrom m (finished m wrote e).0
   unfolding counts
   settles wrote (Ok new) keeps = keeps
   settles wrote (Err t) keeps = traps t

@@ -5,6 +5,7 @@ pub mod ImageFit
 pub mod Laws
 pub mod Move
 pub mod PlainSteps
+pub mod Room
 pub mod RunWhile
 pub mod State
 pub mod UserRun

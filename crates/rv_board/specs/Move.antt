@@ -6,7 +6,7 @@ use Rattle.rv_hart.specs.State.{Machine}
 use Rattle.rv_hart.specs.Step.{step, with_line, receive}
 use Rattle.rv_hart.specs.Step as hart
 use Rattle.rv_hart.specs.declared.trap.Outcome.{Outcome}
-use Rattle.rv_hart.specs.declared.trap.Outcome.TheVariants.{Retired, Trapped, Halted}
+use Rattle.rv_hart.specs.declared.trap.Outcome.TheVariants.{Trapped}
 use Rattle.rv_board.specs.State.{BoardState}
 use Rattle.rv_board.specs.declared.event.Event.{Event}
 use Rattle.rv_board.specs.declared.event.Event.TheVariants.{Step, Line, Rx}
@@ -14,10 +14,9 @@ use Rattle.rv_board.specs.declared.event.TrapRecord.{TrapRecord}
 
 -- the last 64 traps after a step, by its outcome
 abbrev pub with_trap : List TrapRecord → Outcome → List TrapRecord
-with_trap ts Retired = ts
-with_trap ts Halted = ts
 with_trap ts (Trapped cause epc tval) =
     keep_last 64 (ts ++ record { cause = cause; epc = epc; tval = tval } ∷ [])
+with_trap ts outcome = ts
 
 -- the board after a step, by the machine after it and its outcome
 abbrev pub after_step : BoardState → Machine × Outcome → BoardState
@@ -39,13 +38,10 @@ unfoldable pub moved : BoardState → Event → BoardState
 moved b e = happens b.machine.bus.halt b e
 
 abbrev pub writes_by : Option ℕ → BoardState → Event → Bool
-writes_by (Some code) b e = false
 writes_by None b Step = hart.writes b.machine
-writes_by None b (Line source high) = false
-writes_by None b (Rx byte) = false
+writes_by halt b e = false
 
--- whether an event is a step that retires a store for which room has to be made: in a page of the memory that
--- has only zeros, or in a console that may have none left
+-- whether an event is a step that retires a store into the memory or to the transmit register
 unfoldable pub writes : BoardState → Event → Bool
 writes b e = writes_by b.machine.bus.halt b e
 

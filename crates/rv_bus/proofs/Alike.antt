@@ -2,7 +2,7 @@
 -- the same bus over another memory of the same size.
 use Rattle.std.proofs.Common.{◌≡◌, ◌≢◌, ℕ, ◌+◌, ◌-◌, ◌/◌, ◌%◌, ◌≤◌, ◌<◌, List, slice_index, slice_set, length, Option, Some, None, Bool, true, false, nat_le, nat_lt, ◌&&◌, ◌==◌, if◌then◌else◌, arith, inl, inr, add-zero, refl, sym, ap, subst, ◌∙◌}
 use Rattle.std.specs.Option.{option_map}
-use Rattle.std.proofs.lemmas.Bool.{leb-true, ltb-false, cases_eq, cases_lt}
+use Rattle.std.proofs.lemmas.Bool.{and_parts, leb-true, ltb-false, cases_eq, cases_lt}
 use Rattle.std.proofs.lemmas.Bool.Decides.{nat_tests}
 use Rattle.std.proofs.lemmas.Grind.{common_steps, get_or-set_at}
 use Rattle.std.proofs.lemmas.List.{set_past, get_or_past, get_or-set_other}
@@ -16,7 +16,7 @@ use Rattle.rv_mmio.specs.Timer as timer
 use Rattle.rv_mmio.specs.declared.serial.SerialReg.{SerialReg}
 use Rattle.rv_mmio.specs.declared.serial.SerialReg.TheVariants.{Tx, Rx, Status}
 use Rattle.rv_bus.specs.State.{BusState}
-use Rattle.rv_bus.specs.Locations.{location_of, device_of, of_width}
+use Rattle.rv_bus.specs.Locations.{location_of, serial_at, takes, window}
 use Rattle.rv_bus.specs.declared.locations.Location.{Location}
 use Rattle.rv_bus.specs.declared.locations.Location.TheVariants.{Ram, Halt, Timer, Plic, Serial, Nowhere}
 use Rattle.rv_bus.specs.Access.{word_of, fetch, load, load_at, after_load, after_load_at, store, store_at, ram_byte}
@@ -28,46 +28,32 @@ with_ram b ram = record b { ram = ram }
 
 -- ---- a property of each location is one of the location at an address
 
-word_devices : (P : Location → Type 0) (a : ℕ) (x y z : Bool) → P Halt → P (Timer (a - 0x02000000))
-    → P (Plic (a - 0x0c000000)) → P Nowhere
-    → P (if x then Halt else (if y then Timer (a - 0x02000000)
-    else (if z then Plic (a - 0x0c000000) else Nowhere)))
-word_devices P a true y z halt timer plic nowhere = halt
-word_devices P a false true z halt timer plic nowhere = timer
-word_devices P a false false true halt timer plic nowhere = plic
-word_devices P a false false false halt timer plic nowhere = nowhere
+either : (P : Location → Type 0) (b : Bool) (p q : Location) → (b ≡ true → P p) → P q → P (if b then p else q)
+either P true p q here later = here refl
+either P false p q here later = later
 
-serial_or : (P : Location → Type 0) (x y z : Bool) (rest : Location) → ((reg : SerialReg) → P (Serial reg))
-    → P rest
-    → P (if x then Serial Tx else (if y then Serial Rx else (if z then Serial Status else rest)))
-serial_or P true y z rest serial other = serial Tx
-serial_or P false true z rest serial other = serial Rx
-serial_or P false false true rest serial other = serial Status
-serial_or P false false false rest serial other = other
-
-memory_or : (P : Location → Type 0) (x y : Bool) (off : ℕ) (rest : Location) → (x ≡ true → P (Ram off))
-    → P Nowhere → P rest
-    → P (if x then (if y then Ram off else Nowhere) else rest)
-memory_or P true true off rest ram nowhere other = ram refl
-memory_or P true false off rest ram nowhere other = nowhere
-memory_or P false y off rest ram nowhere other = other
+serial : (P : Location → Type 0) (off : ℕ) → ((reg : SerialReg) → P (Serial reg)) → P Nowhere
+    → P (serial_at off)
+serial P off registers nowhere =
+    either P (off == 0) (Serial Tx) _ (λ t. registers Tx)
+    (either P (off == 4) (Serial Rx) _ (λ t. registers Rx)
+    (either P (off == 8) (Serial Status) Nowhere (λ t. registers Status) nowhere))
 
 pub each_location : (P : Location → Type 0) (size a : ℕ) (w : Width)
     → (ram_base ≤ a → P (Ram (a - ram_base))) → P Halt → ((off : ℕ) → P (Timer off))
     → ((off : ℕ) → P (Plic off)) → ((reg : SerialReg) → P (Serial reg)) → P Nowhere
     → P (location_of size a w)
 unfolding location_of
-each_location P size a w ram halt timer plic serial nowhere =
-    memory_or P (nat_le ram_base a) (nat_lt (a - ram_base) size) (a - ram_base) (device_of a w)
-    (λ t. ram (leb-true ram_base a t)) nowhere
-    (serial_or P (a == 0x10000000) (a == 0x10000004) (a == 0x10000008) (of_width a w) serial (by_width w))
-  where
-    by_width : (v : Width) → P (of_width a v)
-    by_width One = nowhere
-    by_width Two = nowhere
-    by_width Four = word_devices P a (a == 0x00100000) (nat_le 0x02000000 a && nat_lt a 0x0200c000)
-        (nat_le 0x0c000000 a && nat_lt a 0x10000000) halt (timer (a - 0x02000000))
-        (plic (a - 0x0c000000)) nowhere
+each_location P size a w ram halt timer plic registers nowhere =
+    either P (takes (window ram_base size 1 (λ off. Ram off)) a w) (Ram (a - ram_base)) _
+    (λ t. ram (leb-true ram_base a ((and_parts (nat_le ram_base a) _ ((and_parts (nat_le 1 (bytes_of w)) _ t).1)).0)))
+    (either P (takes (window 0x10000000 12 1 serial_at) a w) (serial_at (a - 0x10000000)) _
+    (λ t. serial P (a - 0x10000000) registers nowhere)
+    (either P (takes (window 0x00100000 4 4 (λ off. Halt)) a w) Halt _ (λ t. halt)
+    (either P (takes (window 0x02000000 0xc000 4 (λ off. Timer off)) a w) (Timer (a - 0x02000000)) _
+    (λ t. timer (a - 0x02000000))
+    (either P (takes (window 0x0c000000 0x4000000 4 (λ off. Plic off)) a w) (Plic (a - 0x0c000000)) Nowhere
+    (λ t. plic (a - 0x0c000000)) nowhere))))
 
 -- ---- the bytes of an access
 

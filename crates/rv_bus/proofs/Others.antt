@@ -1,5 +1,5 @@
-use Rattle.std.proofs.Common.{◌≡◌, ◌≢◌, ℕ, ◌+◌, ◌-◌, ◌*◌, ◌/◌, ◌%◌, ◌≤◌, ◌<◌, List, slice_index, slice_set, length, Some, None, Bool, true, false, nat_le, nat_lt, ◌&&◌, ◌==◌, if◌then◌else◌, arith, refl, sym, ap, ◌∙◌}
-use Rattle.std.proofs.lemmas.Bool.{leb-true}
+use Rattle.std.proofs.Common.{◌≡◌, ◌≢◌, ℕ, ◌+◌, ◌-◌, ◌*◌, ◌/◌, ◌%◌, ◌≤◌, ◌<◌, List, slice_index, slice_set, length, Some, Bool, true, false, nat_le, nat_lt, ◌&&◌, ◌==◌, if◌then◌else◌, arith, refl, ap, ◌∙◌}
+use Rattle.std.proofs.lemmas.Bool.{and_parts, leb-true}
 use Rattle.std.proofs.lemmas.Grind.{common_steps, elements}
 use Rattle.rv_base.specs.Limits.{ram_base}
 use Rattle.rv_isa.specs.declared.op.Width.{Width}
@@ -7,7 +7,7 @@ use Rattle.rv_isa.specs.declared.op.Width.TheVariants.{One, Two, Four}
 use Rattle.rv_isa.specs.Width.{bytes_of}
 use Rattle.rv_ram.specs.Bytes.{word_at, put}
 use Rattle.rv_mmio.specs.declared.serial.SerialReg.TheVariants.{Tx, Rx, Status}
-use Rattle.rv_bus.specs.Locations.{location_of, device_of, word_device}
+use Rattle.rv_bus.specs.Locations.{location_of, serial_at}
 use Rattle.rv_bus.specs.declared.locations.Location.{Location}
 use Rattle.rv_bus.specs.declared.locations.Location.TheVariants.{Ram, Halt, Timer, Plic, Serial, Nowhere}
 use Rattle.rv_bus.specs.Access.{word_of, fetch}
@@ -48,42 +48,33 @@ length-put bs off v One = grind (arith, common_steps)
 length-put bs off v Two = grind (arith, common_steps)
 length-put bs off v Four = grind (arith, common_steps)
 
-none_if : (xs : List ℕ) (b : Bool) (p q : Location) → word_of xs p ≡ None → word_of xs q ≡ None
-    → word_of xs (if b then p else q) ≡ None
-none_if xs true p q h k = h
-none_if xs false p q h k = k
+-- a property of what two memories have at each location of a table
+either : (xs ys : List ℕ) (b : Bool) (p q : Location) → (b ≡ true → word_of xs p ≡ word_of ys p)
+    → word_of xs q ≡ word_of ys q
+    → word_of xs (if b then p else q) ≡ word_of ys (if b then p else q)
+either xs ys true p q here later = here refl
+either xs ys false p q here later = later
 
--- no word can be fetched from a device
-none_word_device : (xs : List ℕ) (a : ℕ) → word_of xs (word_device a) ≡ None
-none_word_device xs a =
-    let plic_or_nowhere : Location =
-    if nat_le 0x0c000000 a && nat_lt a 0x10000000 then Plic (a - 0x0c000000) else Nowhere in
-    none_if xs (a == 0x00100000) Halt (if nat_le 0x02000000 a && nat_lt a 0x0200c000
-    then Timer (a - 0x02000000) else plic_or_nowhere) refl
-    (none_if xs (nat_le 0x02000000 a && nat_lt a 0x0200c000) (Timer (a - 0x02000000)) plic_or_nowhere refl
-    (none_if xs (nat_le 0x0c000000 a && nat_lt a 0x10000000) (Plic (a - 0x0c000000)) Nowhere refl refl))
-
-none_device : (xs : List ℕ) (a : ℕ) → word_of xs (device_of a Four) ≡ None
-none_device xs a =
-    none_if xs (a == 0x10000000) (Serial Tx) (if a == 0x10000004 then Serial Rx
-    else (if a == 0x10000008 then Serial Status else word_device a)) refl
-    (none_if xs (a == 0x10000004) (Serial Rx) (if a == 0x10000008 then Serial Status else word_device a) refl
-    (none_if xs (a == 0x10000008) (Serial Status) (word_device a) refl (none_word_device xs a)))
-
-same_place : (xs ys : List ℕ) (b c : Bool) (k a : ℕ) → (b ≡ true → word_at xs k ≡ word_at ys k)
-    → word_of xs (if b then (if c then Ram k else Nowhere) else device_of a Four)
-    ≡ word_of ys (if b then (if c then Ram k else Nowhere) else device_of a Four)
-same_place xs ys true true k a h = ap Some (h refl)
-same_place xs ys true false k a h = refl
-same_place xs ys false c k a h = none_device xs a ∙ sym (none_device ys a)
+-- no word can be fetched from the serial port
+no_serial : (xs ys : List ℕ) (off : ℕ) → word_of xs (serial_at off) ≡ word_of ys (serial_at off)
+no_serial xs ys off =
+    either xs ys (off == 0) (Serial Tx) _ (λ t. refl)
+    (either xs ys (off == 4) (Serial Rx) _ (λ t. refl)
+    (either xs ys (off == 8) (Serial Status) Nowhere (λ t. refl) refl))
 
 -- a store leaves the word that is fetched from another address as it was
 pub fetch_put : (ram : List ℕ) (off addr a v : ℕ) (w : Width) → off % bytes_of w ≡ 0 → addr ≡ ram_base + off
     → a % 4 ≡ 0 → a ≢ addr / 4 * 4 → fetch (put ram off w v) a ≡ fetch ram a
 unfolding fetch location_of
 fetch_put ram off addr a v w al e s n =
+    let new : List ℕ = put ram off w v in
     ap (λ len. word_of (put ram off w v) (location_of len a Four)) (length-put ram off v w)
-    ∙ same_place (put ram off w v) ram (nat_le ram_base a) (nat_lt (a - ram_base) (length ram))
-    (a - ram_base) a
-    (λ t. let above : ram_base ≤ a = leb-true ram_base a t in
-    word_at-put ram off v (a - ram_base) w al (omega arith) (λ q. n (omega arith)))
+    ∙ either new ram (nat_le ram_base a && nat_lt (a - ram_base) (length ram)) (Ram (a - ram_base)) _
+    (λ t. let above : ram_base ≤ a = leb-true ram_base a ((and_parts _ _ t).0) in
+    ap Some (word_at-put ram off v (a - ram_base) w al (omega arith) (λ q. n (omega arith))))
+    (either new ram (nat_le 0x10000000 a && nat_lt (a - 0x10000000) 12) (serial_at (a - 0x10000000)) _
+    (λ t. no_serial new ram (a - 0x10000000))
+    (either new ram (nat_le 0x00100000 a && nat_lt (a - 0x00100000) 4) Halt _ (λ t. refl)
+    (either new ram (nat_le 0x02000000 a && nat_lt (a - 0x02000000) 0xc000) (Timer (a - 0x02000000)) _ (λ t. refl)
+    (either new ram (nat_le 0x0c000000 a && nat_lt (a - 0x0c000000) 0x4000000) (Plic (a - 0x0c000000)) Nowhere
+    (λ t. refl) refl))))

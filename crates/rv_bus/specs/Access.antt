@@ -7,14 +7,12 @@ use Rattle.rv_isa.specs.declared.op.Width.{Width}
 use Rattle.rv_isa.specs.declared.op.Width.TheVariants.{One, Two, Four}
 use Rattle.rv_isa.specs.declared.InterruptLines.{InterruptLines}
 use Rattle.rv_ram.specs.Bytes.{word_at, put, value_at}
-use Rattle.rv_ram.specs.Pages.{wants_page}
 use Rattle.rv_plic.specs.Plic as plic
 use Rattle.rv_mmio.specs.Timer as timer
 use Rattle.rv_mmio.specs.Serial as serial
 use Rattle.rv_mmio.specs.Halt.{halted_by}
-use Rattle.rv_mmio.specs.declared.serial.SerialReg.{SerialReg}
-use Rattle.rv_mmio.specs.declared.serial.SerialReg.TheVariants.{Tx, Rx, Status}
-use Rattle.rv_bus.specs.State.{BusState, SnapshotState, TickState}
+use Rattle.rv_mmio.specs.declared.serial.SerialReg.TheVariants.{Tx}
+use Rattle.rv_bus.specs.State.{BusState}
 use Rattle.rv_bus.specs.Locations.{location_of}
 use Rattle.rv_bus.specs.declared.locations.Location.{Location}
 use Rattle.rv_bus.specs.declared.locations.Location.TheVariants.{Ram, Halt, Timer, Plic, Serial, Nowhere}
@@ -36,12 +34,9 @@ load_at b Nowhere w = None
 
 -- the bus after a load at a location: only loads of the interrupt controller and the serial port change it
 abbrev pub after_load_at : BusState → Location → BusState
-after_load_at b (Ram off) = b
-after_load_at b Halt = b
-after_load_at b (Timer off) = b
 after_load_at b (Plic off) = record b { plic = plic.after_load b.plic off }
 after_load_at b (Serial reg) = record b { serial = serial.after_load b.serial reg }
-after_load_at b Nowhere = b
+after_load_at b p = b
 
 -- the bus after a store at a location, or none for a fault
 abbrev pub store_at : BusState → Location → Width → ℕ → Option BusState
@@ -52,14 +47,11 @@ store_at b (Plic off) w v = Some (record b { plic = plic.stored b.plic off v })
 store_at b (Serial reg) w v = Some (record b { serial = serial.stored b.serial reg v })
 store_at b Nowhere w v = None
 
--- whether a store at a location may have to make room: for a page of the memory, or in the console
-abbrev pub grows_at : BusState → Location → Width → ℕ → Bool
-grows_at b (Ram off) w v = wants_page b.ram off w v
-grows_at b Halt w v = false
-grows_at b (Timer off) w v = false
-grows_at b (Plic off) w v = false
-grows_at b (Serial reg) w v = serial.wants_room b.serial reg
-grows_at b Nowhere w v = false
+-- whether a location is in the memory or the transmit register
+abbrev pub is_written : Location → Bool
+is_written (Ram off) = true
+is_written (Serial Tx) = true
+is_written p = false
 
 -- the location at an address
 abbrev pub location : BusState → ℕ → Width → Location
@@ -77,9 +69,9 @@ after_load b a w = after_load_at b (location b a w)
 unfoldable pub store : BusState → ℕ → Width → ℕ → Option BusState
 store b a w v = store_at b (location b a w) w v
 
--- whether a store may have to make room
-unfoldable pub grows : BusState → ℕ → Width → ℕ → Bool
-grows b a w v = grows_at b (location b a w) w v
+-- whether a store goes into the memory or to the transmit register
+unfoldable pub writes : BusState → ℕ → Width → Bool
+writes b a w = is_written (location b a w)
 
 -- the word at a location: only the memory can be fetched from
 abbrev pub word_of : List ℕ → Location → Option ℕ
@@ -99,15 +91,6 @@ ram_byte ram a =
 -- the bus after a tick: time passes, and the gateways forward their requests
 abbrev pub ticked : BusState → BusState
 ticked b = record b { timer = timer.ticked b.timer; plic = plic.forwarded b.plic }
-
--- the part of the bus that the next tick changes
-abbrev pub next_tick : BusState → TickState
-next_tick b = record { time = b.timer.time; requests = plic.ready b.plic }
-
--- the timer and the interrupt controller before a tick, by the part of the bus that it changed
-abbrev pub snapshot_before : BusState → TickState → SnapshotState
-snapshot_before b tick =
-    record { timer = record b.timer { time = tick.time }; plic = plic.withdrawn b.plic tick.requests }
 
 -- the levels of the interrupt lines into the hart
 abbrev pub lines_of : BusState → InterruptLines

@@ -1,7 +1,6 @@
 -- To audit: public contracts cite this.
 -- The state of the bus: the memory as its bytes, and a record for each device.
 use Rattle.std.specs.Prelude.{ℕ, List, Option, None}
-use Rattle.rv_plic.specs.Sources.{Sources}
 use Rattle.rv_plic.specs.Plic.{PlicState}
 use Rattle.rv_plic.specs.Plic as plic
 use Rattle.rv_mmio.specs.Timer.{TimerState}
@@ -16,16 +15,6 @@ pub record BusState : Type 0 where
   pub plic : PlicState
   pub serial : SerialState
   pub halt : Option ℕ
-
--- the timer and the interrupt controller, which a tick changes
-pub record SnapshotState : Type 0 where
-  pub timer : TimerState
-  pub plic : PlicState
-
--- the part of the bus that a tick changes: the time, and the sources whose requests it forwards
-pub record TickState : Type 0 where
-  pub time : ℕ
-  pub requests : Sources
 
 -- the bus at reset, over a memory of these bytes
 abbrev pub reset : List ℕ → BusState

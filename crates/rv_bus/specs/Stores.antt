@@ -3,17 +3,17 @@
 use Rattle.std.specs.Prelude.{◌≡◌, ℕ, true, Option, Some, None, Result, Ok, Err}
 use Rattle.rv_isa.specs.declared.op.Width.{Width}
 use Rattle.rv_bus.specs.State.{BusState}
-use Rattle.rv_bus.specs.Access.{store, grows}
+use Rattle.rv_bus.specs.Access.{store, writes}
 use Rattle.rv_bus.specs.declared.bus.BusFault.{BusFault}
 use Rattle.rv_bus.specs.declared.bus.StoreRefusal.{StoreRefusal}
 use Rattle.rv_bus.specs.declared.bus.StoreRefusal.TheVariants.{Fault, NoMemory}
 
 -- a store leaves the bus as the table says; it is a fault where the table has no location, and out of memory
--- only where room has to be made; a refused store leaves the bus as it was
+-- only where it writes to the memory or the console; a refused store leaves the bus as it was
 abbrev pub Stores : BusState → ℕ → Width → ℕ → BusState → Result Unit StoreRefusal → Type 0
 Stores old a w v new (Ok u) = store old a w v ≡ Some new
 Stores old a w v new (Err Fault) = (store old a w v ≡ None) × (new ≡ old)
-Stores old a w v new (Err NoMemory) = (grows old a w v ≡ true) × (new ≡ old)
+Stores old a w v new (Err NoMemory) = (writes old a w ≡ true) × (new ≡ old)
 
 -- an access returns the value that the table says, or is a fault where the table has no location
 abbrev pub Answers : Result ℕ BusFault → Option ℕ → Type 0

@@ -7,9 +7,12 @@ ghost use Rattle.rv_ram.specs.Pages.{is_zero_page};
 ghost use Rattle.rv_mmio.specs.Serial as serial;
 ghost use Rattle.rv_mmio.specs.Timer.{later};
 ghost use Rattle.rv_bus.specs.State.{BusState, reset};
-ghost use Rattle.rv_bus.specs.Access.{location, load, after_load, fetch, low_bits, ram_byte, ticked, next_tick, snapshot_before, lines_of, with_line, received};
+ghost use Rattle.rv_bus.specs.Access.{location, load, after_load, fetch, low_bits, ram_byte, ticked, lines_of, with_line, received};
 ghost use Rattle.rv_bus.specs.Within.{IsWithin};
 ghost use Rattle.rv_bus.specs.Stores.{Stores, Answers};
+ghost use Rattle.rv_bus.specs.Room.{wants_room};
+ghost use Rattle.rv_bus.specs.Ticks.{next_tick};
+ghost use Rattle.rv_bus.specs.declared.bus.StoreRefusal.TheVariants as refusal;
 
 use crate::locations::{Location, find_location};
 use rv_base::{NoMemory, RAM_BASE};
@@ -53,7 +56,7 @@ pub struct Snapshot {
 impl Model for Snapshot {
     ghost use Rattle.std.specs.Coded.{codes};
     ghost use Rattle.rv_plic.specs.Codes.{plic_code};
-    ghost use Rattle.rv_bus.specs.State.{SnapshotState};
+    ghost use Rattle.rv_bus.specs.Ticks.{SnapshotState};
 
     ghost Value = { SnapshotState };
 
@@ -74,7 +77,7 @@ pub struct Tick {
 impl Model for Tick {
     ghost use Rattle.std.specs.Coded.{codes};
     ghost use Rattle.rv_plic.specs.Codes.{sources_code};
-    ghost use Rattle.rv_bus.specs.State.{TickState};
+    ghost use Rattle.rv_bus.specs.Ticks.{TickState};
 
     ghost Value = { TickState };
 
@@ -221,10 +224,11 @@ impl<M: ByteMemory> Bus<M> {
     /// changes nothing. It may be out of memory only where room has to be made: for a page of the memory that
     /// has only zeros, where something else is stored, or in the console where it has none, which is at most
     /// once in 4096 bytes.
-    #[tactic(auto, using(crate::proofs::Others::fetch_put), unfolding(crate::specs::Access::store, crate::specs::Access::grows))]
+    #[tactic(auto, using(crate::proofs::Others::fetch_put), unfolding(crate::specs::Access::store, crate::specs::Access::writes, crate::specs::Room::wants_room))]
     pub fn store(&mut self, addr: u32, width: Width, value: u32) -> Result<(), StoreRefusal>
         requires { addr % bytes_of width ≡ 0 }
         ensures stores { Stores self.old addr width value self.new result }
+        ensures room { IfErr result (λ e. e ≡ refusal.NoMemory → wants_room self.old addr width value ≡ true) }
         ensures others { (a : ℕ) → a % 4 ≡ 0 → a ≢ addr / 4 * 4 → fetch self.new.ram a ≡ fetch self.old.ram a }
     {
         match self.location(addr, width) {
@@ -339,8 +343,7 @@ impl<M: ByteMemory> Bus<M> {
 
     /// Returns the snapshot before the last tick, where `tick` was `next_tick` before it.
     pub fn snapshot_before(&self, tick: Tick) -> Snapshot
-        ensures value { result ≡ snapshot_before self.now tick }
-        ensures before { (old : BusState) → self.now ≡ ticked old → tick ≡ next_tick old
+        ensures { (old : BusState) → self.now ≡ ticked old → tick ≡ next_tick old
             → result ≡ record { timer = old.timer; plic = old.plic } }
     {
         let mut plic = self.plic;

@@ -1,7 +1,8 @@
 //! The address table: what stands at each address.
 ghost use Rattle.std.specs.Prelude.{◌≡◌, ◌%◌, ◌≤◌, ◌^◌, ℕ};
 ghost use Rattle.rv_isa.specs.Width.{bytes_of};
-ghost use Rattle.rv_bus.specs.Locations.{location_of, device_of, word_device};
+ghost use Rattle.rv_bus.specs.Locations.{location_of};
+ghost use Rattle.rv_bus.specs.Routes.{device_of, word_device};
 ghost use Rattle.rv_bus.specs.Within.{IsWithin};
 
 use rv_base::RAM_BASE;
@@ -42,7 +43,7 @@ pub enum Location {
 }
 
 /// Returns the location at an address, for an access of this width to a memory of `size` bytes.
-#[tactic(auto, using(crate::proofs::Fit::memory_within), unfolding(crate::specs::Locations::location_of))]
+#[tactic(auto, using(crate::proofs::Fit::memory_within, crate::proofs::Windows::located))]
 pub(crate) fn find_location(size: u32, addr: u32, width: Width) -> Location
     requires words { size % 4096 ≡ 0 }
     requires aligned { addr % bytes_of width ≡ 0 }

@@ -1,3 +1,4 @@
+pub mod Interruptible
 pub mod RegisterCases
 pub mod Registers
 pub mod State

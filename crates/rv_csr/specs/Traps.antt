@@ -1,7 +1,7 @@
 -- Interrupts, traps and the return from them. RISC-V Privileged Architecture 20211203, sections 3.1.6, 3.1.7,
 -- 3.1.9 and 3.3.2.
 -- To audit: public contracts cite this.
-use Rattle.std.specs.Prelude.{ℕ, Bool, ◌||◌, ◌+◌, ◌-◌, ◌*◌, ◌%◌, ◌^◌, true, false, ◌==◌, ◌&&◌, not, nat_le, if◌then◌else◌, Option, Some, None}
+use Rattle.std.specs.Prelude.{ℕ, ◌+◌, ◌-◌, ◌*◌, ◌%◌, ◌^◌, true, false, ◌==◌, ◌&&◌, not, nat_le, if◌then◌else◌, Option, Some, None}
 use Rattle.rv_isa.specs.declared.InterruptLines.{InterruptLines}
 use Rattle.rv_pmp.specs.Mode.{is_machine}
 use Rattle.rv_pmp.specs.declared.mode.Mode.{Mode}
@@ -33,13 +33,6 @@ first_enabled lines enables =
 unfoldable pub pending : CsrState → Mode → InterruptLines → Option ℕ
 pending state mode lines =
     if is_machine mode && not state.status.interrupts then None else first_enabled lines state.enables
-
--- whether an interrupt would be taken in a mode if its line were high: any is enabled, and in machine mode
--- MIE is set
-abbrev pub takes_interrupts : CsrState → Mode → Bool
-takes_interrupts state mode =
-    not (not state.status.interrupts && is_machine mode)
-    && (state.enables.software || (state.enables.timer || state.enables.external))
 
 -- ---- trap entry and return
 

@@ -1,6 +1,7 @@
 //! The control registers as a whole: reads and writes, interrupts, traps and the return from them.
-ghost use Rattle.std.specs.Prelude.{◌≡◌, ℕ, ◌+◌, ◌%◌, ◌^◌, ◌<◌, ◌≤◌, true, false, None};
+ghost use Rattle.std.specs.Prelude.{◌≡◌, ℕ, ◌+◌, ◌%◌, ◌^◌, ◌<◌, ◌≤◌, true, false, None, is_some};
 ghost use Rattle.rv_csr.specs.RegisterCases.{value_of, with_value};
+ghost use Rattle.rv_csr.specs.Interruptible.{any_enabled};
 ghost use Rattle.rv_csr.specs.Registers.{Writes};
 ghost use Rattle.rv_csr.specs.Registers as registers;
 ghost use Rattle.rv_csr.specs.State.{reset};
@@ -174,12 +175,20 @@ impl Csrs {
         }
     }
 
-    /// Whether an interrupt would be taken in a mode if its line were high: any is enabled, and in machine
+    /// Whether an interrupt would be taken in a mode if all lines were high: any is enabled, and in machine
     /// mode MIE is set. If not, the caller needn't ask for the lines.
-    #[tactic(auto, using(crate::proofs::Pending::none_pending))]
+    #[tactic(auto, using(crate::proofs::Pending::none_pending, crate::proofs::Pending::by_flags))]
     pub fn takes_interrupts(&self, mode: Mode) -> bool
-        ensures value { result ≡ traps.takes_interrupts self.now mode }
+        ensures value { result
+            ≡ is_some (traps.pending self.now mode (record { software = true; timer = true; external = true })) }
         ensures none { result ≡ false → (lines : InterruptLines) → traps.pending self.now mode lines ≡ None }
+    {
+        self.any_enabled(mode)
+    }
+
+    /// Whether any interrupt is enabled, and in machine mode MIE is set.
+    fn any_enabled(&self, mode: Mode) -> bool
+        ensures { result ≡ any_enabled self.now mode }
     {
         if !self.status.interrupts && mode.is_machine() {
             return false;

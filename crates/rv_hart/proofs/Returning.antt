@@ -7,7 +7,8 @@ use Rattle.rv_csr.specs.Traps.{entered, left}
 use Rattle.rv_hart.specs.State.{Machine}
 use Rattle.rv_hart.specs.Effect.{Effect, effect, return_effect, csr_written}
 use Rattle.rv_hart.specs.Fetch.{fetch_result}
-use Rattle.rv_hart.specs.Step.{step, tries, tries_by, ticked, step_by, attempt, conclusion, trap_step, counts, enter, outcome_of, interrupt}
+use Rattle.rv_hart.specs.Step.{step, tries, tries_by, ticked, step_by, attempt, finished, counts, enter, outcome_of, interrupt}
+use Rattle.rv_hart.specs.EffectParts.{trap_step}
 use Rattle.rv_hart.specs.Laws.{IsBack, TrapsReturn}
 use Rattle.rv_hart.specs.declared.trap.Trap.{Trap}
 use Rattle.rv_hart.specs.declared.trap.Outcome.{Outcome}
@@ -25,7 +26,7 @@ retires m new None = tt
 retires m new (Some code) = tt
 
 concludes : (m : Machine) (wrote : Option ℕ) (e : Effect)
-    → Enters m (conclusion m wrote e).0 (conclusion m wrote e).1
+    → Enters m (finished m wrote e).0 (finished m wrote e).1
 concludes m wrote (Ok new) = retires m (counts new true wrote) new.bus.halt
 concludes m wrote (Err t) = (t, refl)
 
@@ -40,7 +41,7 @@ enters m None = attempts m (fetch_result m)
 -- ---- a step that tries MRET
 
 tried : (m : Machine) (cause : Option ℕ) (f : Result Kind Trap) (k : Kind) → tries_by cause f ≡ Some k
-    → fetch_result m ≡ f → step_by m cause ≡ conclusion m (csr_written k) (effect k m)
+    → fetch_result m ≡ f → step_by m cause ≡ finished m (csr_written k) (effect k m)
 tried m None (Ok j) k is at =
     let same : j ≡ k = cc in ap (attempt m) at ∙ ap (λ x. attempt m (Ok x)) same
 tried m None (Err t) k is at = absurd cc
@@ -59,7 +60,7 @@ unfolding step tries
 leaves m machine is =
     let h = ticked m in
     ap (λ (s : Machine × Outcome). s.0) (tried h (interrupt h) (fetch_result h) Mret is refl
-    ∙ ap (conclusion h (csr_written Mret)) (returns h machine))
+    ∙ ap (finished h (csr_written Mret)) (returns h machine))
 
 -- ---- both
 

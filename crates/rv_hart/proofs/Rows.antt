@@ -15,7 +15,8 @@ use Rattle.rv_pmp.specs.declared.mode.Mode.TheVariants.{User, Machine}
 use Rattle.rv_bus.specs.State.{BusState}
 use Rattle.rv_bus.specs.Access.{load, after_load, store}
 use Rattle.rv_hart.specs.State as state
-use Rattle.rv_hart.specs.Effect.{Effect, effect, jump, checked_effect, branch, target_check, load_effect, store_effect, load_result, store_result, load_value, may_access, csr_effect, call_from, return_effect, wait_effect, is_wait_illegal, illegal, at_next, with_result, plus, next, reg, with_reg, refused_load, misaligned_load, refused_store, misaligned_store}
+use Rattle.rv_hart.specs.Effect.{Effect, effect, jump, checked_effect, branch, target_check, load_effect, store_effect, load_value, may_access, csr_effect, call_from, return_effect, wait_effect, is_wait_illegal, illegal, at_next, with_result, plus, next, reg, with_reg, refused_load, misaligned_load, refused_store, misaligned_store}
+use Rattle.rv_hart.specs.EffectParts.{load_result, store_result}
 use Rattle.rv_hart.specs.declared.trap.Trap.{Trap}
 
 -- a fact of the machine after an instruction that retires

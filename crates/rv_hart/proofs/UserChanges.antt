@@ -10,10 +10,11 @@ use Rattle.rv_csr.specs.Traps.{entered}
 use Rattle.rv_csr.proofs.Levels.{nothing_read}
 use Rattle.rv_bus.specs.Access.{lines_of}
 use Rattle.rv_hart.specs.State.{Machine}
-use Rattle.rv_hart.specs.Effect.{Effect, effect, csr_effect, exchange_result, return_effect, csr_written}
+use Rattle.rv_hart.specs.Effect.{Effect, effect, csr_effect, return_effect, csr_written}
+use Rattle.rv_hart.specs.EffectParts.{exchange_result, trap_step}
 use Rattle.rv_hart.specs.Fetch.{fetch_result}
 use Rattle.rv_hart.specs.Laws.{ChangesByTrap, UserChangesByTraps}
-use Rattle.rv_hart.specs.Step.{step, ticked, step_by, attempt, conclusion, trap_step, counts, enter, outcome_of, interrupt}
+use Rattle.rv_hart.specs.Step.{step, ticked, step_by, attempt, finished, counts, enter, outcome_of, interrupt}
 use Rattle.rv_hart.specs.declared.trap.Trap.{Trap}
 use Rattle.rv_hart.proofs.Rows.{IfRetired, rows}
 
@@ -63,7 +64,7 @@ module _ (m : Machine) (user : m.mode ≡ mode.User) where
   )
 
   settles : (wrote : Option ℕ) (e : Effect) → IfRetired (IsAlike m) e
-      → ChangesByTrap m (conclusion m wrote e).0 (conclusion m wrote e).1
+      → ChangesByTrap m (finished m wrote e).0 (finished m wrote e).1
   settles wrote (Ok new) alike = settled wrote new.bus.halt new alike
   settles wrote (Err t) alike = traps t
 

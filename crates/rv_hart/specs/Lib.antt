@@ -1,7 +1,9 @@
 pub mod State
 pub mod Coherent
+pub mod Room
 pub mod Shortcuts
 pub mod Effect
+pub mod EffectParts
 pub mod Fetch
 pub mod Keeps
 pub mod Laws

@@ -2,3 +2,4 @@ pub mod ConsoleRoom
 pub mod Halt
 pub mod Serial
 pub mod Timer
+pub mod Room

@@ -1,6 +1,6 @@
 -- To audit: public contracts cite this.
 -- The serial port: a queue of received bytes, and the console, which is the bytes that were sent.
-use Rattle.std.specs.Prelude.{ℕ, Bool, true, false, ◌+◌, ◌%◌, ◌==◌, nat_lt, if◌then◌else◌, List, [], ◌∷◌, ◌++◌, length, drop, slice_get, Option, Some, None}
+use Rattle.std.specs.Prelude.{ℕ, Bool, true, false, ◌+◌, ◌%◌, nat_lt, if◌then◌else◌, List, [], ◌∷◌, ◌++◌, length, drop, slice_get, Option, Some, None}
 use Rattle.rv_mmio.specs.declared.serial.SerialReg.{SerialReg}
 use Rattle.rv_mmio.specs.declared.serial.SerialReg.TheVariants.{Tx, Rx, Status}
 
@@ -41,18 +41,7 @@ after_load serial Status = record serial { overrun = false }
 -- the port after a store of a word to a register
 abbrev pub stored : SerialState → SerialReg → ℕ → SerialState
 stored serial Tx word = record serial { sent = serial.sent ++ (word % 256) ∷ [] }
-stored serial Rx word = serial
-stored serial Status word = serial
-
--- whether the console may have no room left: room is made for 4096 bytes at a time
-unfoldable pub is_full : SerialState → Bool
-is_full serial = length serial.sent % 4096 == 0
-
--- whether a store to a register may have to make room
-abbrev pub wants_room : SerialState → SerialReg → Bool
-wants_room serial Tx = is_full serial
-wants_room serial Rx = false
-wants_room serial Status = false
+stored serial reg word = serial
 
 -- the port after it received a byte: the queue holds 16, and a byte beyond them is lost
 abbrev pub received : SerialState → ℕ → SerialState

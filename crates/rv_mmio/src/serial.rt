@@ -1,7 +1,8 @@
 //! The serial port.
 ghost use Rattle.std.specs.Prelude.{◌≡◌, ◌+◌, ◌≤◌, [], ◌∷◌, ◌++◌, true, length, vec_len, vec_capacity, IfOk, OnOk, OnErr};
 ghost use Rattle.rv_mmio.specs.declared.serial.SerialReg.TheVariants.{Rx, Status};
-ghost use Rattle.rv_mmio.specs.Serial.{reset, status_word, load_value, after_load, stored, received, is_full, wants_room};
+ghost use Rattle.rv_mmio.specs.Serial.{reset, status_word, load_value, after_load, stored, received};
+ghost use Rattle.rv_mmio.specs.Room.{is_full, wants_room};
 
 use circular_buffer::HeapCircularBuffer;
 use rv_base::NoMemory;
@@ -120,7 +121,7 @@ impl Serial {
     }
 
     /// Appends a byte to the console.
-    #[tactic(auto, unfolding(crate::specs::Serial::is_full))]
+    #[tactic(auto, unfolding(crate::specs::Room::is_full))]
     fn send(&mut self, byte: u8) -> Result<(), NoMemory>
         ensures ok { OnOk result (self.new ≡ record self.old { sent = self.old.sent ++ byte ∷ [] }) }
         ensures err { OnErr result (self.new ≡ self.old) }

@@ -1,21 +1,21 @@
 -- To audit: public contracts cite this.
 -- The session that each command leaves, and its answer; `None` stands for a line that is no command (this
 -- project's own: docs/MONITOR.md).
-use Rattle.std.specs.Prelude.{◌≡◌, ◌⊎◌, ◌<◌, false, ℕ, ◌-◌, List, [], ◌++◌, length, if◌then◌else◌, Option, Some, None, codes, unwrap_or}
+use Rattle.std.specs.Prelude.{◌≡◌, ◌⊎◌, ◌<◌, false, ℕ, ◌-◌, List, [], ◌++◌, if◌then◌else◌, Option, Some, None, codes, unwrap_or}
 use Rattle.std.specs.FinSet as set
 use Rattle.rv_program.specs.Program.{value_of}
 use Rattle.rv_commands.specs.Commands.{command_of}
 use Rattle.rv_commands.specs.declared.command.Command.{Command}
 use Rattle.rv_commands.specs.declared.command.Command.TheVariants.{Step, Go, SetBreak, ClearBreak, Registers, ControlRegister, Memory, Instruction, Traps, Edges, Quit, Nothing}
 use Rattle.rv_base.specs.Digits.{hex}
-use Rattle.rv_monitor.specs.Room.{registers_room, control_register_room, memory_room, instruction_room, traps_room, edges_room}
+use Rattle.rv_monitor.specs.Room.{longest}
 use Rattle.rv_monitor.specs.Views.{line, registers_text, control_register_text, memory_text, instruction_text, traps_text, edges_text, stop_text}
 use Rattle.rv_monitor.specs.declared.stop.Stop.{Stop}
 use Rattle.rv_monitor.specs.declared.stop.Stop.TheVariants.{Halted, Breakpoint, Limit}
 use Rattle.rv_monitor.specs.declared.command.Next.{Next}
 use Rattle.rv_monitor.specs.declared.command.Next.TheVariants as next
 use Rattle.rv_monitor.specs.State.{Addresses, SessionState, most_of, with_break, without_break}
-use Rattle.rv_monitor.specs.Stops.{stop_after, HasStopped, IsRefused}
+use Rattle.rv_monitor.specs.Stops.{stop_after, steps_between, HasStopped, IsRefused}
 
 -- ---- command lines
 
@@ -28,7 +28,7 @@ command_in line s = command_of line (value_of s.program.symbols)
 -- the reason why steps ended, by the session before and after them
 abbrev pub stop_of : Addresses → SessionState → SessionState → Stop
 stop_of breakpoints old new =
-    unwrap_or (stop_after breakpoints new.timed.board (new.timed.taken - old.timed.taken)) Limit
+    unwrap_or (stop_after breakpoints new.timed.board (steps_between old.timed new.timed)) Limit
 
 -- a call for n steps took its steps, and nothing else changed
 pub record Took (breakpoints : Addresses) (n : ℕ) (old new : SessionState) : Type 0 where
@@ -62,28 +62,22 @@ pub record HadNoRoom (asked room : ℕ) (old new : SessionState) : Type 0 where
 -- a breakpoint was not set: the text had no room for the answer, or the address was a new one, and the
 -- breakpoints had no room; nothing changed
 pub record WasNotSet (addr room : ℕ) (old new : SessionState) : Type 0 where
-  pub full : (room < 15) ⊎ ((set.contains old.breakpoints addr ≡ false) × (old.room ≡ 0))
+  pub full : (room < longest (Some (SetBreak addr)) old)
+      ⊎ ((set.contains old.breakpoints addr ≡ false) × (old.room ≡ 0))
   pub state : new ≡ old
 
 -- the session that a command leaves where memory ran out, by the number of bytes that the text had room for:
 -- room for the longest answer of its kind is made before anything changes, and after that only steps and a
 -- new breakpoint allocate; a line that answers nothing does not allocate
 abbrev pub LeavesRefused : Option Command → ℕ → SessionState → SessionState → Type 0
-LeavesRefused None room old new = HadNoRoom 2 room old new
-LeavesRefused (Some (Step n)) room old new = HadNoRoom 58 room old new ⊎ WasRefused set.empty n old new
+LeavesRefused (Some (Step n)) room old new =
+    HadNoRoom (longest (Some (Step n)) old) room old new ⊎ WasRefused set.empty n old new
 LeavesRefused (Some (Go n)) room old new =
-    HadNoRoom 58 room old new ⊎ WasRefused old.breakpoints (going_for old n) old new
+    HadNoRoom (longest (Some (Go n)) old) room old new ⊎ WasRefused old.breakpoints (going_for old n) old new
 LeavesRefused (Some (SetBreak addr)) room old new = WasNotSet addr room old new
-LeavesRefused (Some (ClearBreak addr)) room old new = HadNoRoom 15 room old new
-LeavesRefused (Some Registers) room old new = HadNoRoom registers_room room old new
-LeavesRefused (Some (ControlRegister name csr)) room old new =
-    HadNoRoom (control_register_room name) room old new
-LeavesRefused (Some (Memory addr count)) room old new = HadNoRoom (memory_room count) room old new
-LeavesRefused (Some (Instruction addr)) room old new = HadNoRoom instruction_room room old new
-LeavesRefused (Some Traps) room old new = HadNoRoom (traps_room (length old.timed.board.traps)) room old new
-LeavesRefused (Some (Edges source)) room old new = HadNoRoom edges_room room old new
 LeavesRefused (Some Quit) room old new = ⊥
 LeavesRefused (Some Nothing) room old new = ⊥
+LeavesRefused command room old new = HadNoRoom (longest command old) room old new
 
 -- ---- the answer of a command
 

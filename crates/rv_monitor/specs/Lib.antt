@@ -1,3 +1,4 @@
+pub mod BreakRoom
 pub mod Events
 pub mod State
 pub mod Breaks

@@ -1,8 +1,10 @@
--- To audit: public contracts cite this.
--- The largest number of bytes that a command prints of a board: one row a command. A call fails only where
--- the text has room for fewer (this project's own: docs/MONITOR.md).
-use Rattle.std.specs.Prelude.{ℕ, ◌+◌, ◌*◌, List, length}
+-- The largest number of bytes that the answer of a command may have (this project's own: docs/MONITOR.md).
+-- Not to audit: it says only how much room a text needs so that a command has room for its answer.
+use Rattle.std.specs.Prelude.{ℕ, ◌+◌, ◌*◌, List, length, Option, Some, None}
 use Rattle.std.specs.Int.{div_ceil}
+use Rattle.rv_commands.specs.declared.command.Command.{Command}
+use Rattle.rv_commands.specs.declared.command.Command.TheVariants.{Step, Go, SetBreak, ClearBreak, Registers, ControlRegister, Memory, Instruction, Traps, Edges, Quit, Nothing}
+use Rattle.rv_monitor.specs.State.{SessionState}
 
 -- `r`: 13 for each of 32 registers, and the 19 of the pc's line
 abbrev pub registers_room : ℕ
@@ -33,3 +35,19 @@ edges_room = 27
 -- around them
 abbrev pub stop_room : List ℕ → ℕ
 stop_room word = length word + 52
+
+-- the largest number of bytes of the answer of a command; `None` stands for a line that is no command
+abbrev pub longest : Option Command → SessionState → ℕ
+longest None s = 2
+longest (Some (Step n)) s = 58
+longest (Some (Go n)) s = 58
+longest (Some (SetBreak addr)) s = 15
+longest (Some (ClearBreak addr)) s = 15
+longest (Some Registers) s = registers_room
+longest (Some (ControlRegister name csr)) s = control_register_room name
+longest (Some (Memory addr count)) s = memory_room count
+longest (Some (Instruction addr)) s = instruction_room
+longest (Some Traps) s = traps_room (length s.timed.board.traps)
+longest (Some (Edges source)) s = edges_room
+longest (Some Quit) s = 0
+longest (Some Nothing) s = 0

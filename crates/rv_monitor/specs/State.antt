@@ -1,6 +1,6 @@
 -- To audit: public contracts cite this.
 -- The state of a session.
-use Rattle.std.specs.Prelude.{◌≡◌, ℕ, ◌+◌, ◌-◌, ◌≤◌, ◌==◌, if◌then◌else◌, min, true, List, length, drop, filter, nat_le, nat_lt}
+use Rattle.std.specs.Prelude.{◌≡◌, ℕ, ◌+◌, ◌-◌, ◌≤◌, min, true, List, length, drop, filter, nat_le, nat_lt}
 use Rattle.std.specs.List.{list_all}
 use Rattle.std.specs.Ordering.{nat_cmp}
 use Rattle.std.specs.FinSet as set
@@ -11,6 +11,7 @@ use Rattle.rv_board.specs.Move.{run}
 use Rattle.rv_lists.specs.Timed.{never_falls, inserted}
 use Rattle.rv_lists.specs.declared.input.Input.{Input}
 use Rattle.rv_lists.specs.declared.input.TimedInput.{TimedInput}
+use Rattle.rv_monitor.specs.BreakRoom.{room_after}
 use Rattle.rv_monitor.specs.Events.{inputs_at, events_of}
 
 -- sets of addresses
@@ -63,12 +64,6 @@ abbrev pub most_of : SessionState → ℕ → ℕ
 most_of s n = min n (s.limit - s.timed.taken)
 
 -- ---- breakpoints
-
--- the room after an address was set: one that was there already takes none; another takes a place, and where
--- there was none, room for nine was made first
-abbrev pub room_after : Addresses → ℕ → ℕ → ℕ
-room_after breakpoints room address =
-    if set.contains breakpoints address then room else (if room == 0 then 9 else room) - 1
 
 -- a session with one breakpoint more
 abbrev pub with_break : SessionState → ℕ → SessionState

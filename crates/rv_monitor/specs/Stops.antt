@@ -6,6 +6,7 @@ use Rattle.rv_base.specs.declared.memory.NoMemory.{NoMemory}
 use Rattle.rv_hart.specs.declared.trap.Outcome.{Outcome}
 use Rattle.rv_board.specs.State.{BoardState, halted_of, pc_of}
 use Rattle.rv_board.specs.Move.{step_outcome, writes}
+use Rattle.rv_board.specs.Room.{wants_room}
 use Rattle.rv_board.specs.declared.event.Event.TheVariants.{Step}
 use Rattle.rv_monitor.specs.declared.stop.Stop.{Stop}
 use Rattle.rv_monitor.specs.declared.stop.Stop.TheVariants.{Halted, Breakpoint, Limit}
@@ -25,19 +26,24 @@ pub record IsCount (breakpoints : Addresses) (s : TimedState) (most count : ℕ)
   pub going : (i : ℕ) → i < count → stop_after breakpoints (after s i).board i ≡ None
   pub least : count < most → is_some (stop_after breakpoints (after s count).board count) ≡ true
 
+-- the number of steps from one state to a later one
+abbrev pub steps_between : TimedState → TimedState → ℕ
+steps_between old new = new.taken - old.taken
+
 -- a call took that number of steps, and tells why it ended
 pub record HasStopped (breakpoints : Addresses) (most : ℕ) (old new : TimedState) (stop : Stop) : Type 0 where
-  pub count : IsCount breakpoints old most (new.taken - old.taken)
-  pub state : new ≡ after old (new.taken - old.taken)
-  pub word : stop ≡ unwrap_or (stop_after breakpoints new.board (new.taken - old.taken)) Limit
+  pub count : IsCount breakpoints old most (steps_between old new)
+  pub state : new ≡ after old (steps_between old new)
+  pub word : stop ≡ unwrap_or (stop_after breakpoints new.board (steps_between old new)) Limit
 
 -- memory ran out at a step of a call: the steps before it were taken, and the inputs before it were given;
--- the step is one that writes
+-- the step is one that writes, and room has to be made for it
 pub record IsRefused (breakpoints : Addresses) (most : ℕ) (old new : TimedState) : Type 0 where
-  pub within : new.taken - old.taken < most
-  pub going : (i : ℕ) → i ≤ new.taken - old.taken → stop_after breakpoints (after old i).board i ≡ None
-  pub state : new ≡ with_due (after old (new.taken - old.taken))
+  pub within : steps_between old new < most
+  pub going : (i : ℕ) → i ≤ steps_between old new → stop_after breakpoints (after old i).board i ≡ None
+  pub state : new ≡ with_due (after old (steps_between old new))
   pub next_writes : writes new.board Step ≡ true
+  pub room : wants_room new.board Step ≡ true
 
 -- ---- one step
 
@@ -54,4 +60,4 @@ TakesStep old new (Ok (Some outcome)) =
 TakesStep old new (Ok None) = (may_step old ≡ false) × (new ≡ old)
 TakesStep old new (Err refused) =
     (may_step old ≡ true) × (new ≡ record old { timed = with_due old.timed })
-    × (writes new.timed.board Step ≡ true)
+    × (writes new.timed.board Step ≡ true) × (wants_room new.timed.board Step ≡ true)

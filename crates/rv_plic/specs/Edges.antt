@@ -47,9 +47,6 @@ changed change sources source [] = []
 changed change sources source (count ∷ counts) =
     (if contains sources source then change count else count) ∷ changed change sources (source + 1) counts
 
--- the counts after one edge of each source of a set is taken, and after it is given back
+-- the counts after one edge of each source of a set is taken
 abbrev pub taken : Sources → Edges → Edges
 taken sources edges = changed one_less sources 24 edges
-
-abbrev pub given_back : Sources → Edges → Edges
-given_back sources edges = changed one_more sources 24 edges

@@ -5,7 +5,7 @@
 use Rattle.std.specs.Prelude.{ℕ, Bool, ◌&&◌, not, if◌then◌else◌, filter}
 use Rattle.std.specs.FinSet.{empty, insert, remove, union, difference, contains, from_list}
 use Rattle.rv_plic.specs.Sources.{sources, Sources}
-use Rattle.rv_plic.specs.Edges.{Edges, none_waits, is_by_edge, edges_of, some_wait, after_rise, taken, given_back}
+use Rattle.rv_plic.specs.Edges.{Edges, none_waits, is_by_edge, edges_of, some_wait, after_rise, taken}
 
 -- the sources whose line is high, those whose request is outstanding, and the pending edges
 pub record GatewayState : Type 0 where
@@ -46,14 +46,6 @@ after_requests gateways pending =
     record gateways {
       outstanding = union gateways.outstanding (requests gateways pending);
       edges = taken (requests gateways pending) gateways.edges;
-    }
-
--- the gateways before they forwarded the requests of these sources
-abbrev pub withdrawn : GatewayState → Sources → GatewayState
-withdrawn gateways sources =
-    record gateways {
-      outstanding = difference gateways.outstanding sources;
-      edges = given_back sources gateways.edges;
     }
 
 -- the gateways after the request of a source is completed

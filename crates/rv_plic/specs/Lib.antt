@@ -6,4 +6,5 @@ pub mod Edges
 pub mod Gateways
 pub mod Plic
 pub mod Sources
+pub mod Withdrawn
 pub mod Words

@@ -3,7 +3,7 @@
 use Rattle.std.specs.Prelude.{ℕ, Bool, ◌/◌, ◌%◌, ◌==◌, ◌&&◌, ◌||◌, not, nat_lt, nat_le, if◌then◌else◌, List, slice_index, slice_set, replicate, Option, Some, None, unwrap_or}
 use Rattle.std.specs.List.{find, list_any}
 use Rattle.std.specs.Option.{option_map_or}
-use Rattle.std.specs.FinSet.{empty, contains, remove, union, difference}
+use Rattle.std.specs.FinSet.{empty, contains, remove, union}
 use Rattle.rv_plic.specs.Sources.{sources, Sources, sources_of, word_of}
 use Rattle.rv_plic.specs.Gateways.{GatewayState, all_low, requests, after_requests, after_completion}
 use Rattle.rv_plic.specs.Gateways as gateway
@@ -35,24 +35,12 @@ reset =
 abbrev pub with_line : PlicState → ℕ → Bool → PlicState
 with_line plic source level = record plic { gateways = gateway.with_line plic.gateways source level }
 
--- the sources with a request to forward
-abbrev pub ready : PlicState → Sources
-ready plic = requests plic.gateways plic.pending
-
 -- the controller after each gateway with a request has forwarded it
 abbrev pub forwarded : PlicState → PlicState
 forwarded plic =
     record plic {
       gateways = after_requests plic.gateways plic.pending;
       pending = union plic.pending (requests plic.gateways plic.pending);
-    }
-
--- the controller before the requests of these sources were forwarded
-abbrev pub withdrawn : PlicState → Sources → PlicState
-withdrawn plic sources =
-    record plic {
-      gateways = gateway.withdrawn plic.gateways sources;
-      pending = difference plic.pending sources;
     }
 
 -- ---- the best source ("Interrupt Priorities": 0 never interrupts, and of equal priorities the lowest number

@@ -2,7 +2,8 @@
 ghost use Rattle.std.specs.Prelude.{◌≡◌, ◌-◌, ◌≤◌, true, false, slice_set};
 ghost use Rattle.rv_plic.specs.Edges.{edges_of, changed};
 ghost use Rattle.rv_plic.specs.Changes.{count_after};
-ghost use Rattle.rv_plic.specs.Gateways.{all_low, with_line, requests, after_requests, withdrawn, after_completion};
+ghost use Rattle.rv_plic.specs.Gateways.{all_low, with_line, requests, after_requests, after_completion};
+ghost use Rattle.rv_plic.specs.Withdrawn.{withdrawn_gateways};
 
 use crate::Source;
 use crate::edges::{Edges, is_by_edge};
@@ -103,7 +104,7 @@ impl Gateways {
 
     /// Undoes the forwarding of these sources' requests.
     pub fn withdraw(&mut self, requests: SourceSet)
-        ensures { self.new ≡ withdrawn self.old requests }
+        ensures { self.new ≡ withdrawn_gateways self.old requests }
     {
         self.outstanding = self.outstanding.difference(requests);
         self.change_counts(requests, Change::OneMore);

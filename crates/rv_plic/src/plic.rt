@@ -4,7 +4,8 @@ ghost use Rattle.std.specs.FinSet as set;
 ghost use Rattle.rv_plic.specs.Edges.{edges_of};
 ghost use Rattle.rv_plic.specs.AboveThreshold.{sources_above};
 ghost use Rattle.rv_plic.specs.Best.{IsBest, IsBestBelow};
-ghost use Rattle.rv_plic.specs.Plic.{PlicState, reset, with_line, ready, forwarded, withdrawn, best, is_notified, claimed, completed, word_at, with_word, load_value, after_load, stored};
+ghost use Rattle.rv_plic.specs.Gateways as spec;
+ghost use Rattle.rv_plic.specs.Plic.{PlicState, reset, with_line, forwarded, best, is_notified, claimed, completed, word_at, with_word, load_value, after_load, stored};
 
 use crate::Source;
 use crate::gateway::Gateways;
@@ -106,7 +107,7 @@ impl Plic {
 
     /// Returns the sources whose gateways have a request to forward.
     pub fn ready(&self) -> SourceSet
-        ensures { result ≡ ready self.now }
+        ensures { result ≡ spec.requests self.now.gateways self.now.pending }
     {
         self.ready
     }
@@ -136,8 +137,8 @@ impl Plic {
     /// Undoes the forwarding of these sources' requests.
     #[tactic(auto, using(crate::proofs::Forwarding::withdrawn_forwarded))]
     pub fn withdraw(&mut self, requests: SourceSet)
-        ensures after { self.new ≡ withdrawn self.old requests }
-        ensures undoes { (before : PlicState) → self.old ≡ forwarded before → requests ≡ ready before → self.new ≡ before }
+        ensures { (before : PlicState) → self.old ≡ forwarded before
+            → requests ≡ spec.requests before.gateways before.pending → self.new ≡ before }
     {
         self.gateways.withdraw(requests);
         self.pending = self.pending.difference(requests);

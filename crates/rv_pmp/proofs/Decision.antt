@@ -19,7 +19,7 @@ use Rattle.rv_pmp.specs.declared.span.Span.{Span}
 use Rattle.rv_pmp.specs.Mode.{is_machine}
 use Rattle.rv_pmp.specs.Entry.{is_between, entry_grants, matched, region, trailing_ones}
 use Rattle.rv_pmp.specs.ActiveEntries.{is_matching, entry_answer, decision, some_on, some_locked, active_of, actives_from}
-use Rattle.rv_pmp.specs.Pmp.{PmpState, Guard, guards_from, bytes_from, answer, grants, locks}
+use Rattle.rv_pmp.specs.Pmp.{PmpState, Guard, guards_from, bytes_from, answer, grants}
 use Rattle.rv_pmp.specs.Span.{span, span_of, holds, meets, no_bytes}
 
 -- ---- one step of the search
@@ -317,7 +317,7 @@ grants-word pmp access first count h free within =
 
 -- so if no entry is locked, machine mode is granted every aligned access
 pub grants-aligned : (pmp : PmpState) (access : Access) (first : ℕ) (w : Width)
-    → locks pmp ≡ false → first % bytes_of w ≡ 0 → grants pmp Machine access first (bytes_of w) ≡ true
+    → some_locked pmp.entries ≡ false → first % bytes_of w ≡ 0 → grants pmp Machine access first (bytes_of w) ≡ true
 grants-aligned pmp access first One free aligned =
     grants-word pmp access first 1 (omega arith) free (omega arith)
 grants-aligned pmp access first Two free aligned =

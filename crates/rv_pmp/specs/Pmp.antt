@@ -72,10 +72,6 @@ grants pmp mode access first count =
     let bytes = bytes_from first count in
     answer mode access bytes (find (λ guard. list_any guard.region bytes) (guards_from 0 pmp.entries))
 
--- whether any entry is locked
-abbrev pub locks : PmpState → Bool
-locks pmp = list_any (λ entry. entry.locked) pmp.entries
-
 -- ---- the registers: pmpcfg0 to pmpcfg3, each with the configuration bytes of four entries, low byte first;
 -- and pmpaddr0 to pmpaddr15
 

@@ -1,9 +1,10 @@
 //! The registers of protection, and what they grant.
 ghost use Rattle.std.specs.Prelude.{◌≡◌, ℕ, ◌+◌, ◌-◌, ◌^◌, ◌<◌, ◌≤◌, true};
+ghost use Rattle.std.specs.List.{list_any};
 ghost use Rattle.rv_isa.specs.Width.{bytes_of};
 ghost use Rattle.rv_isa.specs.declared.op.Width.{Width};
 ghost use Rattle.rv_pmp.specs.ActiveEntries.{some_on, some_locked, actives_from, decision};
-ghost use Rattle.rv_pmp.specs.Pmp.{PmpState, reset, grants, locks, load, config_at, with_config, with_address, with_word, AllReadable, WritableIsReadable, Stores};
+ghost use Rattle.rv_pmp.specs.Pmp.{PmpState, reset, grants, load, config_at, with_config, with_address, with_word, AllReadable, WritableIsReadable, Stores};
 ghost use Rattle.rv_pmp.specs.Pmp as spec;
 ghost use Rattle.rv_pmp.specs.WidestSpan.{AreForward, IsWidestSpan};
 ghost use Rattle.rv_pmp.specs.PermissionCache.{IsGranted, IsWidest};
@@ -123,7 +124,7 @@ impl Pmp {
     /// Whether any entry is locked. If none is, machine mode is granted every access at a multiple of its
     /// width.
     pub fn locks(&self) -> bool
-        ensures { result ≡ locks self.now }
+        ensures { result ≡ list_any (λ entry. entry.locked) self.now.entries }
     {
         self.any_locked
     }

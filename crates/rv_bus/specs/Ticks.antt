@@ -1,0 +1,22 @@
+-- Not to audit: only the calls by which a tick is undone cite this, and their clauses say what they restore.
+-- What is kept of the bus to undo a tick.
+use Rattle.std.specs.Prelude.{ℕ}
+use Rattle.rv_plic.specs.Gateways.{requests}
+use Rattle.rv_plic.specs.Plic.{PlicState}
+use Rattle.rv_plic.specs.Sources.{Sources}
+use Rattle.rv_mmio.specs.Timer.{TimerState}
+use Rattle.rv_bus.specs.State.{BusState}
+
+-- the timer and the interrupt controller, which a tick changes
+pub record SnapshotState : Type 0 where
+  pub timer : TimerState
+  pub plic : PlicState
+
+-- the part of the bus that a tick changes: the time, and the sources whose requests it forwards
+pub record TickState : Type 0 where
+  pub time : ℕ
+  pub requests : Sources
+
+-- the part of the bus that the next tick changes
+abbrev pub next_tick : BusState → TickState
+next_tick b = record { time = b.timer.time; requests = requests b.plic.gateways b.plic.pending }

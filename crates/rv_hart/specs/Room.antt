@@ -1,0 +1,36 @@
+-- Steps that store where room may have to be made: for a page of the memory, or in the console.
+-- Not to audit: only the clauses `room` cite this, which say where a step may be refused.
+use Rattle.std.specs.Prelude.{ℕ, Bool, false, ◌%◌, ◌==◌, ◌&&◌, Option, Some, None, Result, Ok, Err}
+use Rattle.rv_isa.specs.Width.{bytes_of}
+use Rattle.rv_isa.specs.declared.op.Width.{Width}
+use Rattle.rv_isa.specs.declared.kind.Kind.{Kind}
+use Rattle.rv_isa.specs.declared.kind.Kind.TheVariants.{Store}
+use Rattle.rv_pmp.specs.declared.access.Access.TheVariants as access
+use Rattle.rv_bus.specs.Room as bus
+use Rattle.rv_hart.specs.State.{Machine}
+use Rattle.rv_hart.specs.Effect.{may_access, plus, reg}
+use Rattle.rv_hart.specs.Fetch.{fetch_result}
+use Rattle.rv_hart.specs.Step.{interrupt, ticked}
+use Rattle.rv_hart.specs.declared.trap.Trap.{Trap}
+
+-- whether a store retires and may have to make room
+unfoldable pub store_grows : Machine → Width → ℕ → ℕ → Bool
+store_grows m w addr v =
+    (addr % bytes_of w == 0) && (may_access m access.Write addr w && bus.wants_room m.bus addr w v)
+
+-- whether an instruction may have to
+unfoldable pub may_grow : Kind → Machine → Bool
+may_grow (Store w source base offset) m = store_grows m w (plus (reg m base) offset) (reg m source)
+may_grow k m = false
+
+-- whether a step may have to, by the fetch, and by the interrupt that is taken, if any
+abbrev pub attempt_grows : Machine → Result Kind Trap → Bool
+attempt_grows m (Ok k) = may_grow k m
+attempt_grows m (Err t) = false
+
+abbrev pub grows_by : Machine → Option ℕ → Bool
+grows_by m (Some cause) = false
+grows_by m None = attempt_grows m (fetch_result m)
+
+unfoldable pub wants_room : Machine → Bool
+wants_room m = grows_by (ticked m) (interrupt (ticked m))
