@@ -1,16 +1,10 @@
 -- Where the tokens of a line stand.
 -- To audit: public contracts cite this.
 -- The language is this project's own: docs/ASSEMBLER.md.
-use Rattle.std.specs.Prelude.{ℕ, zero, suc, pred, ◌-◌, List, [], ◌∷◌, length, if◌then◌else◌, Option, Some, None}
+use Rattle.std.specs.Prelude.{ℕ, zero, suc, pred, ◌-◌, List, [], ◌∷◌, length, if◌then◌else◌, Some, None}
 use Rattle.rv_base.specs.Words.{is_blank}
 use Rattle.rv_tokens.specs.declared.place.Place.{Place}
 use Rattle.rv_tokens.specs.Tokens.{front, is_comment}
-
--- the element with an index
-abbrev pub nth : {A : Type 0} → List A → ℕ → Option A
-nth [] n = None
-nth (x ∷ xs) zero = Some x
-nth (x ∷ xs) (suc n) = nth xs n
 
 -- the places of the tokens that `cut` cuts from the rest of a line of `total` bytes, after the first n bytes of it
 unfoldable pub places_in : ℕ → List ℕ → ℕ → List Place
