@@ -1,7 +1,7 @@
 -- What the operands of a row give: the fields of an instruction, and the values that it waits for.
 -- To audit: public contracts cite this.
 -- The language is this project's own: docs/ASSEMBLER.md.
-use Rattle.std.specs.Prelude.{ℕ, ℤ, ◌+◌, ◌*◌, Bool, true, false, not, ◌&&◌, List, [], ◌∷◌, Option, Some, None, option_and_then, is_some, if◌then◌else◌, ◌==◌, nat_lt, pos, negsuc}
+use Rattle.std.specs.Prelude.{ℕ, ℤ, ◌+◌, ◌*◌, Bool, true, false, not, ◌&&◌, List, [], ◌∷◌, Option, Some, None, option_and_then, is_some, if◌then◌else◌, ◌==◌, nat_lt, slice_get, pos, negsuc}
 use Rattle.std.specs.Option.{option_map}
 use Rattle.rv_base.specs.Tables.{lookup}
 use Rattle.rv_isa.specs.Names.{register_names, csr_names}
@@ -21,18 +21,13 @@ use Rattle.rv_source.specs.declared.row.Role.{Role}
 use Rattle.rv_source.specs.declared.row.Role.TheVariants as r
 use Rattle.rv_source.specs.declared.row.Given.{Given}
 use Rattle.rv_source.specs.declared.row.Given.TheVariants as g
-use Rattle.rv_source.specs.Operands.{is_nothing, only_of}
+use Rattle.rv_source.specs.Operands.{is_nothing, terms_of}
 
 -- ---- operands in their roles
 
--- the atom of a form that is a value as a whole, and no sum
-abbrev pub atom_of : Form → Option Atom
-atom_of (f.Value Whole e None) = only_of e
-atom_of _ = None
-
 -- the atom that an operand of one token is
 abbrev pub atom_alone : Operand → Option Atom
-atom_alone x = if x.count == 1 then atom_of x.form else None
+atom_alone x = if x.count == 1 then option_map (λ t. t.atom) (slice_get (terms_of x) 0) else None
 
 abbrev pub symbol_of : Atom → Option (List ℕ)
 symbol_of (a.Symbol name) = Some name

@@ -6,7 +6,6 @@ use Rattle.std.specs.Option.{option_map, option_or}
 use Rattle.rv_tokens.specs.declared.token.Token.{Token}
 use Rattle.rv_tokens.specs.declared.token.Token.TheVariants as t
 use Rattle.rv_source.specs.declared.expression.Term.{Term}
-use Rattle.rv_source.specs.declared.expression.Atom.{Atom}
 use Rattle.rv_source.specs.declared.expression.Atom.TheVariants as a
 use Rattle.rv_source.specs.declared.operand.Part.{Part}
 use Rattle.rv_source.specs.declared.operand.Part.TheVariants.{Whole, High, Low}
@@ -105,11 +104,6 @@ operands_of n [] = Some []
 operands_of n (t ∷ ts) = operands n (pieces (t ∷ ts))
 
 -- ---- what operands have
-
--- the atom of the only term, if it is added
-abbrev pub only_of : List Term → Option Atom
-only_of (t ∷ []) = if t.negative then None else Some t.atom
-only_of _ = None
 
 -- the terms of an operand's value, or none of a string
 abbrev pub terms_of : Operand → List Term

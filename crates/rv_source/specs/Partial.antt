@@ -12,12 +12,23 @@ use Rattle.rv_source.specs.declared.statement.Statement.{Statement}
 use Rattle.rv_source.specs.declared.line.Label.{Label}
 use Rattle.rv_source.specs.declared.row.Row.{Row as Written}
 use Rattle.rv_source.specs.declared.row.Row.TheVariants as row
-use Rattle.rv_source.specs.Table.{Row, These, Each, first_fit}
+use Rattle.rv_source.specs.declared.row.Way.{Way}
+use Rattle.rv_source.specs.declared.row.Way.TheVariants as way
+use Rattle.rv_source.specs.declared.row.Template.TheVariants as t
+use Rattle.rv_source.specs.declared.row.Given.TheVariants.{Link}
+use Rattle.rv_isa.specs.declared.fields.Operation.{Operation}
+use Rattle.rv_source.specs.Table.{Row, These, Each, first_fit, near, far}
 
 -- a row of the program, as a row of the language
 abbrev pub row_of : Written → Row
 row_of (row.These roles template fields) = These roles.now template fields
 row_of (row.Each role template) = Each role template
+
+-- the row of an operation that is written in a way
+abbrev pub row_by : Operation → Way → Row
+row_by op (way.Near roles) = near op roles.now
+row_by op (way.Link roles) = These roles.now (t.Near op) Link
+row_by op (way.Far roles) = far op roles.now
 
 -- a table of the program, with its words as bytes
 abbrev pub rows : List (Bor (List ℕ) × Written) → List (List ℕ × Row)

@@ -3,7 +3,7 @@
 -- The language is this project's own: docs/ASSEMBLER.md.
 use Rattle.std.specs.Prelude.{ℕ, Bool, true, false, List, map, [], ◌∷◌, ◌++◌, Option, Some, None, option_and_then, if◌then◌else◌, Result, codes}
 use Rattle.std.specs.List.{list_any}
-use Rattle.std.specs.Option.{option_map, option_or, ok_or}
+use Rattle.std.specs.Option.{option_map, option_map_or, option_or, ok_or}
 use Rattle.std.specs.Str.{bytes_eq}
 use Rattle.rv_isa.specs.Mnemonics.{named, blank}
 use Rattle.rv_isa.specs.declared.fields.Operation.{Operation}
@@ -73,18 +73,14 @@ near op roles = These roles (t.Near op) g.Zeros
 abbrev pub far : Operation → List Role → Row
 far op roles = These roles (t.Far op) g.Zeros
 
--- the rows of `jalr`
-abbrev pub jalr_rows : Operation → List Row
-jalr_rows op =
-    near op (r.Rd ∷ r.Rs1 ∷ []) ∷ near op (r.Rd ∷ r.Memory ∷ []) ∷ near op (r.Rd ∷ r.Rs1 ∷ r.Imm ∷ [])
-    ∷ These (r.Rs1 ∷ []) (t.Near op) g.Link ∷ []
-
 -- the rows of an operation, by its kind
 unfoldable pub of_kind : Operation → Kind → List Row
 of_kind op (k.Lui _ _) = near op (r.Rd ∷ r.Upper ∷ []) ∷ []
 of_kind op (k.Auipc _ _) = near op (r.Rd ∷ r.Value ∷ []) ∷ []
 of_kind op (k.Jal _ _) = near op (r.Rd ∷ r.Value ∷ []) ∷ These (r.Value ∷ []) (t.Near op) g.Link ∷ []
-of_kind op (k.Jalr _ _ _) = jalr_rows op
+of_kind op (k.Jalr _ _ _) =
+    near op (r.Rd ∷ r.Rs1 ∷ []) ∷ near op (r.Rd ∷ r.Memory ∷ []) ∷ near op (r.Rd ∷ r.Rs1 ∷ r.Imm ∷ [])
+    ∷ These (r.Rs1 ∷ []) (t.Near op) g.Link ∷ []
 of_kind op (k.Branch _ _ _ _) = near op (r.Rs1 ∷ r.Rs2 ∷ r.Value ∷ []) ∷ []
 of_kind op (k.Load _ _ _ _) = near op (r.Rd ∷ r.Memory ∷ []) ∷ far op (r.Both ∷ r.Value ∷ []) ∷ []
 of_kind op (k.Store _ _ _ _) = near op (r.Rs2 ∷ r.Memory ∷ []) ∷ far op (r.Rs2 ∷ r.Value ∷ r.Rs1 ∷ []) ∷ []
@@ -172,10 +168,7 @@ of_word word (row ∷ rows) = if bytes_eq row.0 word then row.1 ∷ of_word word
 
 -- the rows of a word: of an operation, or of a pseudo-instruction or a directive
 abbrev pub rows_of : List ℕ → List Row
-rows_of word = elim (named word) as (λ _. List Row) [
-  | Some op ↦ of_kind op (blank op)
-  | None ↦ of_word word words
-]
+rows_of word = option_map_or (λ op. of_kind op (blank op)) (named word) (of_word word words)
 
 -- the statement of the first of these rows that takes the operands; E4 if there are no rows, else E5
 abbrev pub fitted : List Operand → List Row → Result Statement LineFault

@@ -51,9 +51,7 @@ impl<'a> Model for Expression<'a> {
 }
 
 impl<'a> Expression<'a> {
-    ghost use Rattle.std.specs.Prelude.{◌≡◌, ◌<◌, ◌∷◌, [], length};
-    ghost use Rattle.std.specs.Option.{option_map};
-    ghost use Rattle.rv_source.specs.Operands.{only_of};
+    ghost use Rattle.std.specs.Prelude.{◌≡◌, ◌<◌, ◌∷◌, length};
 
     /// Makes the sum of a term and more terms.
     pub(crate) fn new(first: Term<'a>, more: Vec<Term<'a>>) -> Self
@@ -69,16 +67,5 @@ impl<'a> Expression<'a> {
         ensures short { length result.1.now < 1024 }
     {
         (&self.first, self.more.as_slice())
-    }
-
-    /// Returns the atom of the only term, if it is added.
-    pub(crate) fn only(&self) -> Option<&Atom<'a>>
-        ensures { option_map (λ a. a.now) result ≡ only_of self.now }
-    {
-        if self.more.is_empty() && !self.first.negative {
-            Some(&self.first.atom)
-        } else {
-            None
-        }
     }
 }

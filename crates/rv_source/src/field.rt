@@ -88,15 +88,8 @@ pub struct Fields<'t, 'a> {
 fn atom_alone<'t, 'a>(operand: &'t Operand<'a>) -> Option<&'t Atom<'a>>
     ensures { option_map (λ a. a.now) result ≡ atom_alone operand.now }
 {
-    if operand.count != 1 {
-        return None;
-    }
     match &operand.form {
-        Form::Value {
-            part: Part::Whole,
-            sum,
-            base: None,
-        } => sum.only(),
+        Form::Value { sum, .. } if operand.count == 1 => Some(&sum.terms().0.atom),
         _ => None,
     }
 }

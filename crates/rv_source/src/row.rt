@@ -1,5 +1,11 @@
 //! The rows of the language's tables: what a word takes, and what it stands for.
-use rv_isa::{Operation, Width};
+ghost use Rattle.std.specs.Prelude.{◌≡◌};
+ghost use Rattle.rv_source.specs.Partial.{row_by, row_of};
+ghost use Rattle.rv_source.specs.Table.{constant, filled, meant, waiting};
+
+use crate::field::{Fields, given, in_role, in_roles, instruction, name};
+use crate::{Operand, Statement, Strings, Values};
+use rv_isa::{Instr, Operation, Width};
 
 /// A kind of operand, and the field of an instruction that it gives.
 #[derive(Clone, Copy)]
@@ -83,4 +89,127 @@ pub enum Row {
     These(&'static [Role], Template, Given),
     /// One or more operands, all in one role.
     Each(Role, Template),
+}
+
+/// A way to write an instruction: a row without its operation.
+#[derive(Clone, Copy)]
+pub enum Way {
+    /// The instruction alone.
+    Near(&'static [Role]),
+    /// The instruction alone, with x1 in `rd`.
+    Link(&'static [Role]),
+    /// AUIPC and the instruction, which together reach a target, however far.
+    Far(&'static [Role]),
+}
+
+impl Way {
+    /// Returns the row of an operation that is written in this way.
+    pub fn row(self, operation: Operation) -> Row
+        ensures { row_of result ≡ row_by operation self }
+    {
+        match self {
+            Way::Near(roles) => Row::These(roles, Template::Near(operation), Given::Zeros),
+            Way::Link(roles) => Row::These(roles, Template::Near(operation), Given::Link),
+            Way::Far(roles) => Row::These(roles, Template::Far(operation), Given::Zeros),
+        }
+    }
+
+    /// Returns the roles of the operands.
+    pub fn roles(self) -> &'static [Role] {
+        match self {
+            Way::Near(roles) | Way::Link(roles) | Way::Far(roles) => roles,
+        }
+    }
+}
+
+// ---- the statement of a row
+
+/// Returns the statement of an instruction, which may wait for a value.
+fn waiting<'t, 'a>(instr: Instr, value: Option<crate::Value<'t, 'a>>) -> Statement<'t, 'a>
+    ensures { result ≡ waiting instr value.entry }
+{
+    match value {
+        None => Statement::Instruction(instr),
+        Some(value) => Statement::WithValue { instr, value },
+    }
+}
+
+/// Returns the statement of `.equ` with these fields.
+fn constant<'t, 'a>(fields: Fields<'t, 'a>) -> Option<Statement<'t, 'a>>
+    ensures { result ≡ constant fields.entry }
+{
+    let name = name(fields.value?.operand())?;
+    let value = fields.second?;
+    Some(Statement::Constant { name, value })
+}
+
+/// Returns the statement of a template with these operands, which gave these fields.
+#[tactic(auto, unfolding(crate::specs::Table::filled))]
+fn fill<'t, 'a>(
+    template: Template,
+    operands: &'t [Operand<'a>],
+    fields: Fields<'t, 'a>,
+) -> Option<Statement<'t, 'a>>
+    ensures { result ≡ filled template operands.now fields.entry }
+{
+    match template {
+        Template::Near(operation) => {
+            let instr = instruction(operation, &fields);
+            Some(waiting(instr, fields.value))
+        }
+        Template::Far(operation) => {
+            let instr = instruction(operation, &fields);
+            let (scratch, target) = (fields.rs1, fields.value?);
+            Some(Statement::Far {
+                scratch,
+                instr,
+                target,
+            })
+        }
+        Template::Li => {
+            let (rd, value) = (fields.rd, fields.value?);
+            Some(Statement::Li { rd, value })
+        }
+        Template::Data(width) => {
+            let values = Values::new(operands);
+            Some(Statement::Data { width, values })
+        }
+        Template::Text { terminated } => {
+            Some(Statement::Bytes(Strings::new(terminated, operands)))
+        }
+        Template::Space => {
+            let (size, fill) = (fields.value?, fields.second);
+            Some(Statement::Space { size, fill })
+        }
+        Template::Align => {
+            let power = fields.value?;
+            Some(Statement::Align { power })
+        }
+        Template::Balign => {
+            let multiple = fields.value?;
+            Some(Statement::Balign { multiple })
+        }
+        Template::Constant => constant(fields),
+    }
+}
+
+/// Returns the statement of a row with these operands, or `None` if it doesn't take them.
+pub fn meant<'t, 'a>(row: Row, operands: &'t [Operand<'a>]) -> Option<Statement<'t, 'a>>
+    ensures { result ≡ meant (row_of row) operands.now }
+{
+    match row {
+        Row::These(roles, template, fields) => match in_roles(roles, operands, given(fields)) {
+            Some(fields) => fill(template, operands, fields),
+            None => None,
+        },
+        Row::Each(role, template) => {
+            if operands.is_empty() {
+                return None;
+            }
+            match in_role(role, operands, given(Given::Zeros)) {
+                Some(fields) => fill(template, operands, fields),
+                None => None,
+            }
+        }
+    }
 }

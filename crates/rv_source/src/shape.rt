@@ -3,10 +3,10 @@ ghost use Rattle.std.specs.Prelude.{◌≡◌, ◌≤◌, length};
 
 use crate::Operand;
 use crate::field::{given, put};
-use crate::row::Role::{After, Before, Both, Csr, Imm, Memory, Rd, Rs1, Rs2, Upper, Value};
 use crate::row::{Given, Role, Row};
+use crate::table::ways_of;
 use crate::words::{DIRECTIVES, MARKERS, PSEUDO_INSTRUCTIONS};
-use rv_isa::{Kind, operation_named};
+use rv_isa::operation_named;
 
 /// The most rows of a word.
 const MOST_ROWS: usize = 4;
@@ -18,26 +18,6 @@ pub enum Shape {
     These(&'static [Role]),
     /// One or more operands, all in one role.
     Each(Role),
-}
-
-/// Returns the roles of each row of an instruction of this kind: those that `table.rt` builds its rows with.
-fn roles_of(kind: Kind) -> &'static [&'static [Role]] {
-    match kind {
-        Kind::Lui { .. } => &[&[Rd, Upper]],
-        Kind::Auipc { .. } => &[&[Rd, Value]],
-        Kind::Jal { .. } => &[&[Rd, Value], &[Value]],
-        Kind::Jalr { .. } => &[&[Rd, Rs1], &[Rd, Memory], &[Rd, Rs1, Imm], &[Rs1]],
-        Kind::Branch { .. } => &[&[Rs1, Rs2, Value]],
-        Kind::Load { .. } => &[&[Rd, Memory], &[Both, Value]],
-        Kind::Store { .. } => &[&[Rs2, Memory], &[Rs2, Value, Rs1]],
-        Kind::OpImm { .. } => &[&[Rd, Rs1, Imm]],
-        Kind::Shift { .. } => &[&[Rd, Rs1, Value]],
-        Kind::Op { .. } => &[&[Rd, Rs1, Rs2]],
-        Kind::Fence { .. } => &[&[], &[Before, After]],
-        Kind::Csr { .. } => &[&[Rd, Csr, Rs1]],
-        Kind::CsrImm { .. } => &[&[Rd, Csr, Value]],
-        Kind::FenceI { .. } | Kind::Ecall | Kind::Ebreak | Kind::Mret | Kind::Wfi => &[&[]],
-    }
 }
 
 /// Returns the row of a word with an index among its rows in a table.
@@ -58,9 +38,9 @@ fn row_in(table: &[(&str, Row)], word: &[u8], index: usize) -> Option<Row> {
 /// order.
 pub fn shape_of(word: &[u8], index: usize) -> Option<Shape> {
     if let Some(operation) = operation_named(word) {
-        let rows = roles_of(operation.kind());
-        return if index < rows.len() {
-            Some(Shape::These(rows[index]))
+        let ways = ways_of(operation);
+        return if index < ways.len() {
+            Some(Shape::These(ways[index].roles()))
         } else {
             None
         };
