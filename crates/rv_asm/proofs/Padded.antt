@@ -11,7 +11,7 @@ use Rattle.rv_isa.specs.Number.{modulo}
 use Rattle.rv_isa.specs.declared.kind.Kind.{Kind}
 use Rattle.rv_asm.specs.Values.{is_between, gap}
 use Rattle.rv_asm.specs.Listing.{bytes, nops, padding}
-use Rattle.rv_asm.specs.Layout.{is_multiple}
+use Rattle.rv_asm.specs.Listing.{is_multiple}
 
 pub length_bytes : (kinds : List Kind) → length (bytes kinds) ≡ 4 * length kinds
 length_bytes [] = refl

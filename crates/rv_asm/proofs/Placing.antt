@@ -1,18 +1,22 @@
 -- Placing a statement.
-use Rattle.std.proofs.Common.{◌≡◌, ℕ, ◌+◌, false, List, [], ◌∷◌, ◌++◌, ℤ, refl}
+use Rattle.std.proofs.Common.{◌≡◌, ℕ, ◌+◌, false, List, [], ◌∷◌, ◌++◌, ℤ, length, refl, sym, ◌∙◌}
 use Rattle.std.specs.Prelude.{Option, None, Some, is_some, Ok}
 use Rattle.rv_source.specs.declared.expression.Term.{Term}
 use Rattle.rv_source.specs.declared.statement.Statement.{Statement}
 use Rattle.rv_program.specs.declared.fault.FaultKind.{FaultKind}
 use Rattle.rv_asm.specs.declared.fixup.Waiting.{Waiting}
+use Rattle.rv_asm.specs.declared.fixup.Waiting.TheVariants as w
+use Rattle.rv_asm.specs.declared.kept.Kept.{Kept}
+use Rattle.rv_isa.specs.declared.op.Width.{Width}
+use Rattle.rv_source.specs.declared.operand.Operand.{Operand}
 use Rattle.rv_asm.specs.declared.kept.Kept.TheVariants as kept
 use Rattle.rv_asm.specs.declared.single.Single.{Single}
 use Rattle.rv_asm.specs.Symbols.{Definitions, sum_value, operand_value}
-use Rattle.rv_asm.specs.Layout.{size_of, constant_in}
-use Rattle.rv_asm.specs.Listing.{statement_bytes}
+use Rattle.rv_asm.specs.Listing.{size_of, constant_in, statement_bytes, sums_bytes}
 use Rattle.rv_asm.specs.Kept.{KindFails}
 use Rattle.rv_asm.specs.Constants.{IsKnown, always}
 use Rattle.rv_asm.specs.Steps.{Known, Item, IsSum, kept_bytes, waiting_bytes, item_bytes, values_of, free, after_statement, Adds}
+use Rattle.rv_asm.proofs.Writing.{only_value}
 use Rattle.rv_asm.proofs.Runs.{kind_fails_bind}
 use Rattle.rv_asm.proofs.Listed.{adds_pushed}
 use Rattle.rv_asm.proofs.Sizes.{same_size, same_constant, same_bytes}
@@ -26,6 +30,15 @@ pub waiting_kept : (waiting : Waiting) (terms : List Term) (s : Single) → IsSu
     ≡ waiting_bytes here waiting (sum_value ds line here terms)
 unfolding kept_bytes
 waiting_kept waiting terms s is ds line here = rw (is ds line here) refl
+
+pub data_kept : (width : Width) (x : Operand) (xs all : List Operand) (k : Kept) → x ∷ xs ≡ all → length xs ≡ 0
+    → ((ds : Definitions) (line here : ℕ) → kept_bytes ds line here k
+    ≡ waiting_bytes here (w.Data width) (operand_value ds line here x))
+    → (ds : Definitions) (line here : ℕ) → kept_bytes ds line here k
+    ≡ sums_bytes (operand_value ds line here) width all
+data_kept width x [] all k is none kept ds line here =
+    rw (← is) (kept ds line here ∙ sym (only_value (operand_value ds line here) width here x))
+data_kept width x (y ∷ ys) all k is none kept ds line here = cc
 
 module _ (k : ℕ) (known : Known) (statement : Statement) where
   pub not_placed : (kind : FaultKind) → KindFails kind (free known.definitions k known.address statement) →

@@ -16,8 +16,7 @@ use Rattle.rv_source.specs.declared.statement.Statement.{Statement}
 use Rattle.rv_source.specs.declared.statement.Statement.TheVariants as s
 use Rattle.rv_program.specs.declared.fault.FaultKind.{FaultKind}
 use Rattle.rv_asm.specs.Values.{fits, part_value, far, hi, lo, loading}
-use Rattle.rv_asm.specs.Listing.{Valuation, ◌>>=◌, wanted, near, pair, filled as fill, bytes, values_of, data_bytes, value_bytes, sums_bytes, fill_of, statement_bytes}
-use Rattle.rv_asm.specs.Layout.{size_of, constant_in}
+use Rattle.rv_asm.specs.Listing.{Valuation, ◌>>=◌, wanted, near, pair, filled as fill, bytes, values_of, data_bytes, value_bytes, sums_bytes, fill_of, statement_bytes, size_of, constant_in}
 use Rattle.rv_asm.specs.Constants.{IsTaken, IsKnown, always}
 use Rattle.rv_asm.proofs.Padded.{length_bytes, padded, power_is_regular, multiple_is_regular}
 

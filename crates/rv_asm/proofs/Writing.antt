@@ -1,9 +1,8 @@
--- Writing data, value by value.
-use Rattle.std.proofs.Common.{◌≡◌, ℕ, suc, ◌+◌, ◌<◌, ◌≤◌, List, [], ◌∷◌, ◌++◌, ℤ, drop, get_or, length, Bool, true, false, ap, sym, ◌∙◌, refl, append-nil, append_assoc, add-one}
-use Rattle.std.specs.Prelude.{Option, Some, None, Result, Ok, Err}
-use Rattle.std.specs.Option.{unwrap_or}
-use Rattle.std.proofs.Math.Seq.{drop-cons}
-use Rattle.std.proofs.lemmas.List.{drop_all}
+-- Writing a line that is read again, and data value by value.
+use Rattle.std.proofs.Common.{◌≡◌, ℕ, ◌-◌, ◌≤◌, List, [], ◌∷◌, ◌++◌, ℤ, take, drop, get_or, length, Bool, true, false, cond, ap, sym, ◌∙◌, refl, arith, append-nil, append_assoc}
+use Rattle.std.specs.Prelude.{◌&&◌, Option, Some, None, is_some, Result, Ok, Err, if◌then◌else◌}
+use Rattle.std.specs.Option.{ok_or, unwrap_or}
+use Rattle.std.proofs.lemmas.List.{take_all}
 use Rattle.rv_isa.specs.declared.op.Width.{Width}
 use Rattle.rv_source.specs.declared.operand.Operand.{Operand}
 use Rattle.rv_source.specs.declared.statement.Statement.{Statement}
@@ -18,18 +17,10 @@ use Rattle.rv_asm.specs.Values.{fits}
 use Rattle.rv_asm.proofs.Reading.{said_of, with_labels}
 use Rattle.rv_asm.specs.Listing.{Valuation, ◌>>=◌, statement_bytes, values_of, data_bytes, value_bytes, sums_bytes}
 use Rattle.rv_asm.specs.Constants.{IsTaken, KeptLine, always, stated_in}
-use Rattle.rv_asm.specs.Kept.{KindBecomes}
-use Rattle.rv_asm.specs.Steps.{line_text_bytes, appended}
+use Rattle.rv_asm.specs.Kept.{KindBecomes, are_known}
+use Rattle.rv_asm.specs.Steps.{line_text_bytes, appended, waiting_bytes}
+use Rattle.rv_asm.specs.declared.fixup.Waiting.TheVariants as w
 use Rattle.rv_asm.specs.Symbols.{Definitions, operand_value}
-
--- one of the values so far was out of range
-abbrev pub out_of_range : Result (List ℤ) FaultKind → Result (List ℕ) FaultKind
-out_of_range values = values >>= λ vs. Err OutOfRange
-
--- the result of the expressions that are left, depending on whether all values before them were in range
-abbrev pub rest_bytes : Valuation → Width → Bool → List ℕ → List Operand → Result (List ℕ) FaultKind
-rest_bytes value width true out es = appended out (sums_bytes value width es)
-rest_bytes value width false out es = out_of_range (values_of value es)
 
 -- a line without a statement has no bytes
 nothing_written : (ds : Definitions) (line here : ℕ) (text : KeptLine) (out : List ℕ) →
@@ -78,6 +69,22 @@ module _ (text : KeptLine) (read : Written) (w : written text.bytes ≡ Ok read)
     fault_again fault out e = nothing_written ds line here text out
         (sym (again text.bytes read (Err fault) w e))
 
+-- ---- data
+
+-- what follows a value that is out of range
+abbrev out_of_range : Result (List ℤ) FaultKind → Result (List ℕ) FaultKind
+out_of_range values = values >>= λ vs. Err OutOfRange
+
+-- what follows the first, as a slice's pattern has it
+abbrev pub after_first : List Operand → List Operand
+after_first all = take (length all - 1) (drop 1 all)
+
+begun : (all : List Operand) (x : Operand) → 1 ≤ length all → x ≡ get_or all 0 x → all ≡ x ∷ after_first all
+begun [] x some is = absurd (omega (arith, some))
+begun (y ∷ ys) x some is =
+    let rest : take (length (y ∷ ys) - 1) ys ≡ ys = take_all (length (y ∷ ys) - 1) ys (omega arith) in
+    ap (λ z. z ∷ ys) (sym is) ∙ ap (λ zs. x ∷ zs) (sym rest)
+
 module _ (value : Valuation) (width : Width) where
   two_appended : (out bs : List ℕ) (r : Result (List ℕ) FaultKind) →
       appended out (r >>= λ cs. Ok (bs ++ cs)) ≡ appended (out ++ bs) r
@@ -90,69 +97,85 @@ module _ (value : Valuation) (width : Width) where
   fitting out v (Ok vs) h = rw h (two_appended out (value_bytes width v) (data_bytes width vs))
   fitting out v (Err kind) h = refl
 
-  unfitting : (out : List ℕ) (v : ℤ) (r : Result (List ℤ) FaultKind) → fits width v ≡ false
-      → appended out ((r >>= λ vs. Ok (v ∷ vs)) >>= λ vs. data_bytes width vs) ≡ out_of_range r
-  unfitting out v (Ok vs) h = rw h refl
-  unfitting out v (Err kind) h = refl
+  unfitting : (v : ℤ) (r : Result (List ℤ) FaultKind) → fits width v ≡ false
+      → ((r >>= λ vs. Ok (v ∷ vs)) >>= λ vs. data_bytes width vs) ≡ out_of_range r
+  unfitting v (Ok vs) h = rw h refl
+  unfitting v (Err kind) h = refl
 
-  same_fault : (v : ℤ) (r : Result (List ℤ) FaultKind) → out_of_range (r >>= λ vs. Ok (v ∷ vs)) ≡ out_of_range r
-  same_fault v (Ok vs) = refl
-  same_fault v (Err kind) = refl
+  more_past : (b : Bool) (r : Result (List ℤ) FaultKind) (o : Option ℤ)
+      → out_of_range r ≡ cond b (Err OutOfRange) (Err Undefined)
+      → out_of_range (ok_or o Undefined >>= λ v. r >>= λ vs. Ok (v ∷ vs))
+      ≡ cond (is_some o && b) (Err OutOfRange) (Err Undefined)
+  more_past b r None h = refl
+  more_past b (Ok vs) (Some v) h = h
+  more_past b (Err kind) (Some v) h = h
 
-  values_known : (e : Operand) (es : List Operand) (v : ℤ) → value e ≡ Some v →
-      values_of value (e ∷ es) ≡ (values_of value es >>= λ vs. Ok (v ∷ vs))
-  values_known e es v known = rw (known, values_of) refl
+  -- an undefined value is told first
+  past : (xs : List Operand) →
+      out_of_range (values_of value xs) ≡ cond (are_known value xs) (Err OutOfRange) (Err Undefined)
+  past [] = refl
+  past (x ∷ xs) = more_past (are_known value xs) (values_of value xs) (value x) (past xs)
 
-  values_unknown : (e : Operand) (es : List Operand) → value e ≡ None →
-      values_of value (e ∷ es) ≡ Err Undefined
-  values_unknown e es none = rw (none, values_of) refl
+  known_first : (x : Operand) (xs : List Operand) (v : ℤ) → value x ≡ Some v →
+      values_of value (x ∷ xs) ≡ (values_of value xs >>= λ vs. Ok (v ∷ vs))
+  known_first x xs v known = rw (known, values_of) refl
 
-  one_fits : (in_range : Bool) (out : List ℕ) (e : Operand) (es : List Operand) (v : ℤ) →
-      value e ≡ Some v → fits width v ≡ true
-      → rest_bytes value width in_range out (e ∷ es)
-      ≡ rest_bytes value width in_range (out ++ value_bytes width v) es
-  one_fits true out e es v known h = ap (λ r. appended out (r >>= λ vs. data_bytes width vs))
-      (values_known e es v known) ∙ fitting out v (values_of value es) h
-  one_fits false out e es v known h =
-      ap out_of_range (values_known e es v known) ∙ same_fault v (values_of value es)
+  unknown_first : (x : Operand) (xs : List Operand) → value x ≡ None →
+      sums_bytes value width (x ∷ xs) ≡ Err Undefined
+  unknown_first x xs none = rw (none, values_of) refl
 
-  one_past : (in_range : Bool) (out : List ℕ) (e : Operand) (es : List Operand) (v : ℤ) →
-      value e ≡ Some v → fits width v ≡ false
-      → rest_bytes value width in_range out (e ∷ es) ≡ rest_bytes value width false out es
-  one_past true out e es v known h = ap (λ r. appended out (r >>= λ vs. data_bytes width vs))
-      (values_known e es v known) ∙ unfitting out v (values_of value es) h
-  one_past false out e es v known h =
-      ap out_of_range (values_known e es v known) ∙ same_fault v (values_of value es)
+  -- the operands from the first on, of which there is one
+  module _ (all : List Operand) (x : Operand) (some : 1 ≤ length all) (is : x ≡ get_or all 0 x) (out : List ℕ) where
+    from_first : {A : Type 0} (f : List Operand → A) → f all ≡ f (x ∷ after_first all)
+    from_first f = ap f (begun all x some is)
 
-  one_unknown : (in_range : Bool) (out : List ℕ) (e : Operand) (es : List Operand) → value e ≡ None →
-      rest_bytes value width in_range out (e ∷ es) ≡ Err Undefined
-  one_unknown true out e es none =
-      ap (λ r. appended out (r >>= λ vs. data_bytes width vs)) (values_unknown e es none)
-  one_unknown false out e es none = ap out_of_range (values_unknown e es none)
+    pub none_first : value x ≡ None → appended out (sums_bytes value width all) ≡ Err Undefined
+    none_first none = from_first (λ ys. appended out (sums_bytes value width ys))
+        ∙ ap (λ r. appended out r) (unknown_first x (after_first all) none)
 
-  module _ (es : List Operand) (i : ℕ) (e : Operand) (is : e ≡ get_or es i e)
-      (within : i < length es) where
-    at_sum : drop i es ≡ e ∷ drop (i + 1) es
-    at_sum = let d : drop i es ≡ get_or es i e ∷ drop (suc i) es =
-        drop-cons es i e within in rw (is, add-one) d
+    module _ (v : ℤ) (known : value x ≡ Some v) where
+      pub fitting_first : {A : Type 0} (mid new : List ℕ) (r : Result A FaultKind) → fits width v ≡ true
+          → mid ≡ out ++ value_bytes width v
+          → KindBecomes new r (appended mid (sums_bytes value width (after_first all)))
+          → KindBecomes new r (appended out (sums_bytes value width all))
+      fitting_first mid new r h written done =
+          let same : appended out (sums_bytes value width all)
+          ≡ appended mid (sums_bytes value width (after_first all)) =
+          from_first (λ ys. appended out (sums_bytes value width ys))
+          ∙ ap (λ r. appended out (r >>= λ vs. data_bytes width vs)) (known_first x (after_first all) v known)
+          ∙ fitting out v (values_of value (after_first all)) h
+          ∙ ap (λ bs. appended bs (sums_bytes value width (after_first all))) (sym written)
+          in
+          rw same done
 
-    pub data_fits : (in_range : Bool) (out : List ℕ) (v : ℤ) → value e ≡ Some v → fits width v ≡ true
-        → rest_bytes value width in_range out (drop i es)
-        ≡ rest_bytes value width in_range (out ++ value_bytes width v) (drop (i + 1) es)
-    data_fits in_range out v known h = rw at_sum (one_fits in_range out e (drop (i + 1) es) v known h)
+      past_first : (b : Bool) → fits width v ≡ false → are_known value (after_first all) ≡ b →
+          appended out (sums_bytes value width all) ≡ appended out (cond b (Err OutOfRange) (Err Undefined))
+      past_first b h e =
+          from_first (λ ys. appended out (sums_bytes value width ys))
+          ∙ ap (λ r. appended out (r >>= λ vs. data_bytes width vs)) (known_first x (after_first all) v known)
+          ∙ ap (λ r. appended out r) (unfitting v (values_of value (after_first all)) h ∙ past (after_first all)
+          ∙ ap (λ b. cond b (Err OutOfRange) (Err Undefined)) e)
 
-    pub data_past : (in_range : Bool) (out : List ℕ) (v : ℤ) → value e ≡ Some v → fits width v ≡ false
-        → rest_bytes value width in_range out (drop i es) ≡ rest_bytes value width false out (drop (i + 1) es)
-    data_past in_range out v known h = rw at_sum (one_past in_range out e (drop (i + 1) es) v known h)
+      pub past_known : fits width v ≡ false → are_known value (after_first all) ≡ true →
+          appended out (sums_bytes value width all) ≡ Err OutOfRange
+      past_known h e = past_first true h e
 
-    pub data_unknown : (in_range : Bool) (out : List ℕ) → value e ≡ None →
-        rest_bytes value width in_range out (drop i es) ≡ Err Undefined
-    data_unknown in_range out none = rw at_sum (one_unknown in_range out e (drop (i + 1) es) none)
+      pub past_unknown : fits width v ≡ false → are_known value (after_first all) ≡ false →
+          appended out (sums_bytes value width all) ≡ Err Undefined
+      past_unknown h e = past_first false h e
 
-  pub data_whole : (es : List Operand) (i : ℕ) (out : List ℕ) → length es ≤ i →
-      rest_bytes value width true out (drop i es) ≡ Ok out
-  data_whole es i out h = let d : drop i es ≡ [] = drop_all i es h in rw d (ap (λ x. Ok x) (append-nil out))
+  -- the bytes of a single value
+  fitting_alone : (bs : List ℕ) (b : Bool)
+      → cond b (Ok (bs ++ [])) (Err OutOfRange) ≡ ok_or (cond b (Some bs) None) OutOfRange
+  fitting_alone bs true = ap (λ x. Ok x) (append-nil bs)
+  fitting_alone bs false = refl
 
-  pub data_out_of_range : (es : List Operand) (i : ℕ) (out : List ℕ) → length es ≤ i →
-      rest_bytes value width false out (drop i es) ≡ Err OutOfRange
-  data_out_of_range es i out h = let d : drop i es ≡ [] = drop_all i es h in rw d refl
+  alone : (o : Option ℤ)
+      → ((ok_or o Undefined >>= λ v. Ok (v ∷ [])) >>= λ vs. data_bytes width vs)
+      ≡ (ok_or o Undefined >>= λ v. ok_or (if fits width v then Some (value_bytes width v) else None) OutOfRange)
+  alone None = refl
+  alone (Some v) = fitting_alone (value_bytes width v) (fits width v)
+
+  pub only_value : (here : ℕ) (x : Operand) →
+      sums_bytes value width (x ∷ []) ≡ waiting_bytes here (w.Data width) (value x)
+  only_value here x = alone (value x)

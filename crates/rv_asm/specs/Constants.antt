@@ -5,8 +5,7 @@ use Rattle.std.specs.Option.{unwrap_or}
 use Rattle.rv_source.specs.Reading.{said}
 use Rattle.rv_source.specs.declared.statement.Statement.{Statement}
 use Rattle.rv_source.specs.declared.statement.Statement.TheVariants.{Marker}
-use Rattle.rv_asm.specs.Layout.{asked}
-use Rattle.rv_asm.specs.Listing.{Valuation}
+use Rattle.rv_asm.specs.Listing.{Valuation, asked}
 
 -- c is that value, and passes its test; 0 if there is none
 unfoldable pub IsKnown : Valuation → ℤ → Statement → Type 0

@@ -1,9 +1,10 @@
 -- Results whose faults have no line yet, what instructions wait for, and the lists of local labels.
 -- The language is this project's own: docs/ASSEMBLER.md.
 -- Not to audit: private contracts alone cite this.
-use Rattle.std.specs.Prelude.{◌≡◌, ℕ, List, [], ◌∷◌, ◌++◌, ℤ, pos, ◌+ℤ◌, ◌≤ℤ◌, ◌==◌, if◌then◌else◌, ◌≤◌, ◌<◌, get_or, slice_get, length, Option, Result, Ok, Err}
+use Rattle.std.specs.Prelude.{◌≡◌, ℕ, List, [], ◌∷◌, ◌++◌, ℤ, pos, ◌+ℤ◌, ◌≤ℤ◌, ◌==◌, if◌then◌else◌, ◌≤◌, ◌<◌, get_or, slice_get, length, Bool, Option, Some, None, is_some, Result, Ok, Err}
 use Rattle.std.specs.Option.{option_map}
-use Rattle.std.specs.List.{AllByRecursion}
+use Rattle.std.specs.List.{AllByRecursion, list_all}
+use Rattle.rv_source.specs.declared.operand.Operand.{Operand}
 use Rattle.rv_program.specs.declared.fault.FaultKind.{FaultKind}
 use Rattle.rv_program.specs.declared.fault.FaultKind.TheVariants.{OutOfMemory}
 use Rattle.rv_asm.specs.declared.locals.LocalLabel.{LocalLabel}
@@ -14,7 +15,8 @@ use Rattle.rv_asm.specs.declared.instructions.Instructions.{Instructions}
 use Rattle.rv_asm.specs.declared.instructions.Instructions.TheVariants.{One, Two}
 use Rattle.rv_asm.specs.declared.symbols.Scope.{Scope}
 use Rattle.rv_asm.specs.Symbols.{operand_value}
-use Rattle.rv_asm.specs.Listing.{Valuation, near, pair}
+use Rattle.rv_asm.specs.Values.{fits}
+use Rattle.rv_asm.specs.Listing.{Valuation, near, pair, value_bytes}
 
 -- ---- results whose fault has no line yet
 
@@ -44,6 +46,11 @@ kinds (Two first second) = first ∷ second ∷ []
 abbrev pub with_value : ℕ → Waiting → ℤ → Option (List ℕ)
 with_value here (w.Near kind part) v = near here kind part v
 with_value here (w.Far scratch kind) v = pair here scratch kind v
+with_value here (w.Data width) v = if fits width v then Some (value_bytes width v) else None
+
+-- whether each operand has a value
+abbrev pub are_known : Valuation → List Operand → Bool
+are_known value xs = list_all (λ x. is_some (value x)) xs
 
 -- ---- lists of local labels
 

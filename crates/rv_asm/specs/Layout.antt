@@ -2,13 +2,10 @@
 -- To audit: public contracts cite this.
 -- Lines are counted from 0.
 -- The language is this project's own: docs/ASSEMBLER.md.
-use Rattle.std.specs.Prelude.{ℕ, zero, suc, ◌+◌, ◌*◌, ◌^◌, ◌%◌, Bool, true, false, not, ◌||◌, ◌&&◌, List, [], ◌∷◌, ◌++◌, length, get_or, ℤ, pos, nat_lt, ◌==◌, Option, Some, None, option_and_then, is_some, if◌then◌else◌}
-use Rattle.std.specs.Option.{option_map_or, unwrap_or}
+use Rattle.std.specs.Prelude.{ℕ, zero, suc, ◌+◌, ◌%◌, Bool, false, not, ◌||◌, ◌&&◌, List, [], ◌∷◌, ◌++◌, length, get_or, ℤ, pos, nat_lt, ◌==◌, Option, Some, None, option_and_then, is_some, if◌then◌else◌}
+use Rattle.std.specs.Option.{option_map_or}
 use Rattle.rv_base.specs.Limits.{ram_base, image_limit}
-use Rattle.rv_isa.specs.Number.{modulo}
-use Rattle.rv_isa.specs.Width.{bytes_of}
 use Rattle.rv_source.specs.Reading.{Said}
-use Rattle.rv_source.specs.declared.operand.Operand.{Operand}
 use Rattle.rv_source.specs.declared.line.Label.{Label}
 use Rattle.rv_source.specs.declared.line.Label.TheVariants as label
 use Rattle.rv_source.specs.declared.statement.Statement.{Statement}
@@ -17,50 +14,7 @@ use Rattle.rv_program.specs.declared.fault.FaultKind.{FaultKind}
 use Rattle.rv_program.specs.declared.fault.FaultKind.TheVariants.{DuplicateSymbol, NotConstant, Misplaced, TooLarge}
 use Rattle.rv_asm.specs.declared.locals.LocalLabel.{LocalLabel}
 use Rattle.rv_asm.specs.Symbols.{Definitions, value_of, operand_value}
-use Rattle.rv_asm.specs.Values.{is_between, is_word, loading, gap}
-use Rattle.rv_asm.specs.Listing.{Valuation, known}
-
--- ---- one statement, by the values that its operands have on its line
-
--- a power of two from 1 to 4096
-abbrev pub is_multiple : ℤ → Bool
-is_multiple v = is_between (pos 1) (pos 4096) v && (4096 % modulo v (2 ^ 32) == 0)
-
--- the operand whose value must be known on the line of the statement, and the test that it has to pass
-abbrev pub asked : Statement → Option (Operand × (ℤ → Bool))
-asked (s.Li rd x) = Some (x, is_word)
-asked (s.Space size fill) = Some (size, is_between (pos 0) (pos image_limit))
-asked (s.Align power) = Some (power, is_between (pos 0) (pos 12))
-asked (s.Balign multiple) = Some (multiple, is_multiple)
-asked (s.Constant name x) = Some (x, is_word)
-asked statement = None
-
--- the number of bytes of a statement at an address
-abbrev pub size_of : Valuation → ℕ → Statement → ℕ
-size_of early here (s.Instruction kind) = 4
-size_of early here (s.WithValue kind x) = 4
-size_of early here (s.Far scratch kind x) = 8
-size_of early here (s.Li rd x) = 4 * length (loading rd (known early x))
-size_of early here (s.Data width xs) = bytes_of width * length xs
-size_of early here (s.Bytes bs) = length bs
-size_of early here (s.Space size fill) = known early size
-size_of early here (s.Align power) = gap here (2 ^ known early power)
-size_of early here (s.Balign multiple) = gap here (known early multiple)
-size_of early here (s.Constant name x) = 0
-size_of early here s.Marker = 0
-
--- whether a statement is assembled to instructions
-abbrev pub is_instruction : Statement → Bool
-is_instruction (s.Instruction kind) = true
-is_instruction (s.WithValue kind x) = true
-is_instruction (s.Far scratch kind x) = true
-is_instruction (s.Li rd x) = true
-is_instruction statement = false
-
--- the name that `.equ` defines, with its value
-abbrev pub constant_in : Valuation → Statement → List (List ℕ × ℤ)
-constant_in early (s.Constant name x) = (name, unwrap_or (early x) (pos 0)) ∷ []
-constant_in early statement = []
+use Rattle.rv_asm.specs.Listing.{Valuation, asked, size_of, is_instruction, constant_in}
 
 -- ---- the labels of a line at an address
 

@@ -1,16 +1,19 @@
--- The bytes of a statement, once the values of its expressions are known.
+-- The size of a statement, and its bytes once the values of its expressions are known.
 -- To audit: public contracts cite this.
 -- The language is this project's own: docs/ASSEMBLER.md.
-use Rattle.std.specs.Prelude.{ℕ, ◌-◌, ◌/◌, ◌^◌, List, [], ◌∷◌, ◌++◌, replicate, min, ℤ, pos, Option, Some, None, option_and_then, Result, Ok, Err, if◌then◌else◌}
+use Rattle.std.specs.Prelude.{ℕ, ◌-◌, ◌*◌, ◌/◌, ◌%◌, ◌^◌, Bool, true, false, ◌&&◌, ◌==◌, length, List, [], ◌∷◌, ◌++◌, replicate, min, ℤ, pos, Option, Some, None, option_and_then, Result, Ok, Err, if◌then◌else◌}
 use Rattle.std.specs.Option.{ok_or, option_map, unwrap_or}
 use Rattle.std.specs.Int.{to_le_bytes, w8, w16, w32}
+use Rattle.rv_base.specs.Limits.{image_limit}
 use Rattle.rv_isa.specs.Number.{modulo}
+use Rattle.rv_isa.specs.Width.{bytes_of}
 use Rattle.rv_isa.specs.Word.{word}
 use Rattle.rv_isa.specs.declared.kind.Kind.{Kind}
 use Rattle.rv_isa.specs.declared.kind.Kind.TheVariants.{Lui, Auipc, Jal, Jalr, Branch, Load, Store, OpImm, Shift, CsrImm}
 use Rattle.rv_isa.specs.declared.op.ImmOp.TheVariants.{Addi}
 use Rattle.rv_isa.specs.declared.op.Width.{Width}
 use Rattle.rv_isa.specs.declared.op.Width.TheVariants.{One, Two, Four}
+pub use Rattle.rv_tokens.specs.Faults.{◌>>=◌}
 use Rattle.rv_source.specs.declared.operand.Operand.{Operand}
 use Rattle.rv_source.specs.declared.operand.Part.{Part}
 use Rattle.rv_source.specs.Operands.{part_of}
@@ -18,12 +21,7 @@ use Rattle.rv_source.specs.declared.statement.Statement.{Statement}
 use Rattle.rv_source.specs.declared.statement.Statement.TheVariants as s
 use Rattle.rv_program.specs.declared.fault.FaultKind.{FaultKind}
 use Rattle.rv_program.specs.declared.fault.FaultKind.TheVariants.{Undefined, OutOfRange}
-use Rattle.rv_asm.specs.Values.{fits, immediate, upper_immediate, five_bits, distance, hi, lo, part_value, far, loading, gap}
-
-infixl 10 ◌>>=◌
-abbrev pub ◌>>=◌ : {A B E : Type 0} → Result A E → (A → Result B E) → Result B E
-(Ok x) >>= f = f x
-(Err e) >>= f = Err e
+use Rattle.rv_asm.specs.Values.{is_between, is_word, fits, immediate, upper_immediate, five_bits, distance, hi, lo, part_value, far, loading, gap}
 
 -- the value of each operand that has one
 abbrev pub Valuation : Type 0
@@ -108,6 +106,46 @@ padding here n = let zeros = min n (gap here 4) in replicate zeros 0 ++ bytes (n
 -- the value that an operand has on the line of its statement, as a word; 0 if it has none there
 abbrev pub known : Valuation → Operand → ℕ
 known early x = modulo (unwrap_or (early x) (pos 0)) (2 ^ 32)
+
+-- a power of two from 1 to 4096
+abbrev pub is_multiple : ℤ → Bool
+is_multiple v = is_between (pos 1) (pos 4096) v && (4096 % modulo v (2 ^ 32) == 0)
+
+-- the operand whose value must be known on the line of the statement, and the test that it has to pass
+abbrev pub asked : Statement → Option (Operand × (ℤ → Bool))
+asked (s.Li rd x) = Some (x, is_word)
+asked (s.Space size fill) = Some (size, is_between (pos 0) (pos image_limit))
+asked (s.Align power) = Some (power, is_between (pos 0) (pos 12))
+asked (s.Balign multiple) = Some (multiple, is_multiple)
+asked (s.Constant name x) = Some (x, is_word)
+asked statement = None
+
+-- the number of bytes of a statement at an address
+abbrev pub size_of : Valuation → ℕ → Statement → ℕ
+size_of early here (s.Instruction kind) = 4
+size_of early here (s.WithValue kind x) = 4
+size_of early here (s.Far scratch kind x) = 8
+size_of early here (s.Li rd x) = 4 * length (loading rd (known early x))
+size_of early here (s.Data width xs) = bytes_of width * length xs
+size_of early here (s.Bytes bs) = length bs
+size_of early here (s.Space size fill) = known early size
+size_of early here (s.Align power) = gap here (2 ^ known early power)
+size_of early here (s.Balign multiple) = gap here (known early multiple)
+size_of early here (s.Constant name x) = 0
+size_of early here s.Marker = 0
+
+-- whether a statement is assembled to instructions
+abbrev pub is_instruction : Statement → Bool
+is_instruction (s.Instruction kind) = true
+is_instruction (s.WithValue kind x) = true
+is_instruction (s.Far scratch kind x) = true
+is_instruction (s.Li rd x) = true
+is_instruction statement = false
+
+-- the name that `.equ` defines, with its value
+abbrev pub constant_in : Valuation → Statement → List (List ℕ × ℤ)
+constant_in early (s.Constant name x) = (name, unwrap_or (early x) (pos 0)) ∷ []
+constant_in early statement = []
 
 -- The bytes of a statement at an address, or its fault in phase three. What the number of bytes depends on,
 -- and the value of `li`, go by the symbols that are defined on the line of the statement; all else by those

@@ -57,6 +57,7 @@ line_text_bytes ds line here text =
     statement_bytes (always text.constant) (operand_value ds line here) here (stated_in text.bytes)
 
 unfoldable pub kept_bytes : Definitions → ℕ → ℕ → Kept → Result (List ℕ) FaultKind
+kept_bytes ds line here kept.Nothing = Ok []
 kept_bytes ds line here (kept.Instructions instructions) = Ok (bytes (kinds instructions))
 kept_bytes ds line here (kept.Waiting waiting value) = waiting_bytes here waiting
     (single_value ds line here value)

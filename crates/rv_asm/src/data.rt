@@ -1,14 +1,17 @@
 //! The bytes of data, spaces and alignments.
-ghost use Rattle.std.specs.Prelude.{◌≡◌, ◌++◌, ◌<◌, ◌^◌, replicate, pos, Ok, OnOk, IfOk};
+ghost use Rattle.std.specs.Prelude.{◌≡◌, ◌++◌, ◌<◌, ◌^◌, replicate, pos, Some, None, Ok, OnOk, IfOk, if◌then◌else◌};
+ghost use Rattle.std.specs.Option.{ok_or};
 ghost use Rattle.rv_isa.specs.declared.kind.Kind.TheVariants.{OpImm};
 ghost use Rattle.rv_isa.specs.declared.op.ImmOp.TheVariants.{Addi};
 ghost use Rattle.rv_asm.specs.Kept.{KindBecomes};
 ghost use Rattle.rv_asm.specs.Listing.{value_bytes, padding, bytes, nops};
-ghost use Rattle.rv_asm.specs.Values.{gap};
+ghost use Rattle.rv_asm.specs.Steps.{appended};
+ghost use Rattle.rv_asm.specs.Values.{fits, gap};
+ghost use Rattle.rv_program.specs.declared.fault.FaultKind.TheVariants.{OutOfRange};
 
 use crate::FaultKind;
 use crate::instructions::{addi, write_instr, zero};
-use crate::values::{bits, gap};
+use crate::values::{bits, fits, gap};
 use rv_isa::Width;
 use std::alloc::AllocError;
 
@@ -21,6 +24,17 @@ pub fn write_value(width: Width, value: i64, out: &mut Vec<u8>) -> Result<(), Al
         Width::Two => out.extend_from_slice(&(value.rem_euclid(0x1_0000) as u16).to_le_bytes()),
         Width::Four => out.extend_from_slice(&bits(value).to_le_bytes()),
     }
+}
+
+/// Appends a value in a width, if it fits.
+pub fn write_fitting(width: Width, value: i64, out: &mut Vec<u8>) -> Result<(), FaultKind>
+    ensures { KindBecomes out.new.items result (appended out.old.items (ok_or (if fits width value then Some (value_bytes width value) else None) OutOfRange)) }
+{
+    if !fits(width, value) {
+        return Err(FaultKind::OutOfRange);
+    }
+    write_value(width, value, out)?;
+    Ok(())
 }
 
 /// Appends `count` copies of a byte.

@@ -1,6 +1,6 @@
 //! Phase three: evaluates the expressions of a statement and writes its bytes.
 ghost use Rattle.std.specs.Prelude.{◌≡◌};
-ghost use Rattle.rv_asm.specs.Kept.{KindBecomes, KindGives, values_in};
+ghost use Rattle.rv_asm.specs.Kept.{KindBecomes, KindGives, are_known, values_in};
 ghost use Rattle.rv_asm.specs.Constants.{IsTaken, always};
 ghost use Rattle.rv_asm.specs.Steps.{appended};
 ghost use Rattle.rv_asm.specs.Listing.{fill_of, sums_bytes, statement_bytes};
@@ -14,35 +14,44 @@ use crate::values::{bits, byte, fits};
 use rv_isa::Width;
 use rv_source::{Operand, Statement, Value};
 
+/// Returns whether each operand has a value.
+fn are_known(scope: Scope, operands: &[Operand]) -> bool
+    ensures { result ≡ are_known (values_in scope.entry) operands.now }
+{
+    operands
+        .iter()
+        .all(|operand| scope.value(operand).is_some())
+}
+
+/// Appends values of a width. An undefined value is reported before one that is out of range.
+#[tactic(auto, using(crate::proofs::Writing::none_first))]
+fn write_values(
+    scope: Scope,
+    width: Width,
+    values: &[Operand],
+    out: &mut Vec<u8>,
+) -> Result<(), FaultKind>
+    ensures { KindBecomes out.new.items result (appended out.old.items (sums_bytes (values_in scope.entry) width values.now)) }
+{
+    let [first, rest @ ..] = values else {
+        return Ok(());
+    };
+    let Some(value) = scope.value(first) else {
+        return Err(FaultKind::Undefined);
+    };
+    if fits(width, value) {
+        write_value(width, value, out)?;
+        return write_values(scope, width, rest, out);
+    }
+    if are_known(scope, rest) {
+        Err(FaultKind::OutOfRange)
+    } else {
+        Err(FaultKind::Undefined)
+    }
+}
+
 impl<'a> Scope<'a> {
     ghost use Rattle.std.specs.Prelude.{◌≡◌};
-
-    /// Appends values of a width. An undefined value is reported before one that is out of range.
-    fn write_values(
-        &self,
-        width: Width,
-        values: &[Operand],
-        out: &mut Vec<u8>,
-    ) -> Result<(), FaultKind>
-        ensures { KindBecomes out.new.items result (appended out.old.items (sums_bytes (values_in self.now) width values.now)) }
-    {
-        let mut in_range = true;
-        for operand in values {
-            let Some(value) = self.value(operand) else {
-                return Err(FaultKind::Undefined);
-            };
-            if fits(width, value) {
-                write_value(width, value, out)?;
-            } else {
-                in_range = false;
-            }
-        }
-        if in_range {
-            Ok(())
-        } else {
-            Err(FaultKind::OutOfRange)
-        }
-    }
 
     /// Returns the byte that fills a space: 0 if none is given.
     fn fill_byte(&self, fill: &Option<Value>) -> Result<u8, FaultKind>
@@ -84,7 +93,12 @@ impl<'a> Scope<'a> {
                 waiting.write(self.here, self.value(target.operand()), out)
             }
             Statement::Li { rd, .. } => loading(*rd, bits(constant)).write(out),
-            Statement::Data { width, values } => self.write_values(*width, values.as_slice(), out),
+            Statement::Data { width, values } => write_values(
+                *self,
+                *width,
+                values.as_slice(),
+                out,
+            ),
             Statement::Bytes(bytes) => {
                 bytes.append_to(out)?;
                 Ok(())

@@ -1,15 +1,16 @@
-//! Fixups: instructions that wait for a value.
+//! Fixups: instructions and data that wait for a value.
 ghost use Rattle.std.specs.Prelude.{◌≡◌, ◌++◌};
 ghost use Rattle.std.specs.Option.{option_map};
 ghost use Rattle.rv_asm.specs.Listing.{bytes, filled, near, pair};
 ghost use Rattle.rv_asm.specs.Kept.{kinds};
 
 use crate::FaultKind;
+use crate::data::write_fitting;
 use crate::instructions::{Instructions, auipc};
 use crate::values::{
     branch_distance, far, five_bits, hi, immediate, jump_distance, lo, part_value, upper_immediate,
 };
-use rv_isa::{Instr, Kind, Reg};
+use rv_isa::{Instr, Kind, Reg, Width};
 use rv_source::{Form, Operand, Part};
 
 /// Fills the fixup of an instruction: returns it with a value in the field of its immediate, or None if the
@@ -52,7 +53,7 @@ fn pair(here: u32, scratch: Reg, instr: Instr, target: i64) -> Option<Instructio
     Some(Instructions::Two(auipc(scratch, hi(distance)), second))
 }
 
-/// Instructions that wait for one value.
+/// Instructions or data that wait for one value.
 #[derive(Clone, Copy)]
 pub enum Waiting {
     /// An instruction that takes a part of the value.
@@ -60,6 +61,8 @@ pub enum Waiting {
     /// AUIPC into `scratch` with the high part of the distance to the value, and an instruction that takes
     /// the low part.
     Far { scratch: Reg, instr: Instr },
+    /// The value itself, in a width.
+    Data { width: Width },
 }
 
 impl Waiting {
@@ -80,7 +83,7 @@ impl Waiting {
         Waiting::Near { instr, part }
     }
 
-    /// Appends the words of the instructions at the address `here` with their value.
+    /// Appends the bytes at the address `here`, with the value.
     ///
     /// # Errors
     ///
@@ -94,6 +97,7 @@ impl Waiting {
         let instructions = match self {
             Waiting::Near { instr, part } => near(here, instr, part, value),
             Waiting::Far { scratch, instr } => pair(here, scratch, instr, value),
+            Waiting::Data { width } => return write_fitting(width, value, out),
         };
         match instructions {
             Some(instructions) => instructions.write(out),

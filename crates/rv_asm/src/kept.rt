@@ -26,9 +26,11 @@ impl<'a> Model for LineText<'a> {
 /// would take many times the memory of its text.
 #[derive(Drop)]
 pub enum Kept<'a> {
+    /// A statement without bytes.
+    Nothing,
     /// Instructions that wait for nothing.
     Instructions(Instructions),
-    /// Instructions that wait for the value of a single symbol.
+    /// Instructions or data that wait for the value of a single symbol.
     Waiting { waiting: Waiting, value: Single<'a> },
     /// Any other statement.
     Line(LineText<'a>),

@@ -1,7 +1,7 @@
 //! Statements with their places in the image.
 ghost use Rattle.std.specs.Prelude.{◌≡◌, ℕ, IfSome};
 ghost use Rattle.rv_asm.specs.Symbols.{Definitions, operand_value};
-ghost use Rattle.rv_asm.specs.Listing.{statement_bytes};
+ghost use Rattle.rv_asm.specs.Listing.{statement_bytes, sums_bytes};
 ghost use Rattle.rv_asm.specs.Constants.{always};
 ghost use Rattle.rv_asm.specs.Kept.{KindBecomes};
 ghost use Rattle.rv_asm.specs.Steps.{kept_bytes, waiting_bytes, line_text_bytes, appended};
@@ -13,6 +13,7 @@ use crate::kept::{Kept, LineText};
 use crate::single::as_single;
 use crate::symbols::{Scope, Symbols};
 use crate::values::bits;
+use rv_isa::Width;
 use rv_source::{Form, Operand, Statement, read_line};
 use std::alloc::Global;
 use std::marker::Model;
@@ -57,8 +58,8 @@ fn write_line(
     }
 }
 
-/// Returns what is kept of instructions that wait for the value of an operand, or None if it isn't that of a
-/// single symbol.
+/// Returns what is kept of what waits for the value of an operand, or None if it isn't that of a single
+/// symbol.
 #[tactic(auto, using(crate::proofs::Placing::waiting_kept))]
 fn waiting<'a>(waiting: Waiting, operand: &Operand<'a>) -> Option<Kept<'a>>
     ensures { IfSome result (λ k. (ds : Definitions) → (line here : ℕ) → kept_bytes ds line here k ≡ waiting_bytes here waiting (operand_value ds line here operand.now)) }
@@ -70,7 +71,22 @@ fn waiting<'a>(waiting: Waiting, operand: &Operand<'a>) -> Option<Kept<'a>>
     Some(Kept::Waiting { waiting, value })
 }
 
-/// Returns what is kept of a statement of one or two instructions, or None if its text has to be kept.
+/// Returns what is kept of values of a width, or None if it isn't a single one.
+#[tactic(auto, using(crate::proofs::Placing::data_kept))]
+fn value<'a>(width: Width, values: &[Operand<'a>]) -> Option<Kept<'a>>
+    ensures { IfSome result (λ k. (ds : Definitions) → (line here : ℕ) → kept_bytes ds line here k ≡ sums_bytes (operand_value ds line here) width values.now) }
+{
+    let [first, rest @ ..] = values else {
+        return None;
+    };
+    if rest.is_empty() {
+        waiting(Waiting::Data { width }, first)
+    } else {
+        None
+    }
+}
+
+/// Returns what is kept of a statement, or None if its text has to be kept.
 #[tactic(auto, unfolding(crate::specs::Listing::statement_bytes, crate::specs::Steps::kept_bytes))]
 fn short<'a>(constant: i64, statement: &Statement<'_, 'a>) -> Option<Kept<'a>>
     ensures { IfSome result (λ k. (ds : Definitions) → (line here : ℕ) → kept_bytes ds line here k ≡ statement_bytes (always constant) (operand_value ds line here) here statement.now) }
@@ -89,6 +105,8 @@ fn short<'a>(constant: i64, statement: &Statement<'_, 'a>) -> Option<Kept<'a>>
             let (scratch, instr) = (*scratch, *instr);
             waiting(Waiting::Far { scratch, instr }, target.operand())
         }
+        Statement::Data { width, values } => value(*width, values.as_slice()),
+        Statement::Constant { .. } | Statement::Marker => Some(Kept::Nothing),
         _ => None,
     }
 }
@@ -154,6 +172,7 @@ impl<'a> PlacedStatement<'a> {
             here: self.address,
         };
         match &self.kept {
+            Kept::Nothing => Ok(()),
             Kept::Instructions(instructions) => instructions.write(out),
             Kept::Waiting { waiting, value } => {
                 waiting.write(self.address, value.value(scope), out)
