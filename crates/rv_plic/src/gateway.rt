@@ -1,5 +1,6 @@
 //! Interrupt gateways, which turn the lines of sources into requests.
 ghost use Rattle.std.specs.Prelude.{◌≡◌, ◌-◌, ◌≤◌, true, false, slice_set};
+ghost use Rattle.std.specs.FinSet as set;
 ghost use Rattle.rv_plic.specs.Edges.{edges_of, changed};
 ghost use Rattle.rv_plic.specs.Changes.{count_after};
 ghost use Rattle.rv_plic.specs.Gateways.{all_low, with_line, requests, after_requests, after_completion};
@@ -69,6 +70,20 @@ impl Gateways {
         ensures { result ≡ edges_of self.now.edges source }
     {
         self.edges.count(source)
+    }
+
+    /// Returns whether the line of a source is high.
+    pub fn is_high(&self, source: Source) -> bool
+        ensures { result ≡ set.contains self.now.high source }
+    {
+        self.high.contains(source.number() as u32)
+    }
+
+    /// Returns whether a request of a source is outstanding.
+    pub fn is_outstanding(&self, source: Source) -> bool
+        ensures { result ≡ set.contains self.now.outstanding source }
+    {
+        self.outstanding.contains(source.number() as u32)
     }
 
     /// Sets the level of a source's line. A rise of one of the sources 24 to 31 is counted as a pending edge.

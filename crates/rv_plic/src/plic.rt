@@ -105,6 +105,21 @@ impl Plic {
         self.gateways.edges(source)
     }
 
+    /// Returns whether the line of a source is high.
+    pub fn is_high(&self, source: Source) -> bool
+        ensures { result ≡ set.contains self.now.gateways.high source }
+    {
+        self.gateways.is_high(source)
+    }
+
+    /// Returns whether a request of a source is outstanding: forwarded, and not completed yet. It is pending
+    /// until it is claimed.
+    pub fn is_outstanding(&self, source: Source) -> bool
+        ensures { result ≡ set.contains self.now.gateways.outstanding source }
+    {
+        self.gateways.is_outstanding(source)
+    }
+
     /// Returns the sources whose gateways have a request to forward.
     pub fn ready(&self) -> SourceSet
         ensures { result ≡ spec.requests self.now.gateways self.now.pending }
