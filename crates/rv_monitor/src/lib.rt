@@ -14,6 +14,6 @@ pub use command::Next;
 pub use session::{Session, calls_join, given_as_listed};
 pub use stop::Stop;
 pub use views::{
-    STOP_BYTES, mode_letter, write_control_register, write_edges, write_instruction, write_memory,
-    write_registers, write_stop, write_traps,
+    STOP_BYTES, mode_letter, word_at, write_control_register, write_edges, write_instruction,
+    write_memory, write_registers, write_stop, write_traps,
 };

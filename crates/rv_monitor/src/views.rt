@@ -12,7 +12,7 @@ mod stop;
 mod trap;
 
 pub use edges::write_edges;
-pub use memory::{write_instruction, write_memory};
+pub use memory::{word_at, write_instruction, write_memory};
 pub use registers::{mode_letter, write_control_register, write_registers};
 pub use stop::{STOP_BYTES, write_stop};
 pub use trap::write_traps;

@@ -3,5 +3,7 @@
 #![tactic(auto)]
 
 mod recording;
+mod until;
 
 pub use recording::{LAST_STEP, Recording};
+pub use until::{Condition, End, Relation, Watched};

@@ -94,7 +94,7 @@ pub fn write_memory<M: ByteMemory, C: Decoded>(
 
 /// Returns the word at an address, low byte first, if there is memory for all its bytes.
 #[tactic(auto, unfolding(crate::specs::Views::word_of))]
-fn word<M: ByteMemory, C: Decoded>(board: &Board<M, C>, addr: u32) -> Option<u32>
+pub fn word_at<M: ByteMemory, C: Decoded>(board: &Board<M, C>, addr: u32) -> Option<u32>
     ensures { result ≡ word_of board.now addr }
 {
     let bytes = (
@@ -151,7 +151,7 @@ pub fn write_instruction<M: ByteMemory, C: Decoded>(
     text.reserve(INSTRUCTION_BYTES)?;
     append_within(text, &word_digits(addr));
     append_within(text, b": ");
-    append_word(word(board, addr), text);
+    append_word(word_at(board, addr), text);
     append_within(text, b"\n");
     Ok(())
 }

@@ -1,0 +1,5 @@
+use Rattle.rv_recording.proofs.Running.{Going}
+use Rattle.rv_recording.proofs.recording.Recording.run_until.Given as goal
+
+abbrev pub invariant-loop-done : goal.invariant-loop-done
+invariant-loop-done l = Going l.condition l.fn.self l.self l.done

@@ -1,0 +1,209 @@
+//! Runs until a condition holds.
+ghost use Rattle.std.specs.Prelude.{◌≡◌, IfOk, OnErr};
+ghost use Rattle.rv_recording.specs.Until.{HasRunUntil, IsRefusedUntil, TakesOne, differs, end_after, holds, relates, value_of};
+
+use crate::Recording;
+use rv_base::NoMemory;
+use rv_board::BootedBoard;
+use rv_cache::DecodeCache;
+use rv_hart::Outcome;
+use rv_isa::{Cond, Reg, branch_taken};
+use rv_monitor::{Session, word_at};
+use rv_ram::PagedRam;
+
+/// What is watched.
+#[derive(Clone, Copy)]
+pub enum Watched {
+    /// A register.
+    Register(Reg),
+    /// The word of memory at an address.
+    Word(u32),
+}
+
+/// How two words compare, as signed numbers.
+#[derive(Clone, Copy)]
+pub enum Relation {
+    /// They are equal.
+    Equal,
+    /// They aren't.
+    Different,
+    /// The first is less.
+    Less,
+    /// The first is no more.
+    AtMost,
+    /// The first is more.
+    Greater,
+    /// The first is no less.
+    AtLeast,
+}
+
+/// What a run goes on for.
+#[derive(Clone, Copy)]
+pub enum Condition {
+    /// The step trapped.
+    Trap,
+    /// The console has more bytes than these.
+    Console(usize),
+    /// The pc is at one of so many bytes from an address on.
+    At {
+        /// The first of them.
+        address: u32,
+        /// Their number.
+        size: u32,
+    },
+    /// What is watched has another value than before.
+    Changed {
+        /// What is watched.
+        watched: Watched,
+        /// Its value before, if it had one.
+        old: Option<u32>,
+    },
+    /// What is watched compares with a value.
+    Compares {
+        /// What is watched.
+        watched: Watched,
+        /// How it compares.
+        relation: Relation,
+        /// The value.
+        value: u32,
+    },
+}
+
+/// Why a run is over.
+#[derive(Clone, Copy)]
+pub enum End {
+    /// The board halted.
+    Halted,
+    /// The condition holds.
+    Reached,
+    /// The next instruction is at a breakpoint.
+    Breakpoint,
+    /// As many steps were taken as may be.
+    Limit,
+    /// The board takes no step: it had halted, or the recording has taken its last.
+    Stuck,
+}
+
+impl Relation {
+    /// Returns whether two words compare so.
+    pub fn holds(self, left: u32, right: u32) -> bool
+        ensures { result ≡ relates self left right }
+    {
+        match self {
+            Relation::Equal => branch_taken(Cond::Eq, left, right),
+            Relation::Different => branch_taken(Cond::Ne, left, right),
+            Relation::Less => branch_taken(Cond::Lt, left, right),
+            Relation::AtMost => branch_taken(Cond::Ge, right, left),
+            Relation::Greater => branch_taken(Cond::Lt, right, left),
+            Relation::AtLeast => branch_taken(Cond::Ge, left, right),
+        }
+    }
+}
+
+impl Watched {
+    /// Returns the value on a board: None for a word that isn't in memory.
+    pub fn value(self, board: &BootedBoard) -> Option<u32>
+        ensures { result ≡ value_of board.now self }
+    {
+        match self {
+            Watched::Register(register) => Some(board.reg(register)),
+            Watched::Word(address) => word_at(board, address),
+        }
+    }
+}
+
+/// Returns whether a value is another than before.
+fn differs(value: Option<u32>, old: Option<u32>) -> bool
+    ensures { result ≡ differs value old }
+{
+    match (value, old) {
+        (None, None) => false,
+        (Some(value), Some(old)) => value != old,
+        _ => true,
+    }
+}
+
+impl Condition {
+    /// Returns whether the condition holds after a step that did that, on the board that it left.
+    #[tactic(auto, unfolding(crate::specs::Until::holds))]
+    pub fn holds(self, outcome: Outcome, board: &BootedBoard) -> bool
+        ensures { result ≡ holds self outcome board.now }
+    {
+        match self {
+            Condition::Trap => matches!(outcome, Outcome::Trapped { .. }),
+            Condition::Console(sent) => board.console().len() > sent,
+            Condition::At { address, size } => {
+                let pc = board.pc();
+                address <= pc && pc - address < size
+            }
+            Condition::Changed { watched, old } => differs(watched.value(board), old),
+            Condition::Compares {
+                watched,
+                relation,
+                value,
+            } => match watched.value(board) {
+                Some(word) => relation.holds(word, value),
+                None => false,
+            },
+        }
+    }
+}
+
+/// Returns why a run ends after a step that did that, if it does.
+#[tactic(auto, unfolding(crate::specs::Until::end_after))]
+fn end_after(
+    condition: Condition,
+    outcome: Outcome,
+    session: &Session<PagedRam, DecodeCache>,
+) -> Option<End>
+    ensures { result ≡ end_after condition outcome session.now.breakpoints session.now.timed.board }
+{
+    let board = session.board();
+    if board.halted().is_some() {
+        return Some(End::Halted);
+    }
+    if condition.holds(outcome, board) {
+        return Some(End::Reached);
+    }
+    if session.has_break(board.pc()) {
+        return Some(End::Breakpoint);
+    }
+    None
+}
+
+impl Recording {
+    /// Takes a step, and returns why a run until a condition ends with it, if it does.
+    fn step_until(&mut self, condition: Condition) -> Result<Option<End>, NoMemory>
+        ensures { TakesOne condition self.old self.new result }
+    {
+        match self.take_step() {
+            Ok(Some(outcome)) => Ok(end_after(condition, outcome, self.session())),
+            Ok(None) => Ok(Some(End::Stuck)),
+            Err(NoMemory) => Err(NoMemory),
+        }
+    }
+
+    /// Takes steps until one after which the condition holds, the board has halted or the next instruction is
+    /// at a breakpoint, at most `most`, and returns which it was.
+    ///
+    /// # Errors
+    ///
+    /// `NoMemory` if memory runs out at a step. The steps before it are taken.
+    pub fn run_until(&mut self, condition: Condition, most: u64) -> Result<End, NoMemory>
+        ensures ok { IfOk result (HasRunUntil condition most self.old self.new) }
+        ensures err { OnErr result (IsRefusedUntil condition most self.old self.new) }
+    {
+        // It tells that the inputs of all steps so far were given.
+        let _board = self.session().board();
+        for done in 0..most {
+            // A copy: for the borrow checker the call moves its argument.
+            let asked = condition;
+            match self.step_until(asked) {
+                Ok(None) => {}
+                Ok(Some(end)) => return Ok(end),
+                Err(NoMemory) => return Err(NoMemory),
+            }
+        }
+        Ok(End::Limit)
+    }
+}
