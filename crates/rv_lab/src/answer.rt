@@ -1,17 +1,29 @@
 //! The text of an answer.
 use itoa::Buffer;
-use rv_base::{NoMemory, byte_digits, word_digits};
+use rv_base::{NoMemory, byte_digits, low_word, word_digits};
 use rv_isa::{Instr, write_instr};
 use rv_monitor::Next;
 use rv_recording::Recording;
 use std::alloc::Global;
 use std::marker::Model;
 
+/// As many spaces as stand in a row at most.
+static SPACES: [u8; 24] = *b"                        ";
+
 /// A text that answers are appended to. Where memory runs out it takes nothing more, and remembers that.
-#[derive(Drop)]
 pub struct Answer {
     bytes: Vec<u8>,
     is_cut: bool,
+}
+
+// Hand-written: a derived `Drop` would be proved anew at each exit (docs/PROVING.md).
+impl Drop for Answer {
+    fn drop(self) {
+        let Answer {
+            bytes: _,
+            is_cut: _,
+        } = self;
+    }
 }
 
 impl Model for Answer {
@@ -24,8 +36,10 @@ impl Model for Answer {
 
 impl Answer {
     ghost use Rattle.std.specs.Prelude.{◌≡◌, [], false};
+    ghost use Rattle.std.specs.Fmt.{decimal};
     ghost use Rattle.rv_base.specs.Digits.{hex};
-    ghost use Rattle.rv_lab.specs.Answer.{Grew};
+    ghost use Rattle.rv_lab.specs.Answer.{Appended};
+    ghost use Rattle.rv_lab.specs.Places.{number_text};
 
     /// Returns an empty answer. It doesn't allocate.
     pub fn new(alloc: Global) -> Answer
@@ -61,7 +75,7 @@ impl Answer {
 
     /// Appends a piece.
     pub(crate) fn put(&mut self, piece: &[u8])
-        ensures { Grew self.old self.new piece.now }
+        ensures { Appended self.old self.new piece.now }
     {
         if self.is_cut {
             return;
@@ -71,7 +85,7 @@ impl Answer {
 
     /// Appends a text.
     pub(crate) fn say(&mut self, text: &str)
-        ensures { Grew self.old self.new text.now }
+        ensures { Appended self.old self.new text.now }
     {
         self.put(text.as_bytes());
     }
@@ -83,20 +97,22 @@ impl Answer {
 
     /// Appends the eight hexadecimal digits of a word.
     pub(crate) fn word(&mut self, word: u32)
-        ensures { Grew self.old self.new (hex 8 word) }
+        ensures { Appended self.old self.new (hex 8 word) }
     {
         self.put(&word_digits(word));
     }
 
     /// Appends the two hexadecimal digits of a byte.
     pub(crate) fn digits(&mut self, byte: u8)
-        ensures { Grew self.old self.new (hex 2 byte) }
+        ensures { Appended self.old self.new (hex 2 byte) }
     {
         self.put(&byte_digits(byte));
     }
 
     /// Appends a number in decimal.
-    pub(crate) fn number(&mut self, number: u64) {
+    pub(crate) fn number(&mut self, number: u64)
+        ensures { Appended self.old self.new (decimal number) }
+    {
         let mut buffer = Buffer::new();
         self.put(buffer.format(number).as_bytes());
     }
@@ -107,21 +123,58 @@ impl Answer {
         self.put(buffer.format(number).as_bytes());
     }
 
-    /// Appends a number and a noun, which gets an `s` unless the number is 1.
-    pub(crate) fn count(&mut self, number: u64, noun: &str) {
-        self.number(number);
-        self.say(" ");
-        self.say(noun);
-        if number != 1 {
-            self.say("s");
+    /// Appends a form with a value in the place of each of its `%`: after `%d` in decimal, after `%x` as a word
+    /// in hexadecimal, and `%{no|one|more}` is the text with the value's number, or the last one.
+    ///
+    /// A call for each piece would cost twice as much to prove.
+    pub(crate) fn fill(&mut self, form: &str, values: &[u64]) {
+        let mut rest = form.as_bytes();
+        for value in values {
+            rest = self.fill_one(rest, *value);
+        }
+        self.put(rest);
+    }
+
+    /// Appends a form up to its first `%`, with a value in the place of that, and returns what follows.
+    fn fill_one<'a>(&mut self, form: &'a [u8], value: u64) -> &'a [u8] {
+        let place = form.iter().position(|b| *b == b'%');
+        let (before, from) = form.split_at(place.unwrap_or(form.len()));
+        self.put(before);
+        match from {
+            [_, b'd', rest @ ..] => {
+                self.number(value);
+                rest
+            }
+            [_, b'x', rest @ ..] => {
+                self.word(low_word(value));
+                rest
+            }
+            [_, b'{', rest @ ..] => self.choose(rest, value),
+            _ => from,
         }
     }
 
-    /// Appends `count` spaces.
-    pub(crate) fn spaces(&mut self, count: usize) {
-        for _ in 0..count {
-            self.put(b" ");
+    /// Appends one of some texts with `|` between them and `}` at their end, and returns what follows.
+    fn choose<'a>(&mut self, texts: &'a [u8], number: u64) -> &'a [u8] {
+        let end = texts.iter().position(|b| *b == b'}');
+        let (mut texts, rest) = texts.split_at(end.unwrap_or(texts.len()));
+        for _ in 0..number {
+            match texts.iter().position(|b| *b == b'|') {
+                Some(place) => texts = texts.split_at(place).1.split_at(1).1,
+                None => break,
+            }
         }
+        let end = texts.iter().position(|b| *b == b'|');
+        self.put(texts.split_at(end.unwrap_or(texts.len())).0);
+        match rest {
+            [_, rest @ ..] => rest,
+            [] => rest,
+        }
+    }
+
+    /// Appends `count` spaces, at most 24.
+    pub(crate) fn spaces(&mut self, count: usize) {
+        self.put(SPACES.split_at(count.min(24)).0);
     }
 
     /// Appends a text, and spaces up to a width.
@@ -131,11 +184,32 @@ impl Answer {
     }
 
     /// Appends the number of a line and a colon, and spaces up to a width.
-    pub(crate) fn line_number(&mut self, number: usize) {
+    #[tactic(auto, using(crate::proofs::Pieces::then), unfolding(crate::specs::Places::number_text))]
+    pub(crate) fn line_number(&mut self, number: usize)
+        ensures { Appended self.old self.new (number_text number) }
+    {
         let mut buffer = Buffer::new();
         let digits = buffer.format(number).as_bytes();
+        let spaces = b"     ".split_at(5usize.saturating_sub(digits.len())).0;
         self.put(digits);
-        self.padded(b":", 6usize.saturating_sub(digits.len()));
+        self.put(b":");
+        self.put(spaces);
+    }
+
+    /// Appends that a text isn't what a command wants, and why.
+    pub(crate) fn refuse(&mut self, command: &str, text: &[u8], why: &str) {
+        self.say(command);
+        self.say(": `");
+        self.put(text);
+        self.say("` ");
+        self.say(why);
+    }
+
+    /// Ends a line with where to find an example of a command.
+    pub(crate) fn see_help(&mut self, command: &str) {
+        self.say("; `help ");
+        self.say(command);
+        self.say("` has an example\n");
     }
 
     /// Ends the line.

@@ -30,9 +30,9 @@ impl Lab {
                 return self.listing.address(line);
             }
         }
-        answer.say("no line with an instruction or data is there; the source has ");
-        answer.count(self.listing.len() as u64, "line");
-        answer.end();
+        let count = self.listing.len() as u64;
+        let form = "no line with an instruction or data is there; the source has %d line%{s||s}\n";
+        answer.fill(form, &[count, count]);
         None
     }
 

@@ -5,7 +5,7 @@ use rv_base::{LINE_LIMIT, begins_comment, first_word, look_up};
 use std::alloc::Global;
 
 /// What a line asks for.
-#[derive(Clone, Copy, PartialEq, Eq, Debug)]
+#[derive(Clone, Copy)]
 pub(crate) enum Command {
     Step,
     Go,
@@ -63,7 +63,7 @@ pub(crate) struct Row {
 }
 
 /// The commands by their words, in the order of the help.
-pub(crate) static COMMANDS: [(&str, Row); 25] = [
+static COMMANDS: [(&str, Row); 25] = [
     (
         "s",
         Row {
@@ -319,11 +319,21 @@ static OTHERS: [(&str, &str); 24] = [
     ("quit", "q"),
 ];
 
+/// Returns the commands by their words. A long table is read in one place, since each costs its whole proof.
+pub(crate) fn commands() -> &'static [(&'static str, Row)] {
+    &COMMANDS
+}
+
+/// Returns the other words for commands.
+fn other_words() -> &'static [(&'static str, &'static str)] {
+    &OTHERS
+}
+
 /// Returns the row of a command's word.
 pub(crate) fn row_of(word: &[u8]) -> Option<Row> {
-    match look_up(&OTHERS, word) {
-        Some(other) => look_up(&COMMANDS, other.as_bytes()),
-        None => look_up(&COMMANDS, word),
+    match look_up(other_words(), word) {
+        Some(other) => look_up(commands(), other.as_bytes()),
+        None => look_up(commands(), word),
     }
 }
 
@@ -339,10 +349,10 @@ fn refuse_word(word: &[u8], nearest: &mut Nearest<'_>, answer: &mut Answer) {
     answer.say("`");
     answer.put(word);
     answer.say("` is no command");
-    for (name, _) in &OTHERS {
+    for (name, _) in other_words() {
         nearest.offer(name.as_bytes());
     }
-    for (name, _) in &COMMANDS {
+    for (name, _) in commands() {
         nearest.offer(name.as_bytes());
     }
     nearest.append(answer);

@@ -41,31 +41,28 @@ pub(crate) fn has_bit(word: u32, bit: u32) -> bool {
     bit < 32 && (word >> bit) & 1 == 1
 }
 
-/// Appends a bit's name and value.
-fn append_bit(name: &str, word: u32, bit: u32, answer: &mut Answer) {
-    answer.say("  ");
-    answer.say(name);
-    answer.say(if has_bit(word, bit) { " 1" } else { " 0" });
+/// Returns a bit of a word.
+fn bit(word: u32, bit: u32) -> u64 {
+    has_bit(word, bit) as u64
 }
 
 /// Appends the bits of mstatus.
 fn append_status(word: u32, answer: &mut Answer) {
-    append_bit("MIE", word, 3, answer);
-    append_bit("MPIE", word, 7, answer);
-    answer.say(if has_bit(word, 11) {
-        "  MPP machine"
-    } else {
-        "  MPP user"
-    });
-    append_bit("MPRV", word, 17, answer);
-    append_bit("TW", word, 21, answer);
+    let values = [
+        bit(word, 3),
+        bit(word, 7),
+        bit(word, 11),
+        bit(word, 17),
+        bit(word, 21),
+    ];
+    let form = "  MIE %d  MPIE %d  MPP %{user|machine}  MPRV %d  TW %d";
+    answer.fill(form, &values);
 }
 
 /// Appends the bits of mie or mip.
 fn append_lines(word: u32, answer: &mut Answer) {
-    append_bit("software", word, 3, answer);
-    append_bit("timer", word, 7, answer);
-    append_bit("external", word, 11, answer);
+    let values = [bit(word, 3), bit(word, 7), bit(word, 11)];
+    answer.fill("  software %d  timer %d  external %d", &values);
 }
 
 /// Appends what the bits of a control register say, if they say something.

@@ -1,6 +1,6 @@
 //! Help.
 use crate::answer::Answer;
-use crate::command::{COMMANDS, row_of};
+use crate::command::{commands, row_of};
 use crate::lab::Lab;
 use crate::operands::only_word;
 use rv_base::has_word;
@@ -11,18 +11,14 @@ const FORM_WIDTH: usize = 20;
 impl Lab {
     /// Appends the list of all commands.
     fn append_commands(&self, answer: &mut Answer) {
-        for (_, row) in &COMMANDS {
+        for (_, row) in commands() {
             answer.padded(row.form.as_bytes(), FORM_WIDTH);
             answer.say(row.does);
             answer.end();
         }
         answer.say(
-            "An empty line repeats the last step or list command. WHERE is a line's number, 0x and a number, ",
+            "An empty line repeats the last step or list command. WHERE is a line's number, 0x and a number, a name\nof the source, a register or pc, also with +N or -N. Only events change the board: there is no command\nthat sets a register or memory.\n",
         );
-        answer.say(
-            "a name\nof the source, a register or pc, also with +N or -N. Only events change the board: there is ",
-        );
-        answer.say("no command\nthat sets a register or memory.\n");
     }
 
     /// Executes `help`.
@@ -40,9 +36,7 @@ impl Lab {
                 answer.end();
             }
             None => {
-                answer.say("help: `");
-                answer.put(operands);
-                answer.say("` is no command; `help` shows them all\n");
+                answer.refuse("help", operands, "is no command; `help` shows them all\n");
             }
         }
     }

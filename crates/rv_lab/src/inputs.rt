@@ -22,23 +22,73 @@ fn escaped(byte: u8) -> Option<u8> {
     }
 }
 
-/// Appends the bytes that a text between quotes stands for, and returns whether each can be read.
-fn read_text(text: &[u8], inputs: &mut Vec<Input>) -> Result<bool, NoMemory> {
-    let mut is_escape = false;
-    for byte in text {
-        if is_escape {
-            let Some(byte) = escaped(*byte) else {
-                return Ok(false);
-            };
-            inputs.extend_from_slice(&[Input::Rx(byte)])?;
-            is_escape = false;
-        } else if *byte == b'\\' {
-            is_escape = true;
+/// The first byte that `rx` receives, and the text of those that follow it.
+#[derive(Clone, Copy)]
+struct First<'a> {
+    byte: u8,
+    rest: &'a [u8],
+}
+
+/// Returns the first byte that a text between quotes stands for.
+fn first_of_text<'a>(text: &'a [u8]) -> Option<First<'a>> {
+    match text {
+        [b'\\', byte, rest @ ..] => {
+            let byte = escaped(*byte)?;
+            Some(First { byte, rest })
+        }
+        [b'\\'] | [] => None,
+        [byte, rest @ ..] => Some(First { byte: *byte, rest }),
+    }
+}
+
+/// Returns the byte that the first of some words of two hexadecimal digits stands for.
+fn first_of_words<'a>(words: &'a [u8]) -> Option<First<'a>> {
+    let (word, rest) = first_word(words)?;
+    let byte = hex_byte(word)?;
+    Some(First { byte, rest })
+}
+
+/// What `rx` receives: a text between quotes, or words of two hexadecimal digits.
+#[derive(Clone, Copy)]
+struct Received<'a> {
+    text: &'a [u8],
+    is_quoted: bool,
+}
+
+impl<'a> Received<'a> {
+    /// Whether a byte follows.
+    fn has_more(&self) -> bool {
+        if self.is_quoted {
+            !self.text.is_empty()
         } else {
-            inputs.extend_from_slice(&[Input::Rx(*byte)])?;
+            has_word(self.text)
         }
     }
-    Ok(!is_escape)
+
+    /// Returns the next byte, if it can be read.
+    fn next(&mut self) -> Option<u8> {
+        let first = if self.is_quoted {
+            first_of_text(self.text)?
+        } else {
+            first_of_words(self.text)?
+        };
+        self.text = first.rest;
+        Some(first.byte)
+    }
+
+    /// Returns the number of bytes, if each can be read.
+    fn count(self) -> Option<u64> {
+        let mut left = self;
+        let mut count: u64 = 0;
+        for _ in 0..self.text.len() {
+            if !left.has_more() {
+                break;
+            }
+            let _byte = left.next()?;
+            count = count.saturating_add(1);
+        }
+        Some(count)
+    }
 }
 
 /// Returns a text without the blanks at its end.
@@ -63,21 +113,18 @@ fn quoted<'a>(operands: &'a [u8]) -> Option<&'a [u8]> {
     Some(&text[1..text.len() - 1])
 }
 
-/// Appends the bytes that words of two hexadecimal digits stand for, and returns whether there is one and
-/// each can be read.
-fn read_digits(operands: &[u8], inputs: &mut Vec<Input>) -> Result<bool, NoMemory> {
-    let mut rest = operands;
-    for _ in 0..operands.len() {
-        let Some((word, more)) = first_word(rest) else {
-            break;
-        };
-        let Some(byte) = hex_byte(word) else {
-            return Ok(false);
-        };
-        inputs.extend_from_slice(&[Input::Rx(byte)])?;
-        rest = more;
+/// Returns what the operands of `rx` ask for.
+fn bytes_of<'a>(operands: &'a [u8]) -> Received<'a> {
+    match quoted(operands) {
+        Some(text) => Received {
+            text,
+            is_quoted: true,
+        },
+        None => Received {
+            text: operands,
+            is_quoted: false,
+        },
     }
-    Ok(!inputs.is_empty())
 }
 
 /// Reads the level of an interrupt line.
@@ -104,19 +151,24 @@ pub fn saved_name<'a>(line: &'a [u8]) -> Option<&'a [u8]> {
 }
 
 impl Lab {
-    /// Gives the board inputs before the next step, or says that it takes none.
-    fn give(&mut self, inputs: &[Input], answer: &mut Answer) -> Result<(), NoMemory> {
+    /// Appends how many inputs the board was given, or that it takes none.
+    fn tell_given(&self, count: u64, answer: &mut Answer) {
         if self.board().halted().is_some() {
-            answer.say("the board has halted, and takes no input\n");
-            return Ok(());
+            return answer.say("the board has halted, and takes no input\n");
         }
-        for input in inputs {
-            self.recording.give(*input)?;
+        let values = [count, count, self.steps()];
+        answer.fill("%d input%{s||s} before step %d\n", &values);
+    }
+
+    /// Gives the board bytes before the next step.
+    fn give_bytes(&mut self, received: Received<'_>) -> Result<(), NoMemory> {
+        let mut left = received;
+        for _ in 0..received.text.len() {
+            match left.next() {
+                Some(byte) => self.recording.give(Input::Rx(byte))?,
+                None => break,
+            }
         }
-        answer.count(inputs.len() as u64, "input");
-        answer.say(" before step ");
-        answer.number(self.steps());
-        answer.end();
         Ok(())
     }
 
@@ -126,18 +178,15 @@ impl Lab {
         operands: &[u8],
         answer: &mut Answer,
     ) -> Result<Next, NoMemory> {
-        let mut inputs = Vec::new(self.alloc);
-        let is_read = match quoted(operands) {
-            Some(text) => read_text(text, &mut inputs)?,
-            None => read_digits(operands, &mut inputs)?,
-        };
-        if is_read {
-            self.give(inputs.as_slice(), answer)?;
-        } else {
-            answer.say(
-                "rx: a text between quotes is wanted, in which \\n \\r \\t \\0 \\\" \\\\ may stand, ",
-            );
-            answer.say("or bytes of two hexadecimal digits each; `help rx` has an example\n");
+        let received = bytes_of(operands);
+        match received.count() {
+            Some(count) if count > 0 => {
+                self.give_bytes(received)?;
+                self.tell_given(count, answer);
+            }
+            _ => answer.say(
+                "rx: a text between quotes is wanted, in which \\n \\r \\t \\0 \\\" \\\\ may stand, or bytes of two hexadecimal digits each; `help rx` has an example\n",
+            ),
         }
         Ok(Next::More)
     }
@@ -154,7 +203,8 @@ impl Lab {
             );
             return Ok(Next::More);
         };
-        self.give(&[input], answer)?;
+        self.recording.give(input)?;
+        self.tell_given(1, answer);
         Ok(Next::More)
     }
 
@@ -184,9 +234,7 @@ impl Lab {
         for _ in 0..10u8 {
             if left > 0 {
                 let count = left.min(MOST_STEPS);
-                answer.say("s ");
-                answer.number(count);
-                answer.end();
+                answer.fill("s %d\n", &[count]);
                 left = left.saturating_sub(count);
             }
         }
@@ -194,29 +242,25 @@ impl Lab {
 
     /// Appends the options with which rvboard repeats what was done.
     pub fn append_saved_options(&self, answer: &mut Answer) {
-        answer.say("--steps ");
-        answer.number(self.steps());
-        answer.say(" --pages ");
-        answer.number(u64::from(self.recording.pages()));
+        let values = [self.steps(), self.recording.pages() as u64];
+        answer.fill("--steps %d --pages %d\n", &values);
     }
 
     /// Appends that what was done is saved under a name, and how rvboard repeats it.
     pub fn append_saved(&self, name: &str, answer: &mut Answer) {
+        let inputs = self.recording.inputs().len() as u64;
+        let steps = self.steps();
         answer.say("wrote ");
         answer.say(name);
-        answer.say(".input (");
-        answer.count(self.recording.inputs().len() as u64, "input");
-        answer.say(") and ");
+        answer.fill(".input (%d input%{s||s}) and ", &[inputs, inputs]);
         answer.say(name);
-        answer.say(".commands (");
-        answer.count(self.steps(), "step");
-        answer.say("); repeat them by\n  ./rvboard SOURCE --input ");
+        let form = ".commands (%d step%{s||s}); repeat them by\n  ./rvboard SOURCE --input ";
+        answer.fill(form, &[steps, steps]);
         answer.say(name);
         answer.say(".input --commands ");
         answer.say(name);
         answer.say(".commands ");
         self.append_saved_options(answer);
-        answer.end();
     }
 
     /// Appends that nothing is saved.
@@ -237,7 +281,6 @@ impl Lab {
         self.append_saved_inputs(answer);
         answer.say("# commands, with the options ");
         self.append_saved_options(answer);
-        answer.end();
         self.append_saved_commands(answer);
         Next::More
     }

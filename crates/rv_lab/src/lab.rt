@@ -11,7 +11,7 @@ use rv_recording::Recording;
 use std::alloc::Global;
 
 /// The sizes of a board.
-#[derive(Clone, Copy, Debug, PartialEq, Eq)]
+#[derive(Clone, Copy)]
 pub struct Sizes {
     /// The pages of memory, of 4096 bytes each: 1 to 4096.
     pub pages: u16,
@@ -20,7 +20,7 @@ pub struct Sizes {
 }
 
 /// Why a lab isn't opened.
-#[derive(Clone, Copy, Debug, PartialEq, Eq)]
+#[derive(Clone, Copy)]
 pub enum OpenFault {
     /// The source has this fault.
     Source(AsmFault),
@@ -60,7 +60,7 @@ impl From<BootFault> for OpenFault {
 }
 
 /// What follows a command.
-#[derive(Clone, Copy, Debug, PartialEq, Eq)]
+#[derive(Clone, Copy)]
 pub enum Next {
     /// The next command follows.
     More,
@@ -98,7 +98,12 @@ pub struct Lab {
     pub(crate) listing: Listing,
     pub(crate) recording: Recording,
     pub(crate) last: Last,
+    /// The most steps of one call: a longer run goes on by `go_on`.
+    pub(crate) piece: u64,
 }
+
+/// The steps of a piece where none other is asked for.
+const PIECE: u64 = 1_000_000;
 
 // Hand-written: a derived `Drop` would be proved anew at each exit (docs/PROVING.md).
 impl Drop for Lab {
@@ -109,6 +114,7 @@ impl Drop for Lab {
             listing: _,
             recording: _,
             last: _,
+            piece: _,
         } = self;
     }
 }
@@ -161,6 +167,7 @@ impl Lab {
             listing,
             recording,
             last,
+            piece: PIECE,
         })
     }
 
@@ -172,6 +179,11 @@ impl Lab {
     /// Returns the number of steps that the board has taken.
     pub fn steps(&self) -> u64 {
         self.recording.steps()
+    }
+
+    /// Makes a call of `command` or `go_on` take at most so many steps: a longer run goes on by `go_on`.
+    pub fn set_piece(&mut self, steps: u64) {
+        self.piece = steps.max(1);
     }
 
     /// Returns the program of the source.
@@ -186,32 +198,22 @@ impl Lab {
 
     /// Returns the text of a line of the source, counted from 1.
     pub(crate) fn line(&self, number: usize) -> Option<&[u8]> {
-        let mut count: usize = 0;
-        for line in cut_lines(&self.source) {
-            count = count.saturating_add(1);
-            if count == number {
-                return Some(line);
-            }
-        }
-        None
+        cut_lines(&self.source).nth(number.checked_sub(1)?)
     }
 
     /// Appends the source's name and size, and where the board stands.
     pub fn greet(&self, name: &str, answer: &mut Answer) {
+        let lines = self.listing.len() as u64;
+        let bytes = self.program().bytes().len() as u64;
+        let form = ": %d line%{s||s}, %d byte%{s||s} from 80000000; `help` shows the commands\n";
         answer.say(name);
-        answer.say(": ");
-        answer.count(self.listing.len() as u64, "line");
-        answer.say(", ");
-        answer.count(self.program().bytes().len() as u64, "byte");
-        answer.say(" from 80000000; `help` shows the commands\n");
+        answer.fill(form, &[lines, lines, bytes, bytes]);
         self.append_here(answer);
     }
 
     /// Appends the progress of a long run.
     pub fn append_progress(&self, answer: &mut Answer) {
-        answer.say("running: step ");
-        answer.number(self.steps());
-        answer.end();
+        answer.fill("running: step %d\n", &[self.steps()]);
     }
 
     /// Executes a command line, and appends its answer.

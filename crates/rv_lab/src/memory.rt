@@ -2,18 +2,10 @@
 use crate::answer::Answer;
 use rv_board::BootedBoard;
 use rv_isa::{Instr, decode};
+use rv_monitor::word_at;
 
 /// The number of bytes in a line.
 const LINE_BYTES: u32 = 16;
-
-/// Returns the word at an address, low byte first, if there is memory for all its bytes.
-pub(crate) fn word_at(board: &BootedBoard, address: u32) -> Option<u32> {
-    let first = board.ram(address)?;
-    let second = board.ram(address.wrapping_add(1))?;
-    let third = board.ram(address.wrapping_add(2))?;
-    let last = board.ram(address.wrapping_add(3))?;
-    Some(u32::from_le_bytes([first, second, third, last]))
-}
 
 /// Returns the instruction at an address, if there is one.
 pub(crate) fn instruction_at(board: &BootedBoard, address: u32) -> Option<Instr> {

@@ -5,7 +5,7 @@ use crate::answer::Answer;
 use crate::lab::Lab;
 use crate::nearest::Nearest;
 use rv_base::{decimal, first_word, has_word, hex_digit, low_word};
-use rv_isa::{Reg, reg_named};
+use rv_isa::reg_named;
 
 /// Returns the only word of a text.
 pub(crate) fn only_word<'a>(text: &'a [u8]) -> Option<&'a [u8]> {
@@ -84,11 +84,6 @@ pub(crate) fn line_number(word: &[u8]) -> Option<u64> {
     decimal(0xffff_ffff, digits)
 }
 
-/// Returns the register of a name, if it is one.
-pub(crate) fn register(word: &[u8]) -> Option<Reg> {
-    reg_named(word)
-}
-
 impl Lab {
     /// Returns the value of a name, a register, or a number in hexadecimal.
     fn base_value(&self, word: &[u8]) -> Option<u32> {
@@ -101,7 +96,7 @@ impl Lab {
         if word == b"pc".as_slice() {
             return Some(self.board().pc());
         }
-        let register = register(word)?;
+        let register = reg_named(word)?;
         Some(self.board().reg(register))
     }
 
@@ -131,10 +126,11 @@ impl Lab {
 
     /// Says that a word is no address, and which name is the nearest.
     pub(crate) fn refuse_address(&self, command: &str, word: &[u8], answer: &mut Answer) {
-        answer.say(command);
-        answer.say(": `");
-        answer.put(word);
-        answer.say("` is no line, no name of the source, no register and no number after 0x");
+        answer.refuse(
+            command,
+            word,
+            "is no line, no name of the source, no register and no number after 0x",
+        );
         let mut nearest = Nearest::new(self.alloc, word);
         for (name, _) in self.program().symbols() {
             nearest.offer(name.as_slice());
@@ -152,9 +148,8 @@ impl Lab {
     ) -> Option<u32> {
         let Some((word, _)) = first_word(operands) else {
             answer.say(command);
-            answer.say(": an address is missing; `help ");
-            answer.say(command);
-            answer.say("` has an example\n");
+            answer.say(": an address is missing");
+            answer.see_help(command);
             return None;
         };
         let address = self.address(word);

@@ -95,40 +95,39 @@ pub(crate) fn entry_at(board: &BootedBoard, address: u32) -> Option<u16> {
     None
 }
 
-/// Appends the letters of what a configuration byte grants.
-fn append_grants(config: u32, answer: &mut Answer) {
-    answer.say(if has_bit(config, 0) { "r" } else { "-" });
-    answer.say(if has_bit(config, 1) { "w" } else { "-" });
-    answer.say(if has_bit(config, 2) { "x" } else { "-" });
-}
-
-/// Appends an address of up to 34 bits.
-fn append_address(address: u64, answer: &mut Answer) {
-    if address >= 1 << 32 {
-        answer.say("1");
-    }
-    answer.word(rv_base::low_word(address));
+/// Appends who may do what, and the letters of what a configuration byte grants.
+fn append_grants(who: &str, config: u32, answer: &mut Answer) {
+    let values = [
+        (config & 1) as u64,
+        (config >> 1 & 1) as u64,
+        (config >> 2 & 1) as u64,
+    ];
+    answer.say(who);
+    answer.fill(" %{-|r}%{-|w}%{-|x}", &values);
 }
 
 /// Appends an entry of protection with what each mode may do there.
 pub(crate) fn append_region(entry: u16, region: &Region, answer: &mut Answer) {
-    answer.say("entry ");
-    answer.number(u64::from(entry));
-    answer.say(", ");
-    if region.first >= region.end {
-        return answer.say("no byte");
+    let Region { config, first, end } = *region;
+    if first >= end {
+        return answer.fill("entry %d, no byte", &[entry as u64]);
     }
-    append_address(region.first, answer);
-    answer.say(" to ");
-    append_address(region.end.saturating_sub(1), answer);
-    answer.say(": user ");
-    append_grants(region.config, answer);
-    answer.say(", machine ");
+    let last = end.saturating_sub(1);
+    // An address has up to 34 bits.
+    let values = [
+        entry as u64,
+        first >> 32,
+        first,
+        last >> 32,
+        last,
+    ];
+    answer.fill("entry %d, %{|1|2|3}%x to %{|1|2|3}%x: ", &values);
+    append_grants("user", config, answer);
     if region.is_locked() {
-        append_grants(region.config, answer);
+        append_grants(", machine", config, answer);
         answer.say(" (locked)");
     } else {
-        answer.say("rwx");
+        answer.say(", machine rwx");
     }
 }
 

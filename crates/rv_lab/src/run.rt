@@ -1,18 +1,16 @@
 //! Commands that move the board.
 use crate::answer::Answer;
 use crate::lab::{Lab, Next};
-use crate::memory::{instruction_at, word_at};
+use crate::memory::instruction_at;
 use crate::operands::count_or;
-use crate::plan::{End, Goal, Plan, Watched};
+use crate::plan::{Goal, Plan};
 use crate::registers::Registers;
 use rv_base::NoMemory;
 use rv_board::BootedBoard;
 use rv_hart::Outcome;
 use rv_isa::Operation;
 use rv_monitor::Stop;
-
-/// The most steps of one call: a longer run goes on by `go_on`.
-const PIECE: u64 = 1_000_000;
+use rv_recording::End;
 
 /// How many steps `c` and `until` take where no number is given.
 pub(crate) const USUAL_STEPS: u64 = 1_000_000;
@@ -22,14 +20,6 @@ pub(crate) const MOST_STEPS: u64 = 1_000_000_000;
 
 /// The most lines of a trace.
 const MOST_TRACED: u64 = 1000;
-
-/// Returns the value of what is watched, if it has one.
-pub(crate) fn watched_value(board: &BootedBoard, watched: Watched) -> Option<u32> {
-    match watched {
-        Watched::Register(register) => Some(board.reg(register)),
-        Watched::Word(address) => word_at(board, address),
-    }
-}
 
 /// Returns by how much a jump changes the depth of calls, by the numbers of the register that it writes and
 /// of the one that it reads.
@@ -55,26 +45,6 @@ fn depth_change(board: &BootedBoard) -> i64 {
     }
 }
 
-/// Returns whether a goal is reached after a step.
-fn is_reached(board: &BootedBoard, goal: Goal, depth: i64, trapped: bool) -> bool {
-    match goal {
-        Goal::Count | Goal::Break => false,
-        Goal::Trap => trapped,
-        Goal::Out => depth < 0,
-        Goal::Console(len) => board.console().len() > len,
-        Goal::At { address, size } => board.pc().wrapping_sub(address) < size,
-        Goal::Changed { watched, old } => watched_value(board, watched) != old,
-        Goal::Compares {
-            watched,
-            relation,
-            value,
-        } => match watched_value(board, watched) {
-            Some(word) => relation.holds(word, value),
-            None => false,
-        },
-    }
-}
-
 /// Returns why steps ended.
 fn end_of(stop: Stop) -> End {
     match stop {
@@ -92,32 +62,31 @@ impl Lab {
         self.last.told = self.recording.session().board().console().len();
     }
 
-    /// Takes a step towards a goal, and returns why the run is over, if it is.
-    fn step_towards(&mut self, plan: &mut Plan) -> Result<Option<End>, NoMemory> {
-        let change = depth_change(self.recording.session().board());
+    /// Takes a step out of the present function, and returns why the run is over, if it is.
+    fn step_out(&mut self, plan: &mut Plan) -> Result<Option<End>, NoMemory> {
+        let change = depth_change(self.board());
         let Some(outcome) = self.recording.take_step()? else {
             return Ok(Some(End::Stuck));
         };
         let trapped = matches!(outcome, Outcome::Trapped { .. });
         plan.depth = plan.depth.saturating_add(if trapped { 1 } else { change });
         let session = self.recording.session();
-        let board = session.board();
-        if board.halted().is_some() {
+        if session.board().halted().is_some() {
             return Ok(Some(End::Halted));
         }
-        if is_reached(board, plan.goal, plan.depth, trapped) {
+        if plan.depth < 0 {
             return Ok(Some(End::Reached));
         }
-        if session.has_break(board.pc()) {
+        if session.has_break(session.board().pc()) {
             return Ok(Some(End::Breakpoint));
         }
         Ok(None)
     }
 
-    /// Takes steps one at a time towards a goal.
-    fn run_by_step(&mut self, plan: &mut Plan, most: u64) -> Result<End, NoMemory> {
+    /// Takes steps until as many calls and handlers have returned as were entered, and one more.
+    fn run_out(&mut self, plan: &mut Plan, most: u64) -> Result<End, NoMemory> {
         for _ in 0..most {
-            if let Some(end) = self.step_towards(plan)? {
+            if let Some(end) = self.step_out(plan)? {
                 return Ok(end);
             }
         }
@@ -129,7 +98,8 @@ impl Lab {
         match plan.goal {
             Goal::Count => Ok(end_of(self.recording.step(most)?)),
             Goal::Break => Ok(end_of(self.recording.go(most)?)),
-            _ => self.run_by_step(plan, most),
+            Goal::Until(condition) => self.recording.run_until(condition, most),
+            Goal::Out => self.run_out(plan, most),
         }
     }
 
@@ -144,11 +114,11 @@ impl Lab {
         };
         self.last.plan = None;
         let before = self.recording.steps();
-        let most = plan.left.min(PIECE);
+        let most = plan.left.min(self.piece);
         let end = self.run_piece(&mut plan, most)?;
         let done = self.recording.steps().saturating_sub(before);
         plan.left = plan.left.saturating_sub(done);
-        if end == End::Limit && plan.left > 0 && done > 0 {
+        if matches!(end, End::Limit) && plan.left > 0 && done > 0 {
             self.last.plan = Some(plan);
             self.tell_console(answer);
             return Ok(Next::Running);
@@ -238,8 +208,8 @@ impl Lab {
         operands: &[u8],
         answer: &mut Answer,
     ) -> Result<Next, NoMemory> {
-        match self.read_goal(operands, answer) {
-            Some(goal) => self.run(goal, 0, USUAL_STEPS, answer),
+        match self.read_condition(operands, answer) {
+            Some(condition) => self.run(Goal::Until(condition), 0, USUAL_STEPS, answer),
             None => Ok(Next::More),
         }
     }
@@ -252,8 +222,7 @@ impl Lab {
             self.tell_stuck(answer);
             return Ok(false);
         };
-        answer.number(self.recording.steps());
-        answer.say("  ");
+        answer.fill("%d  ", &[self.recording.steps()]);
         self.append_place(at, answer);
         self.append_outcome(outcome, &before, answer);
         answer.end();
@@ -298,9 +267,7 @@ impl Lab {
         self.recording.go_back(to)?;
         self.last.steps = self.recording.steps();
         self.last.told = self.recording.session().board().console().len();
-        answer.say("back at step ");
-        answer.number(self.recording.steps());
-        answer.end();
+        answer.fill("back at step %d\n", &[self.recording.steps()]);
         self.append_here(answer);
         Ok(Next::More)
     }
@@ -308,10 +275,6 @@ impl Lab {
 
 /// Says that the operands of a command are no number of steps.
 fn refuse_count(word: &str, operands: &[u8], answer: &mut Answer) {
-    answer.say(word);
-    answer.say(": `");
-    answer.put(operands);
-    answer.say("` is no number of steps; `help ");
-    answer.say(word);
-    answer.say("` has an example\n");
+    answer.refuse(word, operands, "is no number of steps");
+    answer.see_help(word);
 }

@@ -5,19 +5,20 @@ use crate::control::append_bits;
 use crate::lab::Lab;
 use crate::memory::{append_bytes, append_instruction, append_text, append_words};
 use crate::nearest::Nearest;
-use crate::operands::{count_or, only_word, register};
+use crate::operands::{count_or, only_word};
 use crate::registers::{Registers, append_register, append_registers};
 use rv_base::{decimal, first_word, has_word, low_word};
 use rv_board::TrapRecord;
-use rv_isa::csr_named;
+use rv_isa::{csr_named, reg_named};
 use rv_plic::Source;
 use rv_pmp::Mode;
+use std::alloc::Global;
 
 /// The most bytes that `m` shows.
 const MOST_BYTES: u64 = 4096;
 
 /// How the bytes of memory are shown.
-#[derive(Clone, Copy, PartialEq, Eq, Debug)]
+#[derive(Clone, Copy)]
 enum Format {
     Bytes,
     Words,
@@ -50,7 +51,7 @@ fn read_extent(operands: &[u8]) -> Option<Extent> {
     } else {
         Format::Bytes
     };
-    let usual = if format == Format::Words { 16 } else { 64 };
+    let usual = if matches!(format, Format::Words) { 16 } else { 64 };
     Some(Extent {
         count: count.unwrap_or(usual),
         format,
@@ -65,16 +66,25 @@ fn edge_source(operands: &[u8]) -> Option<Source> {
     }
 }
 
+/// Says that a name is no control register, and which is the nearest.
+fn refuse_csr(alloc: Global, name: &[u8], answer: &mut Answer) {
+    let mut nearest = Nearest::new(alloc, name);
+    for known in &crate::control::NAMES {
+        nearest.offer(known.as_bytes());
+    }
+    answer.refuse("p", name, "is no control register");
+    nearest.append(answer);
+    answer.say("; docs/BOARD.md has them all\n");
+}
+
 impl Lab {
     /// Appends the pc and the mode.
     fn append_pc(&self, answer: &mut Answer) {
-        answer.say("  pc   ");
-        answer.word(self.board().pc());
-        self.append_label(self.board().pc(), answer);
-        answer.say(match self.board().mode() {
-            Mode::Machine => "  machine mode\n",
-            Mode::User => "  user mode\n",
-        });
+        let board = self.board();
+        let is_user = matches!(board.mode(), Mode::User) as u64;
+        answer.fill("  pc   %x", &[board.pc() as u64]);
+        self.append_label(board.pc(), answer);
+        answer.fill("  %{machine|user} mode\n", &[is_user]);
     }
 
     /// Executes `r`.
@@ -84,11 +94,9 @@ impl Lab {
             append_registers(&self.last.registers, &now, answer);
             return self.append_pc(answer);
         }
-        let Some(register) = register(only_word(operands).unwrap_or(b"")) else {
-            answer.say("r: `");
-            answer.put(operands);
-            answer.say("` is no register; `p` shows a control register\n");
-            return;
+        let Some(register) = reg_named(only_word(operands).unwrap_or(b"")) else {
+            let why = "is no register; `p` shows a control register\n";
+            return answer.refuse("r", operands, why);
         };
         append_register(register, self.board().reg(register), answer);
         answer.end();
@@ -98,16 +106,7 @@ impl Lab {
     pub(crate) fn control_register_command(&self, operands: &[u8], answer: &mut Answer) {
         let name = only_word(operands).unwrap_or(b"");
         let Some(csr) = csr_named(name) else {
-            answer.say("p: `");
-            answer.put(operands);
-            answer.say("` is no control register");
-            let mut nearest = Nearest::new(self.alloc, name);
-            for known in &crate::control::NAMES {
-                nearest.offer(known.as_bytes());
-            }
-            nearest.append(answer);
-            answer.say("; docs/BOARD.md has them all\n");
-            return;
+            return refuse_csr(self.alloc, name, answer);
         };
         answer.put(name);
         answer.say(" = ");
@@ -182,13 +181,10 @@ impl Lab {
     fn append_record(&self, trap: TrapRecord, times: u64, answer: &mut Answer) {
         answer.say("trap ");
         append_cause(trap.cause, answer);
-        answer.say(", mtval ");
-        answer.word(trap.tval);
-        answer.say(", at");
+        answer.fill(", mtval %x, at", &[trap.tval as u64]);
         self.append_short_place(trap.epc, answer);
         if times > 1 {
-            answer.say(", ");
-            answer.count(times, "time");
+            answer.fill(", %d times", &[times]);
         }
         answer.end();
     }
@@ -198,10 +194,8 @@ impl Lab {
         let Some(source) = edge_source(operands) else {
             return answer.say("e: a source from 24 to 31 is wanted; `dev` shows the others\n");
         };
-        answer.say("source ");
-        answer.number(u64::from(source.number()));
-        answer.say(": ");
-        answer.count(u64::from(self.board().plic().edges(source)), "pending edge");
-        answer.end();
+        let edges = self.board().plic().edges(source) as u64;
+        let values = [source.number() as u64, edges, edges];
+        answer.fill("source %d: %d pending edge%{s||s}\n", &values);
     }
 }

@@ -1,9 +1,12 @@
 //! The source with addresses and words.
+ghost use Rattle.rv_lab.specs.Answer.{Appended};
+ghost use Rattle.rv_lab.specs.Places.{bytes_text, cell_text, mark, row_text, word_text};
+
 use crate::answer::Answer;
 use crate::lab::Lab;
-use crate::memory::word_at;
 use crate::operands::{count_or, line_number};
 use rv_base::{cut_lines, first_word};
+use rv_monitor::word_at;
 
 /// How many lines `l` lists where no number is given.
 const USUAL_LINES: u64 = 11;
@@ -11,43 +14,101 @@ const USUAL_LINES: u64 = 11;
 /// The most lines that `l` lists.
 const MOST_LINES: u64 = 1000;
 
+/// What a row of a list says of a line of the source beside its number and its text.
+#[derive(Clone, Copy)]
+struct Row {
+    /// Whether pc is in its bytes.
+    is_here: bool,
+    /// Whether a breakpoint is at its address.
+    is_marked: bool,
+    /// Its address, if it has bytes.
+    address: Option<u32>,
+    /// Its first word, if it has four bytes.
+    word: Option<u32>,
+    /// Whether it has more than four bytes.
+    has_more: bool,
+}
+
+/// Appends a sign, or a space where it doesn't stand.
+fn append_mark(stands: bool, sign: &str, answer: &mut Answer)
+    ensures { Appended answer.old answer.new (mark stands sign.now) }
+{
+    answer.say(if stands { sign } else { " " });
+}
+
+/// Appends the address of a line and the first word there.
+#[tactic(auto, using(crate::proofs::Pieces::then), unfolding(crate::specs::Places::bytes_text))]
+fn append_bytes(address: u32, word: Option<u32>, has_more: bool, answer: &mut Answer)
+    ensures { Appended answer.old answer.new (bytes_text address word has_more) }
+{
+    answer.word(address);
+    answer.say("  ");
+    append_word(word, answer);
+    append_mark(has_more, "+", answer);
+    answer.say(" ");
+}
+
+/// Appends the first word of a line.
+fn append_word(word: Option<u32>, answer: &mut Answer)
+    ensures { Appended answer.old answer.new (word_text word) }
+{
+    match word {
+        Some(word) => answer.word(word),
+        None => answer.say("        "),
+    }
+}
+
+/// Appends where a line lies, or spaces where it has no bytes.
+fn append_cell(row: Row, answer: &mut Answer)
+    ensures { Appended answer.old answer.new (cell_text row.address row.word row.has_more) }
+{
+    match row.address {
+        Some(address) => append_bytes(address, row.word, row.has_more, answer),
+        None => answer.say("                    "),
+    }
+}
+
+/// Appends a row of a list of the source.
+#[tactic(auto, using(crate::proofs::Pieces::then), unfolding(crate::specs::Places::row_text))]
+fn append_row(row: Row, number: usize, text: &[u8], answer: &mut Answer)
+    ensures { Appended answer.old answer.new
+        (row_text row.is_here row.is_marked row.address row.word row.has_more number text.now) }
+{
+    append_mark(row.is_here, ">", answer);
+    append_mark(row.is_marked, "*", answer);
+    append_cell(row, answer);
+    answer.line_number(number);
+    answer.put(text);
+    answer.say("\n");
+}
+
 impl Lab {
-    /// Appends the marks of a line: `>` at pc, `*` at a breakpoint.
-    fn append_marks(&self, line: usize, answer: &mut Answer) {
+    /// Returns the row of a line.
+    fn row(&self, line: usize) -> Row {
         let size = self.size(line);
-        let Some(address) = self.listing.address(line) else {
-            return answer.say("  ");
-        };
-        let is_here = self.board().pc().wrapping_sub(address) < size;
-        answer.say(if is_here { ">" } else { " " });
-        let is_marked = size > 0 && self.recording.session().has_break(address);
-        answer.say(if is_marked { "*" } else { " " });
-    }
-
-    /// Appends the address of a line and the first word there, or blanks where the line has no bytes.
-    fn append_word_of(&self, line: usize, answer: &mut Answer) {
-        let size = self.size(line);
-        match self.listing.address(line) {
-            Some(address) if size > 0 => {
-                answer.word(address);
-                answer.say("  ");
-                match word_at(self.board(), address) {
-                    Some(word) if size >= 4 => answer.word(word),
-                    _ => answer.spaces(8),
-                }
-                answer.say(if size > 4 { "+ " } else { "  " });
+        let address = match self.listing.address(line) {
+            Some(address) if size > 0 => address,
+            _ => {
+                return Row {
+                    is_here: false,
+                    is_marked: false,
+                    address: None,
+                    word: None,
+                    has_more: false,
+                };
             }
-            _ => answer.spaces(20),
+        };
+        Row {
+            is_here: self.board().pc().wrapping_sub(address) < size,
+            is_marked: self.recording.session().has_break(address),
+            address: Some(address),
+            word: if size < 4 {
+                None
+            } else {
+                word_at(self.board(), address)
+            },
+            has_more: size > 4,
         }
-    }
-
-    /// Appends a line of the source.
-    fn append_source_line(&self, number: usize, text: &[u8], answer: &mut Answer) {
-        self.append_marks(number, answer);
-        self.append_word_of(number, answer);
-        answer.line_number(number);
-        answer.put(text);
-        answer.end();
     }
 
     /// Appends `count` lines of the source from a line on, and returns the line that follows them.
@@ -57,7 +118,7 @@ impl Lab {
         for text in cut_lines(&self.source) {
             number = number.saturating_add(1);
             if number >= first && number < end {
-                self.append_source_line(number, text, answer);
+                append_row(self.row(number), number, text, answer);
             }
         }
         end.min(self.listing.len().saturating_add(1))
@@ -89,9 +150,8 @@ impl Lab {
         let end = self.append_lines(first, count, answer);
         self.last.listed = end;
         if first > self.listing.len() {
-            answer.say("the source has ");
-            answer.count(self.listing.len() as u64, "line");
-            answer.end();
+            let lines = self.listing.len() as u64;
+            answer.fill("the source has %d line%{s||s}\n", &[lines, lines]);
         }
     }
 

@@ -1,13 +1,39 @@
 //! Where the program is, and what a command did.
+ghost use Rattle.rv_lab.specs.Answer.{Appended};
+ghost use Rattle.rv_lab.specs.Places.{distance_text, label_text};
+
 use crate::answer::Answer;
 use crate::causes::append_cause;
 use crate::lab::Lab;
 use crate::memory::{append_escaped, append_instruction};
-use crate::plan::{End, Goal, Watched};
+use crate::plan::Goal;
 use crate::registers::{Registers, append_changes, append_register, append_value};
-use crate::run::watched_value;
 use rv_hart::Outcome;
+use rv_monitor::word_at;
 use rv_pmp::Mode;
+use rv_recording::{Condition, End, Watched};
+
+/// Appends a distance from a label.
+#[tactic(auto, using(crate::proofs::Pieces::then, crate::proofs::Pieces::nothing), unfolding(crate::specs::Places::distance_text))]
+fn append_distance(distance: u32, answer: &mut Answer)
+    ensures { Appended answer.old answer.new (distance_text distance) }
+{
+    if distance > 0 {
+        answer.say("+");
+        answer.number(u64::from(distance));
+    }
+}
+
+/// Appends a label, and the distance from it.
+#[tactic(auto, using(crate::proofs::Pieces::then), unfolding(crate::specs::Places::label_text))]
+fn append_name(name: &[u8], distance: u32, answer: &mut Answer)
+    ensures { Appended answer.old answer.new (label_text name.now distance) }
+{
+    answer.say(" <");
+    answer.put(name);
+    append_distance(distance, answer);
+    answer.say(">");
+}
 
 impl Lab {
     /// Appends the nearest label before an address with its distance, as `<loop+8>`, if the address is in the
@@ -19,13 +45,7 @@ impl Lab {
         let Some(near) = self.listing.label_before(address) else {
             return;
         };
-        answer.say(" <");
-        answer.put(near.name.bytes());
-        if near.distance > 0 {
-            answer.say("+");
-            answer.number(u64::from(near.distance));
-        }
-        answer.say(">");
+        append_name(near.name.bytes(), near.distance, answer);
     }
 
     /// Appends an address with its label, its line's number and the line's text.
@@ -59,8 +79,7 @@ impl Lab {
         if let Outcome::Trapped { cause, tval, .. } = outcome {
             answer.say("  trap ");
             append_cause(cause, answer);
-            answer.say(", mtval ");
-            answer.word(tval);
+            answer.fill(", mtval %x", &[tval as u64]);
         }
         append_changes(before, &Registers::of(self.board()), answer);
     }
@@ -77,11 +96,9 @@ impl Lab {
     /// Appends that the board halted, if it did.
     pub(crate) fn tell_halt(&self, answer: &mut Answer) {
         if let Some(code) = self.board().halted() {
-            answer.say("halted with code ");
-            answer.number(u64::from(code));
-            answer.say(" after ");
-            answer.count(self.steps(), "step");
-            answer.end();
+            let steps = self.steps();
+            let values = [code as u64, steps, steps];
+            answer.fill("halted with code %d after %d step%{s||s}\n", &values);
         }
     }
 
@@ -93,9 +110,9 @@ impl Lab {
         answer.say("the lab takes no more than 9999999999 steps\n");
     }
 
-    /// Appends the number of steps that the last command took.
-    fn append_taken(&self, answer: &mut Answer) {
-        answer.count(self.steps().saturating_sub(self.last.steps), "step");
+    /// Returns the number of steps that the last command took.
+    fn last_steps(&self) -> u64 {
+        self.steps().saturating_sub(self.last.steps)
     }
 
     /// Appends what a single step did, and where the program is.
@@ -104,8 +121,7 @@ impl Lab {
         let Some(outcome) = outcome else {
             return self.tell_stuck(answer);
         };
-        answer.say("step ");
-        answer.number(self.steps());
+        answer.fill("step %d", &[self.steps()]);
         self.append_outcome(outcome, &self.last.registers, answer);
         answer.end();
         self.tell_rest(answer);
@@ -125,11 +141,13 @@ impl Lab {
     /// Appends the goal that was reached.
     fn append_goal(&self, goal: Goal, answer: &mut Answer) {
         match goal {
-            Goal::Changed { watched, .. } | Goal::Compares { watched, .. } => {
+            Goal::Until(
+                Condition::Changed { watched, .. } | Condition::Compares { watched, .. },
+            ) => {
                 answer.say(": ");
                 self.append_watched(watched, answer);
             }
-            Goal::Trap => self.append_last_trap(answer),
+            Goal::Until(Condition::Trap) => self.append_last_trap(answer),
             _ => {}
         }
     }
@@ -140,9 +158,7 @@ impl Lab {
         if let Some(trap) = self.board().trap(count.saturating_sub(1)) {
             answer.say(": trap ");
             append_cause(trap.cause, answer);
-            answer.say(", mtval ");
-            answer.word(trap.tval);
-            answer.say(", at");
+            answer.fill(", mtval %x, at", &[trap.tval as u64]);
             self.append_short_place(trap.epc, answer);
         }
     }
@@ -150,13 +166,10 @@ impl Lab {
     /// Appends an address with the number of its line.
     pub(crate) fn append_short_place(&self, address: u32, answer: &mut Answer) {
         if let Some(line) = self.listing.line_at(address) {
-            answer.say(" line ");
-            answer.number(line as u64);
+            answer.fill(" line %d", &[line as u64]);
         }
         self.append_label(address, answer);
-        answer.say(" (");
-        answer.word(address);
-        answer.say(")");
+        answer.fill(" (%x)", &[address as u64]);
     }
 
     /// Appends what is watched, with its value.
@@ -169,7 +182,7 @@ impl Lab {
                 answer.say("[");
                 answer.word(address);
                 answer.say("] = ");
-                match watched_value(self.board(), watched) {
+                match word_at(self.board(), address) {
                     Some(word) => append_value(word, answer),
                     None => answer.say("--------"),
                 }
@@ -180,58 +193,49 @@ impl Lab {
     /// Appends why a run is over, what it changed, and where the program is.
     pub(crate) fn tell_end(&mut self, goal: Goal, end: End, answer: &mut Answer) {
         self.tell_console(answer);
+        let steps = self.last_steps();
         match end {
             End::Halted => {}
             End::Stuck => return self.tell_stuck(answer),
             End::Breakpoint => {
-                answer.say("breakpoint after ");
-                self.append_taken(answer);
-                if !matches!(goal, Goal::Break) {
-                    answer.say(", before the goal is reached");
-                }
-                answer.end();
+                let is_goal = matches!(goal, Goal::Break) as u64;
+                let form = "breakpoint after %d step%{s||s}%{, before the goal is reached|}\n";
+                answer.fill(form, &[steps, steps, is_goal]);
             }
             End::Reached => {
-                answer.say("stopped after ");
-                self.append_taken(answer);
+                answer.fill("stopped after %d step%{s||s}", &[steps, steps]);
                 self.append_goal(goal, answer);
                 answer.end();
             }
-            End::Limit => self.tell_limit(goal, answer),
+            End::Limit => {
+                let form = limit_form(goal);
+                answer.fill(form, &[steps, steps]);
+            }
         }
         self.append_changed(answer);
         self.tell_rest(answer);
     }
 
-    /// Appends that as many steps were taken as were asked for.
-    fn tell_limit(&self, goal: Goal, answer: &mut Answer) {
-        match goal {
-            Goal::Count => answer.say("stopped after "),
-            Goal::Break => answer.say("still running after "),
-            _ => answer.say("not reached after "),
-        }
-        self.append_taken(answer);
-        if !matches!(goal, Goal::Count) {
-            answer.say("; c goes on");
-        }
-        answer.end();
-    }
-
     /// Executes `w`.
     pub(crate) fn where_command(&self, answer: &mut Answer) {
-        answer.say("step ");
-        answer.number(self.steps());
-        answer.say(match self.board().mode() {
-            Mode::Machine => ", machine mode",
-            Mode::User => ", user mode",
-        });
-        answer.end();
+        let board = self.board();
+        let is_user = matches!(board.mode(), Mode::User) as u64;
+        let values = [self.steps(), is_user];
+        answer.fill("step %d, %{machine|user} mode\n", &values);
         self.tell_halt(answer);
         self.append_here(answer);
-        let pc = self.board().pc();
         answer.say("  ");
-        append_instruction(self.board(), pc, answer);
+        append_instruction(board, board.pc(), answer);
         answer.end();
+    }
+}
+
+/// Returns how it is told that as many steps were taken as were asked for.
+fn limit_form(goal: Goal) -> &'static str {
+    match goal {
+        Goal::Count => "stopped after %d step%{s||s}\n",
+        Goal::Break => "still running after %d step%{s||s}; c goes on\n",
+        _ => "not reached after %d step%{s||s}; c goes on\n",
     }
 }
 

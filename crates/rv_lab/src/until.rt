@@ -1,23 +1,21 @@
 //! What a run goes on for, as `until` reads it.
 use crate::answer::Answer;
 use crate::lab::Lab;
-use crate::operands::{number, only_word, register};
-use crate::plan::{Goal, Relation, Watched};
-use crate::run::watched_value;
-use rv_base::{first_word, has_word};
+use crate::operands::{number, only_word};
+use rv_base::{first_word, has_word, look_up};
+use rv_isa::reg_named;
+use rv_recording::{Condition, Relation, Watched};
 
-/// Returns the relation of a sign.
-fn relation(word: &[u8]) -> Option<Relation> {
-    match word {
-        b"=" | b"==" => Some(Relation::Equal),
-        b"!=" => Some(Relation::Different),
-        b"<" => Some(Relation::Less),
-        b"<=" => Some(Relation::AtMost),
-        b">" => Some(Relation::Greater),
-        b">=" => Some(Relation::AtLeast),
-        _ => None,
-    }
-}
+/// The signs of relations.
+static RELATIONS: [(&str, Relation); 7] = [
+    ("=", Relation::Equal),
+    ("==", Relation::Equal),
+    ("!=", Relation::Different),
+    ("<", Relation::Less),
+    ("<=", Relation::AtMost),
+    (">", Relation::Greater),
+    (">=", Relation::AtLeast),
+];
 
 /// Returns what stands between brackets.
 fn inside<'a>(word: &'a [u8]) -> Option<&'a [u8]> {
@@ -30,77 +28,67 @@ fn inside<'a>(word: &'a [u8]) -> Option<&'a [u8]> {
 impl Lab {
     /// Returns what a word watches: a register, or the word of memory at an address between brackets.
     fn watched(&self, word: &[u8]) -> Option<Watched> {
-        if let Some(register) = register(word) {
+        if let Some(register) = reg_named(word) {
             return Some(Watched::Register(register));
         }
         let address = self.address(inside(word)?)?;
         Some(Watched::Word(address))
     }
 
-    /// Reads a comparison of what is watched.
-    fn comparison(&self, watched: Watched, text: &[u8]) -> Option<Goal> {
-        let (sign, rest) = first_word(text)?;
-        let relation = relation(sign)?;
+    /// Reads the condition of what is watched: that it changes, or that it compares.
+    fn watch(&self, watched: Watched, rest: &[u8]) -> Option<Condition> {
+        let Some((sign, rest)) = first_word(rest) else {
+            // A copy: for the borrow checker the call moves its argument.
+            let asked = watched;
+            let old = asked.value(self.board());
+            return Some(Condition::Changed { watched, old });
+        };
+        let relation = look_up(&RELATIONS, sign)?;
         let value = self.value(only_word(rest)?)?;
-        Some(Goal::Compares {
+        Some(Condition::Compares {
             watched,
             relation,
             value,
         })
     }
 
-    /// Returns the goal of a place in the source or in memory.
-    fn place_goal(&self, word: &[u8]) -> Option<Goal> {
+    /// Returns the condition of a place in the source or in memory: pc is there.
+    fn place(&self, word: &[u8]) -> Option<Condition> {
         let address = self.address(word)?;
         let size = match self.listing.line_at(address) {
             Some(line) if number(word).is_some() => self.size(line).max(1),
             _ => 1,
         };
-        Some(Goal::At { address, size })
+        Some(Condition::At { address, size })
     }
 
-    /// Returns the goal of what is watched: that it changes, or that it compares.
-    fn watch_goal(&self, watched: Watched, rest: &[u8]) -> Option<Goal> {
-        if has_word(rest) {
-            return self.comparison(watched, rest);
-        }
-        // A copy: for the borrow checker the call moves its argument.
-        let asked = watched;
-        let old = watched_value(self.board(), asked);
-        Some(Goal::Changed { watched, old })
-    }
-
-    /// Reads a goal, as far as it has a first word.
-    fn goal_of(&self, word: &[u8], rest: &[u8]) -> Option<Goal> {
+    /// Reads a condition.
+    fn condition(&self, operands: &[u8]) -> Option<Condition> {
+        let (word, rest) = first_word(operands)?;
         if let Some(watched) = self.watched(word) {
-            return self.watch_goal(watched, rest);
+            return self.watch(watched, rest);
         }
         if has_word(rest) {
             return None;
         }
         match word {
-            b"trap" => Some(Goal::Trap),
-            b"console" => Some(Goal::Console(self.board().console().len())),
-            _ => self.place_goal(word),
+            b"trap" => Some(Condition::Trap),
+            b"console" => Some(Condition::Console(self.board().console().len())),
+            _ => self.place(word),
         }
     }
 
-    /// Reads a goal. Where there is none, that is answered.
-    pub(crate) fn read_goal(&self, operands: &[u8], answer: &mut Answer) -> Option<Goal> {
-        let goal = match first_word(operands) {
-            Some((word, rest)) => self.goal_of(word, rest),
-            None => None,
-        };
-        if goal.is_none() {
-            answer.say("until: `");
-            answer.put(operands);
-            answer.say(
-                "` is none of: trap, console, a line or an address, REG or [ADDR] alone or with ",
+    /// Reads a condition. Where there is none, that is answered.
+    pub(crate) fn read_condition(&self, operands: &[u8], answer: &mut Answer) -> Option<Condition> {
+        let condition = self.condition(operands);
+        if condition.is_none() {
+            answer.refuse(
+                "until",
+                operands,
+                "is none of: trap, console, a line or an address, REG or [ADDR] alone or with =, !=, <, <=, > or >= and a value, with spaces between",
             );
-            answer.say(
-                "=, !=, <, <=, > or >= and a value, with spaces between; `help until` has an example\n",
-            );
+            answer.see_help("until");
         }
-        goal
+        condition
     }
 }

@@ -51,15 +51,15 @@ fn place_name(address: u32) -> &'static str {
 
 /// Appends a base register and an offset, from which an address came.
 fn append_sum(board: &BootedBoard, base: Reg, offset: i32, answer: &mut Answer) {
+    let word = board.reg(base);
     answer.say(": ");
     answer.say(register_name(base));
-    answer.say(" is ");
-    answer.word(board.reg(base));
+    answer.fill(" is %x", &[word as u64]);
     if offset != 0 {
         answer.say(", and the offset ");
         answer.signed(offset);
     }
-    if base.number() == 2 && board.reg(base) >= 0xffff_0000 {
+    if base.number() == 2 && word >= 0xffff_0000 {
         answer.say("; sp is 0 at reset, and was never set");
     }
 }
@@ -103,9 +103,7 @@ fn append_access(board: &BootedBoard, address: u32, answer: &mut Answer) {
     if board.ram(address).is_some() {
         return append_refusal(board, address, answer);
     }
-    answer.say("  at ");
-    answer.word(address);
-    answer.say(" is ");
+    answer.fill("  at %x is ", &[address as u64]);
     answer.say(place_name(address));
     answer.end();
     let was_user = !has_bit(board.csr(MSTATUS).unwrap_or(0), 11);
@@ -116,8 +114,7 @@ fn append_access(board: &BootedBoard, address: u32, answer: &mut Answer) {
 
 /// Appends what an illegal instruction is.
 fn append_illegal(board: &BootedBoard, word: u32, answer: &mut Answer) {
-    answer.say("  the word ");
-    answer.word(word);
+    answer.fill("  the word %x", &[word as u64]);
     match decode(word) {
         Some(instr) => {
             answer.say(" is ");
@@ -137,21 +134,18 @@ fn append_illegal(board: &BootedBoard, word: u32, answer: &mut Answer) {
 fn append_reason(board: &BootedBoard, trap: TrapRecord, answer: &mut Answer) {
     match trap.cause {
         0 => {
-            answer.say("  the target is ");
-            answer.word(trap.tval);
+            answer.fill("  the target is %x", &[trap.tval as u64]);
             append_base(board, trap.epc, answer);
             answer.end();
         }
         4 | 6 => {
-            answer.say("  the address ");
-            answer.word(trap.tval);
-            answer.say(" is no multiple of the access's size");
+            let form = "  the address %x is no multiple of the access's size";
+            answer.fill(form, &[trap.tval as u64]);
             append_base(board, trap.epc, answer);
             answer.end();
         }
         5 | 7 => {
-            answer.say("  the address is ");
-            answer.word(trap.tval);
+            answer.fill("  the address is %x", &[trap.tval as u64]);
             append_base(board, trap.epc, answer);
             answer.end();
             append_access(board, trap.tval, answer);
@@ -165,9 +159,7 @@ fn append_reason(board: &BootedBoard, trap: TrapRecord, answer: &mut Answer) {
 impl Lab {
     /// Appends a trap at a step, its source line, and why it came.
     fn append_trap(&self, step: u64, trap: TrapRecord, board: &BootedBoard, answer: &mut Answer) {
-        answer.say("step ");
-        answer.number(step);
-        answer.say(": trap ");
+        answer.fill("step %d: trap ", &[step]);
         append_cause(trap.cause, answer);
         answer.end();
         answer.say("  ");
@@ -183,26 +175,25 @@ impl Lab {
 
     /// Appends that a trap met no handler.
     fn append_no_handler(&self, board: &BootedBoard, answer: &mut Answer) {
-        answer.say("  it met no handler: mtvec is ");
-        answer.word(board.csr(MTVEC).unwrap_or(0));
-        answer.say(", where ");
-        answer.say(if board.ram(board.pc()).is_some() {
-            "no instruction is"
-        } else {
-            "no memory is"
-        });
-        answer.say(", so each further step trapped as well\n");
+        let has_memory = board.ram(board.pc()).is_some() as u64;
+        let values = [board.csr(MTVEC).unwrap_or(0) as u64, has_memory];
+        let form = "  it met no handler: mtvec is %x, where no %{memory|instruction} is, so each further step trapped as well\n";
+        answer.fill(form, &values);
     }
 
-    /// Explains the first trap that met no handler, and returns whether there was one.
-    fn explain_first(&self, answer: &mut Answer) -> Result<bool, NoMemory> {
+    /// Returns a recording with the same inputs at reset.
+    fn recorded_again(&self) -> Result<Recording, NoMemory> {
         let inputs = self.recording.inputs_text(self.alloc)?;
         let (pages, slots) = (self.recording.pages(), self.recording.slots());
-        let opened = open_recording(self.alloc, &self.source, &inputs, pages, slots);
-        let Ok(mut run) = opened else {
-            return Err(NoMemory);
-        };
-        let Some(trap) = run_to_trap(&mut run, self.steps().min(MOST_STEPS))? else {
+        match open_recording(self.alloc, &self.source, &inputs, pages, slots) {
+            Ok(run) => Ok(run),
+            Err(_) => Err(NoMemory),
+        }
+    }
+
+    /// Explains the first trap of a run that met no handler, and returns whether there was one.
+    fn explain_first(&self, run: &mut Recording, answer: &mut Answer) -> Result<bool, NoMemory> {
+        let Some(trap) = run_to_trap(run, self.steps().min(MOST_STEPS))? else {
             return Ok(false);
         };
         let board = run.session().board();
@@ -219,9 +210,7 @@ impl Lab {
         };
         answer.say("each trap met a handler; the last one:\n  trap ");
         append_cause(trap.cause, answer);
-        answer.say(", mtval ");
-        answer.word(trap.tval);
-        answer.say("\n  ");
+        answer.fill(", mtval %x\n  ", &[trap.tval as u64]);
         self.append_place(trap.epc, answer);
         answer.end();
         append_reason(board, trap, answer);
@@ -229,7 +218,11 @@ impl Lab {
 
     /// Executes `why`.
     pub(crate) fn why_command(&self, answer: &mut Answer) {
-        match self.explain_first(answer) {
+        let explained = match self.recorded_again() {
+            Ok(mut run) => self.explain_first(&mut run, answer),
+            Err(NoMemory) => Err(NoMemory),
+        };
+        match explained {
             Ok(true) => {}
             Ok(false) => self.explain_last(answer),
             Err(NoMemory) => answer.say("out of memory\n"),

@@ -8,7 +8,7 @@ mod save;
 mod talk;
 mod words;
 
-use crate::talk::{TalkFault, print, talk};
+use crate::talk::{TalkFault, print_answer, talk};
 use crate::words::{Words, read_words};
 use rv_base::TEXT_LIMIT;
 use rv_lab::{Answer, Lab, OpenFault, append_diagnosis};
@@ -50,22 +50,30 @@ fn refuse(rt: &HostRuntime, words: &Words<'_>, source: &[u8], fault: OpenFault) 
     }
 }
 
-/// Greets, and talks until no command follows. Returns the exit status.
+/// Reports why the program can't go on, and returns the exit status.
+fn fail(rt: &HostRuntime, line: &[u8]) -> u8 {
+    report(rt, line);
+    FAILED
+}
+
+/// Greets, and talks until no command follows.
+fn greet_and_talk(
+    rt: &HostRuntime,
+    name: &str,
+    lab: &mut Lab,
+    answer: &mut Answer,
+) -> Result<(), TalkFault> {
+    lab.greet(name, answer);
+    print_answer(rt, answer)?;
+    talk(rt, lab, answer)
+}
+
+/// Talks with a lab until no command follows. Returns the exit status.
 fn run_lab(rt: &HostRuntime, name: &str, lab: &mut Lab) -> u8 {
     let mut answer = Answer::new(rt.alloc());
-    lab.greet(name, &mut answer);
-    let greeted = print(rt, answer.bytes());
-    answer.clear();
-    let ended = match greeted {
-        Ok(()) => talk(rt, lab, &mut answer),
-        Err(fault) => Err(fault),
-    };
-    match ended {
+    match greet_and_talk(rt, name, lab, &mut answer) {
         Ok(()) => 0,
-        Err(TalkFault::Read) => {
-            report(rt, b"cannot read commands\n");
-            FAILED
-        }
+        Err(TalkFault::Read) => fail(rt, b"cannot read commands\n"),
         Err(TalkFault::Write) => FAILED,
     }
 }
@@ -78,20 +86,23 @@ fn open(rt: &HostRuntime, words: &Words<'_>, source: &[u8], inputs: &[u8]) -> u8
     }
 }
 
+/// Reads the timed list, if the words name one, and talks. Returns the exit status.
+fn run_source(rt: &HostRuntime, words: &Words<'_>, source: &[u8]) -> u8 {
+    let Some(path) = words.input else {
+        return open(rt, words, source, b"");
+    };
+    match read_file(rt, path) {
+        Some(inputs) => open(rt, words, source, inputs.as_slice()),
+        None => fail(rt, b"cannot read input\n"),
+    }
+}
+
 /// Reads the files that the words name, and talks. Returns the exit status.
 fn run(rt: &HostRuntime, words: &Words<'_>) -> u8 {
-    let Some(source) = read_file(rt, words.source) else {
-        report(rt, b"cannot read source\n");
-        return FAILED;
-    };
-    let Some(path) = words.input else {
-        return open(rt, words, source.as_slice(), b"");
-    };
-    let Some(inputs) = read_file(rt, path) else {
-        report(rt, b"cannot read input\n");
-        return FAILED;
-    };
-    open(rt, words, source.as_slice(), inputs.as_slice())
+    match read_file(rt, words.source) {
+        Some(source) => run_source(rt, words, source.as_slice()),
+        None => fail(rt, b"cannot read source\n"),
+    }
 }
 
 /// Prints the help that was asked for, or why the words are refused, and returns the exit status.

@@ -1,13 +1,14 @@
 //! The talk with a lab: reads commands and writes their answers.
 use crate::save::save;
+use rv_base::NoMemory;
 use rv_lab::{Answer, Lab, Next};
-use std::io::{self, BufRead, IsTerminal, Write};
+use std::io::{BufRead, IsTerminal, StdinLock, Write};
 
 /// How many steps of a long run lie between two lines of progress.
 const PROGRESS: u64 = 10_000_000;
 
 /// The error of a talk that ended early.
-#[derive(Clone, Copy, Debug, PartialEq, Eq)]
+#[derive(Clone, Copy)]
 pub enum TalkFault {
     /// The commands can't be read.
     Read,
@@ -16,19 +17,19 @@ pub enum TalkFault {
 }
 
 /// Writes bytes to the standard output.
-pub fn print(rt: &HostRuntime, bytes: &[u8]) -> Result<(), TalkFault> {
+fn print(rt: &HostRuntime, bytes: &[u8]) -> Result<(), TalkFault> {
     rt.stdout().write_all(bytes).ok().ok_or(TalkFault::Write)
 }
 
 /// Writes an answer to the standard output, and makes it empty.
-fn print_answer(rt: &HostRuntime, answer: &mut Answer) -> Result<(), TalkFault> {
+pub fn print_answer(rt: &HostRuntime, answer: &mut Answer) -> Result<(), TalkFault> {
     let printed = print(rt, answer.bytes());
     answer.clear();
     printed
 }
 
 /// Reads a line without its end, and returns whether there was one.
-fn read_line<R: BufRead>(reader: &mut R, line: &mut Vec<u8>) -> Result<bool, TalkFault> {
+fn read_line(reader: &mut StdinLock<'_>, line: &mut Vec<u8>) -> Result<bool, TalkFault> {
     line.clear();
     let Ok(count) = reader.read_until(b'\n', line) else {
         return Err(TalkFault::Read);
@@ -51,38 +52,48 @@ fn tell_progress(rt: &HostRuntime, lab: &Lab) {
     }
 }
 
-/// Goes on with a run until it is over, and writes its answers as they come.
-fn go_on(
+/// Writes an answer, and that memory ran out where it did. Returns what follows.
+fn finish(
     rt: &HostRuntime,
-    lab: &mut Lab,
-    first: Next,
+    next: Result<Next, NoMemory>,
     answer: &mut Answer,
 ) -> Result<Next, TalkFault> {
-    let mut next = first;
-    for _ in 0..u64::MAX {
-        print_answer(rt, answer)?;
-        if next != Next::Running {
-            break;
+    print_answer(rt, answer)?;
+    match next {
+        Ok(next) => Ok(next),
+        Err(NoMemory) => {
+            print(rt, b"out of memory\n")?;
+            Ok(Next::More)
         }
-        tell_progress(rt, lab);
-        next = lab.go_on(answer).unwrap_or(Next::More);
     }
-    Ok(next)
 }
 
-/// Executes a command, and writes its answer. Returns whether another follows.
+/// Executes a command, and writes its answers as they come. Returns what follows once no run goes on.
 fn execute(
     rt: &HostRuntime,
     lab: &mut Lab,
     line: &[u8],
     answer: &mut Answer,
+) -> Result<Next, TalkFault> {
+    let mut next = finish(rt, lab.command(line, answer), answer)?;
+    for _ in 0..u64::MAX {
+        if !matches!(next, Next::Running) {
+            break;
+        }
+        tell_progress(rt, lab);
+        next = finish(rt, lab.go_on(answer), answer)?;
+    }
+    Ok(next)
+}
+
+/// Executes a command, and saves what was done where it asks for that. Returns whether another follows.
+fn obey(
+    rt: &HostRuntime,
+    lab: &mut Lab,
+    line: &[u8],
+    answer: &mut Answer,
 ) -> Result<bool, TalkFault> {
-    let Ok(next) = lab.command(line, answer) else {
-        print_answer(rt, answer)?;
-        print(rt, b"out of memory\n")?;
-        return Ok(true);
-    };
-    match go_on(rt, lab, next, answer)? {
+    match execute(rt, lab, line, answer)? {
         Next::Quit => Ok(false),
         Next::Save => {
             save(rt, lab, line, answer);
@@ -94,29 +105,42 @@ fn execute(
 }
 
 /// Writes a command that was read from no terminal, so that a transcript shows it.
-fn echo(rt: &HostRuntime, line: &[u8], is_terminal: bool) -> Result<(), TalkFault> {
-    if is_terminal {
+fn echo(rt: &HostRuntime, line: &[u8]) -> Result<(), TalkFault> {
+    if rt.stdin().is_terminal() {
         return Ok(());
     }
     print(rt, line)?;
     print(rt, b"\n")
 }
 
+/// Reads a command and writes its answer. Returns whether another follows.
+fn talk_once(
+    rt: &HostRuntime,
+    lab: &mut Lab,
+    reader: &mut StdinLock<'_>,
+    line: &mut Vec<u8>,
+    answer: &mut Answer,
+) -> Result<bool, TalkFault> {
+    print(rt, b"> ")?;
+    if !read_line(reader, line)? {
+        print(rt, b"\n")?;
+        return Ok(false);
+    }
+    echo(rt, line)?;
+    obey(rt, lab, line, answer)
+}
+
 /// Reads commands from the standard input up to one that ends the talk, or to the end, and writes their
 /// answers.
 pub fn talk(rt: &HostRuntime, lab: &mut Lab, answer: &mut Answer) -> Result<(), TalkFault> {
-    let is_terminal = rt.stdin().is_terminal();
     let mut reader = rt.reader();
     let mut line = Vec::new(rt.alloc());
+    let mut goes_on = Ok(true);
     for _ in 0..u64::MAX {
-        print(rt, b"> ")?;
-        if !read_line(&mut reader, &mut line)? {
-            break;
-        }
-        echo(rt, line.as_slice(), is_terminal)?;
-        if !execute(rt, lab, line.as_slice(), answer)? {
-            return Ok(());
+        match goes_on {
+            Ok(true) => goes_on = talk_once(rt, lab, &mut reader, &mut line, answer),
+            _ => break,
         }
     }
-    print(rt, b"\n")
+    goes_on.map(|_| ())
 }
