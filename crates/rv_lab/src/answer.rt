@@ -10,6 +10,34 @@ use std::marker::Model;
 /// As many spaces as stand in a row at most.
 static SPACES: [u8; 24] = *b"                        ";
 
+/// Splits a text before the first of a byte, or at its end.
+pub(crate) fn cut_at<'a>(text: &'a [u8], sign: u8) -> (&'a [u8], &'a [u8]) {
+    for (place, byte) in text.iter().enumerate() {
+        if *byte == sign {
+            return text.split_at(place);
+        }
+    }
+    text.split_at(text.len())
+}
+
+/// Returns a text without its first byte.
+fn without_first(text: &[u8]) -> &[u8] {
+    text.split_at(text.len().min(1)).1
+}
+
+/// Returns the text with a number, counted from 0, of some with `|` between them, or the last one.
+fn text_at(texts: &[u8], number: u64) -> &[u8] {
+    let mut left = texts;
+    for _ in 0..number {
+        let (_, more) = cut_at(left, b'|');
+        if more.is_empty() {
+            break;
+        }
+        left = without_first(more);
+    }
+    cut_at(left, b'|').0
+}
+
 /// A text that answers are appended to. Where memory runs out it takes nothing more, and remembers that.
 pub struct Answer {
     bytes: Vec<u8>,
@@ -123,10 +151,8 @@ impl Answer {
         self.put(buffer.format(number).as_bytes());
     }
 
-    /// Appends a form with a value in the place of each of its `%`: after `%d` in decimal, after `%x` as a word
-    /// in hexadecimal, and `%{no|one|more}` is the text with the value's number, or the last one.
-    ///
-    /// A call for each piece would cost twice as much to prove.
+    /// Appends a form with a value in the place of each of its `%`: of `%d` in decimal, of `%x` as a word in
+    /// hexadecimal, and of `%{no|one|more}` the text whose number, from 0, it is, or the last one.
     pub(crate) fn fill(&mut self, form: &str, values: &[u64]) {
         let mut rest = form.as_bytes();
         for value in values {
@@ -137,8 +163,7 @@ impl Answer {
 
     /// Appends a form up to its first `%`, with a value in the place of that, and returns what follows.
     fn fill_one<'a>(&mut self, form: &'a [u8], value: u64) -> &'a [u8] {
-        let place = form.iter().position(|b| *b == b'%');
-        let (before, from) = form.split_at(place.unwrap_or(form.len()));
+        let (before, from) = cut_at(form, b'%');
         self.put(before);
         match from {
             [_, b'd', rest @ ..] => {
@@ -149,26 +174,12 @@ impl Answer {
                 self.word(low_word(value));
                 rest
             }
-            [_, b'{', rest @ ..] => self.choose(rest, value),
-            _ => from,
-        }
-    }
-
-    /// Appends one of some texts with `|` between them and `}` at their end, and returns what follows.
-    fn choose<'a>(&mut self, texts: &'a [u8], number: u64) -> &'a [u8] {
-        let end = texts.iter().position(|b| *b == b'}');
-        let (mut texts, rest) = texts.split_at(end.unwrap_or(texts.len()));
-        for _ in 0..number {
-            match texts.iter().position(|b| *b == b'|') {
-                Some(place) => texts = texts.split_at(place).1.split_at(1).1,
-                None => break,
+            [_, b'{', rest @ ..] => {
+                let (texts, rest) = cut_at(rest, b'}');
+                self.put(text_at(texts, value));
+                without_first(rest)
             }
-        }
-        let end = texts.iter().position(|b| *b == b'|');
-        self.put(texts.split_at(end.unwrap_or(texts.len())).0);
-        match rest {
-            [_, rest @ ..] => rest,
-            [] => rest,
+            _ => from,
         }
     }
 

@@ -34,17 +34,22 @@ pub(crate) enum Command {
     Quit,
     /// An empty line: the last step or list command again.
     Again,
+    /// What an empty line does after a command that moved the board, or at first: a single step.
+    StepOnce,
     /// A comment, or a line that was refused.
     Nothing,
 }
 
 impl Command {
-    /// Returns what an empty line repeats after this command.
+    /// Returns what an empty line does after this command, by what it did before: it repeats a step or list
+    /// command, and takes a step after another that moves the board.
     pub(crate) fn if_repeated(self, last: Command) -> Command {
         match self {
             Command::Step | Command::Over | Command::List => self,
-            Command::Again => last,
-            _ => Command::Nothing,
+            Command::Go | Command::Finish | Command::Until | Command::Trace | Command::Back => {
+                Command::StepOnce
+            }
+            _ => last,
         }
     }
 }

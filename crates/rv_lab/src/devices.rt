@@ -32,7 +32,8 @@ fn append_serial(serial: &Serial, answer: &mut Answer) {
     let waiting = serial.waiting() as u64;
     let sent = serial.console().len() as u64;
     let values = [waiting, waiting, sent, serial.overrun() as u64];
-    let form = "serial: %d byte%{s||s} waiting, %d sent%{|; a byte was lost since the last look at the status}\n";
+    let form =
+        "serial: %d byte%{s||s} waiting, %d sent%{|; a byte was lost since the last look at the status}\n";
     answer.fill(form, &values);
 }
 
@@ -47,8 +48,8 @@ struct Interrupts {
     are_let_in: bool,
 }
 
-/// Returns what comes of an interrupt, counted from 0: nothing, it is never taken as it stands, it waits, or it
-/// is taken.
+/// Returns what comes of an interrupt, counted from 0: nothing, it is never taken as it stands, it waits, or
+/// it is taken.
 fn outcome(is_high: bool, is_enabled: bool, is_let_in: bool) -> u64 {
     if !is_high {
         return 0;
@@ -69,13 +70,15 @@ fn append_interrupt(form: &str, bit: u32, interrupts: Interrupts, answer: &mut A
 }
 
 /// What comes of an interrupt.
-const OUTCOMES: &str = "%{|: never taken as it stands|: waits, since mstatus.MIE is 0 in machine mode|: taken at the next step}\n";
+const OUTCOMES: &str =
+    "%{|: never taken as it stands|: waits, since mstatus.MIE is 0 in machine mode|: taken at the next step}\n";
 
 /// Appends the interrupts of the hart.
 fn append_interrupts(board: &BootedBoard, answer: &mut Answer) {
     let is_on = has_bit(board.csr(MSTATUS).unwrap_or(0), 3);
     let is_user = matches!(board.mode(), Mode::User);
-    let form = "interrupts: mstatus.MIE %d, %{machine mode|user mode, where they are always let in}\n";
+    let form =
+        "interrupts: mstatus.MIE %d, %{machine mode|user mode, where they are always let in}\n";
     answer.fill(form, &[is_on as u64, is_user as u64]);
     let interrupts = Interrupts {
         pending: board.csr(MIP).unwrap_or(0),
@@ -145,7 +148,8 @@ fn append_source(source: Source, plic: &Plic, answer: &mut Answer) {
 }
 
 /// How a source is told.
-const SOURCE: &str = "  source %d: line %{low|high}, %{not pending|claimed and not completed|pending}, %{not enabled|enabled}, priority %d";
+const SOURCE: &str =
+    "  source %d: line %{low|high}, %{not pending|claimed and not completed|pending}, %{not enabled|enabled}, priority %d";
 
 /// Appends the interrupt controller.
 fn append_controller(plic: &Plic, answer: &mut Answer) {

@@ -29,6 +29,7 @@ impl Lab {
     fn repeat(&mut self, answer: &mut Answer) -> Result<Next, NoMemory> {
         match self.last.command {
             Command::Step => self.run_steps(self.last.count, answer),
+            Command::StepOnce => self.run_steps(1, answer),
             Command::Over => self.over_command(answer),
             Command::List => {
                 self.list_more(answer);

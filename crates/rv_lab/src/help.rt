@@ -17,7 +17,7 @@ impl Lab {
             answer.end();
         }
         answer.say(
-            "An empty line repeats the last step or list command. WHERE is a line's number, 0x and a number, a name\nof the source, a register or pc, also with +N or -N. Only events change the board: there is no command\nthat sets a register or memory.\n",
+            "An empty line repeats the last step or list command, or takes a step. WHERE is a line's number, 0x and a\nnumber, a name of the source, a register or pc, also with +N or -N. Only events change the board: there is no\ncommand that sets a register or memory.\n",
         );
     }
 

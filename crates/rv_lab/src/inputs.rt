@@ -1,8 +1,8 @@
 //! Inputs by hand, and what was done as texts for rvboard.
-use crate::answer::Answer;
+use crate::answer::{Answer, cut_at};
 use crate::lab::{Lab, Next};
 use crate::operands::only_word;
-use rv_base::{NoMemory, decimal, first_word, has_word, hex_byte};
+use rv_base::{NoMemory, decimal, first_word, has_word, hex_byte, look_up};
 use rv_lists::Input;
 use rv_monitor::Next as Monitored;
 use rv_plic::Source;
@@ -104,8 +104,7 @@ fn without_blanks(text: &[u8]) -> &[u8] {
 
 /// Returns what stands between the quotes of some operands, if they are a text between quotes.
 fn quoted<'a>(operands: &'a [u8]) -> Option<&'a [u8]> {
-    let place = operands.iter().position(|b| *b == b'"')?;
-    let (before, text) = operands.split_at(place);
+    let (before, text) = cut_at(operands, b'"');
     let text = without_blanks(text);
     if has_word(before) || text.len() < 2 || !text.ends_with(b"\"") {
         return None;
@@ -127,20 +126,14 @@ fn bytes_of<'a>(operands: &'a [u8]) -> Received<'a> {
     }
 }
 
-/// Reads the level of an interrupt line.
-fn read_level(word: &[u8]) -> Option<bool> {
-    match word {
-        b"0" => Some(false),
-        b"1" => Some(true),
-        _ => None,
-    }
-}
+/// The levels of an interrupt line.
+static LEVELS: [(&str, bool); 2] = [("0", false), ("1", true)];
 
 /// Reads the source and the level of an interrupt line.
 fn read_line_input(operands: &[u8]) -> Option<Input> {
     let (word, rest) = first_word(operands)?;
     let source = Source::new(decimal(31, word)? as u8)?;
-    let high = read_level(only_word(rest)?)?;
+    let high = look_up(&LEVELS, only_word(rest)?)?;
     Some(Input::Line { source, high })
 }
 

@@ -156,7 +156,7 @@ impl Lab {
             registers: Registers::of(recording.session().board()),
             steps: 0,
             told: 0,
-            command: Command::Nothing,
+            command: Command::StepOnce,
             count: 1,
             listed: 0,
             plan: None,

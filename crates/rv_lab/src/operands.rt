@@ -1,5 +1,5 @@
 //! The operands of commands: numbers, registers, and addresses.
-ghost use Rattle.std.specs.Prelude.{◌<◌};
+ghost use Rattle.std.specs.Prelude.{◌<◌, IfSome, length};
 
 use crate::answer::Answer;
 use crate::lab::Lab;
@@ -45,9 +45,16 @@ pub(crate) fn number(word: &[u8]) -> Option<u32> {
     Some(low_word(value))
 }
 
-/// Returns whether a byte is the sign of a sum.
-fn is_sign(byte: u8) -> bool {
-    byte == b'+' || byte == b'-'
+/// Returns the place of the sign of a sum, if a word has one.
+fn sign_place(word: &[u8]) -> Option<usize>
+    ensures { IfSome result (λ place. place < length word.now) }
+{
+    for (place, byte) in word.iter().enumerate() {
+        if *byte == b'+' || *byte == b'-' {
+            return Some(place);
+        }
+    }
+    None
 }
 
 /// A word that may be a sum: what stands before its sign, and what is added.
@@ -59,7 +66,7 @@ struct Sum<'a> {
 
 /// Splits a word at its first sign, if it has one.
 fn split_sum<'a>(word: &'a [u8]) -> Sum<'a> {
-    let Some(place) = word.iter().position(|b| is_sign(*b)) else {
+    let Some(place) = sign_place(word) else {
         return Sum {
             base: word,
             added: Some(0),

@@ -114,13 +114,7 @@ pub(crate) fn append_region(entry: u16, region: &Region, answer: &mut Answer) {
     }
     let last = end.saturating_sub(1);
     // An address has up to 34 bits.
-    let values = [
-        entry as u64,
-        first >> 32,
-        first,
-        last >> 32,
-        last,
-    ];
+    let values = [entry as u64, first >> 32, first, last >> 32, last];
     answer.fill("entry %d, %{|1|2|3}%x to %{|1|2|3}%x: ", &values);
     append_grants("user", config, answer);
     if region.is_locked() {

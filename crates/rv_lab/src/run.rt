@@ -57,9 +57,9 @@ fn end_of(stop: Stop) -> End {
 impl Lab {
     /// Begins a command that moves the board: keeps what it is compared with.
     pub(crate) fn begin(&mut self) {
-        self.last.registers = Registers::of(self.recording.session().board());
+        self.last.registers = Registers::of(self.board());
         self.last.steps = self.recording.steps();
-        self.last.told = self.recording.session().board().console().len();
+        self.last.told = self.board().console().len();
     }
 
     /// Takes a step out of the present function, and returns why the run is over, if it is.
@@ -216,8 +216,8 @@ impl Lab {
 
     /// Takes a step, and tells it in a line. Returns whether the board goes on.
     fn trace_step(&mut self, answer: &mut Answer) -> Result<bool, NoMemory> {
-        let before = Registers::of(self.recording.session().board());
-        let at = self.recording.session().board().pc();
+        let before = Registers::of(self.board());
+        let at = self.board().pc();
         let Some(outcome) = self.recording.take_step()? else {
             self.tell_stuck(answer);
             return Ok(false);
@@ -226,7 +226,7 @@ impl Lab {
         self.append_place(at, answer);
         self.append_outcome(outcome, &before, answer);
         answer.end();
-        Ok(self.recording.session().board().halted().is_none())
+        Ok(self.board().halted().is_none())
     }
 
     /// Executes `trace`.
@@ -266,8 +266,9 @@ impl Lab {
         self.begin();
         self.recording.go_back(to)?;
         self.last.steps = self.recording.steps();
-        self.last.told = self.recording.session().board().console().len();
+        self.last.told = self.board().console().len();
         answer.fill("back at step %d\n", &[self.recording.steps()]);
+        self.tell_halt(answer);
         self.append_here(answer);
         Ok(Next::More)
     }

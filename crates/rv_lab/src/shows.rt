@@ -1,13 +1,13 @@
 //! Commands that show registers, memory and traps.
 use crate::answer::Answer;
 use crate::causes::append_cause;
-use crate::control::append_bits;
+use crate::control::{MCAUSE, append_bits};
 use crate::lab::Lab;
 use crate::memory::{append_bytes, append_instruction, append_text, append_words};
 use crate::nearest::Nearest;
 use crate::operands::{count_or, only_word};
 use crate::registers::{Registers, append_register, append_registers};
-use rv_base::{decimal, first_word, has_word, low_word};
+use rv_base::{decimal, first_word, has_word, look_up, low_word};
 use rv_board::TrapRecord;
 use rv_isa::{csr_named, reg_named};
 use rv_plic::Source;
@@ -32,30 +32,35 @@ struct Extent {
     format: Format,
 }
 
+/// The words for how memory is shown.
+static FORMATS: [(&str, Format); 3] = [
+    ("w", Format::Words),
+    ("t", Format::Text),
+    ("b", Format::Bytes),
+];
+
+/// Reads how bytes are shown.
+fn read_format(operands: &[u8]) -> Option<Format> {
+    if !has_word(operands) {
+        return Some(Format::Bytes);
+    }
+    look_up(&FORMATS, only_word(operands)?)
+}
+
 /// Reads how many bytes or words `m` shows, and how.
 fn read_extent(operands: &[u8]) -> Option<Extent> {
-    let (count, rest) = match first_word(operands) {
-        Some((word, rest)) => match decimal(MOST_BYTES, word) {
-            Some(count) => (Some(count), rest),
-            None => (None, operands),
-        },
-        None => (None, operands),
+    if let Some((word, rest)) = first_word(operands)
+        && let Some(count) = decimal(MOST_BYTES, word)
+    {
+        let format = read_format(rest)?;
+        return Some(Extent { count, format });
+    }
+    let format = read_format(operands)?;
+    let count = match format {
+        Format::Words => 16,
+        _ => 64,
     };
-    let format = if has_word(rest) {
-        match only_word(rest)? {
-            b"w" => Format::Words,
-            b"t" => Format::Text,
-            b"b" => Format::Bytes,
-            _ => return None,
-        }
-    } else {
-        Format::Bytes
-    };
-    let usual = if matches!(format, Format::Words) { 16 } else { 64 };
-    Some(Extent {
-        count: count.unwrap_or(usual),
-        format,
-    })
+    Some(Extent { count, format })
 }
 
 /// Reads the number of an edge source, 24 to 31.
@@ -113,7 +118,10 @@ impl Lab {
         match self.board().csr(csr) {
             Some(word) => {
                 answer.word(word);
-                append_bits(csr, word, answer);
+                // Before the first trap the 0 of mcause is no cause.
+                if csr != MCAUSE || self.board().trap_count() > 0 {
+                    append_bits(csr, word, answer);
+                }
             }
             None => answer.say("--------"),
         }

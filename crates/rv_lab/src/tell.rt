@@ -129,10 +129,11 @@ impl Lab {
 
     /// Appends that the board halted, or where the program is.
     fn tell_rest(&self, answer: &mut Answer) {
-        if self.board().halted().is_some() {
+        let board = self.board();
+        if board.halted().is_some() {
             return self.tell_halt(answer);
         }
-        if self.board().ram(self.board().pc()).is_none() {
+        if board.ram(board.pc()).is_none() {
             answer.say("no memory is at pc: the last trap met no handler; type `why`\n");
         }
         self.append_here(answer);
@@ -141,12 +142,11 @@ impl Lab {
     /// Appends the goal that was reached.
     fn append_goal(&self, goal: Goal, answer: &mut Answer) {
         match goal {
-            Goal::Until(
-                Condition::Changed { watched, .. } | Condition::Compares { watched, .. },
-            ) => {
-                answer.say(": ");
-                self.append_watched(watched, answer);
-            }
+            Goal::Until(Condition::Changed { watched, .. } | Condition::Compares { watched, .. }) =>
+                {
+                    answer.say(": ");
+                    self.append_watched(watched, answer);
+                }
             Goal::Until(Condition::Trap) => self.append_last_trap(answer),
             _ => {}
         }
@@ -154,8 +154,9 @@ impl Lab {
 
     /// Appends the cause of the last trap.
     fn append_last_trap(&self, answer: &mut Answer) {
-        let count = self.board().trap_count();
-        if let Some(trap) = self.board().trap(count.saturating_sub(1)) {
+        let board = self.board();
+        let count = board.trap_count();
+        if let Some(trap) = board.trap(count.saturating_sub(1)) {
             answer.say(": trap ");
             append_cause(trap.cause, answer);
             answer.fill(", mtval %x, at", &[trap.tval as u64]);

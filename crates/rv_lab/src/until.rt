@@ -71,11 +71,13 @@ impl Lab {
         if has_word(rest) {
             return None;
         }
-        match word {
-            b"trap" => Some(Condition::Trap),
-            b"console" => Some(Condition::Console(self.board().console().len())),
-            _ => self.place(word),
+        if word == b"trap".as_slice() {
+            return Some(Condition::Trap);
         }
+        if word == b"console".as_slice() {
+            return Some(Condition::Console(self.board().console().len()));
+        }
+        self.place(word)
     }
 
     /// Reads a condition. Where there is none, that is answered.

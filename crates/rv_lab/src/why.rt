@@ -177,7 +177,8 @@ impl Lab {
     fn append_no_handler(&self, board: &BootedBoard, answer: &mut Answer) {
         let has_memory = board.ram(board.pc()).is_some() as u64;
         let values = [board.csr(MTVEC).unwrap_or(0) as u64, has_memory];
-        let form = "  it met no handler: mtvec is %x, where no %{memory|instruction} is, so each further step trapped as well\n";
+        let form =
+            "  it met no handler: mtvec is %x, where no %{memory|instruction} is, so each further step trapped as well\n";
         answer.fill(form, &values);
     }
 

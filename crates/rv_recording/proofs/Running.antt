@@ -88,8 +88,11 @@ module _ (condition : Condition) (old : RecordingState) where
   ends now new most n end k g (inl t) =
       let before : (n + 1) - 1 ≡ n = omega arith in
       ran most (n + 1) new end (omega arith) (one_more now new n g t.0)
-      (inl (omega arith, subst (GoesOn condition old.session) (sym before) g.going,
-      ap (end_at condition old.session) before ∙ sym (t.1 ∙ end_is now n g)))
+      (inl (
+        omega arith,
+        subst (GoesOn condition old.session) (sym before) g.going,
+        ap (end_at condition old.session) before ∙ sym (t.1 ∙ end_is now n g),
+      ))
   ends now new most n end k g (inr t) =
       ran most n new end (omega arith) (t.1 ∙ g.state)
       (inr (inr (is_stuck end t.2, ap (λ (r : RecordingState). may_step r.session) t.1 ∙ t.0, g.going)))

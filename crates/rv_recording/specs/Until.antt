@@ -81,8 +81,8 @@ end_of_step condition breakpoints s =
 abbrev pub end_at : Condition → SessionState → ℕ → Option End
 end_at condition s i = end_of_step condition s.breakpoints (after s.timed i)
 
--- a call for one step of a run took it, and tells why the run ends with it, if it does; or there was none to be
--- taken; or memory ran out at it
+-- a call for one step of a run took it, and tells why the run ends with it, if it does; or there was none to
+-- be taken; or memory ran out at it
 abbrev pub TakesOne : Condition → RecordingState → RecordingState → Result (Option End) NoMemory → Type 0
 TakesOne condition old new (Ok end) =
     ((new ≡ with_timed old (after old.session.timed 1))
