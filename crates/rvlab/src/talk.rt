@@ -43,9 +43,10 @@ fn read_line(reader: &mut StdinLock<'_>, line: &mut Vec<u8>) -> Result<bool, Tal
     Ok(count > 0)
 }
 
-/// Tells the progress of a long run on the standard error.
-fn tell_progress(rt: &HostRuntime, lab: &Lab) {
-    if lab.steps() % PROGRESS == 0 {
+/// Tells the progress of a long run on the standard error, which had taken `before` steps when it was last
+/// asked for.
+fn tell_progress(rt: &HostRuntime, lab: &Lab, before: u64) {
+    if lab.steps() / PROGRESS > before / PROGRESS {
         let mut line = Answer::new(rt.alloc());
         lab.append_progress(&mut line);
         let _ = rt.stderr().write_all(line.bytes());
@@ -80,8 +81,9 @@ fn execute(
         if !matches!(next, Next::Running) {
             break;
         }
-        tell_progress(rt, lab);
+        let before = lab.steps();
         next = finish(rt, lab.go_on(answer), answer)?;
+        tell_progress(rt, lab, before);
     }
     Ok(next)
 }
@@ -142,5 +144,8 @@ pub fn talk(rt: &HostRuntime, lab: &mut Lab, answer: &mut Answer) -> Result<(), 
             _ => break,
         }
     }
-    goes_on.map(|_| ())
+    match goes_on {
+        Ok(_) => Ok(()),
+        Err(fault) => Err(fault),
+    }
 }
