@@ -1,11 +1,9 @@
 //! Tests that cross crates: boards and sessions over a memory that refuses writes and over a cache that
-//! counts its calls, boot faults, runs of events, and sources that can't be rows of test_rows.
+//! counts its calls, and sources that can't be rows of test_rows.
 #![tactic(auto)]
 
 #[cfg(test)]
 mod board;
-#[cfg(test)]
-mod bursts;
 #[cfg(test)]
 mod cache;
 #[cfg(test)]

@@ -1,4 +1,4 @@
-//! Sessions whose steps are refused because memory ran out, and the readers of a session.
+//! Sessions whose steps are refused because memory ran out, and sessions that go back.
 use crate::memory::RefusingMemory;
 use crate::programs::program;
 use rv_asm::Program;
@@ -148,18 +148,6 @@ fn check_set<M: ByteMemory, C: Decoded>(
     assert!(rt; session.has_break(address));
 }
 
-/// Clears a breakpoint, and checks whether there was one.
-fn check_clear<M: ByteMemory, C: Decoded>(
-    rt: &impl Abort,
-    session: &mut Session<M, C>,
-    address: u32,
-    was: bool,
-) {
-    let answer = session.clear_break(address);
-    assert_eq!(rt; answer, was);
-    assert!(rt; !session.has_break(address));
-}
-
 /// Checks the pc of the board, how many received bytes are in the queue, and how many steps were done.
 fn check_board<M: ByteMemory, C: Decoded>(
     rt: &impl Abort,
@@ -259,20 +247,6 @@ fn a_refused_command_answers_nothing(rt: HostRuntime) -> Result<(), Fail> {
         b"stop limit pc=80000008 mode=M steps=3\n",
         rt.alloc(),
     );
-    Ok(())
-}
-
-#[test]
-fn a_session_has_a_limit_a_program_and_breakpoints(rt: HostRuntime) -> Result<(), Fail> {
-    let mut session = session(rt.alloc(), b"", 0)?;
-    assert_eq!(&rt; session.limit(), 3);
-    assert_eq!(&rt; session.program().bytes().len(), 12);
-    check_clear(&rt, &mut session, 0x8000_0008, false);
-    check_set(&rt, &mut session, 0x8000_0008);
-    check_set(&rt, &mut session, 0xffff_ffff);
-    check_go(&rt, &mut session, 9, Stop::Breakpoint, 2);
-    check_clear(&rt, &mut session, 0x8000_0008, true);
-    check_go(&rt, &mut session, 9, Stop::Limit, 3);
     Ok(())
 }
 

@@ -1,9 +1,10 @@
-//! Compares a session whose calls take many steps with a board that takes each step alone.
+//! Compares a session whose calls take many steps, and a board that runs many events in a call, with a board
+//! that takes each alone.
 use crate::{same_everywhere, same_registers};
 use rv_board::{Board, Event};
 use rv_cache::Decoded;
 use rv_lists::{Input, TimedInput};
-use rv_monitor::Session;
+use rv_monitor::{Session, Stop};
 use rv_ram::ByteMemory;
 
 /// Returns the event that an input is.
@@ -15,7 +16,7 @@ pub fn event(input: Input) -> Event {
 }
 
 /// Gives a board the inputs of a time, and then takes one step. Returns whether there was memory.
-pub fn step_alone<M: ByteMemory, C: Decoded>(
+fn step_alone<M: ByteMemory, C: Decoded>(
     board: &mut Board<M, C>,
     inputs: &[TimedInput],
     time: u64,
@@ -28,43 +29,119 @@ pub fn step_alone<M: ByteMemory, C: Decoded>(
     board.apply(Event::Step).is_ok()
 }
 
-/// Takes `count` steps of a session, and compares its registers with those of another board, and all that the
-/// boards can be read by if `whole` says so.
-fn same_after<M: ByteMemory, C: Decoded, N: ByteMemory, D: Decoded>(
-    session: &mut Session<M, C>,
-    count: u64,
-    alone: &Board<N, D>,
-    whole: bool,
-) -> bool {
-    if session.step(count).is_err() || !same_registers(session.board(), alone) {
-        return false;
-    }
-    !whole || same_everywhere(session.board(), alone)
+/// How a session takes its steps: how many at most in a call, how many in all, and where a breakpoint is set.
+#[derive(Clone, Copy)]
+pub struct Calls {
+    /// The largest number of steps of a call.
+    pub size: u64,
+    /// The number of steps in all.
+    pub steps: u64,
+    /// Where each call stops, and a second breakpoint is set far from it.
+    pub breakpoint: Option<u32>,
 }
 
-/// Takes the first `steps` steps of a session, at most `size` in a call, and of a board of the same source,
-/// which takes each step alone. Returns whether they have the same registers after each call, and are the same
-/// in all that they can be read by after the last.
+/// Sets a breakpoint, and another that no call comes to. Returns whether there was memory.
+fn set_breaks<M: ByteMemory, C: Decoded>(session: &mut Session<M, C>, address: u32) -> bool {
+    session.set_break(address).is_ok() && session.set_break(address ^ 0x4000_0000).is_ok()
+}
+
+/// Takes a call of a session: up to `most` steps where it has a breakpoint, which is met at the end if
+/// `met` says so, or else `count` steps. Returns whether there was memory and the call stopped as it had
+/// to.
+fn take_call<M: ByteMemory, C: Decoded>(
+    session: &mut Session<M, C>,
+    calls: Calls,
+    most: u64,
+    count: u64,
+    met: bool,
+) -> bool {
+    let stop = if met { Stop::Breakpoint } else { Stop::Limit };
+    match calls.breakpoint {
+        Some(_) => session.go(most) == Ok(stop),
+        None => session.step(count).is_ok(),
+    }
+}
+
+/// Takes the first `calls.steps` steps of a session by such calls, and of a board of the same source, which
+/// takes each step alone. Returns whether they have the same registers after each call, and are the same in
+/// all that they can be read by after the last.
 pub fn same_in_calls<M: ByteMemory, C: Decoded, N: ByteMemory, D: Decoded>(
     session: &mut Session<M, C>,
     alone: &mut Board<N, D>,
     inputs: &[TimedInput],
-    size: u64,
-    steps: u64,
+    calls: Calls,
 ) -> bool {
-    let mut count = 0u64;
-    for time in 0..steps {
+    if let Some(address) = calls.breakpoint
+        && !set_breaks(session, address)
+    {
+        return false;
+    }
+    let mut first = 0u64;
+    for time in 0..calls.steps {
         if !step_alone(alone, inputs, time) {
             return false;
         }
-        count = count.saturating_add(1);
-        let last = time + 1 == steps;
-        if count == size || last {
-            if !same_after(session, count, alone, last) {
+        let count = time.saturating_sub(first).saturating_add(1);
+        let is_last = time.saturating_add(1) == calls.steps;
+        let met = calls.breakpoint == Some(alone.pc());
+        if count == calls.size || is_last || met {
+            let most = calls.size.min(calls.steps.saturating_sub(first));
+            if !take_call(session, calls, most, count, met)
+                || !same_registers(session.board(), alone)
+            {
                 return false;
             }
-            count = 0;
+            first = time.saturating_add(1);
+        }
+    }
+    same_everywhere(session.board(), alone)
+}
+
+/// Applies events as long as user code runs, or else the next `size`, and returns how many were done, or none
+/// where there is no memory.
+fn run_part<M: ByteMemory, C: Decoded>(
+    board: &mut Board<M, C>,
+    events: &[Event],
+    size: usize,
+) -> Option<usize> {
+    let count = board.run_user(events).ok()?;
+    if count > 0 {
+        return Some(count);
+    }
+    let (part, _) = events.split_at(size.min(events.len()));
+    board.run(part).ok()?;
+    Some(part.len())
+}
+
+/// Applies events one by one. Returns whether there was memory.
+fn apply_each<M: ByteMemory, C: Decoded>(board: &mut Board<M, C>, events: &[Event]) -> bool {
+    for event in events {
+        if board.apply(*event).is_err() {
+            return false;
         }
     }
     true
+}
+
+/// Applies events to a board, as many in a call as user code does, or else up to `size`, and one by one to
+/// another board of the same source. Returns whether they have the same registers after each call, and are
+/// the same in all that they can be read by after the last.
+pub fn same_in_runs<M: ByteMemory, C: Decoded, N: ByteMemory, D: Decoded>(
+    board: &mut Board<M, C>,
+    alone: &mut Board<N, D>,
+    events: &[Event],
+    size: usize,
+) -> bool {
+    let mut rest = events;
+    for _ in 0..events.len() {
+        let Some(count) = run_part(board, rest, size) else {
+            return false;
+        };
+        let (done, left) = rest.split_at(count.min(rest.len()));
+        if !apply_each(alone, done) || !same_registers(board, alone) {
+            return false;
+        }
+        rest = left;
+    }
+    rest.is_empty() && same_everywhere(board, alone)
 }

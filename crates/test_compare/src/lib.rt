@@ -4,7 +4,7 @@
 
 mod calls;
 
-pub use calls::{event, same_in_calls, step_alone};
+pub use calls::{Calls, event, same_in_calls, same_in_runs};
 use rv_base::RAM_BASE;
 use rv_board::Board;
 use rv_cache::Decoded;

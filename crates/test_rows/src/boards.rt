@@ -1,7 +1,8 @@
 //! The boards of a row: one over flat memory without a cache, and three over pages with caches of several
 //! sizes.
+use crate::calls::{calls_agree, more_calls_agree};
 use crate::devices::append_devices;
-use crate::row::{Row, argument, number};
+use crate::row::{Row, argument};
 use rv_asm::{Program, assemble};
 use rv_base::{NoMemory, cut_lines};
 use rv_board::{Board, BootedBoard};
@@ -10,15 +11,9 @@ use rv_lists::Timeline;
 use rv_monitor::{Next, Session};
 use rv_ram::{ByteMemory, FlatMemory, PagedRam};
 use std::alloc::Global;
-use test_compare::{same_everywhere, same_in_calls};
+use test_compare::same_everywhere;
 
-/// The largest numbers of steps of a call, where a row is run beside a board that takes each step alone.
-const SIZES: [u64; 5] = [1, 2, 7, 64, 1_000_000];
-
-/// How many steps of a row are run so.
-const STEPS: u64 = 200;
-
-const NO_MEMORY: &str = "out of memory\n";
+pub const NO_MEMORY: &str = "out of memory\n";
 
 const NO_BOARD: &str = "the board doesn't boot\n";
 
@@ -29,27 +24,21 @@ pub fn program(alloc: Global, row: Row<'_>) -> Result<Program, &'static str> {
     program.ok().ok_or("the source is refused\n")
 }
 
-/// Returns the row's timed list.
-fn timeline(alloc: Global, row: Row<'_>) -> Result<Timeline, &'static str> {
-    let timed = row.lines_of(alloc, b'@').ok().ok_or(NO_MEMORY)?;
-    let timeline = Timeline::read(alloc, timed.as_slice());
+/// Reads a timed list.
+pub fn timeline(alloc: Global, timed: &[u8]) -> Result<Timeline, &'static str> {
+    let timeline = Timeline::read(alloc, timed);
     timeline.ok().ok_or("the timed list is refused\n")
 }
 
 /// Returns how many steps the row's boards may take.
-fn limit(row: Row<'_>) -> u64 {
-    for line in cut_lines(row.text) {
-        if line.first() == Some(&b'=') {
-            return number(argument(line));
-        }
-    }
-    0
+pub fn limit(row: Row<'_>) -> u64 {
+    row.number_of(b'=')
 }
 
 // A function that owns a board drops it at each `?`, which costs proof: so each of these has few of them.
 
 /// Returns a board over a page of flat memory, without a cache.
-fn flat_board(
+pub fn flat_board(
     alloc: Global,
     program: &Program,
 ) -> Result<Board<FlatMemory, NoCache>, &'static str> {
@@ -59,27 +48,36 @@ fn flat_board(
 }
 
 /// Returns a board over a page of paged memory, with a cache of `slots` slots.
-fn paged_board(alloc: Global, program: &Program, slots: u32) -> Result<BootedBoard, &'static str> {
+pub fn paged_board(
+    alloc: Global,
+    program: &Program,
+    slots: u32,
+) -> Result<BootedBoard, &'static str> {
     let board = BootedBoard::boot(alloc, program, 1, slots);
     board.ok().ok_or(NO_BOARD)
 }
 
 /// Returns a session of the row over flat memory.
-fn flat_session(alloc: Global, row: Row<'_>) -> Result<Session<FlatMemory, NoCache>, &'static str> {
+fn flat_session(
+    alloc: Global,
+    row: Row<'_>,
+    timed: &[u8],
+) -> Result<Session<FlatMemory, NoCache>, &'static str> {
     let program = program(alloc, row)?;
-    let timeline = timeline(alloc, row)?;
+    let timeline = timeline(alloc, timed)?;
     let board = flat_board(alloc, &program)?;
     Ok(Session::new(alloc, board, timeline, program, limit(row)))
 }
 
-/// Returns a session of the row over pages, with a cache of `slots` slots.
-fn paged_session(
+/// Returns a session of the row over pages, with these timed inputs and a cache of `slots` slots.
+pub fn paged_session(
     alloc: Global,
     row: Row<'_>,
+    timed: &[u8],
     slots: u32,
 ) -> Result<Session<PagedRam, DecodeCache>, &'static str> {
     let program = program(alloc, row)?;
-    let timeline = timeline(alloc, row)?;
+    let timeline = timeline(alloc, timed)?;
     let board = paged_board(alloc, &program, slots)?;
     Ok(Session::new(alloc, board, timeline, program, limit(row)))
 }
@@ -93,7 +91,7 @@ fn answer_line<M: ByteMemory, C: Decoded>(
     let Some(&mark) = line.first() else {
         return Ok(());
     };
-    if !matches!(mark, b'#' | b' ' | b'@' | b'=' | b'>' | b'!') {
+    if !matches!(mark, b'#' | b' ' | b'@' | b'=' | b'^' | b'>' | b'!') {
         return Ok(());
     }
     text.extend_from_slice(line)?;
@@ -146,48 +144,39 @@ fn agrees<M: ByteMemory, C: Decoded, N: ByteMemory, D: Decoded>(
 fn pages_agree(
     alloc: Global,
     row: Row<'_>,
+    timed: &[u8],
     slots: u32,
     text: &[u8],
     board: &Board<FlatMemory, NoCache>,
 ) -> Result<(), &'static str> {
-    let mut session = paged_session(alloc, row, slots)?;
+    let mut session = paged_session(alloc, row, timed, slots)?;
     agrees(alloc, row, &mut session, text, board)
-}
-
-/// Checks that the first steps of the row, up to `size` in a call, are as those of a board that takes each step
-/// alone.
-fn calls_agree(alloc: Global, row: Row<'_>, size: u64) -> Result<(), &'static str> {
-    let mut session = paged_session(alloc, row, 64)?;
-    let timeline = timeline(alloc, row)?;
-    let program = program(alloc, row)?;
-    let mut alone = flat_board(alloc, &program)?;
-    let steps = limit(row).min(STEPS);
-    if !same_in_calls(&mut session, &mut alone, timeline.inputs(), size, steps) {
-        return Err("the boards are different after calls of many steps\n");
-    }
-    Ok(())
 }
 
 /// Returns the row with the answers of a session over flat memory, where those over pages are the same.
 fn common_answers(
     alloc: Global,
     row: Row<'_>,
+    timed: &[u8],
     session: &mut Session<FlatMemory, NoCache>,
 ) -> Result<Vec<u8>, &'static str> {
     let text = answers(alloc, session, row).ok().ok_or(NO_MEMORY)?;
     for slots in [64, 1024, 4096] {
-        pages_agree(alloc, row, slots, text.as_slice(), session.board())?;
-    }
-    for size in SIZES {
-        calls_agree(alloc, row, size)?;
+        pages_agree(alloc, row, timed, slots, text.as_slice(), session.board())?;
     }
     Ok(text)
 }
 
 /// Returns the row with the answers of its boards, or why there are none.
 fn answered(alloc: Global, row: Row<'_>) -> Result<Vec<u8>, &'static str> {
-    let mut session = flat_session(alloc, row)?;
-    common_answers(alloc, row, &mut session)
+    calls_agree(alloc, row)?;
+    if row.has(b'^') {
+        let count = u32::try_from(row.number_of(b'^')).unwrap_or(0);
+        more_calls_agree(alloc, row, count)?;
+    }
+    let timed = row.lines_of(alloc, b'@').ok().ok_or(NO_MEMORY)?;
+    let mut session = flat_session(alloc, row, timed.as_slice())?;
+    common_answers(alloc, row, timed.as_slice(), &mut session)
 }
 
 /// Appends the row with the answers of its boards, or why there are none.

@@ -13,6 +13,8 @@
 //! - `= N`: the boards may take N steps in all
 //! - `> `: a command to the boards: one over flat memory without a cache, and three over pages with 64, 1024
 //!   and 4096 slots. They have to answer the same, and to be the same at the end
+//! - `^ N`: more calls of many steps are compared: with random inputs, and with a breakpoint at each of the
+//!   first N words
 //! - `! devices`: asks what the devices of the boards hold
 //! - `% N`: asks for the size of the image, and for its bytes as numbers of N bytes each; N is 0 for the size
 //!   alone
@@ -24,6 +26,7 @@
 #![tactic(auto)]
 
 mod boards;
+mod calls;
 mod check;
 mod devices;
 mod image;

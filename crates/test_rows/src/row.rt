@@ -35,6 +35,14 @@ impl<'a> Row<'a> {
         cut_lines(self.text).any(|line| line.first() == Some(&mark))
     }
 
+    /// Returns the number that follows this byte at the beginning of a line, or 0 where there is no such
+    /// line.
+    pub fn number_of(self, mark: u8) -> u64 {
+        cut_lines(self.text)
+            .find(|line| line.first() == Some(&mark))
+            .map_or(0, |line| number(argument(line)))
+    }
+
     /// Returns the arguments of the lines that begin with this byte, a line each.
     pub fn lines_of(self, alloc: Global, mark: u8) -> Result<Vec<u8>, NoMemory> {
         let mut part = Vec::new(alloc);

@@ -340,16 +340,21 @@ fn place(line: &[u8], index: usize) -> Option<Place> {
     place_of(line, index)
 }
 
+/// Returns the column and the length of each token of a line, with a blank before them.
+fn places(alloc: Global, line: &[u8]) -> Result<Vec<u8>, AllocError> {
+    let mut out = Vec::new(alloc);
+    for index in 0..line.len() {
+        if let Some(Place { column, len }) = place(line, index) {
+            out.extend_from_slice(format!(in alloc; " {column}+{len}")?.as_bytes())?;
+        }
+    }
+    Ok(out)
+}
+
 #[test]
-fn tokens_stand_in_their_columns(rt: HostRuntime) {
-    let line = b"x:\taddi a0, a1,%lo(\"y z\") # c";
-    let at = |index: usize| place(line, index);
-    assert_eq!(rt; at(0), Some(Place { column: 0, len: 1 }));
-    assert_eq!(rt; at(1), Some(Place { column: 1, len: 1 }));
-    assert_eq!(rt; at(2), Some(Place { column: 3, len: 4 }));
-    assert_eq!(rt; at(5), Some(Place { column: 12, len: 2 }));
-    assert_eq!(rt; at(7), Some(Place { column: 15, len: 3 }));
-    assert_eq!(rt; at(9), Some(Place { column: 19, len: 5 }));
-    assert_eq!(rt; at(10), Some(Place { column: 24, len: 1 }));
-    assert_eq!(rt; at(11), None);
+fn tokens_stand_in_their_columns(rt: HostRuntime) -> Result<(), Fail> {
+    let seen = places(rt.alloc(), b"x:\taddi a0, a1,%lo(\"y z\") # c")?;
+    let columns = b" 0+1 1+1 3+4 8+2 10+1 12+2 14+1 15+3 18+1 19+5 24+1";
+    assert_eq!(rt; seen.as_slice(), columns.as_slice());
+    Ok(())
 }

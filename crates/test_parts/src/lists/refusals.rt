@@ -4,8 +4,9 @@ use std::alloc::Global;
 use std::process::Abort;
 use std::test::Fail;
 
-/// Texts, each with the number of its first refused line: steps that fall, steps that are not one to ten digits,
-/// sources other than 1 to 31, levels other than 0 and 1, bytes that are not two digits each, and other words.
+/// Texts, each with the number of its first refused line: steps that fall, steps that are not one to ten
+/// digits, sources other than 1 to 31, levels other than 0 and 1, bytes that are not two digits each, and
+/// other words.
 static REFUSALS: [(&[u8], usize); 26] = [
     (b"5 line 3 1\n4 rx 00", 2),
     (b"1 rx 00\n5 rx 00\n\n# 0\n4 rx 00\nx", 5),

@@ -103,37 +103,13 @@ static SYSTEM: [(u32, &str); 12] = [
 ];
 
 #[test]
-fn upper_and_jumps(rt: HostRuntime) -> Result<(), Fail> {
-    check_rows(&rt, rt.alloc(), &UPPER_AND_JUMPS)
-}
-
-#[test]
-fn branches(rt: HostRuntime) -> Result<(), Fail> {
-    check_rows(&rt, rt.alloc(), &BRANCHES)
-}
-
-#[test]
-fn memory(rt: HostRuntime) -> Result<(), Fail> {
-    check_rows(&rt, rt.alloc(), &MEMORY)
-}
-
-#[test]
-fn immediates(rt: HostRuntime) -> Result<(), Fail> {
-    check_rows(&rt, rt.alloc(), &IMMEDIATES)
-}
-
-#[test]
-fn registers(rt: HostRuntime) -> Result<(), Fail> {
-    check_rows(&rt, rt.alloc(), &REGISTERS)
-}
-
-#[test]
-fn products(rt: HostRuntime) -> Result<(), Fail> {
-    check_rows(&rt, rt.alloc(), &PRODUCTS)
-}
-
-#[test]
-fn system(rt: HostRuntime) -> Result<(), Fail> {
+fn words_and_texts(rt: HostRuntime) -> Result<(), Fail> {
+    check_rows(&rt, rt.alloc(), &UPPER_AND_JUMPS)?;
+    check_rows(&rt, rt.alloc(), &BRANCHES)?;
+    check_rows(&rt, rt.alloc(), &MEMORY)?;
+    check_rows(&rt, rt.alloc(), &IMMEDIATES)?;
+    check_rows(&rt, rt.alloc(), &REGISTERS)?;
+    check_rows(&rt, rt.alloc(), &PRODUCTS)?;
     check_rows(&rt, rt.alloc(), &SYSTEM)
 }
 

@@ -22,9 +22,9 @@ fn line(step: u64, number: u8, high: bool) -> Result<TimedInput, &'static str> {
     })
 }
 
-/// Texts, each with the list that is written of its inputs: texts that are empty, comments, bytes of both cases, the
-/// first and the last source, equal and repeated steps, steps of up to ten digits, and words between spaces and
-/// tabs.
+/// Texts, each with the list that is written of its inputs: texts that are empty, comments, bytes of both
+/// cases, the first and the last source, equal and repeated steps, steps of up to ten digits, and words
+/// between spaces and tabs.
 static LISTS: [(&[u8], &[u8]); 8] = [
     (b"", b""),
     (b"\n\r\n \t \n", b""),
@@ -48,7 +48,8 @@ static LISTS: [(&[u8], &[u8]); 8] = [
     ),
 ];
 
-/// Reads a text that has no fault. It has no contract, so that the proofs of tests don't carry that of `read`.
+/// Reads a text that has no fault. It has no contract, so that the proofs of tests don't carry that of
+/// `read`.
 fn read(alloc: Global, text: &[u8]) -> Result<Timeline, &'static str> {
     let timeline = Timeline::read(alloc, text);
     timeline.ok().ok_or("the text is refused")

@@ -1,7 +1,0 @@
-//! Tests of timed lists.
-#![tactic(auto)]
-
-#[cfg(test)]
-mod inputs;
-#[cfg(test)]
-mod refusals;

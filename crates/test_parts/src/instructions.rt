@@ -1,0 +1,6 @@
+//! Instructions: their words, fields, texts and values from other sources.
+mod fields;
+mod names;
+mod texts;
+mod values;
+mod words;

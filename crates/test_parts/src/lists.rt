@@ -1,0 +1,3 @@
+//! Timed lists.
+mod inputs;
+mod refusals;
