@@ -155,7 +155,7 @@ goes_without : (b : BoardState) (n : ℕ) → halted_of b ≡ None → stop_afte
 unfolding stop_after
 goes_without b n e = rw (e, ← no_member (pc_of b)) (and_false (nat_lt 0 n))
 
--- so many steps are taken again, since the board hadn't halted before any of them
+-- the first n steps are taken again, since the board hadn't halted before any of them
 pub rewound : (board : BoardState) (old new : TimedState) (n : ℕ) (stop : Stop) → IsReached board old
     → n ≤ old.taken → HasStopped set.empty n (begun board old.inputs) new stop → new.taken ≡ n
 rewound board old new n stop r below s = ⊎_elim
