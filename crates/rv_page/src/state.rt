@@ -1,0 +1,112 @@
+//! What the page keeps between two calls.
+ghost use Rattle.std.specs.Prelude.{◌≡◌, ◌≤◌, []};
+ghost use Rattle.rv_page.specs.Pages.{Keeps, HasLab, HasNone, IsAbsent, IsLoadCode};
+
+use rv_base::NoMemory;
+use rv_lab::{Answer, Lab, Next, OpenFault, Sizes, append_diagnosis};
+use std::alloc::Global;
+
+/// A lab or none, and the text of the last answer.
+#[derive(Drop)]
+pub struct State {
+    pub lab: Option<Lab>,
+    pub answer: Answer,
+}
+
+/// The codes of a load, beside `NO_MEMORY`.
+const OPEN: u32 = 0;
+
+const REFUSED: u32 = 1;
+
+/// The codes of a command.
+const MORE: u32 = 0;
+
+const RUNNING: u32 = 1;
+
+const SAVE: u32 = 2;
+
+const QUIT: u32 = 3;
+
+const NO_MEMORY: u32 = 4;
+
+const NO_LAB: u32 = 5;
+
+/// Returns the code of what follows a command.
+fn code_of(next: Result<Next, NoMemory>) -> u32
+    ensures { result ≤ 4 }
+{
+    match next {
+        Ok(Next::More) => MORE,
+        Ok(Next::Running) => RUNNING,
+        Ok(Next::Save) => SAVE,
+        Ok(Next::Quit) => QUIT,
+        Err(NoMemory) => NO_MEMORY,
+    }
+}
+
+impl State {
+    /// Opens a lab, or says in the text why there is none.
+    pub(crate) fn load(&mut self, alloc: Global, source: &[u8], inputs: &[u8], sizes: Sizes) -> u32
+        ensures open { result ≡ 0 → HasLab self.new }
+        ensures quiet { result ≡ 0 → self.new.answer.bytes ≡ [] }
+        ensures refused { result ≡ 1 → HasNone self.new }
+        ensures memory { result ≡ 4 → HasNone self.new }
+        ensures codes { IsLoadCode result }
+    {
+        self.lab = None;
+        self.answer.clear();
+        match Lab::open(alloc, source, inputs, sizes) {
+            Ok(lab) => {
+                self.lab = Some(lab);
+                OPEN
+            }
+            Err(OpenFault::OutOfMemory) => NO_MEMORY,
+            Err(fault) => {
+                append_diagnosis("source", source, fault, &mut self.answer);
+                REFUSED
+            }
+        }
+    }
+
+    /// Executes a command line.
+    pub(crate) fn command(&mut self, line: &[u8]) -> u32
+        ensures lab { Keeps self.old self.new }
+        ensures none { IsAbsent self.old result }
+        ensures codes { result ≤ 5 }
+    {
+        self.answer.clear();
+        match &mut self.lab {
+            Some(lab) => code_of(lab.command(line, &mut self.answer)),
+            None => NO_LAB,
+        }
+    }
+
+    /// Goes on with a run.
+    pub(crate) fn go_on(&mut self) -> u32
+        ensures lab { Keeps self.old self.new }
+        ensures none { IsAbsent self.old result }
+        ensures codes { result ≤ 5 }
+    {
+        self.answer.clear();
+        match &mut self.lab {
+            Some(lab) => code_of(lab.go_on(&mut self.answer)),
+            None => NO_LAB,
+        }
+    }
+
+    /// Returns the number of steps that were taken.
+    pub(crate) fn steps(&self) -> u64 {
+        match &self.lab {
+            Some(lab) => lab.steps(),
+            None => 0,
+        }
+    }
+
+    /// Returns the bytes that the console has got.
+    pub(crate) fn console(&self) -> &[u8] {
+        match &self.lab {
+            Some(lab) => lab.board().console(),
+            None => b"",
+        }
+    }
+}
