@@ -1,0 +1,100 @@
+// A lab in an instance of board.wasm: the calls of rv_page. Texts go in and out as bytes. The page's worker
+// and the tests in Node use it.
+export const MORE = 0, RUNNING = 1, SAVE = 2, QUIT = 3;
+const REFUSED = 1, NO_MEMORY = 4, NO_LAB = 5;
+const ROOM = 1 << 16;
+
+export const encode = (text) => new TextEncoder().encode(text);
+export const decode = (bytes) => new TextDecoder().decode(bytes);
+
+export class Board {
+    constructor(module) {
+        this.exports = new WebAssembly.Instance(module).exports;
+        this.handle = this.exports.page_room(16n);
+        this.room = this.exports.page_room(BigInt(ROOM));
+        this.out = this.exports.page_room(16n);
+        this.bytes(this.handle, 16).fill(0);
+        if (!this.exports.page_new(this.handle)) throw new Error("out of memory");
+    }
+
+    // The memory of the instance, which moves when it grows.
+    bytes(place, count) {
+        return new Uint8Array(this.exports.memory.buffer, Number(place), count);
+    }
+
+    // The number that a reader writes, which says whether there was memory.
+    readNumber(reader) {
+        if (!reader(this.out)) throw new Error("out of memory");
+        return Number(new DataView(this.exports.memory.buffer).getBigUint64(Number(this.out), true));
+    }
+
+    // Calls with the place and the length of each text, which lies in the memory meanwhile.
+    withTexts(texts, call) {
+        const places = texts.map((text) => {
+            const place = this.exports.page_room(BigInt(text.length));
+            this.bytes(place, text.length).set(text);
+            return place;
+        });
+        const code = call(...texts.flatMap((text, i) => [places[i], BigInt(text.length)]));
+        for (const place of places) this.exports.page_done(place);
+        return code;
+    }
+
+    // All that a reader has from a place on.
+    read(reader, from = 0) {
+        const pieces = [];
+        let count;
+        do {
+            count = this.readNumber((out) => reader(this.handle, BigInt(from), this.room, BigInt(ROOM), out));
+            pieces.push(this.bytes(this.room, count).slice());
+            from += count;
+        } while (count === ROOM);
+        const all = new Uint8Array(pieces.reduce((sum, piece) => sum + piece.length, 0));
+        pieces.reduce((place, piece) => (all.set(piece, place), place + piece.length), 0);
+        return all;
+    }
+
+    // The text of the last answer.
+    text() {
+        return this.read(this.exports.page_text);
+    }
+
+    // What the console got from a place on.
+    console(from = 0) {
+        return this.read(this.exports.page_console, from);
+    }
+
+    steps() {
+        return this.readNumber((out) => this.exports.page_steps(this.handle, out));
+    }
+
+    // Opens a lab; returns why there is none, or nothing.
+    load(source, inputs, pages = 256, slots = 1024) {
+        const load = (...texts) => this.exports.page_load(this.handle, ...texts, pages, slots);
+        const code = this.withTexts([source, inputs], load);
+        if (code === NO_MEMORY) throw new Error("out of memory");
+        return code === REFUSED ? this.text() : null;
+    }
+
+    answer(code) {
+        if (code === NO_MEMORY) throw new Error("out of memory");
+        if (code === NO_LAB) throw new Error("no program is assembled");
+        return { next: code, text: this.text() };
+    }
+
+    // Executes a command line: its answer, and what follows it.
+    command(line) {
+        const execute = (...text) => this.exports.page_command(this.handle, ...text);
+        return this.answer(this.withTexts([line], execute));
+    }
+
+    // Goes on with a run whose answer said RUNNING.
+    goOn() {
+        return this.answer(this.exports.page_go_on(this.handle));
+    }
+
+    // The answer of a command line that begins no run, as text.
+    ask(line) {
+        return decode(this.command(encode(line)).text);
+    }
+}
