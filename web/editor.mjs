@@ -1,0 +1,96 @@
+// The editor: a text area over its coloured lines, and a gutter with the numbers and the marks of lines. Only
+// the lines in sight are drawn, so a long source costs no more than a short one.
+import { colourLine } from "./language.mjs";
+
+const BEYOND = 20; // lines that are drawn above and below those in sight
+
+export class Editor {
+    constructor({ text, colours, gutter }, { onChange, onBreakpoint }) {
+        Object.assign(this, { text, colours, gutter, lines: [""] });
+        this.faults = new Map(); // by line: the sentence
+        this.breakpoints = new Set();
+        this.here = 0; // the line at pc, or 0
+        text.addEventListener("input", () => {
+            this.changed();
+            onChange();
+        });
+        text.addEventListener("scroll", () => this.draw());
+        text.addEventListener("keydown", (event) => this.indent(event));
+        gutter.addEventListener("click", (event) => {
+            const line = event.target.closest("li")?.value;
+            if (line) onBreakpoint(line);
+        });
+        new ResizeObserver(() => this.draw()).observe(text);
+    }
+
+    get source() {
+        return this.text.value;
+    }
+
+    set source(source) {
+        this.text.value = source;
+        this.text.scrollTop = 0;
+        this.changed();
+    }
+
+    changed() {
+        this.lines = this.text.value.split("\n");
+        this.draw();
+    }
+
+    // Tab moves the focus on, as everywhere; Control+] indents.
+    indent(event) {
+        if (!event.ctrlKey || event.key !== "]") return;
+        event.preventDefault();
+        this.text.setRangeText("        ", this.text.selectionStart, this.text.selectionEnd, "end");
+        this.text.dispatchEvent(new Event("input"));
+    }
+
+    // The number of the line with the caret.
+    get line() {
+        return this.text.value.slice(0, this.text.selectionStart).split("\n").length;
+    }
+
+    get lineHeight() {
+        return parseFloat(getComputedStyle(this.text).lineHeight);
+    }
+
+    // Puts the caret at a line and the focus on the text.
+    goTo(line) {
+        const at = this.lines.slice(0, line - 1).reduce((sum, it) => sum + it.length + 1, 0);
+        this.text.focus();
+        this.text.setSelectionRange(at, at + (this.lines[line - 1] ?? "").length);
+        this.show(line);
+    }
+
+    // Scrolls a line into sight.
+    show(line) {
+        const top = (line - 1) * this.lineHeight, { scrollTop, clientHeight } = this.text;
+        const isSeen = scrollTop <= top && top <= scrollTop + clientHeight - 2 * this.lineHeight;
+        if (!isSeen) this.text.scrollTop = top - clientHeight / 3;
+        this.draw();
+    }
+
+    mark(line) {
+        if (this.faults.has(line)) return "✗";
+        if (this.here === line) return this.breakpoints.has(line) ? "◉" : "➤";
+        return this.breakpoints.has(line) ? "●" : "";
+    }
+
+    draw() {
+        const height = this.lineHeight, { scrollTop, scrollLeft, clientHeight } = this.text;
+        const first = Math.max(0, Math.floor(scrollTop / height) - BEYOND);
+        const end = Math.min(this.lines.length, Math.ceil((scrollTop + clientHeight) / height) + BEYOND);
+        const rows = [], numbers = [];
+        for (let index = first; index < end; index++) {
+            const line = index + 1;
+            const kind = `${this.here === line ? "here" : ""} ${this.faults.has(line) ? "fault" : ""}`.trim();
+            rows.push(`<div class="${kind}">${colourLine(this.lines[index])}\n</div>`);
+            numbers.push(`<li value="${line}" class="${kind}"><i>${this.mark(line)}</i>${line}</li>`);
+        }
+        this.colours.innerHTML = rows.join("");
+        this.gutter.innerHTML = numbers.join("");
+        this.colours.style.transform = `translate(${-scrollLeft}px, ${first * height - scrollTop}px)`;
+        this.gutter.style.transform = `translateY(${first * height - scrollTop}px)`;
+    }
+}

@@ -1,0 +1,47 @@
+"""inline.py TOP OUT: writes OUT/index.html, which is web/index.html with the style, the scripts, the examples
+and OUT/board.wasm in it, so that the page is one file and fetches nothing."""
+
+import base64
+import json
+import pathlib
+import re
+import sys
+
+top, out = map(pathlib.Path, sys.argv[1:])
+web = top / "web"
+
+
+# The modules of the page, each after those that it imports.
+PAGE = ["client.mjs", "language.mjs", "links.mjs", "texts.mjs", "editor.mjs", "views.mjs", "page.mjs"]
+
+
+def script(*names):
+    """The modules as one script: a line that imports is left out, and `export` is taken from the others."""
+    text = "\n".join((web / name).read_text() for name in names)
+    text = re.sub(r"^import .*\n", "", text, flags=re.M)
+    return re.sub(r"^export ", "", text, flags=re.M)
+
+
+def examples():
+    """Each example with its timed list, by its name."""
+    found = {}
+    for path in sorted([*top.glob("examples/*.s"), *top.glob("examples/lab/*.s")]):
+        inputs = path.with_name(path.name + ".input")
+        timed = inputs.read_text() if inputs.exists() else ""
+        found[path.stem] = {"source": path.read_text(), "inputs": timed}
+    return json.dumps(found).replace("</", "<\\/")
+
+
+parts = {
+    "style": (web / "style.css").read_text(),
+    "worker": script("board.mjs", "worker.mjs"),
+    "page": script(*PAGE),
+    "examples": examples(),
+    "wasm": base64.b64encode((out / "board.wasm").read_bytes()).decode(),
+}
+text = (web / "index.html").read_text()
+for name, part in parts.items():
+    mark = f"/* {name} */"
+    assert text.count(mark) == 1, mark
+    text = text.replace(mark, part.rstrip("\n"))
+(out / "index.html").write_text(text)

@@ -1,0 +1,28 @@
+// Files that are saved, and links that hold a state.
+
+export function download(name, text) {
+    const link = document.createElement("a");
+    link.href = URL.createObjectURL(new Blob([text], { type: "text/plain" }));
+    link.download = name;
+    link.click();
+    URL.revokeObjectURL(link.href);
+}
+
+async function through(stream, bytes) {
+    const piped = new Blob([bytes]).stream().pipeThrough(stream);
+    return new Uint8Array(await new Response(piped).arrayBuffer());
+}
+
+// A state as the fragment of an address: JSON, compressed, in the alphabet of addresses.
+export async function writeFragment(state) {
+    const text = new TextEncoder().encode(JSON.stringify(state));
+    const bytes = await through(new CompressionStream("deflate-raw"), text);
+    const all = btoa(Array.from(bytes, (byte) => String.fromCharCode(byte)).join(""));
+    return all.replaceAll("+", "-").replaceAll("/", "_").replaceAll("=", "");
+}
+
+export async function readFragment(fragment) {
+    const all = atob(fragment.replaceAll("-", "+").replaceAll("_", "/"));
+    const bytes = Uint8Array.from(all, (it) => it.charCodeAt(0));
+    return JSON.parse(new TextDecoder().decode(await through(new DecompressionStream("deflate-raw"), bytes)));
+}

@@ -1,0 +1,84 @@
+// The page's worker: one lab that is run and asked, and one that only assembles what is typed. A long run
+// goes in pieces, between which the pause and the page's questions come through.
+import { Board, RUNNING, encode, decode } from "./board.mjs";
+
+const PROGRESS = 100; // milliseconds between two reports of a long run
+
+let module, lab, checker;
+let paused = false;
+
+function renew() {
+    lab = new Board(module);
+    checker = new Board(module);
+}
+
+// Lets waiting messages come in.
+function breathe() {
+    return new Promise((done) => {
+        const { port1, port2 } = new MessageChannel();
+        port2.onmessage = () => {
+            port2.close();
+            done();
+        };
+        port1.postMessage(null);
+    });
+}
+
+const acts = {
+    async start(bytes) {
+        module = await WebAssembly.compile(bytes);
+        renew();
+    },
+
+    // Why a source is refused, or nothing.
+    check(source, inputs) {
+        const fault = checker.load(encode(source), encode(inputs));
+        return fault && decode(fault);
+    },
+
+    load(source, inputs) {
+        const fault = lab.load(encode(source), encode(inputs));
+        return fault && decode(fault);
+    },
+
+    // Executes a command line to its end, or up to a pause.
+    async command(line) {
+        paused = false;
+        let { next, text } = lab.command(encode(line));
+        let answer = decode(text), reported = performance.now();
+        while (next === RUNNING && !paused) {
+            if (performance.now() - reported > PROGRESS) {
+                postMessage({ steps: lab.steps() });
+                reported = performance.now();
+            }
+            await breathe();
+            ({ next, text } = lab.goOn());
+            answer += decode(text);
+        }
+        return next === RUNNING ? `${answer}paused\n${lab.ask("w")}` : answer;
+    },
+
+    // The answers of commands that only look.
+    ask: (lines) => lines.map((line) => lab.ask(line)),
+
+    console: () => decode(lab.console()),
+    steps: () => lab.steps(),
+};
+
+async function answer({ id, act, words }) {
+    try {
+        postMessage({ id, result: await acts[act](...words) });
+    } catch (error) {
+        // What the instance holds after an exception can't be relied on.
+        if (error instanceof WebAssembly.RuntimeError) renew();
+        postMessage({ id, failed: String(error.message), lost: error instanceof WebAssembly.RuntimeError });
+    }
+}
+
+let last = Promise.resolve();
+
+onmessage = ({ data }) => {
+    if (data.act === "pause") paused = true;
+    else if (data.act === "check") answer(data);
+    else last = last.then(() => answer(data));
+};
