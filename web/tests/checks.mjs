@@ -8,7 +8,7 @@ export function check(name, holds, detail = "") {
 }
 
 export function same(name, got, want) {
-    check(name, got === want, `\n  got  ${JSON.stringify(got)}\n  want ${JSON.stringify(want)}`);
+    check(name, String(got) === String(want), `\n  got  ${JSON.stringify(got)}\n  want ${JSON.stringify(want)}`);
 }
 
 export function contains(name, got, pattern) {

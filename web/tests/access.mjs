@@ -1,0 +1,120 @@
+// node web/tests/access.mjs: what a reader of the page with a keyboard, a screen reader or weak eyes needs:
+// names and roles of all controls, the order of focus, contrast in light and dark, and nothing cut at sizes in
+// use.
+import { fileURLToPath } from "node:url";
+import { check, finish, same } from "./checks.mjs";
+import { openPage } from "./chromium.mjs";
+
+const url = `file://${fileURLToPath(new URL("../../out/web/index.html", import.meta.url))}`;
+const ROLES = ["banner", "main", "toolbar", "tablist", "tabpanel", "log", "status"];
+const ORDER = [
+    ...["example", "open", "save", "link"],
+    ...["assemble", "run", "pause", "step", "over", "out", "back", "undo", "reset", "trap", "why", "break"],
+    "speed",
+    ...["text", "console", "send-text", "answer", "ask-line", "tab-control"],
+];
+const CONTROLS = new Set(["button", "textbox", "combobox", "checkbox", "switch", "tab", "listbox", "link"]);
+
+const TABS = ["control", "memory", "listing", "traps", "devices", "protection", "repeat"];
+
+// Does a check with each of the tabs in front.
+async function inEachTab(page, look) {
+    for (const tab of TABS) {
+        await page.click(`#tab-${tab}`);
+        await page.until(`!document.getElementById("panel-${tab}").hidden`);
+        await look(tab);
+    }
+    await page.click("#tab-control");
+}
+
+async function names(page, tab) {
+    const { nodes } = await page.call("Accessibility.getFullAXTree");
+    const seen = nodes.filter((node) => !node.ignored && CONTROLS.has(node.role?.value));
+    const unnamed = seen.filter((node) => !node.name?.value).map((node) => node.role.value);
+    const isNamed = seen.length >= 30 && unnamed.length === 0;
+    check(`${tab}: all of ${seen.length} controls have a name`, isNamed, unnamed.join(" "));
+}
+
+async function roles(page) {
+    const { nodes } = await page.call("Accessibility.getFullAXTree");
+    const roles = nodes.map((node) => node.role?.value);
+    for (const role of ROLES) check(`there is a ${role}`, roles.includes(role));
+}
+
+async function focusOrder(page) {
+    await page.run(`document.activeElement.blur()`);
+    const order = [];
+    for (let i = 0; i < 60; i++) {
+        await page.press("Tab");
+        order.push(await page.run("document.activeElement.id"));
+        if (order.at(-1) === ORDER.at(-1)) break;
+    }
+    const met = order.filter((id) => ORDER.includes(id));
+    same("the focus goes in the order of reading", met.join(" "), ORDER.join(" "));
+    await page.run(`document.getElementById("tab-control").focus()`);
+    await page.press("ArrowRight");
+    same("arrows move among the tabs", await page.run("document.activeElement.id"), "tab-memory");
+}
+
+// The least contrast of a text on what is behind it, over all texts in sight. (The text area's own text is
+// transparent over its coloured lines.)
+function leastContrast() {
+    const parse = (colour) => colour.match(/[\d.]+/g).map(Number);
+    const linear = (it) => (it <= 0.03928 ? it / 12.92 : ((it + 0.055) / 1.055) ** 2.4);
+    const shares = [0.2126, 0.7152, 0.0722];
+    const light = (colour) => shares.reduce((sum, share, i) => sum + share * linear(colour[i] / 255), 0);
+    const behind = (element) => {
+        const colour = parse(getComputedStyle(element).backgroundColor);
+        if (colour[3] !== 0) return colour;
+        return element.parentElement ? behind(element.parentElement) : [255, 255, 255];
+    };
+    const isText = (node) => node.nodeType === Node.TEXT_NODE && node.textContent.trim();
+    const isSeen = (element) => element.checkVisibility() && [...element.childNodes].some(isText);
+    const all = [...document.querySelectorAll("body *:not(#text)")].filter(isSeen).map((element) => {
+        const both = [light(parse(getComputedStyle(element).color)), light(behind(element))];
+        const ratio = (Math.max(...both) + 0.05) / (Math.min(...both) + 0.05);
+        return { ratio, what: element.outerHTML.slice(0, 80) };
+    });
+    return all.reduce((least, it) => (it.ratio < least.ratio ? it : least));
+}
+
+async function contrast(page, theme) {
+    const { ratio, what } = await page.run(`(${leastContrast})()`);
+    check(`${theme}: the least contrast is ${ratio.toFixed(1)}, at least 4.5`, ratio >= 4.5, what);
+}
+
+const root = "document.documentElement";
+const fits = (page) => page.run(`${root}.scrollWidth <= innerWidth`);
+const size = (page) => page.run(`[${root}.scrollWidth, ${root}.scrollHeight]`);
+const ready = (page) => page.until(`document.body.dataset.ready === "yes"`);
+
+const page = await openPage(url);
+await ready(page);
+await page.run(`(() => {
+    const examples = document.getElementById("example");
+    examples.value = "interrupt";
+    examples.dispatchEvent(new Event("change"));
+})()`);
+await page.until(`document.getElementById("text").value.startsWith("# External interrupts")`);
+await roles(page);
+await focusOrder(page);
+await inEachTab(page, async (tab) => {
+    await names(page, tab);
+    await contrast(page, `${tab}, light`);
+});
+const isInSight = (await fits(page)) && (await page.run(`${root}.scrollHeight <= innerHeight`));
+check("at 1280 by 720 all is in sight", isInSight, await size(page));
+await page.run(`${root}.style.fontSize = "200%"`);
+check("with text at twice its size nothing is cut at the side", await fits(page), await size(page));
+await page.close();
+
+const dark = await openPage(url, { dark: true });
+await ready(dark);
+await inEachTab(dark, (tab) => contrast(dark, `${tab}, dark`));
+await dark.close();
+
+const tablet = await openPage(url, { width: 820, height: 1180 });
+await ready(tablet);
+check("on a tablet nothing is cut at the side", await fits(tablet), await size(tablet));
+await tablet.close();
+finish();

@@ -1,0 +1,115 @@
+// A page in headless Chromium, by the devtools protocol over a pipe: no package is needed.
+import { spawn } from "node:child_process";
+import fs from "node:fs";
+import os from "node:os";
+import path from "node:path";
+
+const TRIES = 400, PAUSE = 25; // how often, and how many milliseconds apart, a condition is tried
+
+const textOf = ({ exception, text }) => exception?.description ?? text;
+const wait = (milliseconds) => new Promise((done) => setTimeout(done, milliseconds));
+
+export async function openPage(url, { width = 1280, height = 720, dark = false } = {}) {
+    const home = fs.mkdtempSync(path.join(os.tmpdir(), "rv-page-"));
+    const words = ["--headless", "--no-sandbox", "--disable-gpu", "--remote-debugging-pipe"];
+    const browser = spawn("chromium", [...words, `--user-data-dir=${home}`, "about:blank"], {
+        stdio: ["ignore", "ignore", "ignore", "pipe", "pipe"],
+    });
+    const waiting = new Map(), errors = [];
+    let calls = 0, rest = "", worker = null; // the session of the page's worker
+
+    function receive({ id, error, result, method, params }) {
+        if (method === "Target.attachedToTarget") worker = params.sessionId;
+        if (method === "Runtime.exceptionThrown") errors.push(textOf(params.exceptionDetails));
+        if (!id) return;
+        const { resolve, reject } = waiting.get(id);
+        waiting.delete(id);
+        if (error) reject(new Error(error.message));
+        else resolve(result);
+    }
+    browser.stdio[4].on("data", (data) => {
+        rest += data;
+        const whole = rest.split("\0");
+        rest = whole.pop();
+        for (const message of whole) receive(JSON.parse(message));
+    });
+    const send = (method, params = {}, sessionId) => new Promise((resolve, reject) => {
+        waiting.set(++calls, { resolve, reject });
+        browser.stdio[3].write(`${JSON.stringify({ id: calls, method, params, sessionId })}\0`);
+    });
+
+    const { targetId } = await send("Target.createTarget", { url: "about:blank" });
+    const { sessionId } = await send("Target.attachToTarget", { targetId, flatten: true });
+    const call = (method, params) => send(method, params, sessionId);
+    await call("Runtime.enable");
+    await call("Page.enable");
+    await call("Target.setAutoAttach", { autoAttach: true, waitForDebuggerOnStart: false, flatten: true });
+    await call("Emulation.setDeviceMetricsOverride", { width, height, deviceScaleFactor: 1, mobile: false });
+    const features = [{ name: "prefers-color-scheme", value: dark ? "dark" : "light" }];
+    await call("Emulation.setEmulatedMedia", { features });
+    await call("Page.navigate", { url });
+
+    const page = {
+        call,
+        errors,
+
+        async run(expression) {
+            const words = { expression, awaitPromise: true, returnByValue: true };
+            const { result, exceptionDetails } = await call("Runtime.evaluate", words);
+            if (exceptionDetails) throw new Error(textOf(exceptionDetails));
+            return result.value;
+        },
+
+        // Evaluates an expression in the page's worker.
+        runInWorker: (expression) => send("Runtime.evaluate", { expression }, worker),
+
+        // Waits until an expression holds, some ten seconds at most.
+        async until(expression) {
+            for (let i = 0; i < TRIES; i++) {
+                if (await page.run(expression).catch(() => false)) return;
+                await wait(PAUSE);
+            }
+            const answer = await page.run("document.getElementById('answer')?.textContent");
+            throw new Error(`never: ${expression}; the page says: ${answer}; errors: ${errors}`);
+        },
+
+        text: (selector) => page.run(`document.querySelector(${JSON.stringify(selector)}).textContent`),
+
+        async click(selector) {
+            const { x, y } = await page.run(`(() => {
+                const it = document.querySelector(${JSON.stringify(selector)});
+                it.scrollIntoView({ block: "nearest" });
+                const { x, y, width, height } = it.getBoundingClientRect();
+                return { x: x + width / 2, y: y + height / 2 };
+            })()`);
+            for (const type of ["mousePressed", "mouseReleased"]) {
+                await call("Input.dispatchMouseEvent", { type, x, y, button: "left", clickCount: 1 });
+            }
+        },
+
+        type: (text) => call("Input.insertText", { text }),
+
+        // Presses a key: its name, its code, and whether Alt is held.
+        async press(key, code = key, alt = false) {
+            const windowsVirtualKeyCode = { Enter: 13, Tab: 9, ArrowRight: 39 }[key];
+            const words = { key, code, modifiers: alt ? 1 : 0, windowsVirtualKeyCode };
+            const text = key === "Enter" ? "\r" : undefined;
+            await call("Input.dispatchKeyEvent", { type: "keyDown", text, ...words });
+            await call("Input.dispatchKeyEvent", { type: "keyUp", ...words });
+        },
+
+        alt: (key) => page.press(key.toLowerCase(), key === "0" ? "Digit0" : `Key${key}`, true),
+
+        async picture(file) {
+            const { data } = await call("Page.captureScreenshot", { format: "png" });
+            fs.writeFileSync(file, Buffer.from(data, "base64"));
+        },
+
+        async close() {
+            await send("Browser.close").catch(() => {});
+            await new Promise((done) => browser.on("exit", done));
+            fs.rmSync(home, { recursive: true, force: true });
+        },
+    };
+    return page;
+}

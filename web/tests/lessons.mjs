@@ -1,0 +1,286 @@
+// node web/tests/lessons.mjs PROGRAM [FOLDER]: lessons by clicks and keys in headless Chromium, beside what
+// the built program prints. The page is opened from disk. With FOLDER, pictures of four states are written to it.
+import { spawnSync } from "node:child_process";
+import fs from "node:fs";
+import os from "node:os";
+import path from "node:path";
+import { fileURLToPath } from "node:url";
+import { check, contains, finish, same } from "./checks.mjs";
+import { openPage } from "./chromium.mjs";
+
+const program = path.resolve(process.argv[2]), pictures = process.argv[3];
+const top = fileURLToPath(new URL("../..", import.meta.url));
+const room = fs.mkdtempSync(path.join(os.tmpdir(), "rv-lessons-"));
+const page = await openPage(`file://${top}/out/web/index.html`);
+
+const sourceOf = (name) => fs.readFileSync(`${top}/examples/${name}.s`, "utf8");
+const taskSource = sourceOf("lab/task");
+
+// What the built program prints for a source, a timed list and commands.
+function native(source, { inputs, commands, words = [] }) {
+    const all = [`${room}/source.s`, ...words];
+    fs.writeFileSync(all[0], source);
+    for (const [name, text] of Object.entries({ input: inputs, commands })) {
+        if (text === undefined) continue;
+        fs.writeFileSync(`${room}/${name}`, text);
+        all.push(`--${name}`, `${room}/${name}`);
+    }
+    return spawnSync(program, all, { maxBuffer: 1 << 28 }).stdout.toString();
+}
+
+const quoted = (text) => JSON.stringify(text);
+const picture = (name) => pictures && page.picture(`${pictures}/${name}.png`);
+const idle = () => page.until(`document.getElementById("pause").getAttribute("aria-disabled") === "true"`);
+const answered = `document.getElementById("answer").textContent`;
+const answers = (text) => page.until(`${answered}.includes(${quoted(text)})`);
+const answer = () => page.text("#answer");
+const where = () => page.text("#where");
+
+const isAtReset = () => page.until(`/step 0$/.test(document.getElementById("where").textContent)`);
+
+// Puts a source and a timed list into the page, and assembles them.
+async function open(source, inputs = "") {
+    await idle();
+    await page.run(`(() => {
+        const text = document.getElementById("text");
+        text.value = ${quoted(source)};
+        text.dispatchEvent(new Event("input"));
+        document.getElementById("inputs").value = ${quoted(inputs)};
+        document.getElementById("answer").textContent = "";
+    })()`);
+    await page.alt("A");
+    await answers("Assembled");
+    await isAtReset();
+}
+
+// Chooses an example from the list.
+async function choose(name) {
+    await idle();
+    await page.run(`(() => {
+        const examples = document.getElementById("example");
+        document.getElementById("answer").textContent = "";
+        examples.value = ${quoted(name)};
+        examples.dispatchEvent(new Event("change"));
+    })()`);
+    await answers("Assembled");
+    await isAtReset();
+}
+
+// Types over the first place of a text in the source.
+async function typeOver(old, text) {
+    await page.run(`(() => {
+        const text = document.getElementById("text"), at = text.value.indexOf(${quoted(old)});
+        text.focus();
+        text.setSelectionRange(at, at + ${old.length});
+    })()`);
+    await page.type(text);
+}
+
+// Gives a command of the lab.
+async function lab(line, expected) {
+    await page.click("#ask-line");
+    await page.type(line);
+    await page.press("Enter");
+    await answers(expected);
+    await idle();
+}
+
+// The console and the last line, as rvboard prints them.
+async function printed() {
+    const sent = await page.text("#console"), said = await answer();
+    const [, code, steps] = said.match(/halted with code (\d+) after (\d+) steps?/) ?? [];
+    const end = sent && !sent.endsWith("\n") ? "\n" : "";
+    return `${sent}${end}halted ${code} after ${steps} steps\n`;
+}
+
+async function allExamples() {
+    const files = fs.readdirSync(`${top}/examples`);
+    for (const file of files.filter((it) => it.endsWith(".s") && !files.includes(`${it}.commands`))) {
+        await choose(file.slice(0, -2));
+        await page.alt("R");
+        await answers("halted with code");
+        await idle();
+        same(`example ${file}`, await printed(), fs.readFileSync(`${top}/examples/${file}.stdout`, "utf8"));
+    }
+}
+
+async function fault() {
+    await choose("hello");
+    const source = sourceOf("hello");
+    await typeOver("li", "lx");
+    await page.until(`document.querySelectorAll("#faults li").length > 0`);
+    const line = source.split("\n").findIndex((it) => /\bli /.test(it)) + 1;
+    same("a fault is marked at its line as one types", await page.text("#gutter .fault"), `✗${line}`);
+    contains("its sentence stands below", await page.text("#faults"), /UnknownWord/);
+    await picture("page-fault");
+    await typeOver("lx", "li");
+    await page.until(`document.querySelectorAll("#faults li").length === 0`);
+    check("mended, no line is marked", !(await page.run(`!!document.querySelector("#gutter .fault")`)));
+}
+
+async function breakpoint() {
+    await choose("session");
+    const line = sourceOf("session").split("\n").findIndex((it) => /^add:/.test(it)) + 1;
+    await page.click(`#gutter li[value="${line}"]`);
+    await answers(`breakpoint at line ${line}`);
+    await page.alt("R");
+    await answers("breakpoint after 4 steps");
+    await idle();
+    await page.until(`document.querySelector("#gutter .here")?.value === ${line}`);
+    check("the run stops at the breakpoint's line", true);
+    const tops = (id) => `[...document.getElementById("${id}").children].map((it) => it.getBoundingClientRect().top)`;
+    same("each line stands beside its number", await page.run(tops("colours")), await page.run(tops("gutter")));
+    await page.alt("S");
+    await answers("step 5");
+    await page.until(`/step 5$/.test(document.getElementById("where").textContent)`);
+    contains("a step shows the register that it changed", await page.text("#registers .changed"), /t2/);
+    await picture("page-breakpoint");
+    await page.alt("B");
+    await answers("back at step 4");
+    await page.until(`document.querySelector("#gutter .here")?.value === ${line}`);
+    check("back is the line before", true);
+    await page.click(`#gutter li[value="${line}"]`);
+    await answers("no more breakpoint");
+    await page.alt("T");
+    await answers("trap 4");
+    await idle();
+    await page.alt("Y");
+    await page.until(`document.getElementById("answer").textContent.startsWith("step 10")`);
+    contains("the first trap without a handler is explained", await answer(), /^step 10: trap 4/);
+}
+
+// Without a mouse: a breakpoint at the caret's line, and a run that takes some steps a second.
+async function byKeys() {
+    await choose("hello");
+    await typeOver("sw ", "sw ");
+    await page.alt("K");
+    await answers("breakpoint at line 5");
+    await page.run(`document.getElementById("speed").value = "50"`);
+    await idle();
+    await page.alt("R");
+    await answers("breakpoint after 1 step");
+    await idle();
+    contains("a slow run stops at a breakpoint", await page.text("#where"), /80000008,.* step 2$/);
+    await page.run(`document.getElementById("speed").value = "2"`);
+    await page.alt("R");
+    await answers("still running");
+    await page.alt("P");
+    await idle();
+    contains("a pause ends a slow run", await page.text("#where"), /step 3$/);
+    await page.run(`document.getElementById("speed").value = "0"`);
+}
+
+async function byHand() {
+    await open(sourceOf("echo"));
+    await lab("s 50", "stopped after 50 steps");
+    await page.click("#send-text");
+    await page.type("Hi!");
+    await page.press("Enter");
+    await answers("4 inputs before step 50");
+    await page.alt("R");
+    await answers("halted with code 0");
+    await idle();
+    const end = await printed();
+    contains("bytes sent by hand come back", end, /^Hi!\n/);
+    await page.click("#tab-repeat");
+    await page.until(`document.querySelector("#panel-repeat .shown").textContent.includes("rx")`);
+    const inputs = await page.text("#panel-repeat .shown");
+    const commands = await page.text("#panel-repeat .commands");
+    const words = (await page.text("#panel-repeat .options")).match(/--steps.*/)[0].split(" ");
+    const last = (text) => text.split("\n").slice(-3).join("\n");
+    same("what is saved repeats natively", last(native(sourceOf("echo"), { inputs, commands, words })), end);
+}
+
+async function interruptLine() {
+    await open(sourceOf("interrupt"));
+    await lab("s 30", "stopped after 30 steps");
+    await page.click("#tab-devices");
+    await page.until(`/mtime 30,/.test(document.querySelector("#panel-devices .shown").textContent)`);
+    await page.click('#lines [value="5"]');
+    await page.until(`document.querySelector('#lines [value="5"]').ariaChecked === "true"`);
+    await idle();
+    await picture("page-devices");
+    await page.alt("T");
+    await answers("external interrupt");
+    check("a line that is raised by hand is taken as an interrupt", true);
+    await page.click("#tab-traps");
+    await page.until(`document.querySelector("#panel-traps .shown").textContent.includes("external")`);
+    check("the trap is among the last ones", true);
+}
+
+async function protection() {
+    await choose("task");
+    await page.click("#tab-protection");
+    await page.alt("T");
+    await answers("trap 7");
+    await page.until(`/store at 80001018/.test(document.getElementById("panel-protection").textContent)`);
+    const rows = `[...document.querySelectorAll("#panel-protection tr")].map((it) => it.textContent)`;
+    const row = (await page.run(rows)).find((it) => it.includes("80001018"));
+    contains("the map shows where the task was stopped, and what it may do", row, /80001000 – 80001fff.*r-x/);
+    await picture("page-protection");
+}
+
+async function link() {
+    await choose("task");
+    await page.click(`#gutter li[value="4"]`);
+    await answers("breakpoint at line");
+    await page.click("#link");
+    await page.until(`location.hash.length > 10`);
+    const address = await page.run("location.href");
+    await page.run(`document.body.dataset.ready = ""`);
+    await page.call("Page.navigate", { url: "about:blank" });
+    await page.call("Page.navigate", { url: address });
+    await page.until(`document.body.dataset.ready === "yes"`);
+    same("a link holds the source", await page.run(`document.getElementById("text").value`), taskSource);
+    contains("and the breakpoint", await page.text("#gutter"), /◉/);
+}
+
+async function longRun() {
+    const source = fs.readFileSync(`${top}/bench/loop.s`, "utf8");
+    await open(source);
+    await page.alt("R");
+    await page.until(`!document.getElementById("progress").hidden`);
+    const progress = await page.text("#progress");
+    contains("a long run counts its steps", progress, /^Running: step [\d,]+, [\d.]+ million steps a /);
+    await answers("halted with code");
+    await idle();
+    const words = ["--steps", "1000000000"];
+    same("32 million steps end as natively", await printed(), native(source, { words }));
+    await page.alt("0");
+    await answers("back at step 0");
+    await idle();
+    await page.alt("R");
+    await page.until(`!document.getElementById("progress").hidden`);
+    await page.alt("P");
+    await answers("paused");
+    await idle();
+    check("a pause ends the run", true);
+}
+
+// The instance gets a handle that is none, so that its next call has an exception.
+async function lost() {
+    await choose("hello");
+    await page.runInWorker("lab.handle = 0xfffffff0n");
+    await page.alt("S");
+    await answers("made anew: assemble again");
+    await page.alt("A");
+    await answers("Assembled");
+    await page.alt("R");
+    await answers("halted with code 0");
+    await idle();
+    check("after an exception the board is made anew, and a line says so", true);
+}
+
+await page.until(`document.body.dataset.ready === "yes"`);
+const lessons = [allExamples, fault, breakpoint, byKeys, byHand, interruptLine, protection, link, longRun, lost];
+for (const lesson of lessons) {
+    try {
+        await lesson();
+    } catch (error) {
+        check(lesson.name, false, error.message);
+    }
+}
+same("the page has no error", page.errors.join("\n"), "");
+await page.close();
+fs.rmSync(room, { recursive: true });
+finish();
