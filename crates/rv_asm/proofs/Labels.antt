@@ -36,3 +36,6 @@ up_to_newly k known next (label.Name name) e h =
 up_to_newly k known next (label.Local number) e h =
     let same : labelled k known (label.Local number ∷ []) ≡ next =
     cc in rw (← same) (up_to_labelled k known (label.Local number) h)
+
+pub up_to_same : (k : ℕ) (known next : Known) → next ≡ known → IsUpTo k known → IsUpTo k next
+up_to_same k known next e h = rw e h

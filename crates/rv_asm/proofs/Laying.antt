@@ -28,7 +28,7 @@ value_of-append [] ys name = refl
 value_of-append (d ∷ ds) ys name = grind (arith, value_of-append ds ys name)
 
 -- the two lists define the same names
-abbrev DefinesSame : List (List ℕ × ℤ) → List (List ℕ × ℤ) → Type 0
+abbrev pub DefinesSame : List (List ℕ × ℤ) → List (List ℕ × ℤ) → Type 0
 DefinesSame xs ys = (name : List ℕ) → is_some (value_of xs name) ≡ is_some (value_of ys name)
 
 same_by : (b : Bool) (x y : Option ℤ) (v w : ℤ) → is_some x ≡ is_some y →
@@ -38,7 +38,7 @@ same_by true (Some x) y v w h = refl
 same_by false None y v w h = h
 same_by false (Some x) y v w h = h
 
-same_more : (xs ys : List (List ℕ × ℤ)) (v w : ℤ) (name : List ℕ) → DefinesSame xs ys →
+pub same_more : (xs ys : List (List ℕ × ℤ)) (v w : ℤ) (name : List ℕ) → DefinesSame xs ys →
     DefinesSame (xs ++ (name, v) ∷ []) ((name, w) ∷ ys)
 same_more xs ys v w name h other =
     rw (value_of-append xs ((name, v) ∷ []) other)
@@ -52,7 +52,7 @@ pub unlabelled : (k : ℕ) (known : Known) → labelled k known [] ≡ known
 unlabelled k known = rw (append-nil, append-nil) refl
 
 -- one label, and then others
-more_labels : (k : ℕ) (known : Known) (l : Label) (ls : List Label) →
+pub more_labels : (k : ℕ) (known : Known) (l : Label) (ls : List Label) →
     labelled k (labelled k known (l ∷ [])) ls ≡ labelled k known (l ∷ ls)
 more_labels k known (label.Name name) ls = rw (append_assoc, append-nil) refl
 more_labels k known (label.Local number) ls = rw (append-nil, append_assoc) refl
@@ -122,7 +122,7 @@ stated_by : (k : ℕ) (known after : Known) (fault : Option FaultKind)
 stated_by k known after (Some kind) = refl
 stated_by k known after None = refl
 
-not_stated : (k : ℕ) (known : Known) → stated k known None ≡ known
+pub not_stated : (k : ℕ) (known : Known) → stated k known None ≡ known
 not_stated k known = rw (append-nil, add-zero) refl
 
 statement_is : (k : ℕ) (known : Known) (statement : Option Statement) →

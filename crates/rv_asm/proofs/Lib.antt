@@ -15,6 +15,7 @@ pub mod Reading
 pub mod Takes
 pub mod Whole
 pub mod Nearest
-pub mod Diagnoses
+pub mod Judging
+pub mod Diagnosing
 pub mod Listings
 pub mod Lined

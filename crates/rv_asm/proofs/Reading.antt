@@ -87,12 +87,12 @@ first_more fault n m f le h = let e : n + (m - n) ≡ m = omega arith in rw e at
 
 -- ---- one more line
 
-record IsAt {X : Type 0} (xs : List X) (n : ℕ) (x : X) (ys : List X) (d : X) : Type 0 where
-  below : n < length xs
-  item : get_or xs n d ≡ x
-  after : drop (suc n) xs ≡ ys
+pub record IsAt {X : Type 0} (xs : List X) (n : ℕ) (x : X) (ys : List X) (d : X) : Type 0 where
+  pub below : n < length xs
+  pub item : get_or xs n d ≡ x
+  pub after : drop (suc n) xs ≡ ys
 
-dropped : {X : Type 0} (xs : List X) (n : ℕ) (x : X) (ys : List X) (d : X) → drop n xs ≡ x ∷ ys →
+pub dropped : {X : Type 0} (xs : List X) (n : ℕ) (x : X) (ys : List X) (d : X) → drop n xs ≡ x ∷ ys →
     IsAt xs n x ys d
 dropped [] zero x ys d e = absurd cc
 dropped [] (suc n) x ys d e = absurd cc
@@ -180,7 +180,7 @@ module _ (texts rest : List (List ℕ)) (n : ℕ) (so : SoFar texts rest n) wher
 
 -- ---- a line that can't be read
 
-unread_bind : (fault : LineFault) (r : Result Written LineFault) (f : Written → Result Said LineFault) →
+pub unread_bind : (fault : LineFault) (r : Result Written LineFault) (f : Written → Result Said LineFault) →
     LineFails fault r → LineFails fault (r >>= f)
 unread_bind line.OutOfMemory r f h = h
 unread_bind line.BadByte r f h = rw h refl
@@ -204,7 +204,7 @@ said_of text read w = rw w refl
 abbrev pub with_labels : List Label → Result (Option Statement) LineFault → Result Said LineFault
 with_labels labels m = m >>= λ s. Ok (record { labels = labels; statement = s })
 
-fails_by : (fault : LineFault) (r : Result Said LineFault) → r ≡ Err fault → LineFails fault r
+pub fails_by : (fault : LineFault) (r : Result Said LineFault) → r ≡ Err fault → LineFails fault r
 fails_by line.OutOfMemory r h = tt
 fails_by line.BadByte r h = h
 fails_by line.LineTooLong r h = h

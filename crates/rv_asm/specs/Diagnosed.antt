@@ -1,8 +1,63 @@
--- What is said of the fault of a source.
+-- The faults of all lines of a source, and what is said of them.
 -- To audit: public contracts cite this.
-use Rattle.std.specs.Prelude.{◌≡◌, ℕ, ◌+◌, ◌-◌, ◌≤◌, ◌<◌, List, [], length, get_or, Option, Some, None, Result, Ok, Err}
+-- Lines are counted from 0 here, but from 1 in a fault and in a diagnosis.
+use Rattle.std.specs.Prelude.{◌≡◌, ℕ, zero, suc, ◌+◌, ◌-◌, ◌≤◌, ◌<◌, List, [], ◌∷◌, map, length, get_or, set, ℤ, pos, Option, Some, None, is_some, if◌then◌else◌, Result, Ok, Err}
+use Rattle.std.specs.Option.{option_map_or}
+use Rattle.std.specs.List.{All}
+use Rattle.rv_source.specs.Reading.{Said}
+use Rattle.rv_source.specs.declared.line.Label.{Label}
+use Rattle.rv_source.specs.declared.line.Label.TheVariants as label
+use Rattle.rv_program.specs.declared.fault.FaultKind.{FaultKind}
 use Rattle.rv_program.specs.declared.fault.AsmFault.{AsmFault}
+use Rattle.rv_asm.specs.Symbols.{value_of}
+use Rattle.rv_asm.specs.Layout.{line_at, names, phase_two_fault}
+use Rattle.rv_asm.specs.Assembly.{joined, all_said, phase_one_fault, phase_three_fault}
 use Rattle.rv_asm.specs.declared.diagnosis.Diagnosis.{Diagnosis}
+
+-- ---- the faults of all lines
+
+-- the faults of those of the first n lines that have one, in order
+abbrev pub all_faults : (ℕ → Option FaultKind) → ℕ → List AsmFault
+all_faults fault n =
+    joined (λ k. option_map_or (λ kind. record { line = suc k; kind = kind } ∷ []) (fault k) []) n
+
+-- the labels of a line but those that define a name a second time
+abbrev pub new_labels : List (List ℕ × ℤ) → List Label → List Label
+new_labels known [] = []
+new_labels known (label.Name name ∷ ls) = if is_some (value_of known name) then new_labels known ls
+    else label.Name name ∷ new_labels ((name, pos 0) ∷ known) ls
+new_labels known (label.Local number ∷ ls) = label.Local number ∷ new_labels known ls
+
+-- line k without its statement, and without labels that define a name a second time
+abbrev pub cleared : List Said → ℕ → Said
+cleared lines k =
+    record { labels = new_labels (names lines k) (line_at lines k).labels; statement = None }
+
+-- the lines, of which those of the first n that are faulty in phase two, each judged by the lines that are
+-- kept before it, are cleared
+unfoldable pub kept : List Said → ℕ → List Said
+kept lines zero = lines
+kept lines (suc k) =
+    let ls = kept lines k in
+    if is_some (phase_two_fault ls k) then set ls k (cleared ls k) else ls
+
+-- the fault of line k in phase two, judged so
+abbrev pub judged : List Said → ℕ → Option FaultKind
+judged lines k = phase_two_fault (kept lines k) k
+
+abbrev pub unless_faulty : List AsmFault → List AsmFault → List AsmFault
+unless_faulty [] later = later
+unless_faulty (fault ∷ faults) later = fault ∷ faults
+
+-- the faults of a source in the first phase that has one
+unfoldable pub faults_of : List (List ℕ) → List AsmFault
+faults_of texts =
+    let n = length texts in
+    unless_faulty (all_faults (phase_one_fault texts) n)
+    (unless_faulty (all_faults (judged (all_said texts)) n)
+    (all_faults (phase_three_fault (all_said texts)) n))
+
+-- ---- a diagnosis
 
 -- the line of a diagnosis, counted from 1, and the kind of its fault
 abbrev pub fault_of : Diagnosis → AsmFault
@@ -12,6 +67,16 @@ fault_of d = record { line = d.line; kind = d.kind }
 pub record LiesIn (texts : List (List ℕ)) (d : Diagnosis) : Type 0 where
   pub from : 0 < d.column
   pub to : d.column - 1 + d.length ≤ length (get_or texts (d.line - 1) [])
+
+-- these faults are diagnosed, each in its line
+pub record Diagnoses (texts : List (List ℕ)) (faults : List AsmFault) (ds : List Diagnosis) : Type 0 where
+  pub each : map fault_of ds ≡ faults
+  pub places : All (LiesIn texts) ds
+
+-- the first of some faults
+abbrev pub first_of : List AsmFault → Option AsmFault
+first_of [] = None
+first_of (fault ∷ faults) = Some fault
 
 -- the fault of a result
 abbrev pub fault_in : {A : Type 0} → Result A AsmFault → Option AsmFault

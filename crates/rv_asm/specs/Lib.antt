@@ -10,3 +10,4 @@ pub mod Taken
 pub mod Lines
 pub mod Looked
 pub mod Diagnosed
+pub mod Judged

@@ -86,7 +86,11 @@ pub fn lay_out<'a>(
 }
 
 /// Returns the bytes of all statements: phase three.
-fn image(alloc: Global, items: &[PlacedStatement], symbols: &Symbols) -> Result<Vec<u8>, AsmFault>
+pub fn image(
+    alloc: Global,
+    items: &[PlacedStatement],
+    symbols: &Symbols,
+) -> Result<Vec<u8>, AsmFault>
     ensures { Gives (λ v. v.items) result (image_of symbols.now items.now) }
 {
     let mut out = Vec::new(alloc);

@@ -60,6 +60,8 @@ pub enum Detail {
     OutOfRange { field: Field, value: i64 },
     /// The address of the statement.
     Address(u32),
+    /// The line on which the name was defined first, counted from 1.
+    DefinedOn(usize),
 }
 
 /// What is wrong with a line, and where.

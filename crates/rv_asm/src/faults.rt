@@ -1,51 +1,69 @@
 //! What is wrong with a source that is refused, and where.
-ghost use Rattle.std.specs.Prelude.{◌≡◌, ◌+◌, ◌≤◌, [], get_or, length, IfOk, IfSome};
+ghost use Rattle.std.specs.Prelude.{◌≡◌, ◌+◌, ◌-◌, ◌≤◌, ◌<◌, ◌++◌, length, map, Some, IfOk, OnOk};
 ghost use Rattle.std.specs.List.{All};
 ghost use Rattle.std.specs.Option.{option_map};
+ghost use Rattle.std.specs.Result.{result_err};
 ghost use Rattle.rv_base.specs.Lines.{lines};
-ghost use Rattle.rv_asm.specs.Assembly.{assembled};
-ghost use Rattle.rv_asm.specs.Diagnosed.{fault_of, fault_in, LiesIn};
+ghost use Rattle.rv_source.specs.Reading.{said};
+ghost use Rattle.rv_program.specs.Faults.{kind_of};
+ghost use Rattle.rv_asm.specs.Assembly.{all_said, assembled, phase_one_fault, phase_three_fault};
+ghost use Rattle.rv_asm.specs.Layout.{definitions};
+ghost use Rattle.rv_asm.specs.Steps.{start, known_before, image_of};
+ghost use Rattle.rv_asm.specs.Diagnosed.{all_faults, kept, judged, faults_of, fault_of, fault_in, first_of, Diagnoses};
+ghost use Rattle.rv_asm.specs.Judged.{IsUnreadBy, IsFound, Judges, Tries, listed};
 
-use crate::assembler::{assemble, lay_out};
+use crate::FaultKind;
+use crate::assembler::image;
 use crate::diagnosis::{Detail, Diagnosis, Finding};
-use crate::finding::{defined_label, early_finding, label_finding, late_finding};
+use crate::finding::{early_finding, label_finding, late_finding};
 use crate::layout::Known;
-use crate::listing::pass;
-use crate::symbols::Scope;
-use crate::{AsmFault, FaultKind};
+use crate::origins::Origins;
+use crate::placement::PlacedStatement;
+use crate::symbols::{Scope, Symbols};
 use rv_base::{NoMemory, cut_lines};
-use rv_source::{LineFault, fault_spot, read_line, whole_line};
+use rv_source::{Line, LineFault, Statement, fault_spot, read_line, whole_line};
 use std::alloc::Global;
 
-/// Returns the line with an index, counted from 0; nothing if there are fewer lines.
-fn line_text(source: &[u8], index: usize) -> &[u8]
-    ensures { result.now ≡ get_or (lines source.now) index [] }
+/// Returns the diagnosis of a line by the place that its fault means.
+fn diagnosed(number: usize, text: &[u8], kind: FaultKind, finding: Finding) -> Diagnosis
+    requires counted { number < 0xffffffffffffffff }
+    requires place { finding.place.column + finding.place.len ≤ length text.now }
+    ensures { IsFound number text.now (Some kind) (Some result) }
 {
-    let mut left = index;
-    for text in cut_lines(source) {
-        if left == 0 {
-            return text;
-        }
-        left -= 1;
+    let Finding { place, detail } = finding;
+    Diagnosis {
+        line: number + 1,
+        kind,
+        column: place.column + 1,
+        length: place.len,
+        detail,
     }
-    &[]
 }
 
-/// Lays out the lines before the one with an index.
-fn lay_out_before(alloc: Global, source: &[u8], index: usize) -> Result<Known, NoMemory>
-    ensures { IfOk result (λ known. All (λ d. d.line ≤ index) known.definitions.locals) }
+/// Appends a diagnosis, if there is one.
+fn append(found: Option<Diagnosis>, out: &mut Vec<Diagnosis>) -> Result<(), NoMemory>
+    ensures { OnOk result (out.new.items ≡ out.old.items ++ listed found) }
 {
-    let mut known = Known::new(alloc);
-    let mut labels = Vec::new(alloc);
-    let mut number: usize = 0;
-    for text in cut_lines(source) {
-        if number == index {
-            return Ok(known);
-        }
-        pass(alloc, number, text, &mut known, &mut labels)?;
-        number += 1;
+    let Some(diagnosis) = found else {
+        return Ok(());
+    };
+    match out.push(diagnosis) {
+        Ok(()) => Ok(()),
+        Err(_) => Err(NoMemory),
     }
-    Err(NoMemory)
+}
+
+// ---- phase one
+
+/// Returns the fault of a line that can't be read.
+#[tactic(auto, using(crate::proofs::Reading::read_statement, crate::proofs::Judging::line_fails, crate::proofs::Judging::statement_fails))]
+fn unread(alloc: Global, text: &[u8]) -> Option<LineFault>
+    ensures { IsUnreadBy (said text.now) result }
+{
+    match read_line(alloc, text) {
+        Ok(line) => line.statement().err(),
+        Err(fault) => Some(fault),
+    }
 }
 
 /// Returns the place that a fault in phase one means.
@@ -61,137 +79,216 @@ fn reading_finding(alloc: Global, text: &[u8], fault: LineFault) -> Result<Findi
     Ok(Finding { place, detail })
 }
 
-/// Returns the place of a line as a whole.
-fn whole(text: &[u8]) -> Finding
-    ensures { result.place.column + result.place.len ≤ length text.now }
+/// Returns the diagnosis of a line that can't be read.
+fn find_unread(alloc: Global, number: usize, text: &[u8]) -> Result<Option<Diagnosis>, NoMemory>
+    requires { number < 0xffffffffffffffff }
+    ensures { IfOk result (IsFound number text.now (option_map kind_of (result_err (said text.now)))) }
 {
-    Finding {
-        place: whole_line(text),
-        detail: Detail::Nothing,
+    let Some(fault) = unread(alloc, text) else {
+        return Ok(None);
+    };
+    let kind = FaultKind::from(fault);
+    if kind.number() == 12 {
+        return Err(NoMemory);
     }
+    let finding = reading_finding(alloc, text, fault)?;
+    Ok(Some(diagnosed(number, text, kind, finding)))
 }
 
-/// Returns the place in the line with an index that its fault in phase two means.
-fn layout_finding(
-    alloc: Global,
-    source: &[u8],
-    index: usize,
-    text: &[u8],
-    kind: FaultKind,
-) -> Result<Finding, NoMemory>
-    ensures { IfOk result (λ f. f.place.column + f.place.len ≤ length text.now) }
+/// Returns the diagnoses of the lines that are faulty in phase one.
+fn diagnose_reading(alloc: Global, source: &[u8]) -> Result<Vec<Diagnosis>, NoMemory>
+    ensures { IfOk result (λ ds. Diagnoses (lines source.now) (all_faults (phase_one_fault (lines source.now)) (length (lines source.now))) ds.items) }
 {
-    let mut known = lay_out_before(alloc, source, index)?;
+    let mut out = Vec::new(alloc);
+    let mut number: usize = 0;
+    for text in cut_lines(source) {
+        let found = find_unread(alloc, number, text)?;
+        append(found, &mut out)?;
+        number += 1;
+    }
+    Ok(out)
+}
+
+// ---- phase two
+
+/// Judges a line in phase two, by the lines before it but what is faulty in them. What is faulty in this one
+/// is left out as well.
+fn judge(
+    alloc: Global,
+    number: usize,
+    text: &[u8],
+    known: &mut Known,
+    origins: &Origins,
+) -> Result<Option<Diagnosis>, NoMemory>
+    requires up_to { All (λ d. d.line ≤ number) known.old.definitions.locals }
+    requires counted { number < 0xffffffffffffffff }
+    ensures { IfOk result (Judges number text.now known.old known.new) }
+{
     let Ok(line) = read_line(alloc, text) else {
         return Err(NoMemory);
     };
-    let label = defined_label(&known.symbols().names, line.labels());
-    if known.labels(alloc, index, line.labels()).is_err() {
-        return Ok(label_finding(text, label));
-    }
-    let scope = Scope {
-        symbols: known.symbols(),
-        line: index,
-        here: known.address(),
+    let Ok(statement) = line.statement() else {
+        return Err(NoMemory);
     };
-    match line.statement() {
-        Ok(Some(statement)) => early_finding(alloc, scope, text, &line, &statement, kind),
-        _ => Ok(whole(text)),
+    if let Some(index) = known.new_labels(alloc, number, line.labels())? {
+        let scope = known.scope(number);
+        let finding = label_finding(scope, origins, text, line.labels(), index);
+        let kind = FaultKind::DuplicateSymbol;
+        return Ok(Some(diagnosed(number, text, kind, finding)));
     }
+    let Some(statement) = statement else {
+        return Ok(None);
+    };
+    let kind = match known.advance(alloc, number, &statement) {
+        Ok(_) => return Ok(None),
+        Err(kind) => kind,
+    };
+    if kind.number() == 12 {
+        return Err(NoMemory);
+    }
+    let scope = known.scope(number);
+    let finding = early_finding(alloc, scope, origins, text, &line, &statement, kind)?;
+    Ok(Some(diagnosed(number, text, kind, finding)))
 }
 
-/// Returns the place in the line with an index that its fault in phase three means.
+/// Returns the diagnoses of the lines that are faulty in phase two, of a source without a fault in phase one.
+fn diagnose_layout(
+    alloc: Global,
+    source: &[u8],
+    known: &mut Known,
+) -> Result<Vec<Diagnosis>, NoMemory>
+    requires { known.old ≡ start }
+    ensures all { IfOk result (λ ds. Diagnoses (lines source.now) (all_faults (judged (all_said (lines source.now))) (length (lines source.now))) ds.items) }
+    ensures known { OnOk result (known.new ≡ known_before (kept (all_said (lines source.now)) (length (lines source.now))) (length (lines source.now))) }
+{
+    let mut out = Vec::new(alloc);
+    let mut origins = Origins::new(alloc);
+    let mut number: usize = 0;
+    for text in cut_lines(source) {
+        let found = judge(alloc, number, text, known, &origins)?;
+        append(found, &mut out)?;
+        number += 1;
+        origins.note(&known.symbols().names, number)?;
+    }
+    Ok(out)
+}
+
+// ---- phase three
+
+/// Returns the place that the fault of a line in phase three means.
 fn value_finding(
     alloc: Global,
-    source: &[u8],
-    index: usize,
+    scope: Scope,
     text: &[u8],
+    line: &Line,
+    statement: &Option<Statement>,
 ) -> Result<Finding, NoMemory>
     ensures { IfOk result (λ f. f.place.column + f.place.len ≤ length text.now) }
 {
-    let before = lay_out_before(alloc, source, index)?;
-    let here = before.address();
-    let mut known = Known::new(alloc);
-    let mut items = Vec::new(alloc);
-    if lay_out(alloc, source, &mut known, &mut items).is_err() {
+    match statement {
+        Some(statement) => late_finding(alloc, scope, text, line, statement),
+        None => Ok(Finding {
+            place: whole_line(text),
+            detail: Detail::Nothing,
+        }),
+    }
+}
+
+/// Returns the kind of the fault for which the bytes of statements can't be written.
+#[tactic(auto, using(crate::proofs::Judging::not_written))]
+fn unwritten(
+    alloc: Global,
+    items: &[PlacedStatement],
+    symbols: &Symbols,
+) -> Result<Option<FaultKind>, NoMemory>
+    ensures { IfOk result (λ kind. kind ≡ option_map (λ fault. fault.kind) (fault_in (image_of symbols.now items.now))) }
+{
+    let kind = match image(alloc, items, symbols) {
+        Ok(_) => return Ok(None),
+        Err(fault) => fault.kind,
+    };
+    if kind.number() == 12 {
         return Err(NoMemory);
     }
+    Ok(Some(kind))
+}
+
+/// Lays out a line, and tries to write its bytes with all symbols of the source.
+#[tactic(auto, using(crate::proofs::Reading::read_statement, crate::proofs::Judging::tried))]
+fn try_line(
+    alloc: Global,
+    number: usize,
+    text: &[u8],
+    known: &mut Known,
+    symbols: &Symbols,
+) -> Result<Option<Diagnosis>, NoMemory>
+    requires up_to { All (λ d. d.line ≤ number) known.old.definitions.locals }
+    requires counted { number < 0xffffffffffffffff }
+    ensures { IfOk result (Tries number text.now symbols.now known.old known.new) }
+{
     let Ok(line) = read_line(alloc, text) else {
         return Err(NoMemory);
     };
+    let Ok(statement) = line.statement() else {
+        return Err(NoMemory);
+    };
+    let here = known.address();
+    let mut items = Vec::new(alloc);
+    let Ok(()) = known.add(alloc, number, text, line.labels(), &statement, &mut items) else {
+        return Err(NoMemory);
+    };
+    let Some(kind) = unwritten(alloc, &items, symbols)? else {
+        return Ok(None);
+    };
     let scope = Scope {
-        symbols: known.symbols(),
-        line: index,
+        symbols,
+        line: number,
         here,
     };
-    match line.statement() {
-        Ok(Some(statement)) => late_finding(alloc, scope, text, &line, &statement),
-        _ => Ok(whole(text)),
-    }
+    let finding = value_finding(alloc, scope, text, &line, &statement)?;
+    Ok(Some(diagnosed(number, text, kind, finding)))
 }
 
-/// Returns the place in the line with an index that its fault means.
-fn finding(
+/// Returns the diagnoses of the lines that are faulty in phase three, of a source without a fault in the
+/// phases before, which has these symbols.
+fn diagnose_values(
     alloc: Global,
     source: &[u8],
-    index: usize,
-    text: &[u8],
-    kind: FaultKind,
-) -> Result<Finding, NoMemory>
-    ensures { IfOk result (λ f. f.place.column + f.place.len ≤ length text.now) }
+    symbols: &Symbols,
+) -> Result<Vec<Diagnosis>, NoMemory>
+    requires { symbols.now ≡ definitions (all_said (lines source.now)) }
+    ensures { IfOk result (λ ds. Diagnoses (lines source.now) (all_faults (phase_three_fault (all_said (lines source.now))) (length (lines source.now))) ds.items) }
 {
-    match kind {
-        FaultKind::BadByte => reading_finding(alloc, text, LineFault::BadByte),
-        FaultKind::LineTooLong => reading_finding(alloc, text, LineFault::LineTooLong),
-        FaultKind::Syntax => reading_finding(alloc, text, LineFault::Syntax),
-        FaultKind::UnknownWord => reading_finding(alloc, text, LineFault::UnknownWord),
-        FaultKind::BadOperands => reading_finding(alloc, text, LineFault::BadOperands),
-        FaultKind::DuplicateSymbol
-        | FaultKind::NotConstant
-        | FaultKind::Misplaced
-        | FaultKind::TooLarge => layout_finding(alloc, source, index, text, kind),
-        FaultKind::Undefined | FaultKind::OutOfRange => {
-            value_finding(alloc, source, index, text)
-        }
-        FaultKind::OutOfMemory => Err(NoMemory),
+    let mut out = Vec::new(alloc);
+    let mut known = Known::new(alloc);
+    let mut number: usize = 0;
+    for text in cut_lines(source) {
+        let found = try_line(alloc, number, text, &mut known, symbols)?;
+        append(found, &mut out)?;
+        number += 1;
     }
+    Ok(out)
 }
 
-/// Returns the diagnosis of a fault.
-fn diagnosed(alloc: Global, source: &[u8], fault: AsmFault) -> Result<Diagnosis, NoMemory>
-    ensures fault { IfOk result (λ d. fault_of d ≡ fault) }
-    ensures place { IfOk result (LiesIn (lines source.now)) }
-{
-    let index = fault.line.saturating_sub(1);
-    let text = line_text(source, index);
-    let Finding { place, detail } = finding(alloc, source, index, text, fault.kind)?;
-    Ok(Diagnosis {
-        line: fault.line,
-        kind: fault.kind,
-        column: place.column + 1,
-        length: place.len,
-        detail,
-    })
-}
-
-/// Returns what is wrong with a source that `assemble` refuses, and where: the diagnosis of its fault; `None`
-/// for one that it accepts.
+/// Returns the diagnoses of all lines of a source that are faulty in the first phase that has a fault, in
+/// order; none for a source that `assemble` accepts. In phase two a faulty line is left out before the lines
+/// after it are judged.
 ///
 /// # Errors
 ///
 /// `NoMemory` may come in place of any result.
-#[tactic(auto, using(crate::proofs::Diagnoses::real_fault))]
-pub fn diagnose_first(alloc: Global, source: &[u8]) -> Result<Option<Diagnosis>, NoMemory>
-    ensures fault { IfOk result (λ d. option_map fault_of d ≡ fault_in (assembled source.now)) }
-    ensures place { IfOk result (λ d. IfSome d (LiesIn (lines source.now))) }
+pub fn diagnose(alloc: Global, source: &[u8]) -> Result<Vec<Diagnosis>, NoMemory>
+    ensures all { IfOk result (λ ds. Diagnoses (lines source.now) (faults_of (lines source.now)) ds.items) }
+    ensures first { IfOk result (λ ds. first_of (map fault_of ds.items) ≡ fault_in (assembled source.now)) }
 {
-    let fault = match assemble(alloc, source) {
-        Ok(_) => return Ok(None),
-        Err(fault) => fault,
-    };
-    if fault.kind.number() == 12 {
-        return Err(NoMemory);
+    let unread = diagnose_reading(alloc, source)?;
+    if !unread.as_slice().is_empty() {
+        return Ok(unread);
     }
-    let diagnosis = diagnosed(alloc, source, fault)?;
-    Ok(Some(diagnosis))
+    let mut known = Known::new(alloc);
+    let misplaced = diagnose_layout(alloc, source, &mut known)?;
+    if !misplaced.as_slice().is_empty() {
+        return Ok(misplaced);
+    }
+    diagnose_values(alloc, source, known.symbols())
 }

@@ -3,11 +3,11 @@ ghost use Rattle.std.specs.Prelude.{◌≡◌, ◌+◌, ◌≤◌, length, IfOk}
 
 use crate::FaultKind;
 use crate::diagnosis::{Detail, Field, Finding};
+use crate::origins::Origins;
 use crate::symbols::{Scope, Symbols};
 use crate::values::fits;
 use rv_base::NoMemory;
 use rv_isa::{Instr, Kind, Width};
-use rv_program::Names;
 use rv_source::{
     Form, Label, Line, Operand, Part, Statement, operand_place, token_place, word_index,
 };
@@ -201,22 +201,11 @@ pub fn late_finding(
     }
 }
 
-/// Returns the index of the first label whose name is defined among these, or else that of the last label.
-pub fn defined_label(names: &Names, labels: &[Label]) -> usize {
-    let known = labels.iter().position(|label| match label {
-        Label::Name(name) => names.value(name.bytes()).is_some(),
-        Label::Local(_) => false,
-    });
-    match known {
-        Some(index) => index,
-        None => labels.len().saturating_sub(1),
-    }
-}
-
 /// Returns the place that a fault in phase two means, by the symbols that are defined before the line.
 pub fn early_finding(
     alloc: Global,
     scope: Scope,
+    origins: &Origins,
     text: &[u8],
     line: &Line,
     statement: &Statement,
@@ -225,21 +214,31 @@ pub fn early_finding(
     ensures { IfOk result (λ f. f.place.column + f.place.len ≤ length text.now) }
 {
     match (kind, statement) {
-        (FaultKind::DuplicateSymbol, Statement::Constant { .. }) => Ok(Finding {
+        (FaultKind::DuplicateSymbol, Statement::Constant { name, .. }) => Ok(Finding {
             place: token_place(text, word_index(line).saturating_add(1)),
-            detail: Detail::Nothing,
+            detail: origins.of(scope, name.bytes()),
         }),
         (FaultKind::NotConstant, _) => asked_finding(alloc, scope, text, line, statement),
         _ => Ok(word_finding(text, line, Detail::Address(scope.here))),
     }
 }
 
-/// Returns the place of the label with an index.
-pub fn label_finding(text: &[u8], index: usize) -> Finding
+/// Returns the place of the label with an index, whose name is already defined.
+pub fn label_finding(
+    scope: Scope,
+    origins: &Origins,
+    text: &[u8],
+    labels: &[Label],
+    index: usize,
+) -> Finding
     ensures { result.place.column + result.place.len ≤ length text.now }
 {
+    let detail = match labels.get(index) {
+        Some(Label::Name(name)) => origins.of(scope, name.bytes()),
+        _ => Detail::Nothing,
+    };
     Finding {
         place: token_place(text, index.saturating_mul(2)),
-        detail: Detail::Nothing,
+        detail,
     }
 }

@@ -6,7 +6,7 @@ use crate::extent::extent_of;
 use crate::locals::LocalLabel;
 use crate::placement::PlacedStatement;
 use crate::symbols::{Scope, Symbols};
-use rv_base::RAM_BASE;
+use rv_base::{NoMemory, RAM_BASE};
 use rv_program::Names;
 use rv_source::{Label, Statement};
 use std::alloc::{AllocError, Global};
@@ -40,12 +40,15 @@ impl Model for Known {
 }
 
 impl Known {
-    ghost use Rattle.std.specs.Prelude.{◌≡◌, ◌≤◌, ◌<◌, Some, Ok, OnOk};
+    ghost use Rattle.std.specs.Prelude.{◌≡◌, ◌≤◌, ◌<◌, is_some, length, Some, Ok, OnOk, IfOk, IfErr, IfSome};
     ghost use Rattle.std.specs.List.{All};
     ghost use Rattle.rv_source.specs.Reading.{said};
     ghost use Rattle.rv_asm.specs.Kept.{KindBecomes};
-    ghost use Rattle.rv_asm.specs.Steps.{start, newly_labelled, all_labelled, after_statement, after_line, Adds, AddsLine};
-    ghost use Rattle.rv_asm.specs.Constants.{statement_in};
+    ghost use Rattle.rv_asm.specs.Layout.{relabels};
+    ghost use Rattle.rv_asm.specs.Steps.{start, values_of, labelled, newly_labelled, all_labelled, after_statement, after_line, Adds, AddsLine};
+    ghost use Rattle.rv_asm.specs.Constants.{IsKnown, statement_in};
+    ghost use Rattle.rv_asm.specs.Diagnosed.{new_labels};
+    ghost use Rattle.rv_asm.specs.Judged.{Keeps};
 
     pub fn new(alloc: Global) -> Self
         ensures { result ≡ start }
@@ -60,7 +63,8 @@ impl Known {
     #[tactic(auto, unfolding(crate::specs::Steps::newly_labelled))]
     fn label(&mut self, alloc: Global, line: usize, label: &Label) -> Result<(), FaultKind>
         requires { All (λ d. d.line ≤ line) self.old.definitions.locals }
-        ensures { KindBecomes self.new result (newly_labelled line self.old label.now) }
+        ensures known { KindBecomes self.new result (newly_labelled line self.old label.now) }
+        ensures same { IfErr result (λ kind. Keeps kind self.old self.new) }
     {
         match label {
             Label::Name(name) => {
@@ -100,9 +104,72 @@ impl Known {
         &self.symbols
     }
 
+    /// Defines the labels of a line but those whose name is already defined, from left to right. Returns the
+    /// index of the first that is left out.
+    #[tactic(auto, using(crate::proofs::Labels::up_to_newly, crate::proofs::Labels::up_to_same, crate::proofs::Judging::left_out_twice))]
+    pub fn new_labels(
+        &mut self,
+        alloc: Global,
+        line: usize,
+        labels: &[Label],
+    ) -> Result<Option<usize>, NoMemory>
+        requires { All (λ d. d.line ≤ line) self.old.definitions.locals }
+        ensures known { OnOk result (self.new ≡ labelled line self.old (new_labels self.old.definitions.names labels.now)) }
+        ensures index { IfOk result (λ i. is_some i ≡ relabels self.old.definitions.names labels.now) }
+        ensures within { IfOk result (λ i. IfSome i (λ n. n < length labels.now)) }
+    {
+        let [first, rest @ ..] = labels else {
+            return Ok(None);
+        };
+        match self.label(alloc, line, first) {
+            Ok(()) => match self.new_labels(alloc, line, rest)? {
+                Some(index) => Ok(Some(index + 1)),
+                None => Ok(None),
+            },
+            Err(FaultKind::DuplicateSymbol) => {
+                self.new_labels(alloc, line, rest)?;
+                Ok(Some(0))
+            }
+            Err(_) => Err(NoMemory),
+        }
+    }
+
+    /// Returns the scope of a statement of a line at the current address.
+    pub fn scope(&self, line: usize) -> Scope<'_>
+        ensures symbols { result.symbols.now ≡ self.now.definitions }
+        ensures line { result.line ≡ line }
+        ensures here { result.here ≡ self.now.address }
+    {
+        Scope {
+            symbols: self.symbols(),
+            line,
+            here: self.address,
+        }
+    }
+
+    /// Defines the name of the statement of a line if it is `.equ`, and moves the address past it. Returns
+    /// the value that had to be known.
+    #[tactic(auto, using(crate::proofs::Placing::not_placed, crate::proofs::Placing::placed, crate::proofs::Sizes::taken))]
+    pub fn advance(
+        &mut self,
+        alloc: Global,
+        line: usize,
+        statement: &Statement,
+    ) -> Result<i64, FaultKind>
+        ensures known { KindBecomes self.new result (after_statement line self.old statement.now) }
+        ensures same { IfErr result (λ kind. Keeps kind self.old self.new) }
+        ensures constant { IfOk result (λ c. IsKnown (values_of line self.old) c statement.now) }
+    {
+        let extent = extent_of(self.scope(line), statement)?;
+        self.symbols
+            .define_constant(alloc, extent.constant, statement)?;
+        self.address = extent.end;
+        Ok(extent.constant)
+    }
+
     /// Gives the statement of a line its place, defines its name if it is `.equ`, and moves the address past
     /// it.
-    #[tactic(auto, using(crate::proofs::Placing::not_placed, crate::proofs::Placing::placed, crate::proofs::Placing::adds, crate::proofs::Sizes::taken))]
+    #[tactic(auto, using(crate::proofs::Placing::adds, crate::proofs::Sizes::taken))]
     fn place<'a>(
         &mut self,
         alloc: Global,
@@ -116,16 +183,9 @@ impl Known {
         ensures known { KindBecomes self.new result (after_statement line self.old statement.now) }
         ensures items { OnOk result (Adds line self.old statement.now items.old.items items.new.items) }
     {
-        let scope = Scope {
-            symbols: self.symbols(),
-            line,
-            here: self.address,
-        };
-        let extent = extent_of(scope, statement)?;
-        let item = PlacedStatement::new(line, self.address, extent.constant, text, statement);
-        self.symbols
-            .define_constant(alloc, extent.constant, statement)?;
-        self.address = extent.end;
+        let address = self.address;
+        let constant = self.advance(alloc, line, statement)?;
+        let item = PlacedStatement::new(line, address, constant, text, statement);
         push(items, item)?;
         Ok(())
     }

@@ -21,6 +21,7 @@ mod kept;
 mod layout;
 mod listing;
 mod locals;
+mod origins;
 mod placement;
 mod single;
 mod symbols;
@@ -28,7 +29,7 @@ mod values;
 
 pub use assembler::assemble;
 pub use diagnosis::{Detail, Diagnosis, Field};
-pub use faults::diagnose_first;
+pub use faults::diagnose;
 pub use listing::{Listing, NearLabel, list};
 pub use locals::LocalLabel;
 pub use rv_program::{AsmFault, FaultKind, Program};

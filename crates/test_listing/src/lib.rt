@@ -1,7 +1,5 @@
-//! Tests of the listings of sources, and of the diagnoses of their faults.
+//! Tests of the listings of sources.
 #![tactic(auto)]
 
-#[cfg(test)]
-mod diagnoses;
 #[cfg(test)]
 mod listings;

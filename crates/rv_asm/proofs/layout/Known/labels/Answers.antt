@@ -10,7 +10,7 @@ returns-in_err-label c =
     let p = err_from_is_err_and c.from_residual.result c.from_residual.ensures.1 in
     let f = run_fails (newly_labelled c.args.line) c.loop-label.self c.args.labels.now
     c.loop-label.label-index c.label-item.result c.label-item.is c.loop-label-test.true
-    c.in_err-label.field-0.0 c.in_err-label.ensures in
+    c.in_err-label.field-0.0 c.in_err-label.ensures.known in
     let all = rw c.loop-label.invariant.done at f in
     rw (p.1, p.2) all
 
@@ -18,11 +18,11 @@ pub loop-label-preserved : goal.loop-label-preserved
 loop-label-preserved c =
     let step = newly_labelled c.args.line in
     let more = run_more step c.loop-label.self c.args.labels.now c.loop-label.label-index c.label-item.result
-    c.label-item.is c.loop-label-test.true c.label.new.self c.in_ok-label.ensures in
+    c.label-item.is c.loop-label-test.true c.label.new.self c.in_ok-label.ensures.known in
     record {
       done = sym more ∙ c.loop-label.invariant.done;
       up_to = up_to_newly c.args.line c.loop-label.self c.label.new.self c.label-item.result
-          c.in_ok-label.ensures c.loop-label.invariant.up_to;
+          c.in_ok-label.ensures.known c.loop-label.invariant.up_to;
     }
 
 pub returns : goal.returns

@@ -1,10 +1,11 @@
 use Rattle.std.proofs.Common.{◌≡◌, ◌≤◌, ◌+◌, length}
 use Rattle.std.specs.Prelude.{Ok}
 use Rattle.rv_base.specs.Lines.{lines}
-use Rattle.rv_asm.specs.Assembly.{all_said}
+use Rattle.rv_asm.specs.Assembly.{all_said, phase_three_fault}
 use Rattle.rv_asm.specs.Steps.{laid_out}
+use Rattle.rv_asm.specs.Diagnosed.{Diagnoses, all_faults}
 use Rattle.rv_asm.proofs.Reading.{SoFar}
-use Rattle.rv_asm.proofs.faults.lay_out_before.Given as goal
+use Rattle.rv_asm.proofs.faults.diagnose_values.Given as goal
 
 abbrev pub invariant-loop-text : goal.invariant-loop-text
 invariant-loop-text l =
@@ -13,5 +14,6 @@ invariant-loop-text l =
       is_finite : (goal.iterator-loop-text).is_finite l.text-iterator;
       read : SoFar (lines l.source) l.text-iterator l.number;
       layout : laid_out (all_said (lines l.source)) l.number ≡ Ok l.known;
+      found : Diagnoses (lines l.source) (all_faults (phase_three_fault (all_said (lines l.source))) l.number) l.out.items;
       counted : l.number + length l.text-iterator ≤ length l.source;
     }

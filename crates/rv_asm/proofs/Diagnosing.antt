@@ -1,0 +1,365 @@
+-- The diagnoses of a refused source.
+use Rattle.std.proofs.Common.{◌≡◌, ℕ, zero, suc, ◌+◌, ◌-◌, ◌<◌, ◌≤◌, Bool, true, false, cond, List, [], ◌∷◌, ◌++◌, map, drop, length, get_or, refl, sym, ap, ◌∙◌, arith, append-nil, add-one, length-drop}
+use Rattle.std.specs.Prelude.{Option, None, Some, is_some, set, Result, Ok, Err, IfOk, ◌==◌}
+use Rattle.std.specs.Option.{option_map, option_or, option_map_or}
+use Rattle.std.specs.Result.{result_err}
+use Rattle.std.proofs.lemmas.List.{map-append, length-set, get_or-set_same, get_or-set_other}
+use Rattle.std.proofs.lemmas.List.Elements.{All-nil, All-push}
+use Rattle.std.proofs.lemmas.Bool.Decides.{nat_tests}
+use Rattle.rv_base.specs.Lines.{lines}
+use Rattle.rv_source.specs.Reading.{Said, said}
+use Rattle.rv_program.specs.Program.{Assembly}
+use Rattle.rv_program.specs.declared.fault.FaultKind.{FaultKind}
+use Rattle.rv_program.specs.declared.fault.AsmFault.{AsmFault}
+use Rattle.rv_asm.specs.declared.diagnosis.Diagnosis.{Diagnosis}
+use Rattle.rv_asm.specs.Layout.{line_at, blank, address, phase_two_fault, definitions}
+use Rattle.rv_asm.specs.Assembly.{joined, first, first_fault, phase_one_fault, phase_three_fault, all_said, assembled}
+use Rattle.rv_asm.specs.Assembly as assembly
+use Rattle.rv_asm.specs.Symbols.{Definitions}
+use Rattle.rv_asm.specs.Steps.{Known, start, known_before, stated, labelled, stated_bytes, laid_out}
+use Rattle.rv_asm.specs.Diagnosed.{all_faults, new_labels, cleared, kept, judged, unless_faulty, faults_of, fault_of, LiesIn, Diagnoses, first_of, fault_in}
+use Rattle.rv_asm.specs.Judged.{fault_on, known_after, IsFound, listed}
+use Rattle.rv_asm.proofs.Labels.{IsUpTo}
+use Rattle.rv_asm.proofs.Laying.{not_stated, up_to_before}
+use Rattle.rv_asm.proofs.Listed.{none_last, none_before}
+use Rattle.rv_asm.proofs.Reading.{IsAt, dropped, SoFar, is_before, read_line_at, known_is}
+use Rattle.rv_asm.proofs.Whole.{length-said}
+
+-- ---- diagnoses are collected line by line
+
+abbrev listed_faults : ℕ → Option FaultKind → List AsmFault
+listed_faults k fault = option_map_or (λ kind. record { line = suc k; kind = kind } ∷ []) fault []
+
+pub none_found : (texts : List (List ℕ)) (fault : ℕ → Option FaultKind) →
+    Diagnoses texts (all_faults fault 0) []
+unfolding joined
+none_found texts fault = record { each = refl; places = All-nil (LiesIn texts) }
+
+one_by : (k : ℕ) (d : Diagnosis) → d.line ≡ suc k → fault_of d ≡ record { line = suc k; kind = d.kind }
+one_by k d e = rw e refl
+
+module _ (texts : List (List ℕ)) (fault : ℕ → Option FaultKind) (k : ℕ) (ds : List Diagnosis)
+    (so : Diagnoses texts (all_faults fault k) ds) where
+  more_by : (found : Option Diagnosis) (more : List Diagnosis) → IsFound k (get_or texts k []) (fault k) found →
+      more ≡ ds ++ listed found → Diagnoses texts (all_faults fault (suc k)) more
+  unfolding joined
+  more_by None more f e = rw (e, append-nil, f.kind, append-nil) so
+  more_by (Some d) more f e =
+      let at : d.line - 1 ≡ k = omega (arith, f.line) in
+      let here : LiesIn texts d = record { from = f.from; to = rw at f.to } in
+      rw e (record {
+        each = map-append fault_of ds (d ∷ []) ∙ rw (so.each, f.kind, one_by k d f.line) refl;
+        places = All-push (LiesIn texts) ds d so.places here;
+      })
+
+  pub found_more : (text : List ℕ) (found : Option Diagnosis) (more : List Diagnosis) → get_or texts k [] ≡ text →
+      IsFound k text (fault k) found → more ≡ ds ++ listed found →
+      Diagnoses texts (all_faults fault (k + 1)) more
+  found_more text found more at f e = rw add-one (more_by found more (rw at f) e)
+
+-- ---- the lines that are left
+
+pub record LeftOf (texts rest : List (List ℕ)) (n : ℕ) : Type 0 where
+  pub left : rest ≡ drop n texts
+  pub within : n ≤ length texts
+
+pub all_left : (texts : List (List ℕ)) → LeftOf texts texts 0
+all_left texts = record { left = refl; within = omega arith }
+
+module _ (texts rest : List (List ℕ)) (n : ℕ) (so : LeftOf texts rest n) where
+  pub next_line : (text : List ℕ) (after : List (List ℕ)) → rest ≡ text ∷ after → IsAt texts n text after []
+  next_line text after cut = dropped texts n text after [] (sym so.left ∙ cut)
+
+  pub left_more : (text : List ℕ) (after : List (List ℕ)) → rest ≡ text ∷ after → LeftOf texts after (n + 1)
+  left_more text after cut =
+      let at = next_line text after cut in
+      rw add-one (record { left = sym at.after; within = omega (arith, at.below) })
+
+  pub none_left : rest ≡ [] → length texts ≡ n
+  none_left h =
+      let none : length rest ≡ 0 = rw h refl in
+      omega (arith, length-drop n texts, ap length so.left, none, so.within)
+
+-- ---- the lines that are kept
+
+-- a state after one more line
+abbrev with_line : ℕ → Known → Said → Known
+with_line n s line = stated n (labelled n s line.labels) line.statement
+
+one_more : (xs : List Said) (n : ℕ) → known_before xs (suc n) ≡ with_line n (known_before xs n) (line_at xs n)
+unfolding address
+one_more xs n = refl
+
+with_same : (n : ℕ) (s t : Known) (line other : Said) → s ≡ t → line ≡ other →
+    with_line n s line ≡ with_line n t other
+with_same n s t line other e f = rw (e, f) refl
+
+none_before_first : (xs ys : List Said) → known_before xs 0 ≡ known_before ys 0
+unfolding address
+none_before_first xs ys = refl
+
+-- a line changes nothing that is known before it
+known_other : (xs : List Said) (k : ℕ) (line : Said) (n : ℕ) → n ≤ k →
+    known_before (set xs k line) n ≡ known_before xs n
+known_other xs k line zero h = none_before_first (set xs k line) xs
+known_other xs k line (suc n) h =
+    let other : line_at (set xs k line) n ≡ line_at xs n =
+    get_or-set_other xs k n line blank (λ e. omega (arith, h, e)) in
+    one_more (set xs k line) n
+    ∙ with_same n (known_before (set xs k line) n) (known_before xs n) (line_at (set xs k line) n) (line_at xs n)
+    (known_other xs k line n (omega (arith, h))) other
+    ∙ sym (one_more xs n)
+
+length_by : (xs : List Said) (k : ℕ) (line : Said) (b : Bool) → length (cond b (set xs k line) xs) ≡ length xs
+length_by xs k line true = length-set xs k line
+length_by xs k line false = refl
+
+length_kept : (ls : List Said) (n : ℕ) → length (kept ls n) ≡ length ls
+unfolding kept
+length_kept ls zero = refl
+length_kept ls (suc n) = length_by (kept ls n) n (cleared (kept ls n) n) (is_some (judged ls n)) ∙ length_kept ls n
+
+other_by : (xs : List Said) (k n : ℕ) (line : Said) (b : Bool) → k < n →
+    line_at (cond b (set xs k line) xs) n ≡ line_at xs n
+other_by xs k n line true h = get_or-set_other xs k n line blank (λ e. omega (arith, h, e))
+other_by xs k n line false h = refl
+
+later_line : (ls : List Said) (n k : ℕ) → n ≤ k → line_at (kept ls n) k ≡ line_at ls k
+unfolding kept
+later_line ls zero k h = refl
+later_line ls (suc n) k h =
+    other_by (kept ls n) n k (cleared (kept ls n) n) (is_some (judged ls n)) (omega (arith, h))
+    ∙ later_line ls n k (omega (arith, h))
+
+fault_is : (xs : List Said) (n : ℕ) → phase_two_fault xs n ≡ fault_on n (known_before xs n) (line_at xs n)
+unfolding phase_two_fault fault_on
+fault_is xs n = refl
+
+pub judged_is : (ls : List Said) (n : ℕ) → judged ls n ≡ fault_on n (known_before (kept ls n) n) (line_at ls n)
+judged_is ls n =
+    fault_is (kept ls n) n ∙ ap (fault_on n (known_before (kept ls n) n)) (later_line ls n n (omega arith))
+
+after_faulty : (n : ℕ) (s : Known) (line : Said) → is_some (fault_on n s line) ≡ true →
+    known_after n s line ≡ labelled n s (new_labels s.definitions.names line.labels)
+unfolding known_after
+after_faulty n s line e = rw e refl
+
+after_right : (n : ℕ) (s : Known) (line : Said) → is_some (fault_on n s line) ≡ false →
+    known_after n s line ≡ with_line n s line
+unfolding known_after
+after_right n s line e = rw e refl
+
+known_by : (xs : List Said) (n : ℕ) (b : Bool) → n < length xs → is_some (phase_two_fault xs n) ≡ b →
+    known_before (cond b (set xs n (cleared xs n)) xs) (suc n)
+    ≡ known_after n (known_before xs n) (line_at xs n)
+known_by xs n true h e =
+    let line : Said = cleared xs n in
+    let s : Known = known_before xs n in
+    let here : line_at (set xs n line) n ≡ line = get_or-set_same xs n line blank h in
+    one_more (set xs n line) n
+    ∙ with_same n (known_before (set xs n line) n) s (line_at (set xs n line) n) line
+    (known_other xs n line n (omega arith)) here
+    ∙ not_stated n (labelled n s line.labels)
+    ∙ sym (after_faulty n s (line_at xs n) (sym (ap is_some (fault_is xs n)) ∙ e))
+known_by xs n false h e =
+    one_more xs n ∙ sym (after_right n (known_before xs n) (line_at xs n) (sym (ap is_some (fault_is xs n)) ∙ e))
+
+pub known_kept : (ls : List Said) (n : ℕ) → n < length ls →
+    known_before (kept ls (suc n)) (suc n) ≡ known_after n (known_before (kept ls n) n) (line_at ls n)
+unfolding kept
+known_kept ls n h =
+    known_by (kept ls n) n (is_some (judged ls n)) (rw (length_kept ls n) h) refl
+    ∙ ap (known_after n (known_before (kept ls n) n)) (later_line ls n n (omega arith))
+
+-- ---- the first diagnosis
+
+first_append : (xs ys : List AsmFault) → first_of (xs ++ ys) ≡ option_or (first_of xs) (first_of ys)
+first_append [] ys = refl
+first_append (x ∷ xs) ys = refl
+
+first_listed : (k : ℕ) (fault : Option FaultKind) → first_of (listed_faults k fault)
+    ≡ option_map (λ kind. record { line = suc k; kind = kind }) fault
+first_listed k None = refl
+first_listed k (Some kind) = refl
+
+firsts : (fault : ℕ → Option FaultKind) (n : ℕ) → first_of (all_faults fault n) ≡ first_fault fault n
+unfolding joined first
+firsts fault zero = refl
+firsts fault (suc n) =
+    first_append (all_faults fault n) (listed_faults n (fault n))
+    ∙ rw (firsts fault n, first_listed n (fault n)) refl
+
+-- where no line is faulty all are kept
+kept_all : (ls : List Said) (n : ℕ) → first_fault (judged ls) n ≡ None → kept ls n ≡ ls
+unfolding kept
+kept_all ls zero h = refl
+kept_all ls (suc n) h = rw (none_last (judged ls) n h) (kept_all ls n (none_before (judged ls) n h))
+
+same_by : (ls : List Said) (n : ℕ) (before : Option AsmFault) → first_fault (judged ls) n ≡ before →
+    option_or before (option_map (λ kind. record { line = suc n; kind = kind }) (judged ls n))
+    ≡ option_or before (option_map (λ kind. record { line = suc n; kind = kind }) (phase_two_fault ls n))
+same_by ls n (Some fault) e = refl
+same_by ls n None e = rw (kept_all ls n e) refl
+
+first_judged : (ls : List Said) (n : ℕ) → first_fault (judged ls) n ≡ first_fault (phase_two_fault ls) n
+unfolding first
+first_judged ls zero = refl
+first_judged ls (suc n) =
+    same_by ls n (first_fault (judged ls) n) refl ∙ rw (first_judged ls n) refl
+
+first_unless : (xs ys : List AsmFault) → first_of (unless_faulty xs ys) ≡ option_or (first_of xs) (first_of ys)
+first_unless [] ys = refl
+first_unless (x ∷ xs) ys = refl
+
+fault_answered : (fault : Option AsmFault) (a : Assembly) →
+    fault_in (option_map_or (λ fault. Err fault) fault (Ok a)) ≡ fault
+fault_answered None a = refl
+fault_answered (Some fault) a = refl
+
+phases : (one two three : List AsmFault) → first_of (unless_faulty one (unless_faulty two three))
+    ≡ option_or (first_of one) (option_or (first_of two) (first_of three))
+phases one two three =
+    first_unless one (unless_faulty two three) ∙ ap (option_or (first_of one)) (first_unless two three)
+
+three_same : (one two three a b c : Option AsmFault) → one ≡ a → two ≡ b → three ≡ c →
+    option_or one (option_or two three) ≡ option_or a (option_or b c)
+three_same one two three a b c e f g = rw (e, f, g) refl
+
+first_is : (source : List ℕ) → first_of (faults_of (lines source)) ≡ fault_in (assembled source)
+unfolding faults_of assembled
+first_is source =
+    let texts : List (List ℕ) = lines source in
+    let n = length texts in
+    let ls : List Said = all_said texts in
+    phases (all_faults (phase_one_fault texts) n) (all_faults (judged ls) n) (all_faults (phase_three_fault ls) n)
+    ∙ three_same _ _ _ (first_fault (phase_one_fault texts) n) (first_fault (phase_two_fault ls) n)
+    (first_fault (phase_three_fault ls) n) (firsts (phase_one_fault texts) n)
+    (firsts (judged ls) n ∙ first_judged ls n) (firsts (phase_three_fault ls) n)
+    ∙ sym (fault_answered (assembly.fault_of texts) _)
+
+-- ---- phases two and three, line by line
+
+pub known_begun : (ls : List Said) → known_before (kept ls 0) 0 ≡ start
+unfolding kept address
+known_begun ls = refl
+
+pub kept_up_to : (ls : List Said) (n : ℕ) → IsUpTo n (known_before (kept ls n) n)
+kept_up_to ls n = up_to_before (kept ls n) n
+
+module _ (texts rest : List (List ℕ)) (n : ℕ) (so : SoFar texts rest n) (text : List ℕ)
+    (after : List (List ℕ)) (cut : rest ≡ text ∷ after) (line : Said) (is : said text ≡ Ok line) (s : Known) where
+  at : line_at (all_said texts) n ≡ line
+  at = read_line_at texts rest n so text after cut line is
+
+  at_text : get_or texts n [] ≡ text
+  at_text = (dropped texts n text after [] (sym so.left ∙ cut)).item
+
+  module _ (known : s ≡ known_before (kept (all_said texts) n) n) where
+    pub known_more : (new : Known) → new ≡ known_after n s line → new ≡ known_before (kept (all_said texts) (n + 1)) (n + 1)
+    known_more new e =
+        rw add-one (e ∙ rw (known, ← at) (sym (known_kept (all_said texts) n (rw (length-said texts) (is_before texts rest n so text after cut)))))
+
+    pub judged_more : (ds : List Diagnosis) → Diagnoses texts (all_faults (judged (all_said texts)) n) ds
+        → (found : Option Diagnosis) (more : List Diagnosis) → IsFound n text (fault_on n s line) found
+        → more ≡ ds ++ listed found → Diagnoses texts (all_faults (judged (all_said texts)) (n + 1)) more
+    judged_more ds so_far found more f e =
+        let same : judged (all_said texts) n ≡ fault_on n s line = judged_is (all_said texts) n ∙ rw (known, ← at) refl in
+        found_more texts (judged (all_said texts)) n ds so_far text found more at_text (rw same f) e
+
+  module _ (layout : laid_out (all_said texts) n ≡ Ok s) where
+    pub tried_more : (symbols : Definitions) → symbols ≡ definitions (all_said texts) → (ds : List Diagnosis)
+        → Diagnoses texts (all_faults (phase_three_fault (all_said texts)) n) ds
+        → (found : Option Diagnosis) (more : List Diagnosis)
+        → IsFound n text (result_err (stated_bytes symbols n (labelled n s line.labels) line.statement)) found
+        → more ≡ ds ++ listed found → Diagnoses texts (all_faults (phase_three_fault (all_said texts)) (n + 1)) more
+    tried_more symbols all ds so_far found more f e =
+        let known : s ≡ known_before (all_said texts) n = known_is (all_said texts) n s layout in
+        let same : phase_three_fault (all_said texts) n
+        ≡ result_err (stated_bytes symbols n (labelled n s line.labels) line.statement) =
+        rw (all, known, ← at) refl in
+        found_more texts (phase_three_fault (all_said texts)) n ds so_far text found more at_text (rw same f) e
+
+-- ---- the phases together
+
+pub record AreAll (source : List ℕ) (ds : List Diagnosis) : Type 0 where
+  pub all : Diagnoses (lines source) (faults_of (lines source)) ds
+  pub first : first_of (map fault_of ds) ≡ fault_in (assembled source)
+
+together : (source : List ℕ) (ds : List Diagnosis) → Diagnoses (lines source) (faults_of (lines source)) ds →
+    AreAll source ds
+together source ds all = record { all = all; first = ap first_of all.each ∙ first_is source }
+
+some_by : (ds : List Diagnosis) (faults later : List AsmFault) → map fault_of ds ≡ faults → (ds ≡ [] → ⊥) →
+    unless_faulty faults later ≡ faults
+some_by [] faults later e h = absurd (h refl)
+some_by (d ∷ ds) [] later e h = absurd cc
+some_by (d ∷ ds) (fault ∷ faults) later e h = refl
+
+none_by : (ds : List Diagnosis) (faults later : List AsmFault) → map fault_of ds ≡ faults → ds ≡ [] →
+    unless_faulty faults later ≡ later
+none_by ds [] later e h = refl
+none_by ds (fault ∷ faults) later e h = absurd (let no : map fault_of [] ≡ fault ∷ faults = rw h at e in cc)
+
+-- the faults of each phase
+abbrev in_phase_one : List (List ℕ) → List AsmFault
+in_phase_one texts = all_faults (phase_one_fault texts) (length texts)
+
+abbrev in_phase_two : List (List ℕ) → List AsmFault
+in_phase_two texts = all_faults (judged (all_said texts)) (length texts)
+
+abbrev in_phase_three : List (List ℕ) → List AsmFault
+in_phase_three texts = all_faults (phase_three_fault (all_said texts)) (length texts)
+
+all_are : (texts : List (List ℕ)) → faults_of texts
+    ≡ unless_faulty (in_phase_one texts) (unless_faulty (in_phase_two texts) (in_phase_three texts))
+unfolding faults_of
+all_are texts = refl
+
+module _ (source : List ℕ) (one : List Diagnosis)
+    (first : Diagnoses (lines source) (in_phase_one (lines source)) one) where
+  pub in_one : (one ≡ [] → ⊥) → AreAll source one
+  in_one h = together source one (rw (all_are (lines source) ∙ some_by one (in_phase_one (lines source))
+      (unless_faulty (in_phase_two (lines source)) (in_phase_three (lines source))) first.each h) first)
+
+  module _ (no_one : one ≡ []) (two : List Diagnosis)
+      (second : Diagnoses (lines source) (in_phase_two (lines source)) two) where
+    later : faults_of (lines source) ≡ unless_faulty (in_phase_two (lines source)) (in_phase_three (lines source))
+    later = all_are (lines source) ∙ none_by one (in_phase_one (lines source))
+        (unless_faulty (in_phase_two (lines source)) (in_phase_three (lines source))) first.each no_one
+
+    pub in_two : (two ≡ [] → ⊥) → AreAll source two
+    in_two h = together source two (rw (later ∙ some_by two (in_phase_two (lines source))
+        (in_phase_three (lines source)) second.each h) second)
+
+    module _ (no_two : two ≡ []) where
+      pub in_three : (three : List Diagnosis) → Diagnoses (lines source) (in_phase_three (lines source)) three →
+          AreAll source three
+      in_three three third = together source three (rw (later ∙ none_by two (in_phase_two (lines source))
+          (in_phase_three (lines source)) second.each no_two) third)
+
+      first_none : first_fault (judged (all_said (lines source))) (length (lines source)) ≡ None
+      first_none = sym (firsts (judged (all_said (lines source))) (length (lines source)))
+          ∙ ap first_of (sym second.each ∙ ap (map fault_of) no_two)
+
+      -- all lines are kept
+      pub symbols_are : (known : Known)
+          → known ≡ known_before (kept (all_said (lines source)) (length (lines source))) (length (lines source))
+          → known.definitions ≡ definitions (all_said (lines source))
+      symbols_are known e =
+          rw (e, kept_all (all_said (lines source)) (length (lines source)) first_none, length-said (lines source)) refl
+
+pub filled_by : (ds seen : List Diagnosis) (b : Bool) → seen ≡ ds → b ≡ (length seen == 0) → b ≡ false → ds ≡ [] → ⊥
+filled_by [] seen b s e h z =
+    let t : b ≡ true = rw s at e in absurd (let no : true ≡ false = rw t at h in cc)
+filled_by (d ∷ ds) seen b s e h z = absurd cc
+
+pub empty_by : (ds seen : List Diagnosis) (b : Bool) → seen ≡ ds → b ≡ (length seen == 0) → b ≡ true → ds ≡ []
+empty_by [] seen b s e h = refl
+empty_by (d ∷ ds) seen b s e h =
+    let is : true ≡ (length (d ∷ ds) == 0) = sym h ∙ (rw s at e) in
+    let none : length (d ∷ ds) ≡ 0 = grind (arith, nat_tests, is) in
+    absurd (omega (arith, none))
+
+pub if_ok : {A E : Type 0} (r : Result A E) (P Q : A → Type 0) → IfOk r P → ((x : A) → P x → Q x) → IfOk r Q
+if_ok (Ok x) P Q h f = f x h
+if_ok (Err e) P Q h f = tt

@@ -1,0 +1,18 @@
+use Rattle.std.proofs.Common.{◌≡◌, ◌≤◌, ◌+◌, length}
+use Rattle.rv_base.specs.Lines.{lines}
+use Rattle.rv_asm.specs.Assembly.{all_said}
+use Rattle.rv_asm.specs.Steps.{known_before}
+use Rattle.rv_asm.specs.Diagnosed.{Diagnoses, all_faults, judged, kept}
+use Rattle.rv_asm.proofs.Reading.{SoFar}
+use Rattle.rv_asm.proofs.faults.diagnose_layout.Given as goal
+
+abbrev pub invariant-loop-text : goal.invariant-loop-text
+invariant-loop-text l =
+    record {
+      can_next : (goal.iterator-loop-text).can_next l.text-iterator;
+      is_finite : (goal.iterator-loop-text).is_finite l.text-iterator;
+      read : SoFar (lines l.source) l.text-iterator l.number;
+      known : l.known ≡ known_before (kept (all_said (lines l.source)) l.number) l.number;
+      found : Diagnoses (lines l.source) (all_faults (judged (all_said (lines l.source))) l.number) l.out.items;
+      counted : l.number + length l.text-iterator ≤ length l.source;
+    }

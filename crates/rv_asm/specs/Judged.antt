@@ -1,0 +1,71 @@
+-- The lines of a refused source, one by one.
+-- The language is this project's own: docs/ASSEMBLER.md.
+-- Not to audit: private contracts alone cite this.
+use Rattle.std.specs.Prelude.{◌≡◌, ℕ, suc, ◌+◌, ◌-◌, ◌≤◌, ◌<◌, List, [], ◌∷◌, length, Option, Some, None, is_some, option_and_then, if◌then◌else◌, Result, Ok, IfSome}
+use Rattle.std.specs.Option.{option_map}
+use Rattle.std.specs.Result.{result_err}
+use Rattle.rv_source.specs.Reading.{Said, said}
+use Rattle.rv_tokens.specs.Faults.{Fails as LineFails}
+use Rattle.rv_tokens.specs.declared.fault.LineFault.{LineFault}
+use Rattle.rv_source.specs.declared.statement.Statement.{Statement}
+use Rattle.rv_program.specs.declared.fault.FaultKind.{FaultKind}
+use Rattle.rv_program.specs.declared.fault.FaultKind.TheVariants.{DuplicateSymbol, OutOfMemory}
+use Rattle.rv_asm.specs.declared.diagnosis.Diagnosis.{Diagnosis}
+use Rattle.rv_asm.specs.Symbols.{Definitions}
+use Rattle.rv_asm.specs.Layout.{relabels, statement_fault}
+use Rattle.rv_asm.specs.Steps.{Known, values_of, labelled, stated, stated_bytes, after_line}
+use Rattle.rv_asm.specs.Diagnosed.{new_labels}
+
+-- unless memory ran out, nothing changed
+abbrev pub Keeps : {A : Type 0} → FaultKind → A → A → Type 0
+Keeps OutOfMemory old new = Unit {0}
+Keeps kind old new = new ≡ old
+
+-- a line can't be read, for this fault or for out of memory
+abbrev pub IsUnreadBy : Result Said LineFault → Option LineFault → Type 0
+IsUnreadBy r None = result_err r ≡ None
+IsUnreadBy r (Some fault) = LineFails fault r
+
+-- the fault in phase two of a statement of line k, by what is known at it
+abbrev pub fault_stated : ℕ → Known → Option Statement → Option FaultKind
+fault_stated k known statement = option_and_then
+    (statement_fault known.definitions.names (values_of k known) known.address) statement
+
+-- the fault of line k in phase two, by what is known before it
+unfoldable pub fault_on : ℕ → Known → Said → Option FaultKind
+fault_on k known line =
+    if relabels known.definitions.names line.labels then Some DuplicateSymbol
+    else fault_stated k (labelled k known line.labels) line.statement
+
+-- what is known after line k, which is cleared if it is faulty
+unfoldable pub known_after : ℕ → Known → Said → Known
+known_after k known line =
+    if is_some (fault_on k known line)
+    then labelled k known (new_labels known.definitions.names line.labels)
+    else stated k (labelled k known line.labels) line.statement
+
+-- a diagnosis of line k, which has this text, if there is this fault
+pub record IsFound (k : ℕ) (text : List ℕ) (fault : Option FaultKind) (found : Option Diagnosis) : Type 0 where
+  pub kind : fault ≡ option_map (λ d. d.kind) found
+  pub line : IfSome found (λ d. d.line ≡ suc k)
+  pub from : IfSome found (λ d. 0 < d.column)
+  pub to : IfSome found (λ d. d.column - 1 + d.length ≤ length text)
+
+-- line k is read and judged in phase two
+pub record Judges (k : ℕ) (text : List ℕ) (old new : Known) (found : Option Diagnosis) : Type 0 where
+  pub line : Said
+  pub read : said text ≡ Ok line
+  pub finds : IsFound k text (fault_on k old line) found
+  pub after : new ≡ known_after k old line
+
+-- line k is read and laid out, and its bytes are tried by these symbols
+pub record Tries (k : ℕ) (text : List ℕ) (ds : Definitions) (old new : Known) (found : Option Diagnosis) : Type 0 where
+  pub line : Said
+  pub read : said text ≡ Ok line
+  pub after : after_line k old line ≡ Ok new
+  pub finds : IsFound k text (result_err (stated_bytes ds k (labelled k old line.labels) line.statement)) found
+
+-- a diagnosis, if there is one
+abbrev pub listed : Option Diagnosis → List Diagnosis
+listed None = []
+listed (Some d) = d ∷ []
