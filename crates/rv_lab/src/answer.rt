@@ -1,9 +1,11 @@
 //! The text of an answer.
 use itoa::Buffer;
+use rv_asm::diagnose;
 use rv_base::{NoMemory, byte_digits, low_word, word_digits};
 use rv_isa::{Instr, write_instr};
 use rv_monitor::Next;
 use rv_recording::Recording;
+use rv_sentences::append_report;
 use std::alloc::Global;
 use std::marker::Model;
 
@@ -40,6 +42,7 @@ fn text_at(texts: &[u8], number: u64) -> &[u8] {
 
 /// A text that answers are appended to. Where memory runs out it takes nothing more, and remembers that.
 pub struct Answer {
+    alloc: Global,
     bytes: Vec<u8>,
     is_cut: bool,
 }
@@ -48,6 +51,7 @@ pub struct Answer {
 impl Drop for Answer {
     fn drop(self) {
         let Answer {
+            alloc: _,
             bytes: _,
             is_cut: _,
         } = self;
@@ -74,6 +78,7 @@ impl Answer {
         ensures { result ≡ record { bytes = []; is_cut = false } }
     {
         Answer {
+            alloc,
             bytes: Vec::new(alloc),
             is_cut: false,
         }
@@ -241,6 +246,16 @@ impl Answer {
             Ok(text) => self.put(text.as_slice()),
             Err(NoMemory) => self.is_cut = true,
         }
+    }
+
+    /// Appends what is wrong with each faulty line of a source, as compilers print it.
+    pub(crate) fn report(&mut self, file: &str, source: &[u8]) {
+        let alloc = self.alloc;
+        let reported = match diagnose(alloc, source) {
+            Ok(all) => append_report(alloc, file, source, &all, &mut self.bytes),
+            Err(NoMemory) => Err(NoMemory),
+        };
+        self.is_cut = self.is_cut || reported.is_err();
     }
 
     /// Has the monitor of a recording do a command, and appends its answer.
