@@ -1,7 +1,8 @@
 //! Text, numbers and limits that all crates share.
 //!
 //! - `cut_lines` cuts a text into lines, and `first_word` takes the first word off a line.
-//! - `decimal`, `hex_digit` and `hex_byte` read numbers; `append_hex`, `byte_digits` and `word_digits` write them.
+//! - `decimal`, `hex_digit` and `hex_byte` read numbers; `append_hex`, `byte_digits` and `word_digits` write
+//!   them.
 //! - `low_word` and the functions beside it read and replace the halves of 64 bits.
 //! - `look_up` finds a name in a table.
 //! - `append_within` appends to a text that has room, and `NoMemory` is the error of one that could get none.

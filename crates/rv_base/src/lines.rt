@@ -38,7 +38,8 @@ fn first_line(text: &[u8]) -> (&[u8], &[u8])
     }
 }
 
-/// An iterator over the lines of a text, each without its LF and without a CR before it; seen as the lines that are left.
+/// An iterator over the lines of a text, each without its LF and without a CR before it; seen as the lines
+/// that are left.
 #[derive(Drop)]
 pub struct TextLines<'a> {
     rest: &'a [u8],
@@ -72,9 +73,9 @@ impl<'a> Iterator for TextLines<'a> {
 
 /// Returns the lines of a text, of which there are no more than it has bytes.
 ///
-/// The last line needs no LF. A loop `for line in cut_lines(text)` sees the lines left as `l.line-iterator`: its
-/// invariant names `length l.line-iterator`, or `lines text ≡ done ++ l.line-iterator`, and each turn takes one off
-/// by `steps`.
+/// The last line needs no LF. A loop `for line in cut_lines(text)` sees the lines left as `l.line-iterator`:
+/// its invariant names `length l.line-iterator`, or `lines text ≡ done ++ l.line-iterator`, and each turn
+/// takes one off by `steps`.
 pub fn cut_lines(text: &[u8]) -> TextLines<'_>
     ensures cut { result ≡ lines text.now }
     ensures within { length result ≤ length text.now }

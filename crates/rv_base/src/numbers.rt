@@ -2,8 +2,8 @@
 ghost use Rattle.std.specs.Prelude.{◌≡◌, ◌+◌, ◌*◌, ◌<◌, ◌≤◌, Bool, IfSome};
 ghost use Rattle.rv_base.specs.Numbers.{decimal, hex_digit, byte_of};
 
-/// Returns the number that decimal digits stand for, or None where there is no digit, another byte, or a number above
-/// `most`. Leading zeros are allowed.
+/// Returns the number that decimal digits stand for, or None where there is no digit, another byte, or a
+/// number above `most`. Leading zeros are allowed.
 pub fn decimal(most: u64, word: &[u8]) -> Option<u64>
     requires { most < 10000000000 }
     ensures value { result ≡ decimal most word.now }

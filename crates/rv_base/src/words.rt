@@ -18,7 +18,8 @@ fn first_blank(text: &[u8]) -> Option<usize>
     text.iter().position(|b| is_blank(*b))
 }
 
-/// Returns the first word of a text and what follows it, or None where the text has no word. Blanks separate words.
+/// Returns the first word of a text and what follows it, or None where the text has no word. Blanks separate
+/// words.
 pub fn first_word<'a>(text: &'a [u8]) -> Option<(&'a [u8], &'a [u8])>
     ensures value { IsFirstWord text.now result }
     ensures shorter { IfSome result (λ p. length p.1.now < length text.now) }

@@ -242,8 +242,9 @@ impl<M: ByteMemory> Bus<M> {
         Ok(())
     }
 
-    /// Writes the low bytes of a value at an offset of the memory, where no room has to be made. Returns whether
-    /// it wrote: it may refuse only a page that has only zeros, and then changes nothing. It never allocates.
+    /// Writes the low bytes of a value at an offset of the memory, where no room has to be made. Returns
+    /// whether it wrote: it may refuse only a page that has only zeros, and then changes nothing. It never
+    /// allocates.
     #[inline(always)]
     #[tactic(auto, using(crate::proofs::Others::fetch_put))]
     pub fn overwrite_ram(&mut self, off: u32, width: Width, value: u32) -> bool

@@ -1,7 +1,7 @@
 //! Decodes words.
 //!
-//! `decode` matches on the opcode; each major opcode has a function of its own, and each field of a word a function
-//! that extracts it. RISC-V Unprivileged ISA 20191213, sections 2.2 and 2.3 and chapter 24.
+//! `decode` matches on the opcode; each major opcode has a function of its own, and each field of a word a
+//! function that extracts it. RISC-V Unprivileged ISA 20191213, sections 2.2 and 2.3 and chapter 24.
 ghost use Rattle.std.specs.Prelude.{◌≡◌, ◌≢◌, ◌<◌, ◌≤◌, ◌*◌, ◌/◌, ◌%◌, ◌^◌};
 ghost use Rattle.rv_isa.specs.Number.{modulo, IsWithin, IsDistance};
 ghost use Rattle.rv_isa.specs.Word.{Means};
@@ -12,8 +12,8 @@ use crate::{AluOp, Cond, CsrOp, ImmOp, Instr, Kind, LoadOp, Reg, ShiftOp, Width,
 
 /// Returns the instruction that has a word, or `None` where no instruction has it.
 ///
-/// An instruction has one word, and a word at most one instruction (`words_differ`): so this is the inverse of
-/// `encode`. RISC-V Unprivileged ISA 20191213, chapter 24.
+/// An instruction has one word, and a word at most one instruction (`words_differ`): so this is the inverse
+/// of `encode`. RISC-V Unprivileged ISA 20191213, chapter 24.
 pub fn decode(word: u32) -> Option<Instr>
     ensures means { result ≡ means word }
     ensures inverse { Means word result }

@@ -1,7 +1,7 @@
 //! Encodes instructions.
 //!
-//! Each format has a function that puts the fields in their places. RISC-V Unprivileged ISA 20191213, sections 2.2
-//! and 2.3 and chapter 24.
+//! Each format has a function that puts the fields in their places. RISC-V Unprivileged ISA 20191213,
+//! sections 2.2 and 2.3 and chapter 24.
 ghost use Rattle.std.specs.Prelude.{◌≡◌, ◌<◌, ◌^◌};
 ghost use Rattle.rv_isa.specs.Number.{modulo, IsWithin};
 ghost use Rattle.rv_isa.specs.Word as spec;
@@ -66,7 +66,8 @@ pub fn encode(instr: Instr) -> u32
     }
 }
 
-/// Returns a word of the R, S or B format: `low` is in bits 11:7 and `high` in 31:25, where the formats differ.
+/// Returns a word of the R, S or B format: `low` is in bits 11:7 and `high` in 31:25, where the formats
+/// differ.
 fn word_of(opcode: u32, low: u32, funct3: u32, rs1: Reg, rs2: u8, high: u32) -> u32
     requires { (opcode < 2 ^ 7) × (low < 2 ^ 5) × (funct3 < 2 ^ 3) × (rs2 < 2 ^ 5) × (high < 2 ^ 7) }
     ensures { result ≡ spec.r_type opcode low funct3 rs1 rs2 high }

@@ -6,8 +6,8 @@ use std::marker::Model;
 
 /// An instruction: a kind whose fields are in their ranges, seen as that kind.
 ///
-/// It is compared and shown by its word: an instruction has one word (`encode`), and a word at most one instruction
-/// (`decode`).
+/// It is compared and shown by its word: an instruction has one word (`encode`), and a word at most one
+/// instruction (`decode`).
 #[derive(Clone, Copy)]
 pub struct Instr {
     fields: Fields,

@@ -127,8 +127,8 @@ impl Operation {
         }
     }
 
-    /// Returns the instruction of the operation with these fields. Those that the operation doesn't have count for
-    /// nothing.
+    /// Returns the instruction of the operation with these fields. Those that the operation doesn't have
+    /// count for nothing.
     pub fn with(self, rd: Reg, rs1: Reg, rs2: Reg, imm: i32) -> Instr
         requires { IsInRange (kind_of (with_fields self rd rs1 rs2 imm)) }
         ensures { result ≡ kind_of (with_fields self rd rs1 rs2 imm) }

@@ -1,7 +1,8 @@
 //! The operations of instructions, and their function codes.
 //!
 //! RISC-V Unprivileged ISA 20191213, chapter 24, has the codes: funct3 has three bits, funct7 has seven. Each
-//! operation has its codes, and `from_funct3` and `from_codes` return the operation, or `None` for other codes.
+//! operation has its codes, and `from_funct3` and `from_codes` return the operation, or `None` for other
+//! codes.
 ghost use Rattle.std.specs.Prelude.{◌≡◌, ◌≢◌, ◌<◌, ◌%◌, ◌==◌, MatchOption};
 ghost use Rattle.rv_isa.specs.Width.{bytes_of, load_width, is_signed_load, imm_alu_op, shift_alu_op};
 ghost use Rattle.rv_isa.specs.Op.{cond_funct3, load_op_funct3, width_funct3, imm_op_funct3, csr_op_funct3, shift_op_funct3, alu_op_funct3, shift_op_funct7, alu_op_funct7};
@@ -91,8 +92,8 @@ impl LoadOp {
         }
     }
 
-    /// Whether the load extends with the sign, and not with zeros. For four bytes both are the same, and LW is signed.
-    /// Section 2.6.
+    /// Whether the load extends with the sign, and not with zeros. For four bytes both are the same, and LW
+    /// is signed. Section 2.6.
     pub fn is_signed(self) -> bool
         ensures { result ≡ is_signed_load self }
     {
@@ -154,7 +155,8 @@ impl Width {
         }
     }
 
-    /// Whether an access at a byte address is naturally aligned: the address is a multiple of the width. Section 2.6.
+    /// Whether an access at a byte address is naturally aligned: the address is a multiple of the width.
+    /// Section 2.6.
     pub fn is_aligned(self, addr: u32) -> bool
         ensures { result ≡ (addr % bytes_of self == 0) }
     {

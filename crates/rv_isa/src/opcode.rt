@@ -1,7 +1,7 @@
 //! The major opcodes, in the low seven bits of a word, and the four instructions that have no fields.
 //!
-//! RISC-V Unprivileged ISA 20191213, chapter 24, table 24.1, and Privileged Architecture 20211203, sections 3.3.2
-//! and 3.3.3. Encoding and decoding share them.
+//! RISC-V Unprivileged ISA 20191213, chapter 24, table 24.1, and Privileged Architecture 20211203, sections
+//! 3.3.2 and 3.3.3. Encoding and decoding share them.
 
 pub(crate) const LOAD: u32 = 0x03;
 

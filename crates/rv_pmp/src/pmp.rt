@@ -185,8 +185,8 @@ impl Pmp {
         }
     }
 
-    /// Returns bytes within which user mode is granted all accesses of a kind: those that the permission cache
-    /// keeps.
+    /// Returns bytes within which user mode is granted all accesses of a kind: those that the permission
+    /// cache keeps.
     #[inline(always)]
     #[tactic(auto, using(crate::proofs::Widest::within_granted))]
     pub fn user_span(&self, access: Access) -> Span

@@ -61,8 +61,8 @@ pub trait ByteMemory: Drop {
         ensures err { OnErr result (bytes self.new ≡ bytes self.old) }
         ensures room { OnErr result (wants_page (bytes self.old) off width value ≡ true) };
 
-    /// Writes as `write` does where no room has to be made. Returns whether it wrote: it may refuse only a page
-    /// that has only zeros, and then leaves every byte as it was. It never allocates.
+    /// Writes as `write` does where no room has to be made. Returns whether it wrote: it may refuse only a
+    /// page that has only zeros, and then leaves every byte as it was. It never allocates.
     fn overwrite(&mut self, off: u32, width: Width, value: u32) -> bool
         requires in_range { off + bytes_of width ≤ length (bytes self.old) }
         requires aligned { off % bytes_of width ≡ 0 }

@@ -192,8 +192,8 @@ impl TextOut for MemoryOut {
             ≡ (self.old.has_failed || (n == 0 && nat_lt 0 (length bytes.now)))) }
         ensures err { OnErr result (self.new.has_failed ≡ true) }
 
-        // It fails at the call that was asked to fail or where memory runs out, and at any other takes as many bytes as
-        // it may.
+        // It fails at the call that was asked to fail or where memory runs out, and at any other takes as
+        // many bytes as it may.
         ensures fails { self.old.good_calls ≡ Some 0 → IsErr result }
         ensures count { IfOk result (λ n. n ≡ min self.old.most (length bytes.now)) }
         ensures calls { self.new.good_calls ≡ after_call self.old.good_calls }

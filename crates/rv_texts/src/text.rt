@@ -21,7 +21,8 @@ pub trait TextIn {
     // Whether a read has failed.
     ghost has_failed: { Self → Bool };
 
-    /// Reads bytes into the buffer, and returns their number. 0 for a buffer that is not empty is the end of the text.
+    /// Reads bytes into the buffer, and returns their number. 0 for a buffer that is not empty is the end of
+    /// the text.
     ///
     /// # Errors
     ///
@@ -41,7 +42,8 @@ pub trait TextIn {
 ///
 /// # Errors
 ///
-/// - `Unreadable` if the reader fails or gives more than `TEXT_LIMIT` bytes, after which it is not read again.
+/// - `Unreadable` if the reader fails or gives more than `TEXT_LIMIT` bytes, after which it is not read
+///   again.
 /// - `OutOfMemory` if memory runs out, while the reader is in order.
 pub(crate) fn read_text<R: TextIn>(
     alloc: Global,

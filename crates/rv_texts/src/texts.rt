@@ -88,8 +88,8 @@ fn read_commands<C: TextIn>(
 ///
 /// # Errors
 ///
-/// - `Unreadable` with the first text whose reader fails or gives more than 16,777,216 bytes. That reader is not read
-///   again, and the readers that follow are not touched.
+/// - `Unreadable` with the first text whose reader fails or gives more than 16,777,216 bytes. That reader is
+///   not read again, and the readers that follow are not touched.
 /// - `OutOfMemory` if memory runs out, while the readers are in order.
 pub fn read_texts<S: TextIn, I: TextIn, C: TextIn>(
     alloc: Global,

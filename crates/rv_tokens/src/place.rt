@@ -38,8 +38,8 @@ fn place_in(total: usize, rest: &[u8], index: usize) -> Option<Place>
     place_in(total, rest.split_at(len).1, index - 1)
 }
 
-/// Returns the place of the token with an index, counted from 0, in a line without its line end; `None` if fewer
-/// tokens can be cut from the line.
+/// Returns the place of the token with an index, counted from 0, in a line without its line end; `None` if
+/// fewer tokens can be cut from the line.
 pub fn place_of(line: &[u8], index: usize) -> Option<Place>
     ensures value { result ≡ slice_get (places line.now) index }
     ensures within { IfSome result (λ p. p.column + p.len ≤ length line.now) }
@@ -47,7 +47,8 @@ pub fn place_of(line: &[u8], index: usize) -> Option<Place>
     place_in(line.len(), line, index)
 }
 
-/// Returns the column of the first byte at which no token begins, in the rest of a line that has `total` bytes.
+/// Returns the column of the first byte at which no token begins, in the rest of a line that has `total`
+/// bytes.
 fn stuck_in(total: usize, rest: &[u8]) -> Option<usize>
     requires { length rest.now ≤ total }
     ensures { IfSome result (λ column. column < total) }

@@ -205,8 +205,8 @@ fn the_next_call_goes_on_with_the_refused_step(rt: HostRuntime) -> Result<(), Fa
     Ok(())
 }
 
-// Without inputs the steps of a call are one burst, which comes to the store in its second step, and then begins
-// with it.
+// Without inputs the steps of a call are one burst, which comes to the store in its second step, and then
+// begins with it.
 #[test]
 fn a_page_refused_in_a_burst_can_be_asked_for_again(rt: HostRuntime) -> Result<(), Fail> {
     let mut session = session(rt.alloc(), b"", 2)?;

@@ -182,8 +182,8 @@ fn faults(rt: HostRuntime) {
     check_each_fault(&rt, alloc, BAD_BYTES, LineFault::BadByte);
 }
 
-/// Returns the index of the first token of the value that the statement of a line waits for, and the number of its
-/// tokens.
+/// Returns the index of the first token of the value that the statement of a line waits for, and the number
+/// of its tokens.
 fn place(alloc: Global, text: &[u8]) -> Option<(usize, usize)> {
     let line = read(alloc, text).ok()?;
     match line.statement() {
