@@ -1,13 +1,20 @@
 // The editor: a text area over its coloured lines, and a gutter with the numbers and the marks of lines. Only
 // the lines in sight are drawn, so a long source costs no more than a short one.
-import { colourLine } from "./language.mjs";
+import { colourLine, escaped } from "./language.mjs";
 
 const BEYOND = 20; // lines that are drawn above and below those in sight
+
+// A line as what precedes the place of a fault, and the place.
+function cutAt(line, { before, length }) {
+    const bytes = new TextEncoder().encode(line);
+    const text = new TextDecoder().decode(bytes.slice(0, before));
+    return [text, [...line.slice(text.length)].slice(0, length).join("")];
+}
 
 export class Editor {
     constructor({ text, colours, gutter }, { onChange, onBreakpoint }) {
         Object.assign(this, { text, colours, gutter, lines: [""] });
-        this.faults = new Map(); // by line: the sentence
+        this.faults = new Map(); // by line
         this.breakpoints = new Set();
         this.here = 0; // the line at pc, or 0
         text.addEventListener("input", () => {
@@ -55,11 +62,13 @@ export class Editor {
         return parseFloat(getComputedStyle(this.text).lineHeight);
     }
 
-    // Puts the caret at a line and the focus on the text.
+    // Selects the place of a line's fault, or the whole line, and puts the focus on the text.
     goTo(line) {
         const at = this.lines.slice(0, line - 1).reduce((sum, it) => sum + it.length + 1, 0);
+        const text = this.lines[line - 1] ?? "", fault = this.faults.get(line);
+        const [before, place] = fault ? cutAt(text, fault) : ["", text];
         this.text.focus();
-        this.text.setSelectionRange(at, at + (this.lines[line - 1] ?? "").length);
+        this.text.setSelectionRange(at + before.length, at + before.length + place.length);
         this.show(line);
     }
 
@@ -77,6 +86,14 @@ export class Editor {
         return this.breakpoints.has(line) ? "●" : "";
     }
 
+    // A mark beneath the place of a line's fault: the text once more, unseen, with the place underlined.
+    placeHtml(index) {
+        const fault = this.faults.get(index + 1);
+        if (!fault) return "";
+        const [before, place] = cutAt(this.lines[index], fault);
+        return `<span class="place">${escaped(before)}<u>${escaped(place) || " "}</u></span>`;
+    }
+
     draw() {
         const height = this.lineHeight, { scrollTop, scrollLeft, clientHeight } = this.text;
         const first = Math.max(0, Math.floor(scrollTop / height) - BEYOND);
@@ -85,7 +102,7 @@ export class Editor {
         for (let index = first; index < end; index++) {
             const line = index + 1;
             const kind = `${this.here === line ? "here" : ""} ${this.faults.has(line) ? "fault" : ""}`.trim();
-            rows.push(`<div class="${kind}">${colourLine(this.lines[index])}\n</div>`);
+            rows.push(`<div class="${kind}">${this.placeHtml(index)}${colourLine(this.lines[index])}\n</div>`);
             numbers.push(`<li value="${line}" class="${kind}"><i>${this.mark(line)}</i>${line}</li>`);
         }
         this.colours.innerHTML = rows.join("");

@@ -239,10 +239,12 @@ async function readLabels(source) {
 
 function showFaults(faults) {
     const button = (line) => (line ? `<button value="${line}">Line ${line}</button> ` : "");
-    const rows = faults.map(({ line, sentence }) => `<li>${button(line)}✗ ${escaped(sentence)}</li>`);
+    const rows = faults.map(({ line, sentence, advice }) => {
+        return `<li>${button(line)}✗ ${escaped(sentence)} <span class="hint">${escaped(advice)}</span></li>`;
+    });
     $("faults").innerHTML = rows.join("");
     $("text").setAttribute("aria-invalid", faults.length > 0);
-    editor.faults = new Map(faults.map(({ line, sentence }) => [line, sentence]));
+    editor.faults = new Map(faults.map((fault) => [fault.line, fault]));
     editor.draw();
 }
 

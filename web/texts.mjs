@@ -1,11 +1,25 @@
 // The lab's answers as values: what the page shows in tables stands in these texts.
 
-// The faults in the text of a refused source or timed list: { line, sentence }, the line 0 where it has none.
+// A fault of a source: its place and a sentence, the line, a mark beneath the place, and advice.
+const FAULT = new RegExp(
+    /^source:(?<line>\d+):(?<column>\d+): E\d+ (?<sentence>\w+: .*)/.source +
+        /(?:\n {4}.*)?(?:\n {4}\s*(?<mark>\^+))?(?:\n {2}help: (?<advice>.*))?/.source,
+    "gm",
+);
+
+// The faults in the text of a refused source or timed list, each with its line, or 0 where it has none, how
+// many bytes of that precede the place, how many characters the place has, the sentence and the advice.
 export function readFaults(text) {
     if (!text) return [];
-    const faults = [...text.matchAll(/^source:(?<line>\d+)(?::\d+)?: E\d+ (?<sentence>\w+: .*)$/gm)];
-    if (!faults.length) return [{ line: 0, sentence: text.trim() }];
-    return faults.map(({ groups }) => ({ line: Number(groups.line), sentence: groups.sentence }));
+    const faults = [...text.matchAll(FAULT)];
+    if (!faults.length) return [{ line: 0, before: 0, length: 0, sentence: text.trim(), advice: "" }];
+    return faults.map(({ groups: { line, column, sentence, mark = "^", advice = "" } }) => ({
+        line: Number(line),
+        before: Number(column) - 1,
+        length: mark.length,
+        sentence,
+        advice,
+    }));
 }
 
 // The registers, pc and the mode, from `r`.

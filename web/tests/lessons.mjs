@@ -107,13 +107,20 @@ async function allExamples() {
 async function fault() {
     await choose("hello");
     const source = sourceOf("hello");
-    await typeOver("li", "lx");
+    await typeOver("li", "LI");
     await page.until(`document.querySelectorAll("#faults li").length > 0`);
     const line = source.split("\n").findIndex((it) => /\bli /.test(it)) + 1;
     same("a fault is marked at its line as one types", await page.text("#gutter .fault"), `✗${line}`);
-    contains("its sentence stands below", await page.text("#faults"), /UnknownWord/);
+    same("the word that is meant is underlined", await page.text("#colours .fault u"), "LI");
+    contains("its sentence and advice stand below", await page.text("#faults"), /`LI` is neither .* write `li`/);
+    await page.run(`document.querySelector("#faults button").click()`);
+    const selected = await page.run(`(() => {
+        const text = document.getElementById("text");
+        return text.value.slice(text.selectionStart, text.selectionEnd);
+    })()`);
+    same("its button selects that word", selected, "LI");
     await picture("page-fault");
-    await typeOver("lx", "li");
+    await typeOver("LI", "li");
     await page.until(`document.querySelectorAll("#faults li").length === 0`);
     check("mended, no line is marked", !(await page.run(`!!document.querySelector("#gutter .fault")`)));
 }
