@@ -3,6 +3,7 @@
 export const MORE = 0, RUNNING = 1, SAVE = 2, QUIT = 3;
 const REFUSED = 1, NO_MEMORY = 4, NO_LAB = 5;
 const ROOM = 1 << 16;
+const PIECE = 100000; // the most steps of the first call
 
 export const encode = (text) => new TextEncoder().encode(text);
 export const decode = (bytes) => new TextDecoder().decode(bytes);
@@ -10,6 +11,7 @@ export const decode = (bytes) => new TextDecoder().decode(bytes);
 export class Board {
     constructor(module) {
         this.exports = new WebAssembly.Instance(module).exports;
+        this.piece = PIECE; // the most steps of a call of a command
         this.handle = this.exports.page_room(16n);
         this.room = this.exports.page_room(BigInt(ROOM));
         this.out = this.exports.page_room(16n);
@@ -84,13 +86,13 @@ export class Board {
 
     // Executes a command line: its answer, and what follows it.
     command(line) {
-        const execute = (...text) => this.exports.page_command(this.handle, ...text);
+        const execute = (...text) => this.exports.page_command(this.handle, ...text, BigInt(this.piece));
         return this.answer(this.withTexts([line], execute));
     }
 
     // Goes on with a run whose answer said RUNNING.
     goOn() {
-        return this.answer(this.exports.page_go_on(this.handle));
+        return this.answer(this.exports.page_go_on(this.handle, BigInt(this.piece)));
     }
 
     // The answer of a command line that begins no run, as text.

@@ -37,6 +37,7 @@ export function runAll(board, steps) {
 export function open(source, inputs, pages) {
     const file = new URL("../out/web/board.wasm", import.meta.url);
     const board = new Board(new WebAssembly.Module(fs.readFileSync(file)));
+    board.piece = 1000000;
     return { board, fault: board.load(source, inputs, pages) };
 }
 

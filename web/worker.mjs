@@ -3,6 +3,8 @@
 import { Board, RUNNING, encode, decode } from "./board.mjs";
 
 const PROGRESS = 100; // milliseconds between two reports of a long run
+const TURN = 12; // milliseconds that a piece of a run shall take
+const PIECES = { least: 1000, most: 10000000 }; // steps of a piece
 
 let module, lab, checker;
 let paused = false;
@@ -22,6 +24,14 @@ function breathe() {
         };
         port1.postMessage(null);
     });
+}
+
+// Goes on with the run by a piece, and makes the next piece longer or shorter by the time that this one took.
+function goOn() {
+    const began = performance.now(), answer = lab.goOn();
+    const factor = Math.min(4, TURN / Math.max(1, performance.now() - began));
+    lab.piece = Math.round(Math.min(PIECES.most, Math.max(PIECES.least, lab.piece * factor)));
+    return answer;
 }
 
 const acts = {
@@ -52,7 +62,7 @@ const acts = {
                 reported = performance.now();
             }
             await breathe();
-            ({ next, text } = lab.goOn());
+            ({ next, text } = goOn());
             answer += decode(text);
         }
         return next === RUNNING ? `${answer}paused\n${lab.ask("w")}` : answer;

@@ -62,9 +62,9 @@ fn put(handle: &mut Handle, state: Box<State>)
     drop(mem::replace(handle, Handle::of(state)).into_box());
 }
 
-/// Opens a lab of a source with a timed list, on a board of so many pages and slots. The code is 0 if it is
-/// open, before its first step, and the text is empty; 1 if the source, the list or the board is refused, and
-/// the text says why; 4 if memory ran out. There is no lab but by 0.
+/// Opens a lab of a source with a timed list, on a board with `pages` pages and `slots` slots. The code is 0 if
+/// it is open, before its first step, and the text is empty; 1 if the source, the list or the board is refused,
+/// and the text says why; 4 if memory ran out. There is no lab but by 0.
 #[unsafe(no_mangle)]
 pub extern "C" fn page_load(
     alloc: Global,
@@ -88,11 +88,11 @@ pub extern "C" fn page_load(
     code
 }
 
-/// Executes a command line of the lab, and the text is its answer. The code is 0 if another command follows,
-/// 1 if the run that it began goes on by `page_go_on`, 2 if what was done is to be saved under the line's
-/// name, 3 if no command follows, 4 if memory ran out, and 5 if there is no lab.
+/// Executes a command line of the lab, and the text is its answer. It takes at most `most` steps: a longer run
+/// goes on by `page_go_on`. The code is 0 if another command follows, 1 if the run goes on, 2 if what was done
+/// is to be saved under the line's name, 3 if no command follows, 4 if memory ran out, and 5 if there is no lab.
 #[unsafe(no_mangle)]
-pub extern "C" fn page_command(alloc: Global, handle: &mut Handle, line: &[u8]) -> u32
+pub extern "C" fn page_command(alloc: Global, handle: &mut Handle, line: &[u8], most: u64) -> u32
     ensures lab { Keeps handle.old.value handle.new.value }
     ensures none { IsAbsent handle.old.value result }
     ensures codes { result ≤ 5 }
@@ -100,14 +100,15 @@ pub extern "C" fn page_command(alloc: Global, handle: &mut Handle, line: &[u8]) 
     let Some(mut state) = taken(alloc, handle) else {
         return NO_MEMORY;
     };
-    let code = state.command(line);
+    let code = state.command(line, most);
     put(handle, state);
     code
 }
 
-/// Goes on with the run that isn't over, if there is one. The text and the code are those of `page_command`.
+/// Goes on with the run that isn't over, if there is one, by at most `most` steps. The text and the code are
+/// those of `page_command`.
 #[unsafe(no_mangle)]
-pub extern "C" fn page_go_on(alloc: Global, handle: &mut Handle) -> u32
+pub extern "C" fn page_go_on(alloc: Global, handle: &mut Handle, most: u64) -> u32
     ensures lab { Keeps handle.old.value handle.new.value }
     ensures none { IsAbsent handle.old.value result }
     ensures codes { result ≤ 5 }
@@ -115,7 +116,7 @@ pub extern "C" fn page_go_on(alloc: Global, handle: &mut Handle) -> u32
     let Some(mut state) = taken(alloc, handle) else {
         return NO_MEMORY;
     };
-    let code = state.go_on();
+    let code = state.go_on(most);
     put(handle, state);
     code
 }

@@ -68,28 +68,34 @@ impl State {
         }
     }
 
-    /// Executes a command line.
-    pub(crate) fn command(&mut self, line: &[u8]) -> u32
+    /// Executes a command line, in at most `most` steps.
+    pub(crate) fn command(&mut self, line: &[u8], most: u64) -> u32
         ensures lab { Keeps self.old self.new }
         ensures none { IsAbsent self.old result }
         ensures codes { result ≤ 5 }
     {
         self.answer.clear();
         match &mut self.lab {
-            Some(lab) => code_of(lab.command(line, &mut self.answer)),
+            Some(lab) => {
+                lab.set_piece(most);
+                code_of(lab.command(line, &mut self.answer))
+            }
             None => NO_LAB,
         }
     }
 
-    /// Goes on with a run.
-    pub(crate) fn go_on(&mut self) -> u32
+    /// Goes on with a run, by at most `most` steps.
+    pub(crate) fn go_on(&mut self, most: u64) -> u32
         ensures lab { Keeps self.old self.new }
         ensures none { IsAbsent self.old result }
         ensures codes { result ≤ 5 }
     {
         self.answer.clear();
         match &mut self.lab {
-            Some(lab) => code_of(lab.go_on(&mut self.answer)),
+            Some(lab) => {
+                lab.set_piece(most);
+                code_of(lab.go_on(&mut self.answer))
+            }
             None => NO_LAB,
         }
     }
