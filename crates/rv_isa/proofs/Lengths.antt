@@ -4,7 +4,7 @@ use Rattle.std.proofs.lemmas.Fmt.{length-decimal-le, length_signed_le}
 use Rattle.std.specs.Prelude.{ℤ, pos, negsuc}
 use Rattle.std.specs.Fmt.{decimal, signed_decimal}
 use Rattle.rv_isa.specs.Number.{IsWithin}
-use Rattle.rv_isa.specs.Mnemonics.{cond_name, load_op_name, width_name, imm_op_name, shift_op_name, csr_op_name, alu_op_name}
+use Rattle.rv_isa.specs.Table.{name, branch_operation, load_operation, store_operation, imm_operation, shift_operation, alu_operation, csr_operation, csr_imm_operation}
 use Rattle.rv_isa.specs.Text.{target, register, text}
 use Rattle.rv_isa.specs.Word.{IsInRange}
 use Rattle.rv_isa.specs.declared.kind.Kind.{Kind}
@@ -14,25 +14,36 @@ use Rattle.rv_base.specs.Digits.{short_hex}
 
 -- ---- mnemonics
 
-cond_length : (op : _) → length (cond_name op) ≤ 4
+cond_length : (op : _) → length (name (branch_operation op)) ≤ 4
+unfolding name branch_operation
 cond_length op = grind arith
 
-load_length : (op : _) → length (load_op_name op) ≤ 3
+load_length : (op : _) → length (name (load_operation op)) ≤ 3
+unfolding name load_operation
 load_length op = grind arith
 
-width_length : (op : _) → length (width_name op) ≤ 2
+width_length : (op : _) → length (name (store_operation op)) ≤ 2
+unfolding name store_operation
 width_length op = grind arith
 
-imm_op_length : (op : _) → length (imm_op_name op) ≤ 5
+imm_op_length : (op : _) → length (name (imm_operation op)) ≤ 5
+unfolding name imm_operation
 imm_op_length op = grind arith
 
-shift_length : (op : _) → length (shift_op_name op) ≤ 4
+shift_length : (op : _) → length (name (shift_operation op)) ≤ 4
+unfolding name shift_operation
 shift_length op = grind arith
 
-csr_op_length : (op : _) → length (csr_op_name op) ≤ 5
+csr_op_length : (op : _) → length (name (csr_operation op)) ≤ 5
+unfolding name csr_operation
 csr_op_length op = grind arith
 
-alu_length : (op : _) → length (alu_op_name op) ≤ 6
+csr_imm_length : (op : _) → length (name (csr_imm_operation op)) ≤ 6
+unfolding name csr_imm_operation
+csr_imm_length op = grind arith
+
+alu_length : (op : _) → length (name (alu_operation op)) ≤ 6
+unfolding name alu_operation
 alu_length op = grind arith
 
 -- ---- operands
@@ -48,8 +59,8 @@ register_length n h = omega (arith, small_length n h)
 upper_length : (n : ℕ) → n < 2 ^ 20 → length (short_hex n) ≤ 7
 upper_length n h = omega (arith, hex_length 4 n (omega arith) (omega arith))
 
-csr_length : (n : ℕ) → n < 2 ^ 12 → length (short_hex n) ≤ 5
-csr_length n h = omega (arith, hex_length 2 n (omega arith) (omega arith))
+csr_number_length : (n : ℕ) → n < 2 ^ 12 → length (short_hex n) ≤ 5
+csr_number_length n h = omega (arith, hex_length 2 n (omega arith) (omega arith))
 
 immediate_length : (z : ℤ) → IsWithin (2 ^ 11) z → length (signed_decimal z) ≤ 5
 immediate_length (pos n) h = length_signed_le 4 (pos n) (omega arith) (omega arith)
@@ -68,7 +79,7 @@ jump_length (negsuc n) h =
 -- ---- lines
 
 pub text_length : (k : Kind) → IsInRange k → length (text k) ≤ 19
-unfolding text
+unfolding text name
 text_length (Lui rd imm) r = simp length-append (omega (arith, register_length rd r.0, upper_length imm r.1))
 text_length (Auipc rd imm) r =
     simp length-append (omega (arith, register_length rd r.0, upper_length imm r.1))
@@ -113,7 +124,7 @@ text_length (Shift op rd rs1 amount) r = simp length-append
 text_length (Op op rd rs1 rs2) r = simp length-append
     (omega (arith, alu_length op, register_length rd r.0, register_length rs1 r.1, register_length rs2 r.2))
 text_length (Csr op rd rs1 csr) r = simp length-append
-    (omega (arith, csr_op_length op, register_length rd r.0, register_length rs1 r.1, csr_length csr r.2))
+    (omega (arith, csr_op_length op, register_length rd r.0, register_length rs1 r.1, csr_number_length csr r.2))
 text_length (CsrImm op rd imm csr) r = simp length-append
-    (omega (arith, csr_op_length op, register_length rd r.0, small_length imm r.1, csr_length csr r.2))
+    (omega (arith, csr_imm_length op, register_length rd r.0, small_length imm r.1, csr_number_length csr r.2))
 text_length k r = omega arith

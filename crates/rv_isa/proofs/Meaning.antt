@@ -1,28 +1,21 @@
 -- The search through the kinds finds the meaning of a word.
-use Rattle.std.proofs.Common.{◌≡◌, ℕ, zero, suc, ◌<◌, ◌==◌, Bool, true, false, List, [], ◌∷◌, Option, Some, None, refl, sym, subst, inl, inr, arith, true≢false}
-use Rattle.std.specs.Prelude.{ℤ, pos, negsuc, slice_get, IfSome, IsSome, if◌then◌else◌}
+use Rattle.std.proofs.Common.{◌≡◌, ℕ, zero, suc, ◌^◌, ◌<◌, ◌==◌, Bool, true, false, List, [], ◌∷◌, Option, Some, None, refl, ap, sym, subst, inl, inr, arith, true≢false}
+use Rattle.std.specs.Prelude.{ℤ, pos, negsuc, IfSome, IsSome, if◌then◌else◌}
 use Rattle.std.proofs.lemmas.Bool.{cases_lt, eqb-true, eq-eqb}
 use Rattle.std.proofs.lemmas.Option.{none-some, same_Some}
 use Rattle.std.specs.Option.{option_or}
-use Rattle.rv_isa.specs.Meaning.{first_below, first_within, first_distance, first_in, first_of, conds, load_ops, widths, imm_ops, shift_ops, alu_ops, csr_ops, first_kind, means}
+use Rattle.std.specs.Str.{bytes_eq}
+use Rattle.rv_isa.proofs.OneLayout.{branch_kind, load_kind, store_kind, imm_kind, shift_kind, alu_kind, csr_kind, csr_imm_kind}
+use Rattle.rv_isa.specs.Fields.{kind_of}
+use Rattle.rv_isa.specs.Meaning.{first_below, first_within, first_distance, first_in, first_upper, first_jump, first_signed, first_branch, first_number, first_like, first_kind, means}
+use Rattle.rv_isa.specs.Mnemonics.{blank, first_named, named, with_fields}
 use Rattle.rv_isa.specs.Number.{modulo, IsWithin, IsDistance}
+use Rattle.rv_isa.specs.Table.{name, operation_of, operations}
 use Rattle.rv_isa.specs.Word.{word, IsInRange, Means}
+use Rattle.rv_isa.specs.declared.op.Operation.{Operation}
+use Rattle.rv_isa.specs.declared.op.Operation.TheVariants as o
 use Rattle.rv_isa.specs.declared.kind.Kind.{Kind}
 use Rattle.rv_isa.specs.declared.kind.Kind.TheVariants.{Lui, Auipc, Jal, Jalr, Branch, Load, Store, OpImm, Shift, Op, Fence, FenceI, Csr, CsrImm, Ecall, Ebreak, Mret, Wfi}
-use Rattle.rv_isa.specs.declared.op.Cond.{Cond}
-use Rattle.rv_isa.specs.declared.op.Cond.TheVariants.{Eq, Ne, Lt, Ge, Ltu, Geu}
-use Rattle.rv_isa.specs.declared.op.LoadOp.{LoadOp}
-use Rattle.rv_isa.specs.declared.op.LoadOp.TheVariants.{Lb, Lh, Lw, Lbu, Lhu}
-use Rattle.rv_isa.specs.declared.op.Width.{Width}
-use Rattle.rv_isa.specs.declared.op.Width.TheVariants.{One, Two, Four}
-use Rattle.rv_isa.specs.declared.op.ImmOp.{ImmOp}
-use Rattle.rv_isa.specs.declared.op.ImmOp.TheVariants.{Addi, Slti, Sltiu, Xori, Ori, Andi}
-use Rattle.rv_isa.specs.declared.op.CsrOp.{CsrOp}
-use Rattle.rv_isa.specs.declared.op.CsrOp.TheVariants.{Write, Set, Clear}
-use Rattle.rv_isa.specs.declared.op.ShiftOp.{ShiftOp}
-use Rattle.rv_isa.specs.declared.op.ShiftOp.TheVariants.{Slli, Srli, Srai}
-use Rattle.rv_isa.specs.declared.op.AluOp.{AluOp}
-use Rattle.rv_isa.specs.declared.op.AluOp.TheVariants.{Add, Sll, Slt, Sltu, Xor, Srl, Or, And, Sub, Sra, Mul, Mulh, Mulhsu, Mulhu, Div, Divu, Rem, Remu}
 
 -- the result of a search, if any, has the property
 record Only {A : Type 0} (P : A → Type 0) (o : Option A) : Type 0 where
@@ -102,179 +95,136 @@ found-distance : {A : Type 0} (n : ℕ) (f : ℤ → Option A) (z : ℤ) → IsD
 unfolding first_distance
 found-distance n f z d p = found-within n _ z d.0 (found-if (modulo z 2 == 0) (f z) (eq-eqb _ _ d.1) p)
 
-found-in : {A B : Type 0} (xs : List A) (k : ℕ) (f : A → Option B) (x : A) → slice_get xs k ≡ Some x →
-    Found (f x) → Found (first_in xs f)
+-- ---- the fields of a format
+
+only-upper : {A : Type 0} {P : A → Type 0} (f : ℕ → ℕ → Option A) →
+    ((rd imm : ℕ) → (rd < 32) × (imm < 2 ^ 20) → Only P (f rd imm)) → Only P (first_upper f)
+only-upper f h = only-below _ _ (λ rd a. only-below _ _ (λ imm b. h rd imm (a, b)))
+
+only-jump : {A : Type 0} {P : A → Type 0} (f : ℕ → ℤ → Option A) →
+    ((rd : ℕ) (z : ℤ) → (rd < 32) × IsDistance (2 ^ 20) z → Only P (f rd z)) → Only P (first_jump f)
+only-jump f h = only-below _ _ (λ rd a. only-distance _ _ (λ z b. h rd z (a, b)))
+
+only-signed : {A : Type 0} {P : A → Type 0} (f : ℕ → ℕ → ℤ → Option A) →
+    ((a b : ℕ) (z : ℤ) → (a < 32) × (b < 32) × IsWithin (2 ^ 11) z → Only P (f a b z)) → Only P (first_signed f)
+only-signed f h =
+    only-below _ _ (λ a x. only-below _ _ (λ b y. only-within _ _ (λ z w. h a b z (x, y, w))))
+
+only-branch : {A : Type 0} {P : A → Type 0} (f : ℕ → ℕ → ℤ → Option A) →
+    ((a b : ℕ) (z : ℤ) → (a < 32) × (b < 32) × IsDistance (2 ^ 12) z → Only P (f a b z)) → Only P (first_branch f)
+only-branch f h =
+    only-below _ _ (λ a x. only-below _ _ (λ b y. only-distance _ _ (λ z w. h a b z (x, y, w))))
+
+only-number : {A : Type 0} {P : A → Type 0} (n : ℕ) (f : ℕ → ℕ → ℕ → Option A) →
+    ((a b c : ℕ) → (a < 32) × (b < 32) × (c < n) → Only P (f a b c)) → Only P (first_number n f)
+only-number n f h = only-below _ _ (λ a x. only-below _ _ (λ b y. only-below _ _ (λ c z. h a b c (x, y, z))))
+
+found-upper : {A : Type 0} (f : ℕ → ℕ → Option A) (rd imm : ℕ) → (rd < 32) × (imm < 2 ^ 20) → Found (f rd imm) →
+    Found (first_upper f)
+found-upper f rd imm r p = found-below _ _ rd r.0 (found-below _ _ imm r.1 p)
+
+found-jump : {A : Type 0} (f : ℕ → ℤ → Option A) (rd : ℕ) (z : ℤ) → (rd < 32) × IsDistance (2 ^ 20) z →
+    Found (f rd z) → Found (first_jump f)
+found-jump f rd z r p = found-below _ _ rd r.0 (found-distance _ _ z r.1 p)
+
+found-signed : {A : Type 0} (f : ℕ → ℕ → ℤ → Option A) (a b : ℕ) (z : ℤ) →
+    (a < 32) × (b < 32) × IsWithin (2 ^ 11) z → Found (f a b z) → Found (first_signed f)
+found-signed f a b z r p = found-below _ _ a r.0 (found-below _ _ b r.1 (found-within _ _ z r.2 p))
+
+found-branch : {A : Type 0} (f : ℕ → ℕ → ℤ → Option A) (a b : ℕ) (z : ℤ) →
+    (a < 32) × (b < 32) × IsDistance (2 ^ 12) z → Found (f a b z) → Found (first_branch f)
+found-branch f a b z r p = found-below _ _ a r.0 (found-below _ _ b r.1 (found-distance _ _ z r.2 p))
+
+found-number : {A : Type 0} (n : ℕ) (f : ℕ → ℕ → ℕ → Option A) (a b c : ℕ) →
+    (a < 32) × (b < 32) × (c < n) → Found (f a b c) → Found (first_number n f)
+found-number n f a b c r p = found-below _ _ a r.0 (found-below _ _ b r.1 (found-below _ _ c r.2 p))
+
+-- ---- the kinds that differ in their fields
+
+only-like : {A : Type 0} {P : A → Type 0} (k : Kind) (f : Kind → Option A) →
+    ((k : Kind) → IsInRange k → Only P (f k)) → Only P (first_like k f)
+unfolding first_like
+only-like (Lui _ _) f h = only-upper _ (λ rd imm. h (Lui rd imm))
+only-like (Auipc _ _) f h = only-upper _ (λ rd imm. h (Auipc rd imm))
+only-like (Jal _ _) f h = only-jump _ (λ rd offset. h (Jal rd offset))
+only-like (Jalr _ _ _) f h = only-signed _ (λ rd base offset. h (Jalr rd base offset))
+only-like (Branch cond _ _ _) f h = only-branch _ (λ rs1 rs2 offset. h (Branch cond rs1 rs2 offset))
+only-like (Load op _ _ _) f h = only-signed _ (λ rd base offset. h (Load op rd base offset))
+only-like (Store width _ _ _) f h = only-signed _ (λ source base offset. h (Store width source base offset))
+only-like (OpImm op _ _ _) f h = only-signed _ (λ rd rs1 imm. h (OpImm op rd rs1 imm))
+only-like (Shift op _ _ _) f h = only-number _ _ (λ rd rs1 amount. h (Shift op rd rs1 amount))
+only-like (Op op _ _ _) f h = only-number _ _ (λ rd rs1 rs2. h (Op op rd rs1 rs2))
+only-like (Fence _ _ _) f h = only-number _ _ (λ rd rs1 imm. h (Fence rd rs1 imm))
+only-like (FenceI _ _ _) f h = only-number _ _ (λ rd rs1 imm. h (FenceI rd rs1 imm))
+only-like (Csr op _ _ _) f h = only-number _ _ (λ rd rs1 csr. h (Csr op rd rs1 csr))
+only-like (CsrImm op _ _ _) f h = only-number _ _ (λ rd imm csr. h (CsrImm op rd imm csr))
+only-like k f h = h k tt
+
+found-like : {A : Type 0} (k : Kind) (f : Kind → Option A) → IsInRange k → Found (f k) → Found (first_like k f)
+unfolding first_like
+found-like (Lui rd imm) f r p = found-upper _ rd imm r p
+found-like (Auipc rd imm) f r p = found-upper _ rd imm r p
+found-like (Jal rd offset) f r p = found-jump _ rd offset r p
+found-like (Jalr rd base offset) f r p = found-signed _ rd base offset r p
+found-like (Branch cond rs1 rs2 offset) f r p = found-branch _ rs1 rs2 offset r p
+found-like (Load op rd base offset) f r p = found-signed _ rd base offset r p
+found-like (Store width source base offset) f r p = found-signed _ source base offset r p
+found-like (OpImm op rd rs1 imm) f r p = found-signed _ rd rs1 imm r p
+found-like (Shift op rd rs1 amount) f r p = found-number _ _ rd rs1 amount r p
+found-like (Op op rd rs1 rs2) f r p = found-number _ _ rd rs1 rs2 r p
+found-like (Fence rd rs1 imm) f r p = found-number _ _ rd rs1 imm r p
+found-like (FenceI rd rs1 imm) f r p = found-number _ _ rd rs1 imm r p
+found-like (Csr op rd rs1 csr) f r p = found-number _ _ rd rs1 csr r p
+found-like (CsrImm op rd imm csr) f r p = found-number _ _ rd imm csr r p
+found-like k f r p = p
+
+-- the search is the same for all kinds of an operation
+like_blank : {A : Type 0} (k : Kind) (f : Kind → Option A) → first_like (blank (operation_of k)) f ≡ first_like k f
+unfolding first_like blank kind_of
+like_blank (Branch op _ _ _) f = ap (λ (k : Kind). first_like k f) (branch_kind op _)
+like_blank (Load op _ _ _) f = ap (λ (k : Kind). first_like k f) (load_kind op _)
+like_blank (Store op _ _ _) f = ap (λ (k : Kind). first_like k f) (store_kind op _)
+like_blank (OpImm op _ _ _) f = ap (λ (k : Kind). first_like k f) (imm_kind op _)
+like_blank (Shift op _ _ _) f = ap (λ (k : Kind). first_like k f) (shift_kind op _)
+like_blank (Op op _ _ _) f = ap (λ (k : Kind). first_like k f) (alu_kind op _)
+like_blank (Csr op _ _ _) f = ap (λ (k : Kind). first_like k f) (csr_kind op _)
+like_blank (CsrImm op _ _ _) f = ap (λ (k : Kind). first_like k f) (csr_imm_kind op _)
+like_blank k f = refl
+
+-- ---- the operations
+
+-- an operation is the one with its mnemonic, so it is one of the list
+named_itself : (x : Operation) → named (name x) ≡ Some x
+unfolding operations name
+named_itself o.Lui = refl
+named_itself x = refl
+
+found-first : {A : Type 0} (b : Bool) (x y : Operation) (others : Option Operation) (f : Operation → Option A)
+    (later : Option A) → (if b then Some y else others) ≡ Some x → Found (f x) → (others ≡ Some x → Found later) →
+    Found (option_or (f y) later)
+found-first true x y others f later e p h =
+    found-left _ _ (subst (λ z. Found (f z)) (sym (same_Some y x e)) p)
+found-first false x y others f later e p h = found-right _ _ (h e)
+
+found-named : {A : Type 0} (text : List ℕ) (xs : List Operation) (f : Operation → Option A) (x : Operation) →
+    first_named text xs ≡ Some x → Found (f x) → Found (first_in xs f)
 unfolding first_in
-found-in [] k f x at p = absurd (none-some x at)
-found-in (y ∷ ys) zero f x at p = found-left _ _ (subst (λ z. Found (f z)) (sym (same_Some y x at)) p)
-found-in (y ∷ ys) (suc k) f x at p = found-right _ _ (found-in ys k f x at p)
+found-named text [] f x e p = absurd (none-some x e)
+found-named text (y ∷ ys) f x e p =
+    found-first (bytes_eq (name y) text) x y _ f _ e p (λ e. found-named text ys f x e p)
 
--- ---- each operation is in its list
-
-at_cond : (op : Cond) → (k : ℕ) × (slice_get conds k ≡ Some op)
-unfolding conds
-at_cond Eq = (0, refl)
-at_cond Ne = (1, refl)
-at_cond Lt = (2, refl)
-at_cond Ge = (3, refl)
-at_cond Ltu = (4, refl)
-at_cond Geu = (5, refl)
-
-at_load_op : (op : LoadOp) → (k : ℕ) × (slice_get load_ops k ≡ Some op)
-unfolding load_ops
-at_load_op Lb = (0, refl)
-at_load_op Lh = (1, refl)
-at_load_op Lw = (2, refl)
-at_load_op Lbu = (3, refl)
-at_load_op Lhu = (4, refl)
-
-at_width : (op : Width) → (k : ℕ) × (slice_get widths k ≡ Some op)
-unfolding widths
-at_width One = (0, refl)
-at_width Two = (1, refl)
-at_width Four = (2, refl)
-
-at_imm_op : (op : ImmOp) → (k : ℕ) × (slice_get imm_ops k ≡ Some op)
-unfolding imm_ops
-at_imm_op Addi = (0, refl)
-at_imm_op Slti = (1, refl)
-at_imm_op Sltiu = (2, refl)
-at_imm_op Xori = (3, refl)
-at_imm_op Ori = (4, refl)
-at_imm_op Andi = (5, refl)
-
-at_shift_op : (op : ShiftOp) → (k : ℕ) × (slice_get shift_ops k ≡ Some op)
-unfolding shift_ops
-at_shift_op Slli = (0, refl)
-at_shift_op Srli = (1, refl)
-at_shift_op Srai = (2, refl)
-
-at_alu_op : (op : AluOp) → (k : ℕ) × (slice_get alu_ops k ≡ Some op)
-unfolding alu_ops
-at_alu_op Add = (0, refl)
-at_alu_op Sll = (1, refl)
-at_alu_op Slt = (2, refl)
-at_alu_op Sltu = (3, refl)
-at_alu_op Xor = (4, refl)
-at_alu_op Srl = (5, refl)
-at_alu_op Or = (6, refl)
-at_alu_op And = (7, refl)
-at_alu_op Sub = (8, refl)
-at_alu_op Sra = (9, refl)
-at_alu_op Mul = (10, refl)
-at_alu_op Mulh = (11, refl)
-at_alu_op Mulhsu = (12, refl)
-at_alu_op Mulhu = (13, refl)
-at_alu_op Div = (14, refl)
-at_alu_op Divu = (15, refl)
-at_alu_op Rem = (16, refl)
-at_alu_op Remu = (17, refl)
-
-at_csr_op : (op : CsrOp) → (k : ℕ) × (slice_get csr_ops k ≡ Some op)
-unfolding csr_ops
-at_csr_op Write = (0, refl)
-at_csr_op Set = (1, refl)
-at_csr_op Clear = (2, refl)
-
--- ---- the rows
-
-only-nothing : {A : Type 0} {P : A → Type 0} → Only P (first_of [])
-unfolding first_of
-only-nothing = record { holds = tt }
-
-only-row : {A : Type 0} {P : A → Type 0} (row : Option A) (rows : List (Option A)) → Only P row →
-    Only P (first_of rows) → Only P (first_of (row ∷ rows))
-unfolding first_of
-only-row row rows p q = only-or row (first_of rows) p q
+-- ---- all kinds
 
 only-kind : {A : Type 0} {P : A → Type 0} (f : Kind → Option A) → ((k : Kind) → IsInRange k → Only P (f k)) →
     Only P (first_kind f)
 unfolding first_kind
-only-kind f h =
-    only-row _ _ (only-below _ _ (λ rd a. only-below _ _ (λ imm b. h (Lui rd imm) (a, b)))) (
-    only-row _ _ (only-below _ _ (λ rd a. only-below _ _ (λ imm b. h (Auipc rd imm) (a, b)))) (
-    only-row _ _ (only-below _ _ (λ rd a. only-distance _ _ (λ offset b. h (Jal rd offset) (a, b)))) (
-    only-row _ _ (only-below _ _ (λ rd a. only-below _ _
-    (λ base b. only-within _ _ (λ offset c. h (Jalr rd base offset) (a, b, c))))) (
-    only-row _ _ (only-in _ _ (λ cond. only-below _ _
-    (λ rs1 a. only-below _ _ (λ rs2 b. only-distance _ _
-    (λ offset c. h (Branch cond rs1 rs2 offset) (a, b, c)))))) (
-    only-row _ _ (only-in _ _ (λ op. only-below _ _
-    (λ rd a. only-below _ _ (λ base b. only-within _ _
-    (λ offset c. h (Load op rd base offset) (a, b, c)))))) (
-    only-row _ _ (only-in _ _ (λ width. only-below _ _
-    (λ source a. only-below _ _ (λ base b. only-within _ _
-    (λ offset c. h (Store width source base offset) (a, b, c)))))) (
-    only-row _ _ (only-in _ _ (λ op. only-below _ _
-    (λ rd a. only-below _ _ (λ rs1 b. only-within _ _ (λ imm c. h (OpImm op rd rs1 imm) (a, b, c)))))) (
-    only-row _ _ (only-in _ _ (λ op. only-below _ _
-    (λ rd a. only-below _ _ (λ rs1 b. only-below _ _
-    (λ amount c. h (Shift op rd rs1 amount) (a, b, c)))))) (
-    only-row _ _ (only-in _ _ (λ op. only-below _ _
-    (λ rd a. only-below _ _ (λ rs1 b. only-below _ _ (λ rs2 c. h (Op op rd rs1 rs2) (a, b, c)))))) (
-    only-row _ _ (only-below _ _ (λ rd a. only-below _ _
-    (λ rs1 b. only-below _ _ (λ imm c. h (Fence rd rs1 imm) (a, b, c))))) (
-    only-row _ _ (only-below _ _ (λ rd a. only-below _ _
-    (λ rs1 b. only-below _ _ (λ imm c. h (FenceI rd rs1 imm) (a, b, c))))) (
-    only-row _ _ (only-in _ _ (λ op. only-below _ _
-    (λ rd a. only-below _ _ (λ rs1 b. only-below _ _ (λ csr c. h (Csr op rd rs1 csr) (a, b, c)))))) (
-    only-row _ _ (only-in _ _ (λ op. only-below _ _
-    (λ rd a. only-below _ _ (λ imm b. only-below _ _ (λ csr c. h (CsrImm op rd imm csr) (a, b, c)))))) (
-    only-row _ _ (h Ecall tt) (only-row _ _ (h Ebreak tt)
-    (only-row _ _ (h Mret tt) (only-row _ _ (h Wfi tt) only-nothing)))
-    ))))))))))))))
-
-found-row : {A : Type 0} (rows : List (Option A)) (k : ℕ) (row : Option A) → slice_get rows k ≡ Some row →
-    Found row → Found (first_of rows)
-unfolding first_of
-found-row [] k row at p = absurd (none-some row at)
-found-row (o ∷ os) zero row at p = found-left o _ (subst (λ z. Found z) (sym (same_Some o row at)) p)
-found-row (o ∷ os) (suc k) row at p = found-right o _ (found-row os k row at p)
-
-found-op : {A B : Type 0} (xs : List A) (f : A → Option B) (op : A) → (k : ℕ) × (slice_get xs k ≡ Some op) →
-    Found (f op) → Found (first_in xs f)
-found-op xs f op at p = found-in xs at.0 f op at.1 p
+only-kind f h = only-in operations _ (λ x. only-like (blank x) f h)
 
 found-kind : {A : Type 0} (f : Kind → Option A) (k : Kind) → IsInRange k → Found (f k) → Found (first_kind f)
 unfolding first_kind
-found-kind f (Lui rd imm) r p = found-row _ 0 _ refl (found-below _ _ rd r.0 (found-below _ _ imm r.1 p))
-found-kind f (Auipc rd imm) r p = found-row _ 1 _ refl (found-below _ _ rd r.0 (found-below _ _ imm r.1 p))
-found-kind f (Jal rd offset) r p =
-    found-row _ 2 _ refl (found-below _ _ rd r.0 (found-distance _ _ offset r.1 p))
-found-kind f (Jalr rd base offset) r p =
-    found-row _ 3 _ refl (found-below _ _ rd r.0 (found-below _ _ base r.1 (found-within _ _ offset r.2 p)))
-found-kind f (Branch cond rs1 rs2 offset) r p =
-    found-row _ 4 _ refl (found-op _ _ cond (at_cond cond)
-    (found-below _ _ rs1 r.0 (found-below _ _ rs2 r.1 (found-distance _ _ offset r.2 p))))
-found-kind f (Load op rd base offset) r p =
-    found-row _ 5 _ refl (found-op _ _ op (at_load_op op)
-    (found-below _ _ rd r.0 (found-below _ _ base r.1 (found-within _ _ offset r.2 p))))
-found-kind f (Store width source base offset) r p =
-    found-row _ 6 _ refl (found-op _ _ width (at_width width)
-    (found-below _ _ source r.0 (found-below _ _ base r.1 (found-within _ _ offset r.2 p))))
-found-kind f (OpImm op rd rs1 imm) r p =
-    found-row _ 7 _ refl (found-op _ _ op (at_imm_op op)
-    (found-below _ _ rd r.0 (found-below _ _ rs1 r.1 (found-within _ _ imm r.2 p))))
-found-kind f (Shift op rd rs1 amount) r p =
-    found-row _ 8 _ refl (found-op _ _ op (at_shift_op op)
-    (found-below _ _ rd r.0 (found-below _ _ rs1 r.1 (found-below _ _ amount r.2 p))))
-found-kind f (Op op rd rs1 rs2) r p =
-    found-row _ 9 _ refl (found-op _ _ op (at_alu_op op)
-    (found-below _ _ rd r.0 (found-below _ _ rs1 r.1 (found-below _ _ rs2 r.2 p))))
-found-kind f (Fence rd rs1 imm) r p =
-    found-row _ 10 _ refl (found-below _ _ rd r.0 (found-below _ _ rs1 r.1 (found-below _ _ imm r.2 p)))
-found-kind f (FenceI rd rs1 imm) r p =
-    found-row _ 11 _ refl (found-below _ _ rd r.0 (found-below _ _ rs1 r.1 (found-below _ _ imm r.2 p)))
-found-kind f (Csr op rd rs1 csr) r p =
-    found-row _ 12 _ refl (found-op _ _ op (at_csr_op op)
-    (found-below _ _ rd r.0 (found-below _ _ rs1 r.1 (found-below _ _ csr r.2 p))))
-found-kind f (CsrImm op rd imm csr) r p =
-    found-row _ 13 _ refl (found-op _ _ op (at_csr_op op)
-    (found-below _ _ rd r.0 (found-below _ _ imm r.1 (found-below _ _ csr r.2 p))))
-found-kind f Ecall r p = found-row _ 14 _ refl p
-found-kind f Ebreak r p = found-row _ 15 _ refl p
-found-kind f Mret r p = found-row _ 16 _ refl p
-found-kind f Wfi r p = found-row _ 17 _ refl p
+found-kind f k r p =
+    found-named (name (operation_of k)) operations _ (operation_of k) (named_itself (operation_of k))
+    (subst (λ z. Found z) (sym (like_blank k f)) (found-like k f r p))
 
 -- ---- the kind that a word means
 

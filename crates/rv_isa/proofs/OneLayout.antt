@@ -1,7 +1,8 @@
 -- An instruction has one layout: `kind_of` undoes `fields_of`.
 use Rattle.std.proofs.Common.{◌≡◌, ◌∙◌, ℕ, ◌^◌, ◌<◌, refl, ap, arith}
-use Rattle.rv_isa.specs.Fields.{kind_with, kind_of, unsigned}
-use Rattle.rv_isa.specs.Layout.{fields_of, branch_operation, load_operation, store_operation, imm_operation, shift_operation, alu_operation, csr_operation, csr_imm_operation}
+use Rattle.rv_isa.specs.Fields.{kind_of, unsigned}
+use Rattle.rv_isa.specs.Layout.{fields_of}
+use Rattle.rv_isa.specs.Table.{row, branch_operation, load_operation, store_operation, imm_operation, shift_operation, alu_operation, csr_operation, csr_imm_operation}
 use Rattle.rv_isa.specs.Word.{IsInRange}
 use Rattle.rv_isa.specs.declared.fields.Fields.{Fields}
 use Rattle.rv_isa.specs.declared.kind.Kind.{Kind}
@@ -10,29 +11,37 @@ use Rattle.std.specs.Prelude.{pos}
 
 -- ---- the kind of each form's operation
 
-branch_kind : (op : _) (f : Fields) → kind_with (branch_operation op) f ≡ Branch op f.rs1 f.rs2 f.imm
+pub branch_kind : (op : _) (f : Fields) → (row (branch_operation op)).kind f ≡ Branch op f.rs1 f.rs2 f.imm
+unfolding branch_operation
 branch_kind op f = grind arith
 
-load_kind : (op : _) (f : Fields) → kind_with (load_operation op) f ≡ Load op f.rd f.rs1 f.imm
+pub load_kind : (op : _) (f : Fields) → (row (load_operation op)).kind f ≡ Load op f.rd f.rs1 f.imm
+unfolding load_operation
 load_kind op f = grind arith
 
-store_kind : (op : _) (f : Fields) → kind_with (store_operation op) f ≡ Store op f.rs2 f.rs1 f.imm
+pub store_kind : (op : _) (f : Fields) → (row (store_operation op)).kind f ≡ Store op f.rs2 f.rs1 f.imm
+unfolding store_operation
 store_kind op f = grind arith
 
-imm_kind : (op : _) (f : Fields) → kind_with (imm_operation op) f ≡ OpImm op f.rd f.rs1 f.imm
+pub imm_kind : (op : _) (f : Fields) → (row (imm_operation op)).kind f ≡ OpImm op f.rd f.rs1 f.imm
+unfolding imm_operation
 imm_kind op f = grind arith
 
-shift_kind : (op : _) (f : Fields) → kind_with (shift_operation op) f ≡ Shift op f.rd f.rs1 (unsigned f.imm)
+pub shift_kind : (op : _) (f : Fields) → (row (shift_operation op)).kind f ≡ Shift op f.rd f.rs1 (unsigned f.imm)
+unfolding shift_operation
 shift_kind op f = grind arith
 
-alu_kind : (op : _) (f : Fields) → kind_with (alu_operation op) f ≡ Op op f.rd f.rs1 f.rs2
+pub alu_kind : (op : _) (f : Fields) → (row (alu_operation op)).kind f ≡ Op op f.rd f.rs1 f.rs2
+unfolding alu_operation
 alu_kind op f = grind arith
 
-csr_kind : (op : _) (f : Fields) → kind_with (csr_operation op) f ≡ Csr op f.rd f.rs1 (unsigned f.imm)
+pub csr_kind : (op : _) (f : Fields) → (row (csr_operation op)).kind f ≡ Csr op f.rd f.rs1 (unsigned f.imm)
+unfolding csr_operation
 csr_kind op f = grind arith
 
-csr_imm_kind : (op : _) (f : Fields) →
-    kind_with (csr_imm_operation op) f ≡ CsrImm op f.rd f.rs1 (unsigned f.imm)
+pub csr_imm_kind : (op : _) (f : Fields) →
+    (row (csr_imm_operation op)).kind f ≡ CsrImm op f.rd f.rs1 (unsigned f.imm)
+unfolding csr_imm_operation
 csr_imm_kind op f = grind arith
 
 -- ---- the kind of a kind's fields

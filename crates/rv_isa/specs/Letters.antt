@@ -1,9 +1,9 @@
 -- Not to audit: private contracts alone cite this.
 -- The operations and the registers by the first letters of their names.
 use Rattle.std.specs.Prelude.{ℕ, Bool, false, not, List, [], ◌∷◌, filter, ◌==◌}
-use Rattle.rv_isa.specs.declared.fields.Operation.{Operation}
+use Rattle.rv_isa.specs.declared.op.Operation.{Operation}
 use Rattle.rv_isa.specs.Names.{register_names}
-use Rattle.rv_isa.specs.Mnemonics.{mnemonic, blank, operations}
+use Rattle.rv_isa.specs.Table.{name, operations}
 
 -- whether a text begins with a letter
 abbrev pub begins : ℕ → List ℕ → Bool
@@ -12,7 +12,7 @@ begins letter (b ∷ bs) = b == letter
 
 -- the operations whose mnemonics begin with a letter
 unfoldable pub beginning_with : ℕ → List Operation
-beginning_with letter = filter (λ op. begins letter (mnemonic (blank op))) operations
+beginning_with letter = filter (λ op. begins letter (name op)) operations
 
 -- the names of registers that begin with `x`, and the others
 unfoldable pub numbered_names : List (List ℕ × ℕ)

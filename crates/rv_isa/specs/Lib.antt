@@ -6,7 +6,7 @@ pub mod Meaning
 pub mod Mnemonics
 pub mod Names
 pub mod Number
-pub mod Op
+pub mod Table
 pub mod Text
 pub mod TextParts
 pub mod Width

@@ -1,26 +1,15 @@
 -- To audit: public contracts cite this.
--- The kind that a word means: the inverse of the table of words, by a search through every kind in range.
+-- The kind that a word means: the inverse of the table of words, by a search through the operations, and for each
+-- through its fields in their ranges.
 -- No program runs the search: it defines the function that `decode` computes.
 use Rattle.std.specs.Prelude.{ℕ, zero, suc, ◌^◌, ◌==◌, if◌then◌else◌, ℤ, pos, negsuc, List, [], ◌∷◌, Option, Some, None}
 use Rattle.std.specs.Option.{option_or}
 use Rattle.rv_isa.specs.Number.{modulo}
+use Rattle.rv_isa.specs.Mnemonics.{blank}
+use Rattle.rv_isa.specs.Table.{operations}
 use Rattle.rv_isa.specs.Word.{word}
 use Rattle.rv_isa.specs.declared.kind.Kind.{Kind}
 use Rattle.rv_isa.specs.declared.kind.Kind.TheVariants.{Lui, Auipc, Jal, Jalr, Branch, Load, Store, OpImm, Shift, Op, Fence, FenceI, Csr, CsrImm, Ecall, Ebreak, Mret, Wfi}
-use Rattle.rv_isa.specs.declared.op.Cond.{Cond}
-use Rattle.rv_isa.specs.declared.op.Cond.TheVariants.{Eq, Ne, Lt, Ge, Ltu, Geu}
-use Rattle.rv_isa.specs.declared.op.LoadOp.{LoadOp}
-use Rattle.rv_isa.specs.declared.op.LoadOp.TheVariants.{Lb, Lh, Lw, Lbu, Lhu}
-use Rattle.rv_isa.specs.declared.op.Width.{Width}
-use Rattle.rv_isa.specs.declared.op.Width.TheVariants.{One, Two, Four}
-use Rattle.rv_isa.specs.declared.op.ImmOp.{ImmOp}
-use Rattle.rv_isa.specs.declared.op.ImmOp.TheVariants.{Addi, Slti, Sltiu, Xori, Ori, Andi}
-use Rattle.rv_isa.specs.declared.op.CsrOp.{CsrOp}
-use Rattle.rv_isa.specs.declared.op.CsrOp.TheVariants.{Write, Set, Clear}
-use Rattle.rv_isa.specs.declared.op.ShiftOp.{ShiftOp}
-use Rattle.rv_isa.specs.declared.op.ShiftOp.TheVariants.{Slli, Srli, Srai}
-use Rattle.rv_isa.specs.declared.op.AluOp.{AluOp}
-use Rattle.rv_isa.specs.declared.op.AluOp.TheVariants.{Add, Sll, Slt, Sltu, Xor, Srl, Or, And, Sub, Sra, Mul, Mulh, Mulhsu, Mulhu, Div, Divu, Rem, Remu}
 
 -- ---- searches: the result of f at the first place where it has one
 
@@ -42,68 +31,48 @@ unfoldable pub first_in : {A B : Type 0} → List A → (A → Option B) → Opt
 first_in [] f = None
 first_in (x ∷ xs) f = option_or (f x) (first_in xs f)
 
--- among some results
-unfoldable pub first_of : {A : Type 0} → List (Option A) → Option A
-first_of [] = None
-first_of (o ∷ os) = option_or o (first_of os)
+-- ---- among the fields of a format
 
--- ---- each operation once
+abbrev pub first_upper : {A : Type 0} → (ℕ → ℕ → Option A) → Option A
+first_upper f = first_below 32 (λ rd. first_below (2 ^ 20) (λ imm. f rd imm))
 
-unfoldable pub conds : List Cond
-conds = Eq ∷ Ne ∷ Lt ∷ Ge ∷ Ltu ∷ Geu ∷ []
+abbrev pub first_jump : {A : Type 0} → (ℕ → ℤ → Option A) → Option A
+first_jump f = first_below 32 (λ rd. first_distance (2 ^ 20) (λ imm. f rd imm))
 
-unfoldable pub load_ops : List LoadOp
-load_ops = Lb ∷ Lh ∷ Lw ∷ Lbu ∷ Lhu ∷ []
+abbrev pub first_registers : {A : Type 0} → (ℕ → ℕ → Option A) → Option A
+first_registers f = first_below 32 (λ a. first_below 32 (λ b. f a b))
 
-unfoldable pub widths : List Width
-widths = One ∷ Two ∷ Four ∷ []
+abbrev pub first_signed : {A : Type 0} → (ℕ → ℕ → ℤ → Option A) → Option A
+first_signed f = first_registers (λ a b. first_within (2 ^ 11) (λ imm. f a b imm))
 
-unfoldable pub imm_ops : List ImmOp
-imm_ops = Addi ∷ Slti ∷ Sltiu ∷ Xori ∷ Ori ∷ Andi ∷ []
+abbrev pub first_branch : {A : Type 0} → (ℕ → ℕ → ℤ → Option A) → Option A
+first_branch f = first_registers (λ a b. first_distance (2 ^ 12) (λ imm. f a b imm))
 
-unfoldable pub shift_ops : List ShiftOp
-shift_ops = Slli ∷ Srli ∷ Srai ∷ []
+-- the last is a number below n
+abbrev pub first_number : {A : Type 0} → ℕ → (ℕ → ℕ → ℕ → Option A) → Option A
+first_number n f = first_registers (λ a b. first_below n (λ c. f a b c))
 
-unfoldable pub alu_ops : List AluOp
-alu_ops =
-    Add ∷ Sll ∷ Slt ∷ Sltu ∷ Xor ∷ Srl ∷ Or ∷ And ∷ Sub ∷ Sra
-    ∷ Mul ∷ Mulh ∷ Mulhsu ∷ Mulhu ∷ Div ∷ Divu ∷ Rem ∷ Remu ∷ []
+-- among the kinds in range that differ from a kind in their fields at most
+unfoldable pub first_like : {A : Type 0} → Kind → (Kind → Option A) → Option A
+first_like (Lui _ _) f = first_upper (λ rd imm. f (Lui rd imm))
+first_like (Auipc _ _) f = first_upper (λ rd imm. f (Auipc rd imm))
+first_like (Jal _ _) f = first_jump (λ rd offset. f (Jal rd offset))
+first_like (Jalr _ _ _) f = first_signed (λ rd base offset. f (Jalr rd base offset))
+first_like (Branch cond _ _ _) f = first_branch (λ rs1 rs2 offset. f (Branch cond rs1 rs2 offset))
+first_like (Load op _ _ _) f = first_signed (λ rd base offset. f (Load op rd base offset))
+first_like (Store width _ _ _) f = first_signed (λ source base offset. f (Store width source base offset))
+first_like (OpImm op _ _ _) f = first_signed (λ rd rs1 imm. f (OpImm op rd rs1 imm))
+first_like (Shift op _ _ _) f = first_number 32 (λ rd rs1 amount. f (Shift op rd rs1 amount))
+first_like (Op op _ _ _) f = first_number 32 (λ rd rs1 rs2. f (Op op rd rs1 rs2))
+first_like (Fence _ _ _) f = first_number (2 ^ 12) (λ rd rs1 imm. f (Fence rd rs1 imm))
+first_like (FenceI _ _ _) f = first_number (2 ^ 12) (λ rd rs1 imm. f (FenceI rd rs1 imm))
+first_like (Csr op _ _ _) f = first_number (2 ^ 12) (λ rd rs1 csr. f (Csr op rd rs1 csr))
+first_like (CsrImm op _ _ _) f = first_number (2 ^ 12) (λ rd imm csr. f (CsrImm op rd imm csr))
+first_like k f = f k
 
-unfoldable pub csr_ops : List CsrOp
-csr_ops = Write ∷ Set ∷ Clear ∷ []
-
--- ---- among the kinds in range: a row for each kind
-
+-- among all kinds in range
 unfoldable pub first_kind : {A : Type 0} → (Kind → Option A) → Option A
-first_kind f = first_of (
-    first_below 32 (λ rd. first_below (2 ^ 20) (λ imm. f (Lui rd imm)))
-    ∷ first_below 32 (λ rd. first_below (2 ^ 20) (λ imm. f (Auipc rd imm)))
-    ∷ first_below 32 (λ rd. first_distance (2 ^ 20) (λ offset. f (Jal rd offset)))
-    ∷ first_below 32 (λ rd. first_below 32 (λ base.
-    first_within (2 ^ 11) (λ offset. f (Jalr rd base offset))))
-    ∷ first_in conds (λ cond. first_below 32 (λ rs1.
-    first_below 32 (λ rs2. first_distance (2 ^ 12) (λ offset. f (Branch cond rs1 rs2 offset)))))
-    ∷ first_in load_ops (λ op. first_below 32 (λ rd.
-    first_below 32 (λ base. first_within (2 ^ 11) (λ offset. f (Load op rd base offset)))))
-    ∷ first_in widths (λ width. first_below 32 (λ source.
-    first_below 32 (λ base. first_within (2 ^ 11) (λ offset. f (Store width source base offset)))))
-    ∷ first_in imm_ops (λ op. first_below 32 (λ rd.
-    first_below 32 (λ rs1. first_within (2 ^ 11) (λ imm. f (OpImm op rd rs1 imm)))))
-    ∷ first_in shift_ops (λ op. first_below 32 (λ rd.
-    first_below 32 (λ rs1. first_below 32 (λ amount. f (Shift op rd rs1 amount)))))
-    ∷ first_in alu_ops (λ op. first_below 32 (λ rd.
-    first_below 32 (λ rs1. first_below 32 (λ rs2. f (Op op rd rs1 rs2)))))
-    ∷ first_below 32 (λ rd. first_below 32 (λ rs1. first_below (2 ^ 12) (λ imm. f (Fence rd rs1 imm))))
-    ∷ first_below 32 (λ rd. first_below 32 (λ rs1. first_below (2 ^ 12) (λ imm. f (FenceI rd rs1 imm))))
-    ∷ first_in csr_ops (λ op. first_below 32 (λ rd.
-    first_below 32 (λ rs1. first_below (2 ^ 12) (λ csr. f (Csr op rd rs1 csr)))))
-    ∷ first_in csr_ops (λ op. first_below 32 (λ rd.
-    first_below 32 (λ imm. first_below (2 ^ 12) (λ csr. f (CsrImm op rd imm csr)))))
-    ∷ f Ecall
-    ∷ f Ebreak
-    ∷ f Mret
-    ∷ f Wfi
-    ∷ [])
+first_kind f = first_in operations (λ operation. first_like (blank operation) f)
 
 -- the kind in range that has the word, or none
 unfoldable pub means : ℕ → Option Kind

@@ -73,7 +73,7 @@ fn jalr(word: u32) -> Option<Instr>
     }
 }
 
-#[tactic(auto, unfolding(crate::specs::Word::word, crate::specs::Word::Means))]
+#[tactic(auto, using(crate::proofs::Codes::codes), unfolding(crate::specs::Word::word, crate::specs::Word::Means))]
 fn branch(word: u32) -> Option<Instr>
     requires { word % 2 ^ 7 ≡ 0x63 }
     ensures { Means word result }
@@ -87,7 +87,7 @@ fn branch(word: u32) -> Option<Instr>
     }))
 }
 
-#[tactic(auto, unfolding(crate::specs::Word::word, crate::specs::Word::Means))]
+#[tactic(auto, using(crate::proofs::Codes::codes), unfolding(crate::specs::Word::word, crate::specs::Word::Means))]
 fn load(word: u32) -> Option<Instr>
     requires { word % 2 ^ 7 ≡ 0x03 }
     ensures { Means word result }
@@ -101,7 +101,7 @@ fn load(word: u32) -> Option<Instr>
     }))
 }
 
-#[tactic(auto, unfolding(crate::specs::Word::word, crate::specs::Word::Means))]
+#[tactic(auto, using(crate::proofs::Codes::codes), unfolding(crate::specs::Word::word, crate::specs::Word::Means))]
 fn store(word: u32) -> Option<Instr>
     requires { word % 2 ^ 7 ≡ 0x23 }
     ensures { Means word result }
@@ -116,7 +116,7 @@ fn store(word: u32) -> Option<Instr>
 }
 
 /// For the function codes 1 and 5 the high seven bits are the code of a shift, else a part of the immediate.
-#[tactic(auto, unfolding(crate::specs::Word::word, crate::specs::Word::Means))]
+#[tactic(auto, using(crate::proofs::Codes::codes), unfolding(crate::specs::Word::word, crate::specs::Word::Means))]
 fn op_imm(word: u32) -> Option<Instr>
     requires { word % 2 ^ 7 ≡ 0x13 }
     ensures { Means word result }
@@ -143,7 +143,7 @@ fn op_imm(word: u32) -> Option<Instr>
     }
 }
 
-#[tactic(auto, unfolding(crate::specs::Word::word, crate::specs::Word::Means))]
+#[tactic(auto, using(crate::proofs::Codes::codes), unfolding(crate::specs::Word::word, crate::specs::Word::Means))]
 fn op(word: u32) -> Option<Instr>
     requires { word % 2 ^ 7 ≡ 0x33 }
     ensures { Means word result }
@@ -177,7 +177,7 @@ fn misc_mem(word: u32) -> Option<Instr>
     }
 }
 
-#[tactic(auto, unfolding(crate::specs::Word::word, crate::specs::Word::Means))]
+#[tactic(auto, using(crate::proofs::Codes::codes), unfolding(crate::specs::Word::word, crate::specs::Word::Means))]
 fn system(word: u32) -> Option<Instr>
     requires { word % 2 ^ 7 ≡ 0x73 }
     ensures { Means word result }

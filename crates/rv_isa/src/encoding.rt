@@ -27,37 +27,68 @@ pub fn encode(instr: Instr) -> u32
             rs1,
             rs2,
             offset,
-        } => b_type(opcode::BRANCH, cond.funct3(), rs1, rs2, offset),
+        } => b_type(opcode::BRANCH, cond.operation().funct3(), rs1, rs2, offset),
         Kind::Load {
             op,
             rd,
             base,
             offset,
-        } => { i_signed(opcode::LOAD, rd, op.funct3(), base, offset) }
+        } => { i_signed(opcode::LOAD, rd, op.operation().funct3(), base, offset) }
         Kind::Store {
             width,
             source,
             base,
             offset,
-        } => { s_type(opcode::STORE, width.funct3(), base, source, offset) }
-        Kind::OpImm { op, rd, rs1, imm } => { i_signed(opcode::OP_IMM, rd, op.funct3(), rs1, imm) }
+        } => {
+            s_type(
+                opcode::STORE,
+                width.store_operation().funct3(),
+                base,
+                source,
+                offset,
+            )
+        }
+        Kind::OpImm { op, rd, rs1, imm } => {
+            i_signed(opcode::OP_IMM, rd, op.operation().funct3(), rs1, imm)
+        }
         Kind::Shift {
             op,
             rd,
             rs1,
             amount,
-        } => { r_type(opcode::OP_IMM, rd, op.funct3(), rs1, amount, op.funct7()) }
+        } => {
+            r_type(
+                opcode::OP_IMM,
+                rd,
+                op.operation().funct3(),
+                rs1,
+                amount,
+                op.operation().funct7(),
+            )
+        }
         Kind::Op { op, rd, rs1, rs2 } => {
-            r_type(opcode::OP, rd, op.funct3(), rs1, rs2.number(), op.funct7())
+            r_type(
+                opcode::OP,
+                rd,
+                op.operation().funct3(),
+                rs1,
+                rs2.number(),
+                op.operation().funct7(),
+            )
         }
         Kind::Fence { rd, rs1, imm } => i_plain(opcode::MISC_MEM, rd, 0, rs1.number(), imm),
         Kind::FenceI { rd, rs1, imm } => i_plain(opcode::MISC_MEM, rd, 1, rs1.number(), imm),
         Kind::Csr { op, rd, rs1, csr } => {
-            i_plain(opcode::SYSTEM, rd, op.funct3(), rs1.number(), csr)
+            i_plain(
+                opcode::SYSTEM,
+                rd,
+                op.operation().funct3(),
+                rs1.number(),
+                csr,
+            )
         }
-        // An operation with an immediate has the code of the operation with a register, plus 4.
         Kind::CsrImm { op, rd, imm, csr } => {
-            i_plain(opcode::SYSTEM, rd, op.funct3() + 4, imm, csr)
+            i_plain(opcode::SYSTEM, rd, op.imm_operation().funct3(), imm, csr)
         }
         Kind::Ecall => opcode::ECALL,
         Kind::Ebreak => opcode::EBREAK,
@@ -160,7 +191,6 @@ fn low_12(imm: i32) -> u16
 }
 
 /// A law: no two instructions have the same word.
-#[tactic(auto, unfolding(crate::specs::Word::word))]
 pub fn words_differ()
     ensures { (a b : Kind) → IsInRange a → IsInRange b → spec.word a ≡ spec.word b → a ≡ b }
 {}

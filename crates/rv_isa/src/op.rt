@@ -1,11 +1,16 @@
-//! The operations of instructions, and their function codes.
+//! The operations: the table of instructions, and the operations of each form.
 //!
-//! RISC-V Unprivileged ISA 20191213, chapter 24, has the codes: funct3 has three bits, funct7 has seven. Each
-//! operation has its codes, and `from_funct3` and `from_codes` return the operation, or `None` for other
-//! codes.
-ghost use Rattle.std.specs.Prelude.{◌≡◌, ◌≢◌, ◌<◌, ◌%◌, ◌==◌, MatchOption};
+//! A new operation has a row in each `match` that it belongs to here. RISC-V Unprivileged ISA 20191213,
+//! chapter 24, has the function codes: funct3 has three bits, funct7 has seven. `from_funct3` and
+//! `from_codes` return the operation that has codes, or `None` where none has them.
+ghost use Rattle.std.specs.Prelude.{◌≡◌, ◌≢◌, ◌<◌, ◌+◌, ◌%◌, ◌==◌, MatchOption, true};
+ghost use Rattle.rv_isa.specs.Fields as spec;
+ghost use Rattle.rv_isa.specs.Layout as layout;
+ghost use Rattle.rv_isa.specs.Letters.{beginning_with};
+ghost use Rattle.rv_isa.specs.Table as table;
+ghost use Rattle.rv_isa.specs.Table.{name};
 ghost use Rattle.rv_isa.specs.Width.{bytes_of, load_width, is_signed_load, imm_alu_op, shift_alu_op};
-ghost use Rattle.rv_isa.specs.Op.{cond_funct3, load_op_funct3, width_funct3, imm_op_funct3, csr_op_funct3, shift_op_funct3, alu_op_funct3, shift_op_funct7, alu_op_funct7};
+ghost use Rattle.rv_isa.specs.Word.{IsInRange};
 ghost use Rattle.rv_isa.specs.declared.op.Cond.{Cond};
 ghost use Rattle.rv_isa.specs.declared.op.LoadOp.{LoadOp};
 ghost use Rattle.rv_isa.specs.declared.op.Width.{Width};
@@ -13,6 +18,278 @@ ghost use Rattle.rv_isa.specs.declared.op.ImmOp.{ImmOp};
 ghost use Rattle.rv_isa.specs.declared.op.CsrOp.{CsrOp};
 ghost use Rattle.rv_isa.specs.declared.op.ShiftOp.{ShiftOp};
 ghost use Rattle.rv_isa.specs.declared.op.AluOp.{AluOp};
+
+use crate::layout::{
+    auipc, branch, csr, csr_imm, fence, fence_i, jal, jalr, load, lui, op, op_imm, shift, store,
+};
+use crate::{Fields, Kind};
+
+/// The operation of an instruction: one for each mnemonic.
+///
+/// `Kind` says what each does, and with which operands. RISC-V Unprivileged ISA 20191213, chapter 24;
+/// Privileged Architecture 20211203, sections 3.3.2 and 3.3.3.
+#[derive(Clone, Copy)]
+pub enum Operation {
+    Lui,
+    Auipc,
+    Jal,
+    Jalr,
+    Beq,
+    Bne,
+    Blt,
+    Bge,
+    Bltu,
+    Bgeu,
+    Lb,
+    Lh,
+    Lw,
+    Lbu,
+    Lhu,
+    Sb,
+    Sh,
+    Sw,
+    Addi,
+    Slti,
+    Sltiu,
+    Xori,
+    Ori,
+    Andi,
+    Slli,
+    Srli,
+    Srai,
+    Add,
+    Sll,
+    Slt,
+    Sltu,
+    Xor,
+    Srl,
+    Or,
+    And,
+    Sub,
+    Sra,
+    Mul,
+    Mulh,
+    Mulhsu,
+    Mulhu,
+    Div,
+    Divu,
+    Rem,
+    Remu,
+    Fence,
+    FenceI,
+    Csrrw,
+    Csrrs,
+    Csrrc,
+    Csrrwi,
+    Csrrsi,
+    Csrrci,
+    Ecall,
+    Ebreak,
+    Mret,
+    Wfi,
+}
+
+impl Operation {
+    /// Returns the mnemonic.
+    pub(crate) fn mnemonic(self) -> &'static str
+        ensures { result.now ≡ name self }
+    {
+        self.row().0
+    }
+
+    /// Returns the function code in bits 14:12 of a word.
+    pub(crate) fn funct3(self) -> u32
+        ensures value { result ≡ table.funct3 self }
+        ensures below { result < 8 }
+    {
+        self.row().1
+    }
+
+    /// Returns the function code in bits 31:25 of a word of R-type.
+    pub(crate) fn funct7(self) -> u32
+        ensures value { result ≡ table.funct7 self }
+        ensures below { result < 128 }
+    {
+        self.row().2
+    }
+
+    /// Returns the mnemonic and the function codes: those that the word doesn't have are 0.
+    #[tactic(auto, unfolding(crate::specs::Table::name, crate::specs::Table::funct3, crate::specs::Table::funct7))]
+    fn row(self) -> (&'static str, u32, u32)
+        ensures name { result.0.now ≡ name self }
+        ensures funct3 { (result.1 ≡ table.funct3 self) × (result.1 < 8) }
+        ensures funct7 { (result.2 ≡ table.funct7 self) × (result.2 < 128) }
+    {
+        match self {
+            Operation::Lui => ("lui", 0, 0x0),
+            Operation::Auipc => ("auipc", 0, 0x0),
+            Operation::Jal => ("jal", 0, 0x0),
+            Operation::Jalr => ("jalr", 0, 0x0),
+            Operation::Beq => ("beq", 0, 0x0),
+            Operation::Bne => ("bne", 1, 0x0),
+            Operation::Blt => ("blt", 4, 0x0),
+            Operation::Bge => ("bge", 5, 0x0),
+            Operation::Bltu => ("bltu", 6, 0x0),
+            Operation::Bgeu => ("bgeu", 7, 0x0),
+            Operation::Lb => ("lb", 0, 0x0),
+            Operation::Lh => ("lh", 1, 0x0),
+            Operation::Lw => ("lw", 2, 0x0),
+            Operation::Lbu => ("lbu", 4, 0x0),
+            Operation::Lhu => ("lhu", 5, 0x0),
+            Operation::Sb => ("sb", 0, 0x0),
+            Operation::Sh => ("sh", 1, 0x0),
+            Operation::Sw => ("sw", 2, 0x0),
+            Operation::Addi => ("addi", 0, 0x0),
+            Operation::Slti => ("slti", 2, 0x0),
+            Operation::Sltiu => ("sltiu", 3, 0x0),
+            Operation::Xori => ("xori", 4, 0x0),
+            Operation::Ori => ("ori", 6, 0x0),
+            Operation::Andi => ("andi", 7, 0x0),
+            Operation::Slli => ("slli", 1, 0x0),
+            Operation::Srli => ("srli", 5, 0x0),
+            Operation::Srai => ("srai", 5, 0x20),
+            Operation::Add => ("add", 0, 0x0),
+            Operation::Sll => ("sll", 1, 0x0),
+            Operation::Slt => ("slt", 2, 0x0),
+            Operation::Sltu => ("sltu", 3, 0x0),
+            Operation::Xor => ("xor", 4, 0x0),
+            Operation::Srl => ("srl", 5, 0x0),
+            Operation::Or => ("or", 6, 0x0),
+            Operation::And => ("and", 7, 0x0),
+            Operation::Sub => ("sub", 0, 0x20),
+            Operation::Sra => ("sra", 5, 0x20),
+            Operation::Mul => ("mul", 0, 0x1),
+            Operation::Mulh => ("mulh", 1, 0x1),
+            Operation::Mulhsu => ("mulhsu", 2, 0x1),
+            Operation::Mulhu => ("mulhu", 3, 0x1),
+            Operation::Div => ("div", 4, 0x1),
+            Operation::Divu => ("divu", 5, 0x1),
+            Operation::Rem => ("rem", 6, 0x1),
+            Operation::Remu => ("remu", 7, 0x1),
+            Operation::Fence => ("fence", 0, 0x0),
+            Operation::FenceI => ("fence.i", 1, 0x0),
+            Operation::Csrrw => ("csrrw", 1, 0x0),
+            Operation::Csrrs => ("csrrs", 2, 0x0),
+            Operation::Csrrc => ("csrrc", 3, 0x0),
+            Operation::Csrrwi => ("csrrwi", 5, 0x0),
+            Operation::Csrrsi => ("csrrsi", 6, 0x0),
+            Operation::Csrrci => ("csrrci", 7, 0x0),
+            Operation::Ecall => ("ecall", 0, 0x0),
+            Operation::Ebreak => ("ebreak", 0, 0x0),
+            Operation::Mret => ("mret", 0, 0x0),
+            Operation::Wfi => ("wfi", 0, 0x0),
+        }
+    }
+}
+
+/// Returns the operations whose mnemonics begin with a letter.
+#[tactic(auto, unfolding(crate::specs::Letters::beginning_with, crate::specs::Table::operations, crate::specs::Table::name))]
+pub(crate) fn beginning_with(letter: u8) -> &'static [Operation]
+    ensures { result.now ≡ beginning_with letter }
+{
+    use Operation::*;
+    match letter {
+        b'a' => &[Auipc, Addi, Andi, Add, And],
+        b'b' => &[Beq, Bne, Blt, Bge, Bltu, Bgeu],
+        b'c' => &[Csrrw, Csrrs, Csrrc, Csrrwi, Csrrsi, Csrrci],
+        b'd' => &[Div, Divu],
+        b'e' => &[Ecall, Ebreak],
+        b'f' => &[Fence, FenceI],
+        b'j' => &[Jal, Jalr],
+        b'l' => &[Lui, Lb, Lh, Lw, Lbu, Lhu],
+        b'm' => &[Mul, Mulh, Mulhsu, Mulhu, Mret],
+        b'o' => &[Ori, Or],
+        b'r' => &[Rem, Remu],
+        b's' => &[
+            Sb, Sh, Sw, Slti, Sltiu, Slli, Srli, Srai, Sll, Slt, Sltu, Srl, Sub, Sra,
+        ],
+        b'w' => &[Wfi],
+        b'x' => &[Xori, Xor],
+        _ => &[],
+    }
+}
+
+/// Returns the kind that an instruction with these fields is.
+#[inline(always)]
+#[tactic(auto, unfolding(crate::specs::Fields::kind_of))]
+pub(crate) fn kind_of(fields: &Fields) -> Kind
+    requires { IsInRange (spec.kind_of fields.now) }
+    ensures { result ≡ spec.kind_of fields.now }
+{
+    match fields.operation {
+        Operation::Lui => lui(fields),
+        Operation::Auipc => auipc(fields),
+        Operation::Jal => jal(fields),
+        Operation::Jalr => jalr(fields),
+        Operation::Beq => branch(Cond::Eq, fields),
+        Operation::Bne => branch(Cond::Ne, fields),
+        Operation::Blt => branch(Cond::Lt, fields),
+        Operation::Bge => branch(Cond::Ge, fields),
+        Operation::Bltu => branch(Cond::Ltu, fields),
+        Operation::Bgeu => branch(Cond::Geu, fields),
+        Operation::Lb => load(LoadOp::Lb, fields),
+        Operation::Lh => load(LoadOp::Lh, fields),
+        Operation::Lw => load(LoadOp::Lw, fields),
+        Operation::Lbu => load(LoadOp::Lbu, fields),
+        Operation::Lhu => load(LoadOp::Lhu, fields),
+        Operation::Sb => store(Width::One, fields),
+        Operation::Sh => store(Width::Two, fields),
+        Operation::Sw => store(Width::Four, fields),
+        Operation::Addi => op_imm(ImmOp::Addi, fields),
+        Operation::Slti => op_imm(ImmOp::Slti, fields),
+        Operation::Sltiu => op_imm(ImmOp::Sltiu, fields),
+        Operation::Xori => op_imm(ImmOp::Xori, fields),
+        Operation::Ori => op_imm(ImmOp::Ori, fields),
+        Operation::Andi => op_imm(ImmOp::Andi, fields),
+        Operation::Slli => shift(ShiftOp::Slli, fields),
+        Operation::Srli => shift(ShiftOp::Srli, fields),
+        Operation::Srai => shift(ShiftOp::Srai, fields),
+        Operation::Add => op(AluOp::Add, fields),
+        Operation::Sll => op(AluOp::Sll, fields),
+        Operation::Slt => op(AluOp::Slt, fields),
+        Operation::Sltu => op(AluOp::Sltu, fields),
+        Operation::Xor => op(AluOp::Xor, fields),
+        Operation::Srl => op(AluOp::Srl, fields),
+        Operation::Or => op(AluOp::Or, fields),
+        Operation::And => op(AluOp::And, fields),
+        Operation::Sub => op(AluOp::Sub, fields),
+        Operation::Sra => op(AluOp::Sra, fields),
+        Operation::Mul => op(AluOp::Mul, fields),
+        Operation::Mulh => op(AluOp::Mulh, fields),
+        Operation::Mulhsu => op(AluOp::Mulhsu, fields),
+        Operation::Mulhu => op(AluOp::Mulhu, fields),
+        Operation::Div => op(AluOp::Div, fields),
+        Operation::Divu => op(AluOp::Divu, fields),
+        Operation::Rem => op(AluOp::Rem, fields),
+        Operation::Remu => op(AluOp::Remu, fields),
+        _ => system_kind(fields),
+    }
+}
+
+/// Returns the kind of the fields of a fence or an instruction of the system.
+#[inline(always)]
+#[tactic(auto, unfolding(crate::specs::Fields::kind_of))]
+fn system_kind(fields: &Fields) -> Kind
+    requires system { layout.is_system (spec.kind_of fields.now) ≡ true }
+    requires in_range { IsInRange (spec.kind_of fields.now) }
+    ensures { result ≡ spec.kind_of fields.now }
+{
+    match fields.operation {
+        Operation::Fence => fence(fields),
+        Operation::FenceI => fence_i(fields),
+        Operation::Csrrw => csr(CsrOp::Write, fields),
+        Operation::Csrrs => csr(CsrOp::Set, fields),
+        Operation::Csrrc => csr(CsrOp::Clear, fields),
+        Operation::Csrrwi => csr_imm(CsrOp::Write, fields),
+        Operation::Csrrsi => csr_imm(CsrOp::Set, fields),
+        Operation::Csrrci => csr_imm(CsrOp::Clear, fields),
+        Operation::Ecall => Kind::Ecall,
+        Operation::Ebreak => Kind::Ebreak,
+        Operation::Mret => Kind::Mret,
+        Operation::Wfi => Kind::Wfi,
+        _ => unreachable!(),
+    }
+}
 
 /// The condition of a branch on its two registers; `branch_taken` evaluates it.
 ///
@@ -34,22 +311,25 @@ pub enum Cond {
 }
 
 impl Cond {
-    pub(crate) fn funct3(self) -> u32
-        ensures value { result ≡ cond_funct3 self }
-        ensures below { result < 8 }
+    /// Returns the operation of the branch.
+    #[tactic(auto, unfolding(crate::specs::Table::branch_operation))]
+    pub(crate) fn operation(self) -> Operation
+        ensures { result ≡ table.branch_operation self }
     {
         match self {
-            Cond::Eq => 0,
-            Cond::Ne => 1,
-            Cond::Lt => 4,
-            Cond::Ge => 5,
-            Cond::Ltu => 6,
-            Cond::Geu => 7,
+            Cond::Eq => Operation::Beq,
+            Cond::Ne => Operation::Bne,
+            Cond::Lt => Operation::Blt,
+            Cond::Ge => Operation::Bge,
+            Cond::Ltu => Operation::Bltu,
+            Cond::Geu => Operation::Bgeu,
         }
     }
 
+    #[tactic(auto, unfolding(crate::specs::Table::funct3, crate::specs::Table::branch_operation))]
     pub(crate) fn from_funct3(funct3: u32) -> Option<Cond>
-        ensures { MatchOption result ((op : Cond) → cond_funct3 op ≢ funct3) (λ op. cond_funct3 op ≡ funct3) }
+        ensures { MatchOption result ((op : Cond) → table.funct3 (table.branch_operation op) ≢ funct3)
+            (λ op. table.funct3 (table.branch_operation op) ≡ funct3) }
     {
         match funct3 {
             0 => Some(Cond::Eq),
@@ -81,6 +361,20 @@ pub enum LoadOp {
 }
 
 impl LoadOp {
+    /// Returns the operation of the load.
+    #[tactic(auto, unfolding(crate::specs::Table::load_operation))]
+    pub(crate) fn operation(self) -> Operation
+        ensures { result ≡ table.load_operation self }
+    {
+        match self {
+            LoadOp::Lb => Operation::Lb,
+            LoadOp::Lh => Operation::Lh,
+            LoadOp::Lw => Operation::Lw,
+            LoadOp::Lbu => Operation::Lbu,
+            LoadOp::Lhu => Operation::Lhu,
+        }
+    }
+
     /// Returns how many bytes the load reads. Section 2.6.
     pub fn width(self) -> Width
         ensures { result ≡ load_width self }
@@ -103,21 +397,10 @@ impl LoadOp {
         }
     }
 
-    pub(crate) fn funct3(self) -> u32
-        ensures value { result ≡ load_op_funct3 self }
-        ensures below { result < 8 }
-    {
-        match self {
-            LoadOp::Lb => 0,
-            LoadOp::Lh => 1,
-            LoadOp::Lw => 2,
-            LoadOp::Lbu => 4,
-            LoadOp::Lhu => 5,
-        }
-    }
-
+    #[tactic(auto, unfolding(crate::specs::Table::funct3, crate::specs::Table::load_operation))]
     pub(crate) fn from_funct3(funct3: u32) -> Option<LoadOp>
-        ensures { MatchOption result ((op : LoadOp) → load_op_funct3 op ≢ funct3) (λ op. load_op_funct3 op ≡ funct3) }
+        ensures { MatchOption result ((op : LoadOp) → table.funct3 (table.load_operation op) ≢ funct3)
+            (λ op. table.funct3 (table.load_operation op) ≡ funct3) }
     {
         match funct3 {
             0 => Some(LoadOp::Lb),
@@ -144,6 +427,18 @@ pub enum Width {
 }
 
 impl Width {
+    /// Returns the operation of the store.
+    #[tactic(auto, unfolding(crate::specs::Table::store_operation))]
+    pub(crate) fn store_operation(self) -> Operation
+        ensures { result ≡ table.store_operation self }
+    {
+        match self {
+            Width::One => Operation::Sb,
+            Width::Two => Operation::Sh,
+            Width::Four => Operation::Sw,
+        }
+    }
+
     /// Returns the number of bytes: 1, 2 or 4.
     pub fn bytes(self) -> u32
         ensures { result ≡ bytes_of self }
@@ -167,19 +462,10 @@ impl Width {
         }
     }
 
-    pub(crate) fn funct3(self) -> u32
-        ensures value { result ≡ width_funct3 self }
-        ensures below { result < 8 }
-    {
-        match self {
-            Width::One => 0,
-            Width::Two => 1,
-            Width::Four => 2,
-        }
-    }
-
+    #[tactic(auto, unfolding(crate::specs::Table::funct3, crate::specs::Table::store_operation))]
     pub(crate) fn from_funct3(funct3: u32) -> Option<Width>
-        ensures { MatchOption result ((op : Width) → width_funct3 op ≢ funct3) (λ op. width_funct3 op ≡ funct3) }
+        ensures { MatchOption result ((op : Width) → table.funct3 (table.store_operation op) ≢ funct3)
+            (λ op. table.funct3 (table.store_operation op) ≡ funct3) }
     {
         match funct3 {
             0 => Some(Width::One),
@@ -210,6 +496,21 @@ pub enum ImmOp {
 }
 
 impl ImmOp {
+    /// Returns the operation with an immediate.
+    #[tactic(auto, unfolding(crate::specs::Table::imm_operation))]
+    pub(crate) fn operation(self) -> Operation
+        ensures { result ≡ table.imm_operation self }
+    {
+        match self {
+            ImmOp::Addi => Operation::Addi,
+            ImmOp::Slti => Operation::Slti,
+            ImmOp::Sltiu => Operation::Sltiu,
+            ImmOp::Xori => Operation::Xori,
+            ImmOp::Ori => Operation::Ori,
+            ImmOp::Andi => Operation::Andi,
+        }
+    }
+
     /// Returns the operation on the register and the immediate, which is a word modulo 2^32. Section 2.4.
     pub fn alu_op(self) -> AluOp
         ensures { result ≡ imm_alu_op self }
@@ -224,22 +525,10 @@ impl ImmOp {
         }
     }
 
-    pub(crate) fn funct3(self) -> u32
-        ensures value { result ≡ imm_op_funct3 self }
-        ensures below { result < 8 }
-    {
-        match self {
-            ImmOp::Addi => 0,
-            ImmOp::Slti => 2,
-            ImmOp::Sltiu => 3,
-            ImmOp::Xori => 4,
-            ImmOp::Ori => 6,
-            ImmOp::Andi => 7,
-        }
-    }
-
+    #[tactic(auto, unfolding(crate::specs::Table::funct3, crate::specs::Table::imm_operation))]
     pub(crate) fn from_funct3(funct3: u32) -> Option<ImmOp>
-        ensures { MatchOption result ((op : ImmOp) → imm_op_funct3 op ≢ funct3) (λ op. imm_op_funct3 op ≡ funct3) }
+        ensures { MatchOption result ((op : ImmOp) → table.funct3 (table.imm_operation op) ≢ funct3)
+            (λ op. table.funct3 (table.imm_operation op) ≡ funct3) }
     {
         match funct3 {
             0 => Some(ImmOp::Addi),
@@ -267,19 +556,36 @@ pub enum CsrOp {
 }
 
 impl CsrOp {
-    pub(crate) fn funct3(self) -> u32
-        ensures value { result ≡ csr_op_funct3 self }
-        ensures below { result < 8 }
+    /// Returns the operation with a register.
+    #[tactic(auto, unfolding(crate::specs::Table::csr_operation))]
+    pub(crate) fn operation(self) -> Operation
+        ensures { result ≡ table.csr_operation self }
     {
         match self {
-            CsrOp::Write => 1,
-            CsrOp::Set => 2,
-            CsrOp::Clear => 3,
+            CsrOp::Write => Operation::Csrrw,
+            CsrOp::Set => Operation::Csrrs,
+            CsrOp::Clear => Operation::Csrrc,
         }
     }
 
+    /// Returns the operation with a number.
+    #[tactic(auto, unfolding(crate::specs::Table::csr_imm_operation))]
+    pub(crate) fn imm_operation(self) -> Operation
+        ensures { result ≡ table.csr_imm_operation self }
+    {
+        match self {
+            CsrOp::Write => Operation::Csrrwi,
+            CsrOp::Set => Operation::Csrrsi,
+            CsrOp::Clear => Operation::Csrrci,
+        }
+    }
+
+    #[tactic(auto, unfolding(crate::specs::Table::funct3, crate::specs::Table::csr_operation, crate::specs::Table::csr_imm_operation))]
     pub(crate) fn from_funct3(funct3: u32) -> Option<CsrOp>
-        ensures { MatchOption result ((op : CsrOp) → csr_op_funct3 op ≢ funct3) (λ op. csr_op_funct3 op ≡ funct3) }
+        ensures register { MatchOption result ((op : CsrOp) → table.funct3 (table.csr_operation op) ≢ funct3)
+            (λ op. table.funct3 (table.csr_operation op) ≡ funct3) }
+        ensures number { MatchOption result ((op : CsrOp) → table.funct3 (table.csr_imm_operation op) ≢ funct3 + 4)
+            (λ op. table.funct3 (table.csr_imm_operation op) ≡ funct3 + 4) }
     {
         match funct3 {
             1 => Some(CsrOp::Write),
@@ -304,6 +610,18 @@ pub enum ShiftOp {
 }
 
 impl ShiftOp {
+    /// Returns the operation of the shift by an immediate.
+    #[tactic(auto, unfolding(crate::specs::Table::shift_operation))]
+    pub(crate) fn operation(self) -> Operation
+        ensures { result ≡ table.shift_operation self }
+    {
+        match self {
+            ShiftOp::Slli => Operation::Slli,
+            ShiftOp::Srli => Operation::Srli,
+            ShiftOp::Srai => Operation::Srai,
+        }
+    }
+
     /// Returns the operation on the register and the amount as a word. Section 2.4.
     pub fn alu_op(self) -> AluOp
         ensures { result ≡ shift_alu_op self }
@@ -315,30 +633,11 @@ impl ShiftOp {
         }
     }
 
-    pub(crate) fn funct3(self) -> u32
-        ensures value { result ≡ shift_op_funct3 self }
-        ensures below { result < 8 }
-    {
-        match self {
-            ShiftOp::Slli => 1,
-            ShiftOp::Srli | ShiftOp::Srai => 5,
-        }
-    }
-
-    pub(crate) fn funct7(self) -> u32
-        ensures value { result ≡ shift_op_funct7 self }
-        ensures below { result < 128 }
-    {
-        match self {
-            ShiftOp::Slli | ShiftOp::Srli => 0x0,
-            ShiftOp::Srai => 0x20,
-        }
-    }
-
+    #[tactic(auto, unfolding(crate::specs::Table::funct3, crate::specs::Table::funct7, crate::specs::Table::shift_operation))]
     pub(crate) fn from_codes(funct7: u32, funct3: u32) -> Option<ShiftOp>
         ensures { MatchOption result
-            ((op : ShiftOp) → shift_op_funct7 op ≡ funct7 → shift_op_funct3 op ≢ funct3)
-            (λ op. (shift_op_funct7 op ≡ funct7) × (shift_op_funct3 op ≡ funct3)) }
+            ((op : ShiftOp) → table.funct7 (table.shift_operation op) ≡ funct7 → table.funct3 (table.shift_operation op) ≢ funct3)
+            (λ op. (table.funct7 (table.shift_operation op) ≡ funct7) × (table.funct3 (table.shift_operation op) ≡ funct3)) }
     {
         match (funct7, funct3) {
             (0x0, 1) => Some(ShiftOp::Slli),
@@ -393,51 +692,38 @@ pub enum AluOp {
 }
 
 impl AluOp {
-    pub(crate) fn funct3(self) -> u32
-        ensures value { result ≡ alu_op_funct3 self }
-        ensures below { result < 8 }
+    /// Returns the operation on two registers.
+    #[tactic(auto, unfolding(crate::specs::Table::alu_operation))]
+    pub(crate) fn operation(self) -> Operation
+        ensures { result ≡ table.alu_operation self }
     {
         match self {
-            AluOp::Add | AluOp::Sub | AluOp::Mul => 0,
-            AluOp::Sll | AluOp::Mulh => 1,
-            AluOp::Slt | AluOp::Mulhsu => 2,
-            AluOp::Sltu | AluOp::Mulhu => 3,
-            AluOp::Xor | AluOp::Div => 4,
-            AluOp::Srl | AluOp::Sra | AluOp::Divu => 5,
-            AluOp::Or | AluOp::Rem => 6,
-            AluOp::And | AluOp::Remu => 7,
+            AluOp::Add => Operation::Add,
+            AluOp::Sll => Operation::Sll,
+            AluOp::Slt => Operation::Slt,
+            AluOp::Sltu => Operation::Sltu,
+            AluOp::Xor => Operation::Xor,
+            AluOp::Srl => Operation::Srl,
+            AluOp::Or => Operation::Or,
+            AluOp::And => Operation::And,
+            AluOp::Sub => Operation::Sub,
+            AluOp::Sra => Operation::Sra,
+            AluOp::Mul => Operation::Mul,
+            AluOp::Mulh => Operation::Mulh,
+            AluOp::Mulhsu => Operation::Mulhsu,
+            AluOp::Mulhu => Operation::Mulhu,
+            AluOp::Div => Operation::Div,
+            AluOp::Divu => Operation::Divu,
+            AluOp::Rem => Operation::Rem,
+            AluOp::Remu => Operation::Remu,
         }
     }
 
-    pub(crate) fn funct7(self) -> u32
-        ensures value { result ≡ alu_op_funct7 self }
-        ensures below { result < 128 }
-    {
-        match self {
-            AluOp::Add
-            | AluOp::Sll
-            | AluOp::Slt
-            | AluOp::Sltu
-            | AluOp::Xor
-            | AluOp::Srl
-            | AluOp::Or
-            | AluOp::And => 0x0,
-            AluOp::Sub | AluOp::Sra => 0x20,
-            AluOp::Mul
-            | AluOp::Mulh
-            | AluOp::Mulhsu
-            | AluOp::Mulhu
-            | AluOp::Div
-            | AluOp::Divu
-            | AluOp::Rem
-            | AluOp::Remu => 0x1,
-        }
-    }
-
+    #[tactic(auto, unfolding(crate::specs::Table::funct3, crate::specs::Table::funct7, crate::specs::Table::alu_operation))]
     pub(crate) fn from_codes(funct7: u32, funct3: u32) -> Option<AluOp>
         ensures { MatchOption result
-            ((op : AluOp) → alu_op_funct7 op ≡ funct7 → alu_op_funct3 op ≢ funct3)
-            (λ op. (alu_op_funct7 op ≡ funct7) × (alu_op_funct3 op ≡ funct3)) }
+            ((op : AluOp) → table.funct7 (table.alu_operation op) ≡ funct7 → table.funct3 (table.alu_operation op) ≢ funct3)
+            (λ op. (table.funct7 (table.alu_operation op) ≡ funct7) × (table.funct3 (table.alu_operation op) ≡ funct3)) }
     {
         match (funct7, funct3) {
             (0x0, 0) => Some(AluOp::Add),

@@ -4,8 +4,8 @@ use Rattle.rv_isa.specs.Fields.{kind_of}
 use Rattle.rv_isa.specs.Mnemonics.{blank, with_fields}
 use Rattle.rv_isa.specs.Number.{IsWithin}
 use Rattle.rv_isa.specs.Word.{IsInRange}
-use Rattle.rv_isa.specs.declared.fields.Operation.{Operation}
-use Rattle.rv_isa.specs.declared.fields.Operation.TheVariants as o
+use Rattle.rv_isa.specs.declared.op.Operation.{Operation}
+use Rattle.rv_isa.specs.declared.op.Operation.TheVariants as o
 use Rattle.rv_source.specs.declared.field.Fields.{Fields}
 use Rattle.rv_source.specs.Fields.{immediate}
 

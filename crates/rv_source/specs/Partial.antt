@@ -16,7 +16,7 @@ use Rattle.rv_source.specs.declared.row.Way.{Way}
 use Rattle.rv_source.specs.declared.row.Way.TheVariants as way
 use Rattle.rv_source.specs.declared.row.Template.TheVariants as t
 use Rattle.rv_source.specs.declared.row.Given.TheVariants.{Link}
-use Rattle.rv_isa.specs.declared.fields.Operation.{Operation}
+use Rattle.rv_isa.specs.declared.op.Operation.{Operation}
 use Rattle.rv_source.specs.Table.{Row, These, Each, first_fit, near, far}
 
 -- a row of the program, as a row of the language

@@ -6,8 +6,8 @@ use Rattle.std.specs.List.{list_any}
 use Rattle.std.specs.Option.{option_map, option_map_or, option_or, ok_or}
 use Rattle.std.specs.Str.{bytes_eq}
 use Rattle.rv_isa.specs.Mnemonics.{named, blank}
-use Rattle.rv_isa.specs.declared.fields.Operation.{Operation}
-use Rattle.rv_isa.specs.declared.fields.Operation.TheVariants as o
+use Rattle.rv_isa.specs.declared.op.Operation.{Operation}
+use Rattle.rv_isa.specs.declared.op.Operation.TheVariants as o
 use Rattle.rv_isa.specs.declared.kind.Kind.{Kind}
 use Rattle.rv_isa.specs.declared.kind.Kind.TheVariants as k
 use Rattle.rv_isa.specs.declared.op.Width.TheVariants as width
