@@ -1,21 +1,24 @@
 -- The search through the kinds finds the meaning of a word.
-use Rattle.std.proofs.Common.{◌≡◌, ℕ, zero, suc, ◌^◌, ◌<◌, ◌==◌, Bool, true, false, List, [], ◌∷◌, Option, Some, None, refl, ap, sym, subst, inl, inr, arith, true≢false}
+use Rattle.std.proofs.Common.{◌≡◌, ℕ, zero, suc, ◌^◌, ◌<◌, ◌≤◌, ◌==◌, Bool, true, false, List, [], ◌∷◌, Option, Some, None, refl, ap, sym, subst, inl, inr, arith, rules, true≢false}
 use Rattle.std.specs.Prelude.{ℤ, pos, negsuc, IfSome, IsSome, if◌then◌else◌}
 use Rattle.std.proofs.lemmas.Bool.{cases_lt, eqb-true, eq-eqb}
 use Rattle.std.proofs.lemmas.Option.{none-some, same_Some}
 use Rattle.std.specs.Option.{option_or}
 use Rattle.std.specs.Str.{bytes_eq}
-use Rattle.rv_isa.proofs.OneLayout.{branch_kind, load_kind, store_kind, imm_kind, shift_kind, alu_kind, csr_kind, csr_imm_kind}
-use Rattle.rv_isa.specs.Fields.{kind_of}
-use Rattle.rv_isa.specs.Meaning.{first_below, first_within, first_distance, first_in, first_upper, first_jump, first_signed, first_branch, first_number, first_like, first_kind, means}
+use Rattle.rv_isa.proofs.OneLayout.{kept, branch_kind, load_kind, store_kind, imm_kind, shift_kind, alu_kind, csr_kind, csr_imm_kind}
+use Rattle.rv_isa.specs.Fields.{kind_of, unsigned}
+use Rattle.rv_isa.specs.Layout.{fields_of, laid}
+use Rattle.rv_isa.specs.Meaning.{first_below, first_within, first_distance, first_in, first_registers, first_fields, first_of, first_kind, means}
 use Rattle.rv_isa.specs.Mnemonics.{blank, first_named, named, with_fields}
 use Rattle.rv_isa.specs.Number.{modulo, IsWithin, IsDistance}
 use Rattle.rv_isa.specs.Table.{name, operation_of, operations}
-use Rattle.rv_isa.specs.Word.{word, IsInRange, Means}
+use Rattle.rv_isa.specs.Word.{word, format_of, FieldsFit, IsInRange, Means}
 use Rattle.rv_isa.specs.declared.op.Operation.{Operation}
 use Rattle.rv_isa.specs.declared.op.Operation.TheVariants as o
 use Rattle.rv_isa.specs.declared.kind.Kind.{Kind}
-use Rattle.rv_isa.specs.declared.kind.Kind.TheVariants.{Lui, Auipc, Jal, Jalr, Branch, Load, Store, OpImm, Shift, Op, Fence, FenceI, Csr, CsrImm, Ecall, Ebreak, Mret, Wfi}
+use Rattle.rv_isa.specs.declared.kind.Kind.TheVariants.{Branch, Load, Store, OpImm, Shift, Op, Csr, CsrImm}
+use Rattle.rv_isa.specs.declared.format.Format.{Format}
+use Rattle.rv_isa.specs.declared.format.Format.TheVariants.{R, Amount, I, Number, S, B, U, J, Whole}
 
 -- the result of a search, if any, has the property
 record Only {A : Type 0} (P : A → Type 0) (o : Option A) : Type 0 where
@@ -97,99 +100,108 @@ found-distance n f z d p = found-within n _ z d.0 (found-if (modulo z 2 == 0) (f
 
 -- ---- the fields of a format
 
-only-upper : {A : Type 0} {P : A → Type 0} (f : ℕ → ℕ → Option A) →
-    ((rd imm : ℕ) → (rd < 32) × (imm < 2 ^ 20) → Only P (f rd imm)) → Only P (first_upper f)
-only-upper f h = only-below _ _ (λ rd a. only-below _ _ (λ imm b. h rd imm (a, b)))
+only-registers : {A : Type 0} {P : A → Type 0} (f : ℕ → ℕ → Option A) →
+    ((a b : ℕ) → a < 32 → b < 32 → Only P (f a b)) → Only P (first_registers f)
+only-registers f h = only-below _ _ (λ a x. only-below _ _ (λ b y. h a b x y))
 
-only-jump : {A : Type 0} {P : A → Type 0} (f : ℕ → ℤ → Option A) →
-    ((rd : ℕ) (z : ℤ) → (rd < 32) × IsDistance (2 ^ 20) z → Only P (f rd z)) → Only P (first_jump f)
-only-jump f h = only-below _ _ (λ rd a. only-distance _ _ (λ z b. h rd z (a, b)))
+found-registers : {A : Type 0} (f : ℕ → ℕ → Option A) (a b : ℕ) → a < 32 → b < 32 → Found (f a b) →
+    Found (first_registers f)
+found-registers f a b x y p = found-below _ _ a x (found-below _ _ b y p)
 
-only-signed : {A : Type 0} {P : A → Type 0} (f : ℕ → ℕ → ℤ → Option A) →
-    ((a b : ℕ) (z : ℤ) → (a < 32) × (b < 32) × IsWithin (2 ^ 11) z → Only P (f a b z)) → Only P (first_signed f)
-only-signed f h =
-    only-below _ _ (λ a x. only-below _ _ (λ b y. only-within _ _ (λ z w. h a b z (x, y, w))))
+word_of : (n m : ℕ) → n < m → m ≤ 2 ^ 32 → unsigned (pos n) < m
+word_of n m h small = omega arith
 
-only-branch : {A : Type 0} {P : A → Type 0} (f : ℕ → ℕ → ℤ → Option A) →
-    ((a b : ℕ) (z : ℤ) → (a < 32) × (b < 32) × IsDistance (2 ^ 12) z → Only P (f a b z)) → Only P (first_branch f)
-only-branch f h =
-    only-below _ _ (λ a x. only-below _ _ (λ b y. only-distance _ _ (λ z w. h a b z (x, y, w))))
+-- a format with other fields
+abbrev refilled : Format → ℕ → ℕ → ℕ → ℤ → Format
+refilled (R opcode _ funct3 _ _ funct7) rd rs1 rs2 imm = R opcode rd funct3 rs1 rs2 funct7
+refilled (Amount opcode _ funct3 _ _ funct7) rd rs1 rs2 imm = Amount opcode rd funct3 rs1 (unsigned imm) funct7
+refilled (I opcode _ funct3 _ _) rd rs1 rs2 imm = I opcode rd funct3 rs1 imm
+refilled (Number opcode _ funct3 _ _) rd rs1 rs2 imm = Number opcode rd funct3 rs1 (unsigned imm)
+refilled (S opcode funct3 _ _ _) rd rs1 rs2 imm = S opcode funct3 rs1 rs2 imm
+refilled (B opcode funct3 _ _ _) rd rs1 rs2 imm = B opcode funct3 rs1 rs2 imm
+refilled (U opcode _ _) rd rs1 rs2 imm = U opcode rd (unsigned imm)
+refilled (J opcode _ _) rd rs1 rs2 imm = J opcode rd imm
+refilled (Whole word) rd rs1 rs2 imm = Whole word
 
-only-number : {A : Type 0} {P : A → Type 0} (n : ℕ) (f : ℕ → ℕ → ℕ → Option A) →
-    ((a b c : ℕ) → (a < 32) × (b < 32) × (c < n) → Only P (f a b c)) → Only P (first_number n f)
-only-number n f h = only-below _ _ (λ a x. only-below _ _ (λ b y. only-below _ _ (λ c z. h a b c (x, y, z))))
+only-fields : {A : Type 0} {P : A → Type 0} (x : Format) (f : ℕ → ℕ → ℕ → ℤ → Option A) →
+    ((rd rs1 rs2 : ℕ) (imm : ℤ) → FieldsFit (refilled x rd rs1 rs2 imm) → Only P (f rd rs1 rs2 imm)) →
+    Only P (first_fields x f)
+only-fields (R _ _ _ _ _ _) f h =
+    only-registers _ (λ rd rs1 a b. only-below _ _ (λ rs2 c. h rd rs1 rs2 (pos 0) (a, b, c)))
+only-fields (Amount _ _ _ _ _ _) f h =
+    only-registers _ (λ rd rs1 a b. only-below _ _
+    (λ amount c. h rd rs1 0 (pos amount) (a, b, word_of amount 32 c (omega arith))))
+only-fields (I _ _ _ _ _) f h =
+    only-registers _ (λ rd rs1 a b. only-within _ _ (λ imm c. h rd rs1 0 imm (a, b, c)))
+only-fields (Number _ _ _ _ _) f h =
+    only-registers _ (λ rd rs1 a b. only-below _ _
+    (λ imm c. h rd rs1 0 (pos imm) (a, b, word_of imm (2 ^ 12) c (omega arith))))
+only-fields (S _ _ _ _ _) f h =
+    only-registers _ (λ rs1 rs2 a b. only-within _ _ (λ imm c. h 0 rs1 rs2 imm (b, a, c)))
+only-fields (B _ _ _ _ _) f h =
+    only-registers _ (λ rs1 rs2 a b. only-distance _ _ (λ imm c. h 0 rs1 rs2 imm (a, b, c)))
+only-fields (U _ _ _) f h =
+    only-below _ _ (λ rd a. only-below _ _
+    (λ imm c. h rd 0 0 (pos imm) (a, word_of imm (2 ^ 20) c (omega arith))))
+only-fields (J _ _ _) f h = only-below _ _ (λ rd a. only-distance _ _ (λ imm c. h rd 0 0 imm (a, c)))
+only-fields (Whole _) f h = h 0 0 0 (pos 0) tt
 
-found-upper : {A : Type 0} (f : ℕ → ℕ → Option A) (rd imm : ℕ) → (rd < 32) × (imm < 2 ^ 20) → Found (f rd imm) →
-    Found (first_upper f)
-found-upper f rd imm r p = found-below _ _ rd r.0 (found-below _ _ imm r.1 p)
+found-fields : {A : Type 0} (op : Operation) (x : Format) (f : ℕ → ℕ → ℕ → ℤ → Option A) → FieldsFit x →
+    Found (f (laid op x).rd (laid op x).rs1 (laid op x).rs2 (laid op x).imm) → Found (first_fields x f)
+found-fields op (R _ rd _ rs1 rs2 _) f r p =
+    found-registers _ rd rs1 r.0 r.1 (found-below _ _ rs2 r.2 p)
+found-fields op (Amount _ rd _ rs1 amount _) f r p =
+    found-registers _ rd rs1 r.0 r.1 (found-below _ _ amount r.2 p)
+found-fields op (I _ rd _ rs1 imm) f r p = found-registers _ rd rs1 r.0 r.1 (found-within _ _ imm r.2 p)
+found-fields op (Number _ rd _ rs1 imm) f r p = found-registers _ rd rs1 r.0 r.1 (found-below _ _ imm r.2 p)
+found-fields op (S _ _ rs1 rs2 imm) f r p = found-registers _ rs1 rs2 r.1 r.0 (found-within _ _ imm r.2 p)
+found-fields op (B _ _ rs1 rs2 imm) f r p = found-registers _ rs1 rs2 r.0 r.1 (found-distance _ _ imm r.2 p)
+found-fields op (U _ rd imm) f r p = found-below _ _ rd r.0 (found-below _ _ imm r.1 p)
+found-fields op (J _ rd imm) f r p = found-below _ _ rd r.0 (found-distance _ _ imm r.1 p)
+found-fields op (Whole _) f r p = p
 
-found-jump : {A : Type 0} (f : ℕ → ℤ → Option A) (rd : ℕ) (z : ℤ) → (rd < 32) × IsDistance (2 ^ 20) z →
-    Found (f rd z) → Found (first_jump f)
-found-jump f rd z r p = found-below _ _ rd r.0 (found-distance _ _ z r.1 p)
+-- ---- the kinds of an operation
 
-found-signed : {A : Type 0} (f : ℕ → ℕ → ℤ → Option A) (a b : ℕ) (z : ℤ) →
-    (a < 32) × (b < 32) × IsWithin (2 ^ 11) z → Found (f a b z) → Found (first_signed f)
-found-signed f a b z r p = found-below _ _ a r.0 (found-below _ _ b r.1 (found-within _ _ z r.2 p))
+ranged : (x : Operation) (rd rs1 rs2 : ℕ) (imm : ℤ) → FieldsFit (refilled (format_of (blank x)) rd rs1 rs2 imm)
+    → IsInRange (kind_of (with_fields x rd rs1 rs2 imm))
+unfolding blank kind_of
+ranged o.Lui rd rs1 rs2 imm r = search rules
+ranged x rd rs1 rs2 imm r = search rules
 
-found-branch : {A : Type 0} (f : ℕ → ℕ → ℤ → Option A) (a b : ℕ) (z : ℤ) →
-    (a < 32) × (b < 32) × IsDistance (2 ^ 12) z → Found (f a b z) → Found (first_branch f)
-found-branch f a b z r p = found-below _ _ a r.0 (found-below _ _ b r.1 (found-distance _ _ z r.2 p))
-
-found-number : {A : Type 0} (n : ℕ) (f : ℕ → ℕ → ℕ → Option A) (a b c : ℕ) →
-    (a < 32) × (b < 32) × (c < n) → Found (f a b c) → Found (first_number n f)
-found-number n f a b c r p = found-below _ _ a r.0 (found-below _ _ b r.1 (found-below _ _ c r.2 p))
-
--- ---- the kinds that differ in their fields
-
-only-like : {A : Type 0} {P : A → Type 0} (k : Kind) (f : Kind → Option A) →
-    ((k : Kind) → IsInRange k → Only P (f k)) → Only P (first_like k f)
-unfolding first_like
-only-like (Lui _ _) f h = only-upper _ (λ rd imm. h (Lui rd imm))
-only-like (Auipc _ _) f h = only-upper _ (λ rd imm. h (Auipc rd imm))
-only-like (Jal _ _) f h = only-jump _ (λ rd offset. h (Jal rd offset))
-only-like (Jalr _ _ _) f h = only-signed _ (λ rd base offset. h (Jalr rd base offset))
-only-like (Branch cond _ _ _) f h = only-branch _ (λ rs1 rs2 offset. h (Branch cond rs1 rs2 offset))
-only-like (Load op _ _ _) f h = only-signed _ (λ rd base offset. h (Load op rd base offset))
-only-like (Store width _ _ _) f h = only-signed _ (λ source base offset. h (Store width source base offset))
-only-like (OpImm op _ _ _) f h = only-signed _ (λ rd rs1 imm. h (OpImm op rd rs1 imm))
-only-like (Shift op _ _ _) f h = only-number _ _ (λ rd rs1 amount. h (Shift op rd rs1 amount))
-only-like (Op op _ _ _) f h = only-number _ _ (λ rd rs1 rs2. h (Op op rd rs1 rs2))
-only-like (Fence _ _ _) f h = only-number _ _ (λ rd rs1 imm. h (Fence rd rs1 imm))
-only-like (FenceI _ _ _) f h = only-number _ _ (λ rd rs1 imm. h (FenceI rd rs1 imm))
-only-like (Csr op _ _ _) f h = only-number _ _ (λ rd rs1 csr. h (Csr op rd rs1 csr))
-only-like (CsrImm op _ _ _) f h = only-number _ _ (λ rd imm csr. h (CsrImm op rd imm csr))
-only-like k f h = h k tt
-
-found-like : {A : Type 0} (k : Kind) (f : Kind → Option A) → IsInRange k → Found (f k) → Found (first_like k f)
-unfolding first_like
-found-like (Lui rd imm) f r p = found-upper _ rd imm r p
-found-like (Auipc rd imm) f r p = found-upper _ rd imm r p
-found-like (Jal rd offset) f r p = found-jump _ rd offset r p
-found-like (Jalr rd base offset) f r p = found-signed _ rd base offset r p
-found-like (Branch cond rs1 rs2 offset) f r p = found-branch _ rs1 rs2 offset r p
-found-like (Load op rd base offset) f r p = found-signed _ rd base offset r p
-found-like (Store width source base offset) f r p = found-signed _ source base offset r p
-found-like (OpImm op rd rs1 imm) f r p = found-signed _ rd rs1 imm r p
-found-like (Shift op rd rs1 amount) f r p = found-number _ _ rd rs1 amount r p
-found-like (Op op rd rs1 rs2) f r p = found-number _ _ rd rs1 rs2 r p
-found-like (Fence rd rs1 imm) f r p = found-number _ _ rd rs1 imm r p
-found-like (FenceI rd rs1 imm) f r p = found-number _ _ rd rs1 imm r p
-found-like (Csr op rd rs1 csr) f r p = found-number _ _ rd rs1 csr r p
-found-like (CsrImm op rd imm csr) f r p = found-number _ _ rd imm csr r p
-found-like k f r p = p
+only-of : {A : Type 0} {P : A → Type 0} (x : Operation) (f : Kind → Option A) →
+    ((k : Kind) → IsInRange k → Only P (f k)) → Only P (first_of f x)
+only-of x f h =
+    only-fields (format_of (blank x)) _
+    (λ rd rs1 rs2 imm r. h (kind_of (with_fields x rd rs1 rs2 imm)) (ranged x rd rs1 rs2 imm r))
 
 -- the search is the same for all kinds of an operation
-like_blank : {A : Type 0} (k : Kind) (f : Kind → Option A) → first_like (blank (operation_of k)) f ≡ first_like k f
-unfolding first_like blank kind_of
-like_blank (Branch op _ _ _) f = ap (λ (k : Kind). first_like k f) (branch_kind op _)
-like_blank (Load op _ _ _) f = ap (λ (k : Kind). first_like k f) (load_kind op _)
-like_blank (Store op _ _ _) f = ap (λ (k : Kind). first_like k f) (store_kind op _)
-like_blank (OpImm op _ _ _) f = ap (λ (k : Kind). first_like k f) (imm_kind op _)
-like_blank (Shift op _ _ _) f = ap (λ (k : Kind). first_like k f) (shift_kind op _)
-like_blank (Op op _ _ _) f = ap (λ (k : Kind). first_like k f) (alu_kind op _)
-like_blank (Csr op _ _ _) f = ap (λ (k : Kind). first_like k f) (csr_kind op _)
-like_blank (CsrImm op _ _ _) f = ap (λ (k : Kind). first_like k f) (csr_imm_kind op _)
+like_blank : {A : Type 0} (k : Kind) (f : ℕ → ℕ → ℕ → ℤ → Option A) →
+    first_fields (format_of (blank (operation_of k))) f ≡ first_fields (format_of k) f
+unfolding blank kind_of
+like_blank (Branch op _ _ _) f = ap (λ (k : Kind). first_fields (format_of k) f) (branch_kind op _)
+like_blank (Load op _ _ _) f = ap (λ (k : Kind). first_fields (format_of k) f) (load_kind op _)
+like_blank (Store op _ _ _) f = ap (λ (k : Kind). first_fields (format_of k) f) (store_kind op _)
+like_blank (OpImm op _ _ _) f = ap (λ (k : Kind). first_fields (format_of k) f) (imm_kind op _)
+like_blank (Shift op _ _ _) f = ap (λ (k : Kind). first_fields (format_of k) f) (shift_kind op _)
+like_blank (Op op _ _ _) f = ap (λ (k : Kind). first_fields (format_of k) f) (alu_kind op _)
+like_blank (Csr op _ _ _) f = ap (λ (k : Kind). first_fields (format_of k) f) (csr_kind op _)
+like_blank (CsrImm op _ _ _) f = ap (λ (k : Kind). first_fields (format_of k) f) (csr_imm_kind op _)
 like_blank k f = refl
+
+same_fields : (op : Operation) (x : Format) →
+    with_fields op (laid op x).rd (laid op x).rs1 (laid op x).rs2 (laid op x).imm ≡ laid op x
+same_fields op (R _ _ _ _ _ _) = refl
+same_fields op x = refl
+
+found-of : {A : Type 0} (k : Kind) (f : Kind → Option A) → IsInRange k → Found (f k) →
+    Found (first_of f (operation_of k))
+unfolding fields_of
+found-of k f r p =
+    let op = operation_of k in
+    let x = format_of k in
+    let here : Found (f (kind_of (laid op x))) = subst (λ z. Found (f z)) (sym (kept k r)) p in
+    subst (λ z. Found z) (sym (like_blank k _))
+    (found-fields op x _ r (subst (λ z. Found (f (kind_of z))) (sym (same_fields op x)) here))
 
 -- ---- the operations
 
@@ -218,13 +230,13 @@ found-named text (y ∷ ys) f x e p =
 only-kind : {A : Type 0} {P : A → Type 0} (f : Kind → Option A) → ((k : Kind) → IsInRange k → Only P (f k)) →
     Only P (first_kind f)
 unfolding first_kind
-only-kind f h = only-in operations _ (λ x. only-like (blank x) f h)
+only-kind f h = only-in operations _ (λ x. only-of x f h)
 
 found-kind : {A : Type 0} (f : Kind → Option A) (k : Kind) → IsInRange k → Found (f k) → Found (first_kind f)
 unfolding first_kind
 found-kind f k r p =
     found-named (name (operation_of k)) operations _ (operation_of k) (named_itself (operation_of k))
-    (subst (λ z. Found z) (sym (like_blank k f)) (found-like k f r p))
+    (found-of k f r p)
 
 -- ---- the kind that a word means
 

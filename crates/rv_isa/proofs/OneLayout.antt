@@ -6,7 +6,7 @@ use Rattle.rv_isa.specs.Table.{row, branch_operation, load_operation, store_oper
 use Rattle.rv_isa.specs.Word.{IsInRange}
 use Rattle.rv_isa.specs.declared.fields.Fields.{Fields}
 use Rattle.rv_isa.specs.declared.kind.Kind.{Kind}
-use Rattle.rv_isa.specs.declared.kind.Kind.TheVariants.{Lui, Auipc, Jal, Jalr, Branch, Load, Store, OpImm, Shift, Op, Fence, FenceI, Csr, CsrImm, Ecall, Ebreak, Mret, Wfi}
+use Rattle.rv_isa.specs.declared.kind.Kind.TheVariants.{Lui, Auipc, Branch, Load, Store, OpImm, Shift, Op, Fence, FenceI, Csr, CsrImm}
 use Rattle.std.specs.Prelude.{pos}
 
 -- ---- the kind of each form's operation
@@ -53,8 +53,6 @@ pub kept : (k : Kind) → IsInRange k → kind_of (fields_of k) ≡ k
 unfolding kind_of fields_of
 kept (Lui rd imm) r = ap (Lui rd) (word_of imm r.1)
 kept (Auipc rd imm) r = ap (Auipc rd) (word_of imm r.1)
-kept (Jal rd offset) r = refl
-kept (Jalr rd base offset) r = refl
 kept (Branch op rs1 rs2 offset) r = branch_kind op _
 kept (Load op rd base offset) r = load_kind op _
 kept (Store op source base offset) r = store_kind op _
@@ -65,7 +63,4 @@ kept (Fence rd rs1 imm) r = ap (Fence rd rs1) (word_of imm (omega arith))
 kept (FenceI rd rs1 imm) r = ap (FenceI rd rs1) (word_of imm (omega arith))
 kept (Csr op rd rs1 csr) r = csr_kind op _ ∙ ap (Csr op rd rs1) (word_of csr (omega arith))
 kept (CsrImm op rd imm csr) r = csr_imm_kind op _ ∙ ap (CsrImm op rd imm) (word_of csr (omega arith))
-kept Ecall r = refl
-kept Ebreak r = refl
-kept Mret r = refl
-kept Wfi r = refl
+kept k r = refl

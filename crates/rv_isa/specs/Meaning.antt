@@ -5,11 +5,14 @@
 use Rattle.std.specs.Prelude.{ℕ, zero, suc, ◌^◌, ◌==◌, if◌then◌else◌, ℤ, pos, negsuc, List, [], ◌∷◌, Option, Some, None}
 use Rattle.std.specs.Option.{option_or}
 use Rattle.rv_isa.specs.Number.{modulo}
-use Rattle.rv_isa.specs.Mnemonics.{blank}
+use Rattle.rv_isa.specs.Fields.{kind_of}
+use Rattle.rv_isa.specs.Mnemonics.{blank, with_fields}
 use Rattle.rv_isa.specs.Table.{operations}
-use Rattle.rv_isa.specs.Word.{word}
+use Rattle.rv_isa.specs.Word.{format_of, word}
+use Rattle.rv_isa.specs.declared.format.Format.{Format}
+use Rattle.rv_isa.specs.declared.format.Format.TheVariants.{R, Amount, I, Number, S, B, U, J, Whole}
 use Rattle.rv_isa.specs.declared.kind.Kind.{Kind}
-use Rattle.rv_isa.specs.declared.kind.Kind.TheVariants.{Lui, Auipc, Jal, Jalr, Branch, Load, Store, OpImm, Shift, Op, Fence, FenceI, Csr, CsrImm, Ecall, Ebreak, Mret, Wfi}
+use Rattle.rv_isa.specs.declared.op.Operation.{Operation}
 
 -- ---- searches: the result of f at the first place where it has one
 
@@ -31,48 +34,33 @@ unfoldable pub first_in : {A B : Type 0} → List A → (A → Option B) → Opt
 first_in [] f = None
 first_in (x ∷ xs) f = option_or (f x) (first_in xs f)
 
--- ---- among the fields of a format
-
-abbrev pub first_upper : {A : Type 0} → (ℕ → ℕ → Option A) → Option A
-first_upper f = first_below 32 (λ rd. first_below (2 ^ 20) (λ imm. f rd imm))
-
-abbrev pub first_jump : {A : Type 0} → (ℕ → ℤ → Option A) → Option A
-first_jump f = first_below 32 (λ rd. first_distance (2 ^ 20) (λ imm. f rd imm))
+-- ---- among the fields that fit a format (sections 2.2 and 2.3): rd, rs1, rs2 and the immediate
 
 abbrev pub first_registers : {A : Type 0} → (ℕ → ℕ → Option A) → Option A
 first_registers f = first_below 32 (λ a. first_below 32 (λ b. f a b))
 
-abbrev pub first_signed : {A : Type 0} → (ℕ → ℕ → ℤ → Option A) → Option A
-first_signed f = first_registers (λ a b. first_within (2 ^ 11) (λ imm. f a b imm))
+abbrev pub first_fields : {A : Type 0} → Format → (ℕ → ℕ → ℕ → ℤ → Option A) → Option A
+first_fields (R _ _ _ _ _ _) f =
+    first_registers (λ rd rs1. first_below 32 (λ rs2. f rd rs1 rs2 (pos 0)))
+first_fields (Amount _ _ _ _ _ _) f =
+    first_registers (λ rd rs1. first_below 32 (λ amount. f rd rs1 0 (pos amount)))
+first_fields (I _ _ _ _ _) f = first_registers (λ rd rs1. first_within (2 ^ 11) (λ imm. f rd rs1 0 imm))
+first_fields (Number _ _ _ _ _) f =
+    first_registers (λ rd rs1. first_below (2 ^ 12) (λ imm. f rd rs1 0 (pos imm)))
+first_fields (S _ _ _ _ _) f = first_registers (λ rs1 rs2. first_within (2 ^ 11) (λ imm. f 0 rs1 rs2 imm))
+first_fields (B _ _ _ _ _) f = first_registers (λ rs1 rs2. first_distance (2 ^ 12) (λ imm. f 0 rs1 rs2 imm))
+first_fields (U _ _ _) f = first_below 32 (λ rd. first_below (2 ^ 20) (λ imm. f rd 0 0 (pos imm)))
+first_fields (J _ _ _) f = first_below 32 (λ rd. first_distance (2 ^ 20) (λ imm. f rd 0 0 imm))
+first_fields (Whole _) f = f 0 0 0 (pos 0)
 
-abbrev pub first_branch : {A : Type 0} → (ℕ → ℕ → ℤ → Option A) → Option A
-first_branch f = first_registers (λ a b. first_distance (2 ^ 12) (λ imm. f a b imm))
-
--- the last is a number below n
-abbrev pub first_number : {A : Type 0} → ℕ → (ℕ → ℕ → ℕ → Option A) → Option A
-first_number n f = first_registers (λ a b. first_below n (λ c. f a b c))
-
--- among the kinds in range that differ from a kind in their fields at most
-unfoldable pub first_like : {A : Type 0} → Kind → (Kind → Option A) → Option A
-first_like (Lui _ _) f = first_upper (λ rd imm. f (Lui rd imm))
-first_like (Auipc _ _) f = first_upper (λ rd imm. f (Auipc rd imm))
-first_like (Jal _ _) f = first_jump (λ rd offset. f (Jal rd offset))
-first_like (Jalr _ _ _) f = first_signed (λ rd base offset. f (Jalr rd base offset))
-first_like (Branch cond _ _ _) f = first_branch (λ rs1 rs2 offset. f (Branch cond rs1 rs2 offset))
-first_like (Load op _ _ _) f = first_signed (λ rd base offset. f (Load op rd base offset))
-first_like (Store width _ _ _) f = first_signed (λ source base offset. f (Store width source base offset))
-first_like (OpImm op _ _ _) f = first_signed (λ rd rs1 imm. f (OpImm op rd rs1 imm))
-first_like (Shift op _ _ _) f = first_number 32 (λ rd rs1 amount. f (Shift op rd rs1 amount))
-first_like (Op op _ _ _) f = first_number 32 (λ rd rs1 rs2. f (Op op rd rs1 rs2))
-first_like (Fence _ _ _) f = first_number (2 ^ 12) (λ rd rs1 imm. f (Fence rd rs1 imm))
-first_like (FenceI _ _ _) f = first_number (2 ^ 12) (λ rd rs1 imm. f (FenceI rd rs1 imm))
-first_like (Csr op _ _ _) f = first_number (2 ^ 12) (λ rd rs1 csr. f (Csr op rd rs1 csr))
-first_like (CsrImm op _ _ _) f = first_number (2 ^ 12) (λ rd imm csr. f (CsrImm op rd imm csr))
-first_like k f = f k
+-- among the kinds in range of an operation
+abbrev pub first_of : {A : Type 0} → (Kind → Option A) → Operation → Option A
+first_of f operation = first_fields (format_of (blank operation))
+    (λ rd rs1 rs2 imm. f (kind_of (with_fields operation rd rs1 rs2 imm)))
 
 -- among all kinds in range
 unfoldable pub first_kind : {A : Type 0} → (Kind → Option A) → Option A
-first_kind f = first_in operations (λ operation. first_like (blank operation) f)
+first_kind f = first_in operations (first_of f)
 
 -- the kind in range that has the word, or none
 unfoldable pub means : ℕ → Option Kind

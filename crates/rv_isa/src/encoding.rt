@@ -5,10 +5,12 @@
 ghost use Rattle.std.specs.Prelude.{◌≡◌, ◌<◌, ◌^◌};
 ghost use Rattle.rv_isa.specs.Number.{modulo, IsWithin};
 ghost use Rattle.rv_isa.specs.Word as spec;
-ghost use Rattle.rv_isa.specs.Word.{Means, IsInRange, OneMeaning};
+ghost use Rattle.rv_isa.specs.Layout.{CodesFit};
+ghost use Rattle.rv_isa.specs.Word.{FieldsFit, Means, IsInRange, OneMeaning};
 ghost use Rattle.rv_isa.specs.declared.kind.Kind.{Kind};
 
-use crate::{Instr, Kind, Reg, opcode};
+use crate::format::Format;
+use crate::{Instr, Reg};
 
 /// Returns the word of an instruction: the sum of its fields, each times the power of two of its lowest bit.
 ///
@@ -17,83 +19,64 @@ use crate::{Instr, Kind, Reg, opcode};
 pub fn encode(instr: Instr) -> u32
     ensures { result ≡ spec.word instr }
 {
-    match instr.kind() {
-        Kind::Lui { rd, imm } => u_type(opcode::LUI, rd, imm),
-        Kind::Auipc { rd, imm } => u_type(opcode::AUIPC, rd, imm),
-        Kind::Jal { rd, offset } => j_type(opcode::JAL, rd, offset),
-        Kind::Jalr { rd, base, offset } => i_signed(opcode::JALR, rd, 0, base, offset),
-        Kind::Branch {
-            cond,
+    word_in(instr.kind().format())
+}
+
+/// Returns the word of a format.
+#[inline(always)]
+fn word_in(format: Format) -> u32
+    requires codes { CodesFit format }
+    requires fields { FieldsFit format }
+    ensures { result ≡ spec.word_in format }
+{
+    match format {
+        Format::R {
+            opcode,
+            rd,
+            funct3,
             rs1,
             rs2,
-            offset,
-        } => b_type(opcode::BRANCH, cond.operation().funct3(), rs1, rs2, offset),
-        Kind::Load {
-            op,
+            funct7,
+        } => r_type(opcode, rd, funct3, rs1, rs2.number(), funct7),
+        Format::Amount {
+            opcode,
             rd,
-            base,
-            offset,
-        } => { i_signed(opcode::LOAD, rd, op.operation().funct3(), base, offset) }
-        Kind::Store {
-            width,
-            source,
-            base,
-            offset,
-        } => {
-            s_type(
-                opcode::STORE,
-                width.store_operation().funct3(),
-                base,
-                source,
-                offset,
-            )
-        }
-        Kind::OpImm { op, rd, rs1, imm } => {
-            i_signed(opcode::OP_IMM, rd, op.operation().funct3(), rs1, imm)
-        }
-        Kind::Shift {
-            op,
-            rd,
+            funct3,
             rs1,
             amount,
-        } => {
-            r_type(
-                opcode::OP_IMM,
-                rd,
-                op.operation().funct3(),
-                rs1,
-                amount,
-                op.operation().funct7(),
-            )
-        }
-        Kind::Op { op, rd, rs1, rs2 } => {
-            r_type(
-                opcode::OP,
-                rd,
-                op.operation().funct3(),
-                rs1,
-                rs2.number(),
-                op.operation().funct7(),
-            )
-        }
-        Kind::Fence { rd, rs1, imm } => i_plain(opcode::MISC_MEM, rd, 0, rs1.number(), imm),
-        Kind::FenceI { rd, rs1, imm } => i_plain(opcode::MISC_MEM, rd, 1, rs1.number(), imm),
-        Kind::Csr { op, rd, rs1, csr } => {
-            i_plain(
-                opcode::SYSTEM,
-                rd,
-                op.operation().funct3(),
-                rs1.number(),
-                csr,
-            )
-        }
-        Kind::CsrImm { op, rd, imm, csr } => {
-            i_plain(opcode::SYSTEM, rd, op.imm_operation().funct3(), imm, csr)
-        }
-        Kind::Ecall => opcode::ECALL,
-        Kind::Ebreak => opcode::EBREAK,
-        Kind::Mret => opcode::MRET,
-        Kind::Wfi => opcode::WFI,
+            funct7,
+        } => r_type(opcode, rd, funct3, rs1, amount, funct7),
+        Format::I {
+            opcode,
+            rd,
+            funct3,
+            rs1,
+            imm,
+        } => i_type(opcode, rd, funct3, rs1.number(), low_12(imm)),
+        Format::Number {
+            opcode,
+            rd,
+            funct3,
+            rs1,
+            imm,
+        } => i_type(opcode, rd, funct3, rs1, imm),
+        Format::S {
+            opcode,
+            funct3,
+            rs1,
+            rs2,
+            imm,
+        } => s_type(opcode, funct3, rs1, rs2, imm),
+        Format::B {
+            opcode,
+            funct3,
+            rs1,
+            rs2,
+            imm,
+        } => b_type(opcode, funct3, rs1, rs2, imm),
+        Format::U { opcode, rd, imm } => u_type(opcode, rd, imm),
+        Format::J { opcode, rd, imm } => j_type(opcode, rd, imm),
+        Format::Whole { word } => word,
     }
 }
 
@@ -119,16 +102,8 @@ fn r_type(opcode: u32, rd: Reg, funct3: u32, rs1: Reg, rs2: u8, funct7: u32) -> 
     word_of(opcode, rd.number() as u32, funct3, rs1, rs2, funct7)
 }
 
-/// Returns a word of the I format with a signed immediate.
-fn i_signed(opcode: u32, rd: Reg, funct3: u32, rs1: Reg, imm: i32) -> u32
-    requires { (opcode < 2 ^ 7) × (funct3 < 2 ^ 3) × IsWithin (2 ^ 11) imm }
-    ensures { result ≡ spec.i_type opcode rd funct3 rs1 (modulo imm (2 ^ 12)) }
-{
-    i_plain(opcode, rd, funct3, rs1.number(), low_12(imm))
-}
-
-/// Returns a word of the I format with an unsigned immediate; `rs1` is a register, or a number of five bits.
-fn i_plain(opcode: u32, rd: Reg, funct3: u32, rs1: u8, imm: u16) -> u32
+/// Returns a word of the I format; `rs1` is a register, or a number of five bits.
+fn i_type(opcode: u32, rd: Reg, funct3: u32, rs1: u8, imm: u16) -> u32
     requires { (opcode < 2 ^ 7) × (funct3 < 2 ^ 3) × (rs1 < 2 ^ 5) × (imm < 2 ^ 12) }
     ensures { result ≡ spec.i_type opcode rd funct3 rs1 imm }
 {

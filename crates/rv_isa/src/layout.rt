@@ -1,19 +1,20 @@
 //! Kinds laid out as fields, and put together again.
 //!
-//! `fields_of` lays a kind out, and a function for each form puts it together. They are inlined: where the
+//! `fields_of` lays a kind out by its format, and a function for each form puts it together. They are inlined: where the
 //! form of a kind or an operation is known, as where a word is decoded, no match is left of them.
 ghost use Rattle.std.specs.Prelude.{◌≡◌, ◌<◌, ◌^◌};
 ghost use Rattle.rv_isa.specs.Fields as spec;
 ghost use Rattle.rv_isa.specs.Layout as layout;
 ghost use Rattle.rv_isa.specs.Mnemonics.{with_fields};
-ghost use Rattle.rv_isa.specs.Word.{IsInRange};
+ghost use Rattle.rv_isa.specs.Word.{FieldsFit, IsInRange};
 ghost use Rattle.rv_isa.specs.declared.kind.Kind.TheVariants as kind;
 
+use crate::format::Format;
 use crate::{AluOp, Cond, CsrOp, Fields, ImmOp, Kind, LoadOp, Operation, Reg, ShiftOp, Width};
 
 // ---- a kind's fields
 
-/// Returns fields: a constructor, so that each kind's are on one line.
+/// Returns fields: a constructor, so that each format's are on one line.
 fn with(operation: Operation, rd: Reg, rs1: Reg, rs2: Reg, imm: i32) -> Fields
     ensures { result ≡ with_fields operation rd rs1 rs2 imm }
 {
@@ -26,6 +27,37 @@ fn with(operation: Operation, rd: Reg, rs1: Reg, rs2: Reg, imm: i32) -> Fields
     }
 }
 
+/// Returns the fields of an operation in a format.
+#[inline(always)]
+fn laid(operation: Operation, format: Format) -> Fields
+    requires { FieldsFit format }
+    ensures { result ≡ layout.laid operation format }
+{
+    let x0 = Reg::of(0);
+    match format {
+        Format::R { rd, rs1, rs2, .. } => with(operation, rd, rs1, rs2, 0),
+        Format::Amount {
+            rd,
+            rs1,
+            amount,
+            ..
+        } => with(operation, rd, rs1, x0, i32::from(amount)),
+        Format::I { rd, rs1, imm, .. } => with(operation, rd, rs1, x0, imm),
+        Format::Number { rd, rs1, imm, .. } => with(
+            operation,
+            rd,
+            Reg::of(rs1),
+            x0,
+            i32::from(imm),
+        ),
+        Format::S { rs1, rs2, imm, .. } => with(operation, x0, rs1, rs2, imm),
+        Format::B { rs1, rs2, imm, .. } => with(operation, x0, rs1, rs2, imm),
+        Format::U { rd, imm, .. } => with(operation, rd, x0, x0, imm as i32),
+        Format::J { rd, imm, .. } => with(operation, rd, x0, x0, imm),
+        Format::Whole { .. } => with(operation, x0, x0, x0, 0),
+    }
+}
+
 /// Returns the fields of a kind.
 #[inline(always)]
 #[tactic(auto, unfolding(crate::specs::Layout::fields_of))]
@@ -33,53 +65,9 @@ pub(crate) fn fields_of(kind: Kind) -> Fields
     requires { IsInRange kind }
     ensures { result ≡ layout.fields_of kind }
 {
-    let x0 = Reg::of(0);
-    match kind {
-        Kind::Lui { rd, imm } => with(Operation::Lui, rd, x0, x0, imm as i32),
-        Kind::Auipc { rd, imm } => with(Operation::Auipc, rd, x0, x0, imm as i32),
-        Kind::Jal { rd, offset } => with(Operation::Jal, rd, x0, x0, offset),
-        Kind::Jalr { rd, base, offset } => with(Operation::Jalr, rd, base, x0, offset),
-        Kind::Branch {
-            cond,
-            rs1,
-            rs2,
-            offset,
-        } => with(cond.operation(), x0, rs1, rs2, offset),
-        Kind::Load {
-            op,
-            rd,
-            base,
-            offset,
-        } => with(op.operation(), rd, base, x0, offset),
-        Kind::Store {
-            width,
-            source,
-            base,
-            offset,
-        } => with(width.store_operation(), x0, base, source, offset),
-        Kind::OpImm { op, rd, rs1, imm } => with(op.operation(), rd, rs1, x0, imm),
-        Kind::Shift {
-            op,
-            rd,
-            rs1,
-            amount,
-        } => with(op.operation(), rd, rs1, x0, i32::from(amount)),
-        Kind::Op { op, rd, rs1, rs2 } => with(op.operation(), rd, rs1, rs2, 0),
-        Kind::Fence { rd, rs1, imm } => with(Operation::Fence, rd, rs1, x0, i32::from(imm)),
-        Kind::FenceI { rd, rs1, imm } => with(Operation::FenceI, rd, rs1, x0, i32::from(imm)),
-        Kind::Csr { op, rd, rs1, csr } => with(op.operation(), rd, rs1, x0, i32::from(csr)),
-        Kind::CsrImm { op, rd, imm, csr } => with(
-            op.imm_operation(),
-            rd,
-            Reg::of(imm),
-            x0,
-            i32::from(csr),
-        ),
-        Kind::Ecall => with(Operation::Ecall, x0, x0, x0, 0),
-        Kind::Ebreak => with(Operation::Ebreak, x0, x0, x0, 0),
-        Kind::Mret => with(Operation::Mret, x0, x0, x0, 0),
-        Kind::Wfi => with(Operation::Wfi, x0, x0, x0, 0),
-    }
+    // A copy: for the borrow checker the call moves its argument.
+    let same = kind;
+    laid(same.operation(), kind.format())
 }
 
 // ---- the kind of each form, whose fields are read where they are used
