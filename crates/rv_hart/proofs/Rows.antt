@@ -1,14 +1,13 @@
 -- What is kept by every instruction, if those keep it that can change the mode or a control register.
-use Rattle.std.proofs.Common.{◌≡◌, ℕ, ◌+◌, ◌*◌, ◌/◌, ◌%◌, ◌^◌, ◌==◌, Option, Some, None, Result, Ok, Err, Bool, true, false, refl}
+use Rattle.std.proofs.Common.{◌≡◌, ℕ, ◌*◌, ◌/◌, ◌%◌, ◌==◌, Option, Some, None, Result, Ok, Err, Bool, true, false, refl}
 use Rattle.std.specs.Prelude.{if◌then◌else◌}
-use Rattle.rv_isa.specs.Number.{modulo}
-use Rattle.rv_isa.specs.Width.{bytes_of, load_width, imm_alu_op, shift_alu_op}
-use Rattle.rv_isa.specs.Alu.{value, is_taken}
+use Rattle.rv_isa.specs.Width.{bytes_of, load_width}
+use Rattle.rv_isa.specs.Alu.{is_taken}
 use Rattle.rv_isa.specs.declared.op.CsrOp.{CsrOp}
 use Rattle.rv_isa.specs.declared.op.LoadOp.{LoadOp}
 use Rattle.rv_isa.specs.declared.op.Width.{Width}
 use Rattle.rv_isa.specs.declared.kind.Kind.{Kind}
-use Rattle.rv_isa.specs.declared.kind.Kind.TheVariants.{Lui, Auipc, Jal, Jalr, Branch, Load, Store, OpImm, Shift, Op, Fence, FenceI, Csr, CsrImm, Ecall, Ebreak, Mret, Wfi}
+use Rattle.rv_isa.specs.declared.kind.Kind.TheVariants.{Jal, Jalr, Branch, Load, Store, Csr, CsrImm, Ecall, Ebreak, Mret, Wfi}
 use Rattle.rv_pmp.specs.declared.access.Access.TheVariants.{Read, Write}
 use Rattle.rv_pmp.specs.declared.mode.Mode.{Mode}
 use Rattle.rv_pmp.specs.declared.mode.Mode.TheVariants.{User, Machine}
@@ -88,26 +87,16 @@ module _ (m : state.Machine) (P : state.Machine → Type 0)
       → IfRetired P (return_effect m m.mode)
       → (k : Kind) → IfRetired P (effect k m)
   unfolding effect wait_effect
-  rows registers returns (Lui rd imm) = same (with_result m rd (imm * 2 ^ 12)) refl refl
-  rows registers returns (Auipc rd imm) =
-      same (with_result m rd ((m.pc + imm * 2 ^ 12) % 2 ^ 32)) refl refl
   rows registers returns (Jal rd offset) = jumps rd (plus m.pc offset)
   rows registers returns (Jalr rd base offset) = jumps rd (plus (reg m base) offset / 2 * 2)
   rows registers returns (Branch cond rs1 rs2 offset) =
       branches (is_taken cond (reg m rs1) (reg m rs2)) (plus m.pc offset)
   rows registers returns (Load op rd base offset) = loads op rd (plus (reg m base) offset)
   rows registers returns (Store w source base offset) = stores w (plus (reg m base) offset) (reg m source)
-  rows registers returns (OpImm op rd rs1 imm) =
-      same (with_result m rd (value (imm_alu_op op) (reg m rs1) (modulo imm (2 ^ 32)))) refl refl
-  rows registers returns (Shift op rd rs1 amount) =
-      same (with_result m rd (value (shift_alu_op op) (reg m rs1) amount)) refl refl
-  rows registers returns (Op op rd rs1 rs2) =
-      same (with_result m rd (value op (reg m rs1) (reg m rs2))) refl refl
-  rows registers returns (Fence rd rs1 imm) = same (at_next m) refl refl
-  rows registers returns (FenceI rd rs1 imm) = same (at_next m) refl refl
   rows registers returns (Csr op rd rs1 csr) = registers (Csr op rd rs1 csr) op rs1 (reg m rs1) rd csr
   rows registers returns (CsrImm op rd imm csr) = registers (CsrImm op rd imm csr) op imm imm rd csr
   rows registers returns Ecall = calls m.mode
   rows registers returns Ebreak = tt
   rows registers returns Mret = returns
   rows registers returns Wfi = waits (is_wait_illegal m m.mode)
+  rows registers returns k = same _ refl refl
