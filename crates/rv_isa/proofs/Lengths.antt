@@ -8,7 +8,7 @@ use Rattle.rv_isa.specs.Table.{name, branch_operation, load_operation, store_ope
 use Rattle.rv_isa.specs.Text.{target, register, text}
 use Rattle.rv_isa.specs.Word.{IsInRange}
 use Rattle.rv_isa.specs.declared.kind.Kind.{Kind}
-use Rattle.rv_isa.specs.declared.kind.Kind.TheVariants.{Lui, Auipc, Jal, Jalr, Branch, Load, Store, OpImm, Shift, Op, Csr, CsrImm}
+use Rattle.rv_isa.specs.declared.kind.Kind.TheVariants.{Lui}
 use Rattle.rv_base.proofs.Hexadecimal.{hex_length}
 use Rattle.rv_base.specs.Digits.{short_hex}
 
@@ -78,53 +78,9 @@ jump_length (negsuc n) h =
 
 -- ---- lines
 
+ruleset lengths = (cond_length, load_length, width_length, imm_op_length, shift_length, csr_op_length, csr_imm_length, alu_length, small_length, register_length, upper_length, csr_number_length, immediate_length, branch_length, jump_length)
+
 pub text_length : (k : Kind) → IsInRange k → length (text k) ≤ 19
 unfolding text name
-text_length (Lui rd imm) r = simp length-append (omega (arith, register_length rd r.0, upper_length imm r.1))
-text_length (Auipc rd imm) r =
-    simp length-append (omega (arith, register_length rd r.0, upper_length imm r.1))
-text_length (Jal rd offset) r =
-    simp length-append (omega (arith, register_length rd r.0, jump_length offset r.1.0))
-text_length (Jalr rd base offset) r = simp length-append
-    (omega (arith, register_length rd r.0, immediate_length offset r.2, register_length base r.1))
-text_length (Branch cond rs1 rs2 offset) r = simp length-append
-    (omega (
-      arith,
-      cond_length cond,
-      register_length rs1 r.0,
-      register_length rs2 r.1,
-      branch_length offset r.2.0,
-    ))
-text_length (Load op rd base offset) r = simp length-append
-    (omega (
-      arith,
-      load_length op,
-      register_length rd r.0,
-      immediate_length offset r.2,
-      register_length base r.1,
-    ))
-text_length (Store width source base offset) r = simp length-append
-    (omega (
-      arith,
-      width_length width,
-      register_length source r.0,
-      immediate_length offset r.2,
-      register_length base r.1,
-    ))
-text_length (OpImm op rd rs1 imm) r = simp length-append
-    (omega (
-      arith,
-      imm_op_length op,
-      register_length rd r.0,
-      register_length rs1 r.1,
-      immediate_length imm r.2,
-    ))
-text_length (Shift op rd rs1 amount) r = simp length-append
-    (omega (arith, shift_length op, register_length rd r.0, register_length rs1 r.1, small_length amount r.2))
-text_length (Op op rd rs1 rs2) r = simp length-append
-    (omega (arith, alu_length op, register_length rd r.0, register_length rs1 r.1, register_length rs2 r.2))
-text_length (Csr op rd rs1 csr) r = simp length-append
-    (omega (arith, csr_op_length op, register_length rd r.0, register_length rs1 r.1, csr_number_length csr r.2))
-text_length (CsrImm op rd imm csr) r = simp length-append
-    (omega (arith, csr_imm_length op, register_length rd r.0, small_length imm r.1, csr_number_length csr r.2))
-text_length k r = omega arith
+text_length (Lui rd imm) r = simp length-append (grind (arith, lengths))
+text_length k r = simp length-append (grind (arith, lengths))
