@@ -27,8 +27,7 @@ use Rattle.rv_bus.specs.Access.{lines_of}
 use Rattle.rv_hart.specs.State.{Machine}
 use Rattle.rv_hart.specs.Effect.{Effect, effect, csr_effect, csr_value, csr_written, is_write, return_effect, with_result}
 use Rattle.rv_hart.specs.EffectParts.{exchange_result, write_result, trap_step}
-use Rattle.rv_hart.specs.Fetch.{fetch_result}
-use Rattle.rv_hart.specs.Step.{step, ticked, step_by, attempt, finished, counts, enter, interrupt}
+use Rattle.rv_hart.specs.Step.{step, ticked, fetched, attempt, finished, counts, enter}
 use Rattle.rv_hart.specs.declared.trap.Trap.{Trap}
 use Rattle.rv_hart.proofs.Rows.{IfRetired, rows}
 use Rattle.rv_board.specs.State.{BoardState, halted_of}
@@ -279,13 +278,9 @@ module _ (m : Machine) where
   attempts (Ok k) = settles (csr_written k) (effect k m) (effects k)
   attempts (Err t) = traps t
 
-  tried : (cause : Option ℕ) → KeptFrom m (step_by m cause).0
-  tried (Some cause) = traps (record { cause = cause; tval = 0 })
-  tried None = attempts (fetch_result m)
-
 steps : (m : Machine) → KeptFrom m (step m).0
 unfolding step
-steps m = tried (ticked m) (interrupt (ticked m))
+steps m = attempts (ticked m) (fetched (ticked m))
 
 -- ---- events
 

@@ -1,8 +1,8 @@
 -- A step for which room may have to be made retires a store into the memory or to the transmit register.
 use Rattle.std.proofs.Common.{◌≡◌, ℕ, ◌%◌, ◌==◌, Bool, true, false, Option, Some, None, Result, Ok, Err, refl}
 use Rattle.std.specs.Prelude.{◌&&◌, if◌then◌else◌, is_some}
-use Rattle.std.specs.Option.{option_map_or}
-use Rattle.std.specs.Result.{is_ok}
+use Rattle.std.specs.Option.{option_and_then, option_map_or}
+use Rattle.std.specs.Result.{is_ok, result_ok}
 use Rattle.std.proofs.lemmas.Bool.{and_parts, and_from}
 use Rattle.rv_isa.specs.Width.{bytes_of}
 use Rattle.rv_isa.specs.declared.op.Width.{Width}
@@ -13,11 +13,10 @@ use Rattle.rv_bus.specs.State.{BusState}
 use Rattle.rv_bus.specs.Access as bus
 use Rattle.rv_bus.proofs.Growth.{room_stores}
 use Rattle.rv_hart.specs.State.{Machine}
-use Rattle.rv_hart.specs.Effect.{is_writing, may_access, misaligned_store, plus, reg, refused_store, store_effect}
-use Rattle.rv_hart.specs.EffectParts.{store_result}
-use Rattle.rv_hart.specs.Fetch.{fetch_result}
-use Rattle.rv_hart.specs.Room.{attempt_grows, grows_by, may_grow, store_grows, wants_room}
-use Rattle.rv_hart.specs.Step.{interrupt, ticked, tries, tries_by, writes}
+use Rattle.rv_hart.specs.Effect.{may_access, plus, reg, store_effect, stored}
+use Rattle.rv_hart.specs.EffectParts.{misaligned_store, refused_store, store_result}
+use Rattle.rv_hart.specs.Room.{attempt_grows, may_grow, store_grows, wants_room}
+use Rattle.rv_hart.specs.Step.{fetched, ticked, tries, writes}
 use Rattle.rv_hart.specs.declared.trap.Trap.{Trap}
 
 retires : (m : Machine) (addr : ℕ) (aligned granted : Bool) (after : Option BusState) → aligned ≡ true
@@ -39,21 +38,25 @@ stores m w addr v is =
     and_from _ _ (retires m addr (addr % bytes_of w == 0) (may_access m Write addr w) (bus.store m.bus addr w v) a.0 b.0 s.1)
     s.0
 
-writing : (k : Kind) (m : Machine) → may_grow k m ≡ true → is_writing k m ≡ true
-unfolding may_grow is_writing
-writing (Store w source base offset) m is = stores m w (plus (reg m base) offset) (reg m source) is
+written : (m : Machine) (addr : ℕ) (w : Width) (retires : Bool) → (retires && bus.writes m.bus addr w) ≡ true
+    → option_map_or (λ (at : ℕ × Width). bus.writes m.bus at.0 at.1) (if retires then Some (addr, w) else None) false ≡ true
+written m addr w true is = is
+written m addr w false is = absurd cc
+
+writing : (k : Kind) (m : Machine) → may_grow k m ≡ true
+    → option_map_or (λ (at : ℕ × Width). bus.writes m.bus at.0 at.1) (stored k m) false ≡ true
+unfolding may_grow stored
+writing (Store w source base offset) m is =
+    let addr = plus (reg m base) offset in
+    written m addr w (is_ok (store_effect m w addr (reg m source))) (stores m w addr (reg m source) is)
 writing k m is = absurd cc
 
 by_fetch : (m : Machine) (f : Result Kind Trap) → attempt_grows m f ≡ true
-    → option_map_or (λ k. is_writing k m) (tries_by None f) false ≡ true
+    → option_map_or (λ (at : ℕ × Width). bus.writes m.bus at.0 at.1) (option_and_then (λ k. stored k m) (result_ok f)) false
+    ≡ true
 by_fetch m (Ok k) is = writing k m is
 by_fetch m (Err t) is = absurd cc
 
-by_cause : (m : Machine) (cause : Option ℕ) → grows_by m cause ≡ true
-    → option_map_or (λ k. is_writing k m) (tries_by cause (fetch_result m)) false ≡ true
-by_cause m (Some cause) is = absurd cc
-by_cause m None is = by_fetch m (fetch_result m) is
-
 pub room_writes : (m : Machine) → wants_room m ≡ true → writes m ≡ true
 unfolding wants_room writes tries
-room_writes m is = by_cause (ticked m) (interrupt (ticked m)) is
+room_writes m is = by_fetch (ticked m) (fetched (ticked m)) is

@@ -1,13 +1,13 @@
 -- The return from a trap right after its entry.
 use Rattle.std.proofs.Common.{◌≡◌, ℕ, Option, Some, None, Result, Ok, Err, true, refl, sym, ap, subst, ◌∙◌}
+use Rattle.std.specs.Result.{result_ok}
 use Rattle.rv_isa.specs.declared.kind.Kind.{Kind}
 use Rattle.rv_isa.specs.declared.kind.Kind.TheVariants.{Mret}
 use Rattle.rv_pmp.specs.declared.mode.Mode.TheVariants as mode
 use Rattle.rv_csr.specs.Traps.{entered, left}
 use Rattle.rv_hart.specs.State.{Machine}
 use Rattle.rv_hart.specs.Effect.{Effect, effect, return_effect, csr_written}
-use Rattle.rv_hart.specs.Fetch.{fetch_result}
-use Rattle.rv_hart.specs.Step.{step, tries, tries_by, ticked, step_by, attempt, finished, counts, enter, outcome_of, interrupt}
+use Rattle.rv_hart.specs.Step.{step, tries, ticked, fetched, attempt, finished, counts, enter, outcome_of}
 use Rattle.rv_hart.specs.EffectParts.{trap_step}
 use Rattle.rv_hart.specs.Laws.{IsBack, TrapsReturn}
 use Rattle.rv_hart.specs.declared.trap.Trap.{Trap}
@@ -34,18 +34,12 @@ attempts : (m : Machine) (f : Result Kind Trap) → Enters m (attempt m f).0 (at
 attempts m (Ok k) = concludes m (csr_written k) (effect k m)
 attempts m (Err t) = (t, refl)
 
-enters : (m : Machine) (cause : Option ℕ) → Enters m (step_by m cause).0 (step_by m cause).1
-enters m (Some cause) = (record { cause = cause; tval = 0 }, refl)
-enters m None = attempts m (fetch_result m)
-
 -- ---- a step that tries MRET
 
-tried : (m : Machine) (cause : Option ℕ) (f : Result Kind Trap) (k : Kind) → tries_by cause f ≡ Some k
-    → fetch_result m ≡ f → step_by m cause ≡ finished m (csr_written k) (effect k m)
-tried m None (Ok j) k is at =
-    let same : j ≡ k = cc in ap (attempt m) at ∙ ap (λ x. attempt m (Ok x)) same
-tried m None (Err t) k is at = absurd cc
-tried m (Some cause) f k is at = absurd cc
+tried : (m : Machine) (f : Result Kind Trap) (k : Kind) → result_ok f ≡ Some k
+    → attempt m f ≡ finished m (csr_written k) (effect k m)
+tried m (Ok j) k is = let same : j ≡ k = cc in ap (λ x. attempt m (Ok x)) same
+tried m (Err t) k is = absurd cc
 
 abbrev returned : Machine → Machine
 returned m = record m { csrs = left m.csrs; mode = m.csrs.status.previous_mode; pc = m.csrs.trap.epc }
@@ -59,7 +53,7 @@ leaves : (m : Machine) → m.mode ≡ mode.Machine → tries m ≡ Some Mret
 unfolding step tries
 leaves m machine is =
     let h = ticked m in
-    ap (λ (s : Machine × Outcome). s.0) (tried h (interrupt h) (fetch_result h) Mret is refl
+    ap (λ (s : Machine × Outcome). s.0) (tried h (fetched h) Mret is
     ∙ ap (finished h (csr_written Mret)) (returns h machine))
 
 -- ---- both
@@ -85,5 +79,5 @@ pub traps_return : TrapsReturn
 unfolding step
 traps_return m cause epc tval trapped mret =
     let entered : Enters (ticked m) (step m).0 (Trapped cause epc tval)
-    = subst (Enters (ticked m) (step m).0) trapped (enters (ticked m) (interrupt (ticked m))) in
+    = subst (Enters (ticked m) (step m).0) trapped (attempts (ticked m) (fetched (ticked m))) in
     leads_back m (step m).0 entered.0 entered.1 mret

@@ -1,6 +1,7 @@
 -- What is kept by every instruction, if those keep it that can change the mode or a control register.
-use Rattle.std.proofs.Common.{◌≡◌, ℕ, ◌*◌, ◌/◌, ◌%◌, ◌==◌, Option, Some, None, Result, Ok, Err, Bool, true, false, refl}
-use Rattle.std.specs.Prelude.{if◌then◌else◌}
+use Rattle.std.proofs.Common.{◌≡◌, ℕ, ◌*◌, ◌/◌, ◌%◌, ◌==◌, Option, Some, None, Ok, Err, Bool, true, false, refl}
+use Rattle.std.specs.Prelude.{◌||◌, not, if◌then◌else◌}
+use Rattle.rv_isa.specs.Word.{word}
 use Rattle.rv_isa.specs.Width.{bytes_of, load_width}
 use Rattle.rv_isa.specs.Alu.{is_taken}
 use Rattle.rv_isa.specs.declared.op.CsrOp.{CsrOp}
@@ -8,15 +9,13 @@ use Rattle.rv_isa.specs.declared.op.LoadOp.{LoadOp}
 use Rattle.rv_isa.specs.declared.op.Width.{Width}
 use Rattle.rv_isa.specs.declared.kind.Kind.{Kind}
 use Rattle.rv_isa.specs.declared.kind.Kind.TheVariants.{Jal, Jalr, Branch, Load, Store, Csr, CsrImm, Ecall, Ebreak, Mret, Wfi}
+use Rattle.rv_pmp.specs.Mode.{is_machine}
 use Rattle.rv_pmp.specs.declared.access.Access.TheVariants.{Read, Write}
-use Rattle.rv_pmp.specs.declared.mode.Mode.{Mode}
-use Rattle.rv_pmp.specs.declared.mode.Mode.TheVariants.{User, Machine}
 use Rattle.rv_bus.specs.State.{BusState}
 use Rattle.rv_bus.specs.Access.{load, after_load, store}
 use Rattle.rv_hart.specs.State as state
-use Rattle.rv_hart.specs.Effect.{Effect, effect, jump, checked_effect, branch, target_check, load_effect, store_effect, load_value, may_access, csr_effect, call_from, return_effect, wait_effect, is_wait_illegal, illegal, at_next, with_result, plus, next, reg, with_reg, refused_load, misaligned_load, refused_store, misaligned_store}
-use Rattle.rv_hart.specs.EffectParts.{load_result, store_result}
-use Rattle.rv_hart.specs.declared.trap.Trap.{Trap}
+use Rattle.rv_hart.specs.Effect.{Effect, effect, jump, branch, load_effect, store_effect, load_value, may_access, csr_effect, return_effect, wait_effect, at_next, with_result, plus, next, reg, require, with_reg}
+use Rattle.rv_hart.specs.EffectParts.{load_result, misaligned_load, misaligned_store, refused_load, refused_store, store_result}
 
 -- a fact of the machine after an instruction that retires
 abbrev pub IfRetired : (state.Machine → Type 0) → Effect → Type 0
@@ -26,20 +25,20 @@ IfRetired P (Err t) = Unit {0}
 -- a fact that holds of every machine with the mode and the control registers of this one
 module _ (m : state.Machine) (P : state.Machine → Type 0)
     (same : (new : state.Machine) → new.mode ≡ m.mode → new.csrs ≡ m.csrs → P new) where
-  checked : (one : state.Machine) (c : Result Unit Trap) → one.mode ≡ m.mode → one.csrs ≡ m.csrs
-      → IfRetired P (checked_effect one c)
-  checked one (Ok u) in_mode still = same one in_mode still
-  checked one (Err t) in_mode still = tt
+  checked : (one : state.Machine) (cause tval : ℕ) (passes : Bool) → one.mode ≡ m.mode → one.csrs ≡ m.csrs
+      → IfRetired P (require cause tval passes (Ok one))
+  checked one cause tval true in_mode still = same one in_mode still
+  checked one cause tval false in_mode still = tt
 
   jumps : (rd target : ℕ) → IfRetired P (jump m rd target)
   unfolding jump
   jumps rd target =
-      checked (record m { registers = with_reg m.registers rd (next m.pc); pc = target })
-      (target_check target) refl refl
+      checked (record m { registers = with_reg m.registers rd (next m.pc); pc = target }) 0 target
+      (target % 4 == 0) refl refl
 
   branches : (taken : Bool) (target : ℕ) → IfRetired P (branch m taken target)
   unfolding branch
-  branches true target = checked (record m { pc = target }) (target_check target) refl refl
+  branches true target = checked (record m { pc = target }) 0 target (target % 4 == 0) refl refl
   branches false target = same (at_next m) refl refl
 
   accesses : (aligned granted : Bool) (x refused misaligned : Effect) → IfRetired P x → IfRetired P refused
@@ -74,14 +73,6 @@ module _ (m : state.Machine) (P : state.Machine → Type 0)
       (store_result m addr (store m.bus addr w v)) (refused_store addr) (misaligned_store addr)
       (stored addr (store m.bus addr w v)) tt tt
 
-  calls : (d : Mode) → IfRetired P (call_from d)
-  calls User = tt
-  calls Machine = tt
-
-  waits : (b : Bool) → IfRetired P (if b then illegal Wfi else Ok (at_next m))
-  waits true = tt
-  waits false = same (at_next m) refl refl
-
   pub rows : ((k : Kind) (op : CsrOp) (field operand rd csr : ℕ)
       → IfRetired P (csr_effect k m op field operand rd csr))
       → IfRetired P (return_effect m m.mode)
@@ -95,8 +86,9 @@ module _ (m : state.Machine) (P : state.Machine → Type 0)
   rows registers returns (Store w source base offset) = stores w (plus (reg m base) offset) (reg m source)
   rows registers returns (Csr op rd rs1 csr) = registers (Csr op rd rs1 csr) op rs1 (reg m rs1) rd csr
   rows registers returns (CsrImm op rd imm csr) = registers (CsrImm op rd imm csr) op imm imm rd csr
-  rows registers returns Ecall = calls m.mode
+  rows registers returns Ecall = tt
   rows registers returns Ebreak = tt
   rows registers returns Mret = returns
-  rows registers returns Wfi = waits (is_wait_illegal m m.mode)
+  rows registers returns Wfi =
+      checked (at_next m) 2 (word Wfi) (is_machine m.mode || not m.csrs.status.timeout_wait) refl refl
   rows registers returns k = same _ refl refl

@@ -12,9 +12,8 @@ use Rattle.rv_bus.specs.Access.{lines_of}
 use Rattle.rv_hart.specs.State.{Machine}
 use Rattle.rv_hart.specs.Effect.{Effect, effect, csr_effect, return_effect, csr_written}
 use Rattle.rv_hart.specs.EffectParts.{exchange_result, trap_step}
-use Rattle.rv_hart.specs.Fetch.{fetch_result}
 use Rattle.rv_hart.specs.Laws.{ChangesByTrap, UserChangesByTraps}
-use Rattle.rv_hart.specs.Step.{step, ticked, step_by, attempt, finished, counts, enter, outcome_of, interrupt}
+use Rattle.rv_hart.specs.Step.{step, ticked, fetched, attempt, finished, counts, enter, outcome_of}
 use Rattle.rv_hart.specs.declared.trap.Trap.{Trap}
 use Rattle.rv_hart.proofs.Rows.{IfRetired, rows}
 
@@ -72,11 +71,7 @@ module _ (m : Machine) (user : m.mode ≡ mode.User) where
   attempts (Ok k) = settles (csr_written k) (effect k m) (effects k)
   attempts (Err t) = traps t
 
-  tried : (cause : Option ℕ) → ChangesByTrap m (step_by m cause).0 (step_by m cause).1
-  tried (Some cause) = traps (record { cause = cause; tval = 0 })
-  tried None = attempts (fetch_result m)
-
 -- one step
 pub user_changes : UserChangesByTraps
 unfolding step
-user_changes m user = tried (ticked m) user (interrupt (ticked m))
+user_changes m user = attempts (ticked m) user (fetched (ticked m))

@@ -1,6 +1,6 @@
 -- Steps that store where room may have to be made: for a page of the memory, or in the console.
 -- Not to audit: only the clauses `room` cite this, which say where a step may be refused.
-use Rattle.std.specs.Prelude.{ℕ, Bool, false, ◌%◌, ◌==◌, ◌&&◌, Option, Some, None, Result, Ok, Err}
+use Rattle.std.specs.Prelude.{ℕ, Bool, false, ◌%◌, ◌==◌, ◌&&◌, Result, Ok, Err}
 use Rattle.rv_isa.specs.Width.{bytes_of}
 use Rattle.rv_isa.specs.declared.op.Width.{Width}
 use Rattle.rv_isa.specs.declared.kind.Kind.{Kind}
@@ -9,8 +9,7 @@ use Rattle.rv_pmp.specs.declared.access.Access.TheVariants as access
 use Rattle.rv_bus.specs.Room as bus
 use Rattle.rv_hart.specs.State.{Machine}
 use Rattle.rv_hart.specs.Effect.{may_access, plus, reg}
-use Rattle.rv_hart.specs.Fetch.{fetch_result}
-use Rattle.rv_hart.specs.Step.{interrupt, ticked}
+use Rattle.rv_hart.specs.Step.{fetched, ticked}
 use Rattle.rv_hart.specs.declared.trap.Trap.{Trap}
 
 -- whether a store retires and may have to make room
@@ -23,14 +22,10 @@ unfoldable pub may_grow : Kind → Machine → Bool
 may_grow (Store w source base offset) m = store_grows m w (plus (reg m base) offset) (reg m source)
 may_grow k m = false
 
--- whether a step may have to, by the fetch, and by the interrupt that is taken, if any
+-- whether a step may have to, by its instruction
 abbrev pub attempt_grows : Machine → Result Kind Trap → Bool
 attempt_grows m (Ok k) = may_grow k m
 attempt_grows m (Err t) = false
 
-abbrev pub grows_by : Machine → Option ℕ → Bool
-grows_by m (Some cause) = false
-grows_by m None = attempt_grows m (fetch_result m)
-
 unfoldable pub wants_room : Machine → Bool
-wants_room m = grows_by (ticked m) (interrupt (ticked m))
+wants_room m = attempt_grows (ticked m) (fetched (ticked m))

@@ -1,9 +1,10 @@
 //! The values that instructions compute, other than by the operations of `rv_isa`: addresses, loaded values,
 //! values of control registers, and traps.
-ghost use Rattle.std.specs.Prelude.{◌≡◌, ◌+◌, ◌%◌, ◌^◌, Err};
+ghost use Rattle.std.specs.Prelude.{◌≡◌, ◌+◌, ◌%◌, ◌^◌, ◌==◌, if◌then◌else◌, Ok, Err};
 ghost use Rattle.rv_isa.specs.Number.{modulo};
 ghost use Rattle.rv_isa.specs.Word as spec;
-ghost use Rattle.rv_hart.specs.Effect.{plus, target_check, load_value, is_write, csr_value, csr_written, call_from};
+ghost use Rattle.rv_csr.specs.Registers.{level};
+ghost use Rattle.rv_hart.specs.Effect.{plus, load_value, is_write, csr_value, csr_written};
 
 use crate::trap::Trap;
 use rv_isa::{AluOp, CsrOp, Instr, Kind, LoadOp, alu, encode};
@@ -19,7 +20,7 @@ pub(crate) fn offset_by(base: u32, offset: i32) -> u32
 
 /// Checks the target of a jump: one that is not a multiple of 4 is an exception of the jump itself.
 pub(crate) fn check_target(target: u32) -> Result<(), Trap>
-    ensures { result ≡ target_check target }
+    ensures { result ≡ (if target % 4 == 0 then Ok tt else Err (record { cause = 0; tval = target })) }
 {
     if target % 4 == 0 {
         Ok(())
@@ -87,7 +88,7 @@ pub(crate) fn illegal_instruction(instr: Instr) -> Trap
 
 /// Returns the exception of an environment call from a mode.
 pub(crate) fn call_from(mode: Mode) -> Trap
-    ensures { Err result ≡ call_from mode }
+    ensures { result ≡ record { cause = 8 + level mode; tval = 0 } }
 {
     match mode {
         Mode::User => Trap { cause: 8, tval: 0 },
