@@ -1,10 +1,11 @@
 -- The decision by spans is the one by regions.
-use Rattle.std.proofs.Common.{◌≡◌, ℕ, zero, suc, ◌+◌, ◌-◌, ◌*◌, ◌%◌, ◌^◌, ◌<◌, ◌≤◌, ◌⊎◌, inl, inr, Bool, true, false, cond, List, [], ◌∷◌, length, drop, get_or, Option, Some, None, refl, ap, sym, subst, ◌∙◌, arith, add-one, add-zero, nat_lt, nat_le}
+use Rattle.std.proofs.Common.{◌≡◌, ℕ, zero, suc, ◌+◌, ◌-◌, ◌*◌, ◌%◌, ◌^◌, ◌<◌, ◌≤◌, ◌⊎◌, inl, inr, Bool, true, false, cond, List, [], ◌∷◌, length, drop, get_or, Option, Some, None, refl, ap, sym, subst, ◌∙◌, arith, add-one, add-zero, nat_lt, nat_le, ◌/◌, ◌==◌, eqb-true, mul_assoc, div-add-mod', add-sub_of_le}
 use Rattle.std.specs.Prelude.{if◌then◌else◌, ◌&&◌, ◌||◌, find, unwrap_or}
-use Rattle.std.specs.List.{list_any, list_all}
+use Rattle.std.specs.List.{list_any, list_all, range_with_len}
+use Rattle.std.specs.Option.{option_map_or}
 use Rattle.std.proofs.lemmas.Bool.{ltb-true}
 use Rattle.std.proofs.lemmas.Bool.Decides.{nat_tests}
-use Rattle.std.proofs.lemmas.Nat.{pow_pos, pow-add}
+use Rattle.std.proofs.lemmas.Nat.{pow_pos, pow-add, mod_below, div-mul-add}
 use Rattle.rv_isa.specs.Width.{bytes_of}
 use Rattle.rv_isa.specs.declared.op.Width.{Width}
 use Rattle.rv_isa.specs.declared.op.Width.TheVariants.{One, Two, Four}
@@ -17,10 +18,11 @@ use Rattle.rv_pmp.specs.declared.entry.Matching.TheVariants.{Off, Tor, Na4, Napo
 use Rattle.rv_pmp.specs.declared.active_entries.ActiveEntry.{ActiveEntry}
 use Rattle.rv_pmp.specs.declared.span.Span.{Span}
 use Rattle.rv_pmp.specs.Mode.{is_machine}
-use Rattle.rv_pmp.specs.Entry.{is_between, entry_grants, matched, region, trailing_ones}
+use Rattle.rv_pmp.specs.Entry.{entry_grants, matched, trailing_ones}
 use Rattle.rv_pmp.specs.ActiveEntries.{is_matching, entry_answer, decision, some_on, some_locked, active_of, actives_from}
-use Rattle.rv_pmp.specs.Pmp.{PmpState, Guard, guards_from, bytes_from, answer, grants}
-use Rattle.rv_pmp.specs.Span.{span, span_of, holds, meets, no_bytes}
+use Rattle.rv_pmp.specs.Guards.{Guard, region, guards_from, answer, answer_of}
+use Rattle.rv_pmp.specs.Pmp.{PmpState, off_entry, entry_at, lower_of, matches, grants}
+use Rattle.rv_pmp.specs.Span.{is_between, span, span_of, holds, meets, no_bytes}
 
 -- ---- one step of the search
 
@@ -110,13 +112,18 @@ whole_top false lower address e = whole_no_bytes
 pow_word : (k : ℕ) → (2 ^ (k + 3) % 4 ≡ 0) × (0 < 2 ^ (k + 3))
 pow_word k = (omega (arith, pow-add 2 k 3), omega (arith, pow_pos (k + 3)))
 
+blocks_word : (q k : ℕ) → q * 2 ^ (k + 3) % 4 ≡ 0
+blocks_word q k = omega (arith, ap (λ n. q * n) (pow-add 2 k 3), mul_assoc q (2 ^ k) 8)
+
 whole_span : (m : Matching) (lower address : ℕ) → IsWhole (span m lower address)
 whole_span Off lower address = whole_no_bytes
 whole_span Tor lower address = whole_top (nat_lt lower address) lower address refl
 whole_span Na4 lower address =
     record { first_word = omega arith; last_word = omega arith; some_byte = inl (omega arith) }
 whole_span Napot lower address =
-    let p = pow_word (trailing_ones 32 address) in
+    let k = trailing_ones address in
+    let p = pow_word k in
+    let q = blocks_word (address / 2 ^ (k + 1)) k in
     record { first_word = omega arith; last_word = omega arith; some_byte = inl (omega arith) }
 
 whole : (lower : ℕ) (e : Entry) → IsWhole (span_of lower e)
@@ -127,18 +134,39 @@ between_none : (f l byte : ℕ) → l ≤ f → is_between f l byte ≡ false
 between_none f l byte h = grind (arith, nat_tests)
 
 top_between : (b : Bool) (lower address byte : ℕ) → nat_lt lower address ≡ b
-    → is_between (4 * lower) (4 * address) byte
+    → (nat_le lower (byte / 4) && nat_lt (byte / 4) address)
     ≡ is_between (if b then record { first = 4 * lower; «end» = 4 * address } else no_bytes).first
     (if b then record { first = 4 * lower; «end» = 4 * address } else no_bytes).«end» byte
-top_between true lower address byte e = refl
+top_between true lower address byte e = grind (arith, nat_tests)
 top_between false lower address byte e = grind (arith, nat_tests)
+
+-- the bytes of block q, where blocks have d bytes
+block_between : (byte d q : ℕ) → 0 < d → (byte / d == q) ≡ is_between (q * d) (q * d + d) byte
+block_between byte d q some = go (byte / d == q) refl where
+  go : (b : Bool) → (byte / d == q) ≡ b → b ≡ is_between (q * d) (q * d + d) byte
+  go true same =
+      let here : byte / d ≡ q = eqb-true (byte / d) q same in
+      let place : q * d + byte % d ≡ byte = ap (λ n. n * d + byte % d) (sym here) ∙ div-add-mod' byte d in
+      let rest = mod_below byte d some in
+      grind (arith, nat_tests)
+  go false other = by (is_between (q * d) (q * d + d) byte) refl where
+    by : (c : Bool) → is_between (q * d) (q * d + d) byte ≡ c → false ≡ c
+    by false out = refl
+    by true within =
+        let from : q * d ≤ byte = grind (arith, nat_tests) in
+        let below : byte - q * d < d = grind (arith, nat_tests) in
+        let here : byte / d ≡ q
+        = ap (λ n. n / d) (sym (add-sub_of_le from)) ∙ div-mul-add q d (byte - q * d) below in
+        absurd (grind (arith, nat_tests))
 
 matched-between : (m : Matching) (lower address byte : ℕ)
     → matched m lower address byte ≡ is_between (span m lower address).first (span m lower address).«end» byte
 matched-between Off lower address byte = grind (arith, nat_tests)
 matched-between Tor lower address byte = top_between (nat_lt lower address) lower address byte refl
-matched-between Na4 lower address byte = refl
-matched-between Napot lower address byte = refl
+matched-between Na4 lower address byte = grind (arith, nat_tests)
+matched-between Napot lower address byte =
+    let k = trailing_ones address in
+    block_between byte (2 ^ (k + 3)) (address / 2 ^ (k + 1)) (pow_pos (k + 3))
 
 region-between : (lower : ℕ) (e : Entry) (byte : ℕ)
     → region lower e byte ≡ is_between (span_of lower e).first (span_of lower e).«end» byte
@@ -156,33 +184,33 @@ list_all-same p q same [] = refl
 list_all-same p q same (x ∷ xs) = cc (same x, list_all-same p q same xs)
 
 any_between : (f l a n : ℕ)
-    → list_any (is_between f l) (bytes_from a (suc n)) ≡ (nat_lt f l && (nat_lt f (a + suc n) && nat_lt a l))
+    → list_any (is_between f l) (range_with_len a (suc n)) ≡ (nat_lt f l && (nat_lt f (a + suc n) && nat_lt a l))
 any_between f l a zero = grind (arith, nat_tests)
 any_between f l a (suc n) = grind (arith, nat_tests, any_between f l (a + 1) n)
 
 all_between : (f l a n : ℕ)
-    → list_all (is_between f l) (bytes_from a (suc n)) ≡ (nat_le f a && nat_le (a + suc n) l)
+    → list_all (is_between f l) (range_with_len a (suc n)) ≡ (nat_le f a && nat_le (a + suc n) l)
 all_between f l a zero = grind (arith, nat_tests)
 all_between f l a (suc n) = grind (arith, nat_tests, all_between f l (a + 1) n)
 
 any_meets : (s : Span) (a n : ℕ) → IsWhole s
-    → list_any (is_between s.first s.«end») (bytes_from a (suc n)) ≡ meets s a (a + suc n)
+    → list_any (is_between s.first s.«end») (range_with_len a (suc n)) ≡ meets s a (a + suc n)
 any_meets s a n w =
     any_between s.first s.«end» a n
     ∙ elim w.some_byte [ inl some ↦ grind (arith, nat_tests) | inr none ↦ grind (arith, nat_tests) ]
 
 list_any-region : (lower : ℕ) (e : Entry) (a n : ℕ)
-    → list_any (region lower e) (bytes_from a (suc n)) ≡ meets (span_of lower e) a (a + suc n)
+    → list_any (region lower e) (range_with_len a (suc n)) ≡ meets (span_of lower e) a (a + suc n)
 list_any-region lower e a n =
     list_any-same (region lower e) (is_between (span_of lower e).first (span_of lower e).«end»)
-    (region-between lower e) (bytes_from a (suc n))
+    (region-between lower e) (range_with_len a (suc n))
     ∙ any_meets (span_of lower e) a n (whole lower e)
 
 list_all-region : (lower : ℕ) (e : Entry) (a n : ℕ)
-    → list_all (region lower e) (bytes_from a (suc n)) ≡ holds (span_of lower e) a (a + suc n)
+    → list_all (region lower e) (range_with_len a (suc n)) ≡ holds (span_of lower e) a (a + suc n)
 list_all-region lower e a n =
     list_all-same (region lower e) (is_between (span_of lower e).first (span_of lower e).«end»)
-    (region-between lower e) (bytes_from a (suc n))
+    (region-between lower e) (range_with_len a (suc n))
     ∙ all_between (span_of lower e).first (span_of lower e).«end» a n
 
 -- ---- the decision by spans is the one by regions
@@ -215,8 +243,8 @@ decision-more mode access first last lower e es = go (is_matching e.matching) re
 
 pub decision-spans : (mode : Mode) (access : Access) (a n lower : ℕ) (es : List Entry)
     → unwrap_or (decision mode access a (a + suc n) (actives_from lower es)) (is_machine mode)
-    ≡ answer mode access (bytes_from a (suc n))
-    (find (λ g. list_any g.region (bytes_from a (suc n))) (guards_from lower es))
+    ≡ answer mode access (range_with_len a (suc n))
+    (find (λ g. list_any g.region (range_with_len a (suc n))) (guards_from lower es))
 unfolding decision actives_from guards_from step
 decision-spans mode access a n lower [] = refl
 decision-spans mode access a n lower (e ∷ es) =
@@ -228,14 +256,14 @@ decision-spans mode access a n lower (e ∷ es) =
 
     go : (b : Bool)
         → unwrap_or rest (is_machine mode)
-        ≡ answer mode access (bytes_from a (suc n))
-        (find (λ g. list_any g.region (bytes_from a (suc n))) (guards_from e.address es))
+        ≡ answer mode access (range_with_len a (suc n))
+        (find (λ g. list_any g.region (range_with_len a (suc n))) (guards_from e.address es))
         → unwrap_or
         (if b then Some (holds (span_of lower e) a (a + suc n) && entry_grants e mode access) else rest)
         (is_machine mode)
-        ≡ answer mode access (bytes_from a (suc n))
+        ≡ answer mode access (range_with_len a (suc n))
         (cond b (Some (record { entry = e; region = region lower e }))
-        (find (λ g. list_any g.region (bytes_from a (suc n))) (guards_from e.address es)))
+        (find (λ g. list_any g.region (range_with_len a (suc n))) (guards_from e.address es)))
     go true h = ap (λ b. b && entry_grants e mode access) (sym (list_all-region lower e a n))
     go false h = h
 
@@ -295,12 +323,113 @@ decision-word access first last lower (e ∷ es) free some within =
 
 -- ---- the answer of the registers
 
+-- ---- the decision by number is the one by the list of the entries with their regions
+
+-- what is said of the numbers after one is what is said of those before them
+found_after : (p q : ℕ → Bool) (f g : ℕ → Bool) (d : Bool) → ((n : ℕ) → p (suc n) ≡ q n)
+    → ((n : ℕ) → f (suc n) ≡ g n) → (a next count : ℕ) → next ≡ suc a
+    → option_map_or f (find p (range_with_len next count)) d
+    ≡ option_map_or g (find q (range_with_len a count)) d
+found_after p q f g d tests says a next zero is = refl
+found_after p q f g d tests says a next (suc count) is =
+    go (p next) (q a) (ap p is ∙ tests a)
+    (found_after p q f g d tests says (a + 1) (next + 1) count (omega arith))
+  where
+    go : (b c : Bool) → b ≡ c
+        → option_map_or f (find p (range_with_len (next + 1) count)) d
+        ≡ option_map_or g (find q (range_with_len (a + 1) count)) d
+        → option_map_or f (cond b (Some next) (find p (range_with_len (next + 1) count))) d
+        ≡ option_map_or g (cond c (Some a) (find q (range_with_len (a + 1) count))) d
+    go true true same rest = ap f is ∙ says a
+    go true false same rest = absurd cc
+    go false true same rest = absurd cc
+    go false false same rest = rest
+
+-- the entries with another address register before the first
+lower_from : ℕ → List Entry → ℕ → ℕ
+lower_from lower es zero = lower
+lower_from lower es (suc n) = (get_or es n off_entry).address
+
+matches_from : ℕ → List Entry → ℕ → ℕ → Bool
+matches_from lower es n byte =
+    matched (get_or es n off_entry).matching (lower_from lower es n) (get_or es n off_entry).address byte
+
+grants_by : Mode → Access → List ℕ → ℕ → List Entry → ℕ → Bool
+grants_by mode access bytes lower es n =
+    list_all (matches_from lower es n) bytes && entry_grants (get_or es n off_entry) mode access
+
+matches-after : (lower : ℕ) (e : Entry) (es : List Entry) (n byte : ℕ)
+    → matches_from lower (e ∷ es) (suc n) byte ≡ matches_from e.address es n byte
+unfolding matches_from lower_from
+matches-after lower e es zero byte = refl
+matches-after lower e es (suc n) byte = refl
+
+by_number : (mode : Mode) (access : Access) (bytes : List ℕ) (lower : ℕ) (es : List Entry)
+    → option_map_or (grants_by mode access bytes lower es)
+    (find (λ n. list_any (matches_from lower es n) bytes) (range_with_len 0 (length es))) (is_machine mode)
+    ≡ answer mode access bytes (find (λ g. list_any g.region bytes) (guards_from lower es))
+unfolding guards_from grants_by matches_from lower_from region
+by_number mode access bytes lower [] = refl
+by_number mode access bytes lower (e ∷ es) =
+    go (list_any (λ byte. matched e.matching lower e.address byte) bytes)
+    (found_after _ _ _ _ (is_machine mode) (λ n. list_any-same _ _ (matches-after lower e es n) bytes)
+    (λ n. ap (λ b. b && entry_grants (get_or es n off_entry) mode access)
+    (list_all-same _ _ (matches-after lower e es n) bytes)) 0 1 (length es) refl
+    ∙ by_number mode access bytes e.address es)
+  where
+    go : (b : Bool)
+        → option_map_or (grants_by mode access bytes lower (e ∷ es))
+        (find (λ n. list_any (matches_from lower (e ∷ es) n) bytes) (range_with_len 1 (length es)))
+        (is_machine mode)
+        ≡ answer mode access bytes (find (λ g. list_any g.region bytes) (guards_from e.address es))
+        → option_map_or (grants_by mode access bytes lower (e ∷ es))
+        (cond b (Some 0) (find (λ n. list_any (matches_from lower (e ∷ es) n) bytes)
+        (range_with_len 1 (length es)))) (is_machine mode)
+        ≡ answer mode access bytes (cond b (Some (record { entry = e; region = region lower e }))
+        (find (λ g. list_any g.region bytes) (guards_from e.address es)))
+    go true rest = refl
+    go false rest = rest
+
+found_same : (p q : ℕ → Bool) (f g : ℕ → Bool) (d : Bool) → ((n : ℕ) → p n ≡ q n)
+    → ((n : ℕ) → f n ≡ g n) → (xs : List ℕ)
+    → option_map_or f (find p xs) d ≡ option_map_or g (find q xs) d
+found_same p q f g d tests says [] = refl
+found_same p q f g d tests says (x ∷ xs) = go (p x) (q x) (tests x) (found_same p q f g d tests says xs) where
+  go : (b c : Bool) → b ≡ c
+      → option_map_or f (find p xs) d ≡ option_map_or g (find q xs) d
+      → option_map_or f (cond b (Some x) (find p xs)) d ≡ option_map_or g (cond c (Some x) (find q xs)) d
+  go true true is rest = says x
+  go true false is rest = absurd cc
+  go false true is rest = absurd cc
+  go false false is rest = rest
+
+same_lower : (pmp : PmpState) (n : ℕ) → lower_of pmp n ≡ lower_from 0 pmp.entries n
+unfolding lower_from
+same_lower pmp zero = refl
+same_lower pmp (suc n) = refl
+
+same_matches : (pmp : PmpState) (n byte : ℕ) → matches pmp n byte ≡ matches_from 0 pmp.entries n byte
+unfolding matches_from
+same_matches pmp n byte =
+    ap (λ lower. matched (entry_at pmp n).matching lower (entry_at pmp n).address byte) (same_lower pmp n)
+
+pub by_list : (pmp : PmpState) (mode : Mode) (access : Access) (first count : ℕ)
+    → grants pmp mode access first count ≡ answer_of mode access first count 0 pmp.entries
+unfolding grants grants_by
+by_list pmp mode access first count =
+    let bytes = range_with_len first count in
+    let same : (n byte : ℕ) → matches pmp n byte ≡ matches_from 0 pmp.entries n byte = same_matches pmp in
+    found_same _ _ _ _ (is_machine mode) (λ n. list_any-same _ _ (same n) bytes)
+    (λ n. ap (λ b. b && entry_grants (entry_at pmp n) mode access) (list_all-same _ _ (same n) bytes))
+    (range_with_len 0 (length pmp.entries))
+    ∙ by_number mode access bytes 0 pmp.entries
+
 pub decision-grants : (pmp : PmpState) (mode : Mode) (access : Access) (first count : ℕ) → 0 < count
     → unwrap_or (decision mode access first (first + count) (actives_from 0 pmp.entries)) (is_machine mode)
     ≡ grants pmp mode access first count
-unfolding grants
 decision-grants pmp mode access first zero h = absurd (omega arith)
-decision-grants pmp mode access first (suc n) h = decision-spans mode access first n 0 pmp.entries
+decision-grants pmp mode access first (suc n) h =
+    decision-spans mode access first n 0 pmp.entries ∙ sym (by_list pmp mode access first (suc n))
 
 pub grants-off : (pmp : PmpState) (mode : Mode) (access : Access) (first count : ℕ) → 0 < count
     → some_on pmp.entries ≡ false → grants pmp mode access first count ≡ is_machine mode
@@ -327,7 +456,7 @@ grants-aligned pmp access first Four free aligned =
 
 -- ---- bytes that are granted together are granted one by one
 
-any_byte : (p : ℕ → Bool) (first count i : ℕ) → i < count → list_any p (bytes_from first count) ≡ false
+any_byte : (p : ℕ → Bool) (first count i : ℕ) → i < count → list_any p (range_with_len first count) ≡ false
     → p (first + i) ≡ false
 any_byte p first zero i h none = absurd (omega arith)
 any_byte p first (suc count) zero h none = rw add-zero ((neither (p first) _ none).0)
@@ -335,7 +464,7 @@ any_byte p first (suc count) (suc i) h none =
     subst (λ a. p a ≡ false) (omega arith)
     (any_byte p (first + 1) count i (omega arith) ((neither (p first) _ none).1))
 
-all_bytes : (p : ℕ → Bool) (first count i : ℕ) → i < count → list_all p (bytes_from first count) ≡ true
+all_bytes : (p : ℕ → Bool) (first count i : ℕ) → i < count → list_all p (range_with_len first count) ≡ true
     → p (first + i) ≡ true
 all_bytes p first zero i h all = absurd (omega arith)
 all_bytes p first (suc count) zero h all = rw add-zero ((both (p first) _ all).0)
@@ -343,42 +472,37 @@ all_bytes p first (suc count) (suc i) h all =
     subst (λ a. p a ≡ true) (omega arith)
     (all_bytes p (first + 1) count i (omega arith) ((both (p first) _ all).1))
 
-answer_of : Mode → Access → ℕ → ℕ → ℕ → List Entry → Bool
-answer_of mode access first count lower es =
-    answer mode access (bytes_from first count)
-    (find (λ g. list_any g.region (bytes_from first count)) (guards_from lower es))
-
 answer_each : (mode : Mode) (access : Access) (first count i lower : ℕ) (es : List Entry) → i < count
     → answer_of mode access first count lower es ≡ true → answer_of mode access (first + i) 1 lower es ≡ true
-unfolding answer_of guards_from
+unfolding guards_from
 answer_each mode access first count i lower [] h granted = granted
 answer_each mode access first count i lower (e ∷ es) h granted =
-    go (list_any (region lower e) (bytes_from first count)) refl
+    go (list_any (region lower e) (range_with_len first count)) refl
     (answer_each mode access first count i e.address es h) granted
   where
     rest : ℕ → ℕ → Option Guard
-    rest a n = find (λ g. list_any g.region (bytes_from a n)) (guards_from e.address es)
+    rest a n = find (λ g. list_any g.region (range_with_len a n)) (guards_from e.address es)
 
-    go : (b : Bool) → list_any (region lower e) (bytes_from first count) ≡ b
-        → (answer mode access (bytes_from first count) (rest first count) ≡ true
-        → answer mode access (bytes_from (first + i) 1) (rest (first + i) 1) ≡ true)
-        → answer mode access (bytes_from first count)
+    go : (b : Bool) → list_any (region lower e) (range_with_len first count) ≡ b
+        → (answer mode access (range_with_len first count) (rest first count) ≡ true
+        → answer mode access (range_with_len (first + i) 1) (rest (first + i) 1) ≡ true)
+        → answer mode access (range_with_len first count)
         (cond b (Some (record { entry = e; region = region lower e })) (rest first count)) ≡ true
-        → answer mode access (bytes_from (first + i) 1)
+        → answer mode access (range_with_len (first + i) 1)
         (cond (region lower e (first + i) || false) (Some (record { entry = e; region = region lower e }))
         (rest (first + i) 1)) ≡ true
     go true m tail r =
         let parts =
-        both (list_all (region lower e) (bytes_from first count)) (entry_grants e mode access) r in
+        both (list_all (region lower e) (range_with_len first count)) (entry_grants e mode access) r in
         let held = all_bytes (region lower e) first count i h parts.0 in
         rw (held, held) parts.1
     go false m tail r = rw (any_byte (region lower e) first count i h m) (tail r)
 
 pub grants_each : (pmp : PmpState) (mode : Mode) (access : Access) (first count i : ℕ) → i < count
     → grants pmp mode access first count ≡ true → grants pmp mode access (first + i) 1 ≡ true
-unfolding grants answer_of
 grants_each pmp mode access first count i h granted =
-    answer_each mode access first count i 0 pmp.entries h granted
+    by_list pmp mode access (first + i) 1
+    ∙ answer_each mode access first count i 0 pmp.entries h (sym (by_list pmp mode access first count) ∙ granted)
 
 -- the answer of `allows`: that of the entry that decides, or that of the mode
 pub grants-some : (pmp : PmpState) (mode : Mode) (access : Access) (first count : ℕ) (granted : Bool)

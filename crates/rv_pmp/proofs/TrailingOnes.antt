@@ -1,46 +1,118 @@
 -- The trailing ones of a number.
-use Rattle.std.proofs.Common.{◌≡◌, ℕ, zero, suc, ◌+◌, ◌-◌, ◌/◌, ◌%◌, ◌^◌, ◌<◌, ◌≤◌, ◌==◌, Bool, true, false, refl, ap, ◌∙◌, arith, eqb-true}
+use Rattle.std.proofs.Common.{◌≡◌, ℕ, zero, suc, ◌+◌, ◌-◌, ◌/◌, ◌%◌, ◌^◌, ◌<◌, ◌≤◌, ◌==◌, ◌*◌, Bool, true, false, refl, ap, sym, ◌∙◌, arith, eqb-true, mul_assoc}
 use Rattle.std.specs.Prelude.{if◌then◌else◌}
 use Rattle.std.proofs.Math.Nat.{pow-suc}
 use Rattle.std.specs.Int.Count.{count_trailing_zeros, under}
 use Rattle.std.proofs.lemmas.Bool.Decides.{nat_tests}
+use Rattle.std.proofs.lemmas.Nat.{shr-shr, pow_below}
+use Rattle.std.specs.List.{prefix_len, range_with_len}
+use Rattle.rv_isa.specs.Number.{bit}
 use Rattle.rv_pmp.specs.Entry.{trailing_ones}
+use Rattle.rv_pmp.specs.Span.{span_of}
+use Rattle.rv_pmp.specs.declared.entry.Entry.{Entry}
+use Rattle.rv_pmp.specs.declared.entry.Matching.TheVariants.{Napot}
+use Rattle.rv_pmp.specs.declared.span.Span.{Span}
+
+-- the number of the lowest bits of a number that are ones, up to the first zero, among its n lowest bits
+unfoldable pub ones_in : ℕ → ℕ → ℕ
+ones_in zero number = 0
+ones_in (suc n) number = if number % 2 == 1 then suc (ones_in n (number / 2)) else 0
 
 -- a number with k trailing ones is at least 2 ^ k - 1
-pub trailing_ones-le : (n p : ℕ) → 2 ^ trailing_ones n p ≤ p + 1
-unfolding trailing_ones
-trailing_ones-le zero p = omega arith
-trailing_ones-le (suc n) p = go (p % 2 == 1) refl (trailing_ones n (p / 2)) (trailing_ones-le n (p / 2)) where
+pub ones_in-le : (n p : ℕ) → 2 ^ ones_in n p ≤ p + 1
+unfolding ones_in
+ones_in-le zero p = omega arith
+ones_in-le (suc n) p = go (p % 2 == 1) refl (ones_in n (p / 2)) (ones_in-le n (p / 2)) where
   go : (b : Bool) → (p % 2 == 1) ≡ b → (k : ℕ) → 2 ^ k ≤ p / 2 + 1 → 2 ^ (if b then suc k else 0) ≤ p + 1
   go true odd k h = omega (arith, pow-suc 2 k, eqb-true (p % 2) 1 odd)
   go false even k h = omega arith
 
-pub trailing_ones-most : (n p : ℕ) → trailing_ones n p ≤ n
-unfolding trailing_ones
-trailing_ones-most zero p = omega arith
-trailing_ones-most (suc n) p = go (p % 2 == 1) (trailing_ones n (p / 2)) (trailing_ones-most n (p / 2)) where
+pub ones_in-most : (n p : ℕ) → ones_in n p ≤ n
+unfolding ones_in
+ones_in-most zero p = omega arith
+ones_in-most (suc n) p = go (p % 2 == 1) (ones_in n (p / 2)) (ones_in-most n (p / 2)) where
   go : (b : Bool) (k : ℕ) → k ≤ n → (if b then suc k else 0) ≤ suc n
   go true k h = omega arith
   go false k h = omega arith
 
 -- they are the trailing zeros of the complement
 pub count_trailing_zeros-complement : (n p : ℕ) → p < 2 ^ n
-    → count_trailing_zeros n (2 ^ n - 1 - p) ≡ trailing_ones n p
-unfolding trailing_ones count_trailing_zeros
+    → count_trailing_zeros n (2 ^ n - 1 - p) ≡ ones_in n p
+unfolding ones_in count_trailing_zeros
 count_trailing_zeros-complement zero p h = refl
 count_trailing_zeros-complement (suc n) p h =
     let rest = 2 ^ suc n - 1 - p in
     let half : rest / 2 ≡ 2 ^ n - 1 - p / 2 = omega (arith, pow-suc 2 n) in
     let below : p / 2 < 2 ^ n = omega (arith, pow-suc 2 n) in
-    let tail : count_trailing_zeros n (rest / 2) ≡ trailing_ones n (p / 2)
+    let tail : count_trailing_zeros n (rest / 2) ≡ ones_in n (p / 2)
     = ap (count_trailing_zeros n) half ∙ count_trailing_zeros-complement n (p / 2) below in
     go (p % 2 == 1) refl (rest % 2) refl tail
   where
     go : (b : Bool) → (p % 2 == 1) ≡ b → (r : ℕ) → (2 ^ suc n - 1 - p) % 2 ≡ r
-        → count_trailing_zeros n ((2 ^ suc n - 1 - p) / 2) ≡ trailing_ones n (p / 2)
+        → count_trailing_zeros n ((2 ^ suc n - 1 - p) / 2) ≡ ones_in n (p / 2)
         → under r (count_trailing_zeros n ((2 ^ suc n - 1 - p) / 2)) ≡ if b
-        then suc (trailing_ones n (p / 2)) else 0
+        then suc (ones_in n (p / 2)) else 0
     go true odd zero e t = ap suc t
     go true odd (suc r) e t = absurd (omega (arith, pow-suc 2 n, eqb-true (p % 2) 1 odd))
     go false even zero e t = absurd (grind (arith, nat_tests, pow-suc 2 n))
     go false even (suc r) e t = refl
+
+-- ---- as the definition counts them
+
+halved : (p a : ℕ) → p / 2 ^ a / 2 ≡ p / 2 ^ (a + 1)
+halved p a = shr-shr p a 1
+
+prefix-ones : (n a p : ℕ) → prefix_len (λ i. bit p i == 1) (range_with_len a n) ≡ ones_in n (p / 2 ^ a)
+unfolding ones_in
+prefix-ones zero a p = refl
+prefix-ones (suc n) a p = go (bit p a == 1) (prefix-ones n (a + 1) p ∙ ap (ones_in n) (sym (halved p a)))
+  where
+    go : (b : Bool) → prefix_len (λ i. bit p i == 1) (range_with_len (a + 1) n) ≡ ones_in n (p / 2 ^ a / 2)
+        → (if b then 1 + prefix_len (λ i. bit p i == 1) (range_with_len (a + 1) n) else 0)
+        ≡ (if b then suc (ones_in n (p / 2 ^ a / 2)) else 0)
+    go true e = omega arith
+    go false e = refl
+
+pub trailing_ones-in : (p : ℕ) → trailing_ones p ≡ ones_in 32 p
+trailing_ones-in p = prefix-ones 32 0 p ∙ ap (ones_in 32) (omega arith)
+
+-- ---- the block of bytes of an address with k trailing ones
+
+first_by : (n p : ℕ) → p < 2 ^ n
+    → 4 * (p + 1 - 2 ^ ones_in n p) ≡ p / 2 ^ (ones_in n p + 1) * 2 ^ (ones_in n p + 3)
+unfolding ones_in
+first_by zero p small = let none : p ≡ 0 = omega arith in rw none refl
+first_by (suc n) p small =
+    go (p % 2 == 1) refl (ones_in n (p / 2)) (first_by n (p / 2) (omega (arith, pow-suc 2 n))) (ones_in-le n (p / 2))
+  where
+    go : (b : Bool) → (p % 2 == 1) ≡ b → (k : ℕ)
+        → 4 * (p / 2 + 1 - 2 ^ k) ≡ p / 2 / 2 ^ (k + 1) * 2 ^ (k + 3) → 2 ^ k ≤ p / 2 + 1
+        → 4 * (p + 1 - 2 ^ (if b then suc k else 0))
+        ≡ p / 2 ^ ((if b then suc k else 0) + 1) * 2 ^ ((if b then suc k else 0) + 3)
+    go true odd k rest least =
+        let index : 1 + (k + 1) ≡ suc k + 1 = omega arith in
+        let quotient : p / 2 ^ (suc k + 1) ≡ p / 2 / 2 ^ (k + 1)
+        = sym (shr-shr p 1 (k + 1) ∙ ap (λ (i : ℕ). p / 2 ^ i) index) in
+        let next : suc k + 3 ≡ suc (k + 3) = omega arith in
+        let power : 2 ^ (suc k + 3) ≡ 2 ^ (k + 3) * 2
+        = ap (λ (i : ℕ). 2 ^ i) next ∙ pow-suc 2 (k + 3) in
+        rw (quotient, power)
+        (omega (arith, rest, pow-suc 2 k, mul_assoc (p / 2 / 2 ^ (k + 1)) (2 ^ (k + 3)) 2, eqb-true (p % 2) 1 odd))
+    go false even k rest least = grind (arith, nat_tests)
+
+pub block_first : (p : ℕ) → p < 2 ^ 32
+    → 4 * (p + 1 - 2 ^ trailing_ones p) ≡ p / 2 ^ (trailing_ones p + 1) * 2 ^ (trailing_ones p + 3)
+block_first p small = rw (trailing_ones-in p) (first_by 32 p small)
+
+power_fits : (k : ℕ) → k < 64 → 1 * 2 ^ k % 2 ^ 64 ≡ 2 ^ k
+power_fits k small = omega (arith, pow_below k 64 small)
+
+pub napot_span : (lower : ℕ) (e : Entry) (k : ℕ) → e.matching ≡ Napot → k ≡ trailing_ones e.address → k ≤ 32
+    → e.address < 2 ^ 32
+    → ◌≡◌ {A = Span} (record {
+      first = 4 * (e.address + 1 - 1 * 2 ^ k % 2 ^ 64);
+      «end» = 4 * (e.address + 1 - 1 * 2 ^ k % 2 ^ 64) + 1 * 2 ^ (k + 3) % 2 ^ 64;
+    }) (span_of lower e)
+unfolding span_of
+napot_span lower e k way is most small =
+    rw (way, power_fits k (omega arith), power_fits (k + 3) (omega arith), is, block_first e.address small) refl

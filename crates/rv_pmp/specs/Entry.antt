@@ -1,8 +1,9 @@
 -- An entry of physical memory protection, and the bytes that it protects.
 -- RISC-V Privileged Architecture 20211203, section 3.7.1.
 -- To audit: public contracts cite this.
-use Rattle.std.specs.Prelude.{ℕ, zero, suc, ◌+◌, ◌-◌, ◌*◌, ◌/◌, ◌%◌, ◌^◌, Bool, true, false, ◌==◌, ◌&&◌, ◌||◌, not, nat_le, nat_lt, if◌then◌else◌}
-use Rattle.rv_isa.specs.Number.{truth}
+use Rattle.std.specs.Prelude.{ℕ, ◌+◌, ◌*◌, ◌/◌, ◌%◌, ◌^◌, Bool, true, false, ◌==◌, ◌&&◌, ◌||◌, not, nat_le, nat_lt, if◌then◌else◌}
+use Rattle.std.specs.List.{prefix_len, range_with_len}
+use Rattle.rv_isa.specs.Number.{bit, truth}
 use Rattle.rv_pmp.specs.declared.access.Access.{Access}
 use Rattle.rv_pmp.specs.declared.access.Access.TheVariants.{Read, Write, Execute}
 use Rattle.rv_pmp.specs.declared.entry.Entry.{Entry}
@@ -69,30 +70,19 @@ permits entry Execute = entry.executable
 abbrev pub entry_grants : Entry → Mode → Access → Bool
 entry_grants entry mode access = (is_machine mode && not entry.locked) || permits entry access
 
--- ---- the region, as a set of byte addresses: natural numbers without limit
+-- ---- the bytes that an entry matches: natural numbers without limit. An address register holds an address
+-- divided by 4
 
--- whether a byte is one of those from `first` up to but not including `end`
-abbrev pub is_between : ℕ → ℕ → ℕ → Bool
-is_between first end byte = nat_le first byte && nat_lt byte end
+-- the number of trailing ones of an address register, of 32 bits
+abbrev pub trailing_ones : ℕ → ℕ
+trailing_ones address = prefix_len (λ i. bit address i == 1) (range_with_len 0 32)
 
--- the number of the lowest bits of a number that are ones, up to the first zero, among its n lowest bits
-unfoldable pub trailing_ones : ℕ → ℕ → ℕ
-trailing_ones zero number = 0
-trailing_ones (suc n) number = if number % 2 == 1 then suc (trailing_ones n (number / 2)) else 0
-
--- whether a byte is matched, where `lower` is the address register of the entry before; an address register
--- holds an address divided by 4. TOR: the bytes from the address of the entry before up to but not including
--- the entry's own. NA4: the four bytes at its address. NAPOT with k trailing ones: the 2 ^ (k + 3) bytes from
--- its address without these ones on
+-- whether a byte is matched, where `lower` is the address register of the entry before. TOR: the bytes from
+-- the address of the entry before up to but not including the entry's own. NA4: the four bytes at its
+-- address. NAPOT with k trailing ones: the 2 ^ (k + 3) bytes whose addresses differ in the lowest bits alone
 abbrev pub matched : Matching → ℕ → ℕ → ℕ → Bool
 matched Off lower address byte = false
-matched Tor lower address byte = is_between (4 * lower) (4 * address) byte
-matched Na4 lower address byte = is_between (4 * address) (4 * address + 4) byte
+matched Tor lower address byte = nat_le lower (byte / 4) && nat_lt (byte / 4) address
+matched Na4 lower address byte = byte / 4 == address
 matched Napot lower address byte =
-    let k = trailing_ones 32 address in
-    let first = 4 * (address + 1 - 2 ^ k) in
-    is_between first (first + 2 ^ (k + 3)) byte
-
--- the region of an entry, where `lower` is the address register of the entry before
-unfoldable pub region : ℕ → Entry → ℕ → Bool
-region lower entry byte = matched entry.matching lower entry.address byte
+    let k = trailing_ones address in byte / 2 ^ (k + 3) == address / 2 ^ (k + 1)

@@ -1,5 +1,6 @@
 pub mod ActiveEntries
 pub mod Entry
+pub mod Guards
 pub mod Mode
 pub mod PermissionCache
 pub mod Pmp

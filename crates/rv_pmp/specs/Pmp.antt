@@ -1,8 +1,8 @@
 -- Physical memory protection: its registers, and what they grant. RISC-V Privileged Architecture 20211203,
 -- section 3.7.1.
 -- To audit: public contracts cite this.
-use Rattle.std.specs.Prelude.{◌≡◌, ℕ, zero, suc, ◌+◌, ◌-◌, ◌*◌, ◌/◌, ◌%◌, ◌^◌, Bool, false, ◌&&◌, nat_le, if◌then◌else◌, IsTrue, List, [], ◌∷◌, replicate, All, find, slice_get, slice_set, Option, Some, None}
-use Rattle.std.specs.List.{list_any, list_all}
+use Rattle.std.specs.Prelude.{◌≡◌, ℕ, zero, suc, ◌+◌, ◌-◌, ◌*◌, ◌/◌, ◌%◌, ◌^◌, Bool, false, ◌&&◌, nat_le, if◌then◌else◌, IsTrue, List, replicate, All, find, length, slice_get, slice_index_or, slice_set, Option, Some, None}
+use Rattle.std.specs.List.{list_any, list_all, range_with_len}
 use Rattle.std.specs.Option.{option_map, option_map_or}
 use Rattle.rv_pmp.specs.declared.access.Access.{Access}
 use Rattle.rv_pmp.specs.declared.mode.Mode.{Mode}
@@ -10,7 +10,7 @@ use Rattle.rv_pmp.specs.declared.entry.Entry.{Entry}
 use Rattle.rv_pmp.specs.declared.entry.Matching.TheVariants.{Off}
 use Rattle.rv_pmp.specs.declared.register.PmpRegister.{PmpRegister}
 use Rattle.rv_pmp.specs.declared.register.PmpRegister.TheVariants.{Config, Address}
-use Rattle.rv_pmp.specs.Entry.{is_top, config_byte, configured, addressed, region, entry_grants}
+use Rattle.rv_pmp.specs.Entry.{is_top, config_byte, configured, addressed, matched, entry_grants}
 use Rattle.rv_pmp.specs.Mode.{is_machine}
 
 -- the entries, of which the lowest-numbered has the highest priority
@@ -42,35 +42,30 @@ WritableIsReadable pmp = AllReadable pmp.entries
 
 -- ---- which accesses are granted
 
--- an entry with its region, the set of bytes that it protects
-pub record Guard : Type 0 where
-  pub entry : Entry
-  pub region : ℕ → Bool
+-- an entry by its number
+abbrev pub entry_at : PmpState → ℕ → Entry
+entry_at pmp n = slice_index_or pmp.entries n off_entry
 
--- each entry with its region; `lower` is the address register of the entry before
-unfoldable pub guards_from : ℕ → List Entry → List Guard
-guards_from lower [] = []
-guards_from lower (entry ∷ entries) =
-    record { entry = entry; region = region lower entry } ∷ guards_from entry.address entries
+-- the address register of the entry before one, where the region of a TOR entry begins: 0 before the first
+abbrev pub lower_of : PmpState → ℕ → ℕ
+lower_of pmp zero = 0
+lower_of pmp (suc n) = (entry_at pmp n).address
 
--- the bytes of an access: `count` bytes from `first` on
-abbrev pub bytes_from : ℕ → ℕ → List ℕ
-bytes_from first zero = []
-bytes_from first (suc count) = first ∷ bytes_from (first + 1) count
+-- whether an entry matches a byte
+abbrev pub matches : PmpState → ℕ → ℕ → Bool
+matches pmp n byte = matched (entry_at pmp n).matching (lower_of pmp n) (entry_at pmp n).address byte
 
--- whether the access is granted, by the entry that decides: its region has to hold all bytes. Without such an
--- entry only machine mode is granted the access
-abbrev pub answer : Mode → Access → List ℕ → Option Guard → Bool
-answer mode access bytes None = is_machine mode
-answer mode access bytes (Some guard) =
-    list_all guard.region bytes && entry_grants guard.entry mode access
+-- the entry that decides about an access: the lowest-numbered one that matches any of its bytes
+abbrev pub decides : PmpState → List ℕ → Option ℕ
+decides pmp bytes = find (λ n. list_any (matches pmp n) bytes) (range_with_len 0 (length pmp.entries))
 
--- whether a mode is granted an access to `count` bytes from `first` on: the lowest-numbered entry whose
--- region has any of these bytes decides
+-- whether a mode is granted an access to `count` bytes from `first` on: the entry that decides has to match
+-- all of them, and to grant it. Without such an entry only machine mode is granted the access
 unfoldable pub grants : PmpState → Mode → Access → ℕ → ℕ → Bool
 grants pmp mode access first count =
-    let bytes = bytes_from first count in
-    answer mode access bytes (find (λ guard. list_any guard.region bytes) (guards_from 0 pmp.entries))
+    let bytes = range_with_len first count in
+    option_map_or (λ n. list_all (matches pmp n) bytes && entry_grants (entry_at pmp n) mode access)
+    (decides pmp bytes) (is_machine mode)
 
 -- ---- the registers: pmpcfg0 to pmpcfg3, each with the configuration bytes of four entries, low byte first;
 -- and pmpaddr0 to pmpaddr15

@@ -1,9 +1,8 @@
 //! Spans of bytes: the region of an entry, and the parts of spans.
 ghost use Rattle.std.specs.Prelude.{◌≡◌, ◌+◌, ◌<◌, ◌≤◌, ◌^◌};
-ghost use Rattle.rv_pmp.specs.Entry.{is_between};
 ghost use Rattle.rv_pmp.specs.Entry as ones;
 ghost use Rattle.rv_pmp.specs.WidestSpan as spec;
-ghost use Rattle.rv_pmp.specs.Span.{holds, meets, span_of};
+ghost use Rattle.rv_pmp.specs.Span.{is_between, holds, meets, span_of};
 
 use crate::entry::{Entry, Matching};
 
@@ -25,7 +24,7 @@ impl Span {
     };
 
     /// Computes the region of an entry, where `lower` is the address register of the entry before.
-    #[tactic(auto, unfolding(crate::specs::Span::span_of))]
+    #[tactic(auto, unfolding(crate::specs::Span::span_of), using(crate::proofs::TrailingOnes::napot_span))]
     pub(crate) fn of(lower: u32, entry: Entry) -> Span
         ensures { result ≡ span_of lower entry }
     {
@@ -110,7 +109,7 @@ impl Span {
 
 /// Counts the lowest bits that are ones, up to the first zero.
 fn trailing_ones(number: u32) -> u32
-    ensures value { result ≡ ones.trailing_ones 32 number }
+    ensures value { result ≡ ones.trailing_ones number }
     ensures at_most { result ≤ 32 }
     ensures below { 2 ^ result ≤ number + 1 }
 {
