@@ -1,7 +1,6 @@
 -- User mode may neither read nor write any control register.
 use Rattle.std.proofs.Common.{◌≡◌, ℕ, ◌+◌, ◌*◌, ◌/◌, ◌%◌, ◌^◌, ◌<◌, ◌≤◌, ◌==◌, Bool, true, false, Option, Some, None, refl, ap, ◌∙◌, arith}
 use Rattle.std.specs.Prelude.{◌&&◌, not, if◌then◌else◌}
-use Rattle.std.specs.Option.{option_map}
 use Rattle.std.proofs.lemmas.Bool.{leb-true}
 use Rattle.std.proofs.lemmas.Bool.Decides.{nat_tests}
 use Rattle.rv_isa.specs.declared.InterruptLines.{InterruptLines}
@@ -55,12 +54,20 @@ register_at-user addr h =
       other_range addr 0xF 0x11 0x15 h refl (omega arith) (omega arith),
     ) refl
 
-protection-user : (addr : ℕ) → addr / 2 ^ 8 % 4 ≡ 0 → protection.register_at addr ≡ None
-unfolding protection.register_at
-protection-user addr h =
+nothing_loaded : (pmp : PmpState) (addr : ℕ) → addr / 2 ^ 8 % 4 ≡ 0 → protection.load pmp addr ≡ None
+unfolding protection.load
+nothing_loaded pmp addr h =
     rw (
-      other_range addr 0x3 0xA0 0xA3 h refl (omega arith)
-          (omega arith),
+      other_range addr 0x3 0xA0 0xA3 h refl (omega arith) (omega arith),
+      other_range addr 0x3 0xB0 0xBF h refl (omega arith) (omega arith),
+    ) refl
+
+nothing_stored : (pmp : PmpState) (addr word : ℕ) → addr / 2 ^ 8 % 4 ≡ 0
+    → protection.store pmp addr word ≡ None
+unfolding protection.store
+nothing_stored pmp addr word h =
+    rw (
+      other_range addr 0x3 0xA0 0xA3 h refl (omega arith) (omega arith),
       other_range addr 0x3 0xB0 0xBF h refl (omega arith) (omega arith),
     ) refl
 
@@ -74,8 +81,7 @@ no_register x addr mode found register may user at is =
 
 pub no_load : (pmp : PmpState) (addr : ℕ) (mode : Mode) (result : Option ℕ)
     → may_read addr mode ≡ true → mode ≡ User → result ≡ protection.load pmp addr → result ≡ None
-unfolding protection.load
-no_load pmp addr mode result may user is = is ∙ rw (protection-user addr (level_0 addr (rw user at may))) refl
+no_load pmp addr mode result may user is = is ∙ nothing_loaded pmp addr (level_0 addr (rw user at may))
 
 pub may_read-from_write : (addr : ℕ) (mode : Mode) → may_write addr mode ≡ true → may_read addr mode ≡ true
 may_read-from_write addr mode h = both (may_read addr mode) (not (addr / 2 ^ 10 % 4 == 3)) h where
@@ -85,26 +91,22 @@ may_read-from_write addr mode h = both (may_read addr mode) (not (addr / 2 ^ 10 
 
 pub no_store : (old : PmpState) (addr word : ℕ) (new : PmpState) (mode : Mode) (result : Option Unit)
     → may_write addr mode ≡ true → mode ≡ User → protection.Stores old addr word new result → result ≡ None
-unfolding protection.store
 no_store old addr word new mode (Some done) may user stores =
-    let none = protection-user addr (level_0 addr (rw user at (may_read-from_write addr mode may))) in
+    let none = nothing_stored old addr word
+    (level_0 addr (rw user at (may_read-from_write addr mode may))) in
     absurd (gone none stores)
   where
-    gone : protection.register_at addr ≡ None
-        → option_map (λ register. record { entries = protection.with_word old.entries register word })
-        (protection.register_at addr) ≡ Some new
-        → ⊥
+    gone : protection.store old addr word ≡ None → protection.store old addr word ≡ Some new → ⊥
     gone none e = let q = rw none at e in cc
 no_store old addr word new mode None may user stores = refl
 
 -- by the definition of a read
 pub nothing_read : (state : CsrState) (addr : ℕ) (lines : InterruptLines) → read state addr User lines ≡ None
-unfolding protection.load
 nothing_read state addr lines = read_by_cases state addr User lines ∙ by_level (may_read addr User) refl
   where
     by_level : (b : Bool) → may_read addr User ≡ b
         → (if b then value_at state lines addr (register_at addr) else None) ≡ None
     by_level true may =
         ap (value_at state lines addr) (register_at-user addr (level_0 addr may))
-        ∙ ap (option_map (protection.word_of state.pmp)) (protection-user addr (level_0 addr may))
+        ∙ nothing_loaded state.pmp addr (level_0 addr may)
     by_level false may = refl

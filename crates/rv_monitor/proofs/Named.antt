@@ -8,7 +8,6 @@ use Rattle.rv_base.specs.Tables.{lookup}
 use Rattle.rv_isa.specs.Names.{csr_names}
 use Rattle.rv_isa.specs.declared.InterruptLines.{InterruptLines}
 use Rattle.rv_pmp.specs.Pmp.{load}
-use Rattle.rv_pmp.specs.Pmp as protection
 use Rattle.rv_pmp.specs.declared.mode.Mode.TheVariants.{Machine}
 use Rattle.rv_csr.specs.Registers.{read, table}
 use Rattle.rv_csr.specs.State.{CsrState}
@@ -20,7 +19,7 @@ is_read state lines addr = is_some (read state addr Machine lines)
 
 all_are_read : (state : CsrState) (lines : InterruptLines) →
     list_all (λ e. is_read state lines e.1) csr_names ≡ true
-unfolding csr_names digits read table load protection.register_at
+unfolding csr_names digits read table load
 all_are_read state lines = refl
 
 and_left : (a b : Bool) → (a && b) ≡ true → a ≡ true

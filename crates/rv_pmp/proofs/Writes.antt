@@ -1,11 +1,22 @@
 -- The entries after a write.
-use Rattle.std.proofs.Common.{◌≡◌, ℕ, ◌+◌, ◌<◌, ◌≤◌, ◌==◌, ◌/◌, ◌%◌, Bool, true, false, List, length, get_or, refl}
+use Rattle.std.proofs.Common.{◌≡◌, ◌≢◌, ℕ, zero, suc, ◌+◌, ◌<◌, ◌≤◌, ◌==◌, ◌/◌, ◌%◌, Bool, true, false, List, length, get_or, refl}
 use Rattle.std.specs.Prelude.{IsTrue, slice_set, if◌then◌else◌, ◌&&◌}
 use Rattle.std.proofs.lemmas.Option.{slice_get-get_or, slice_get_past}
 use Rattle.std.proofs.lemmas.List.Elements.{All-set, All-get_or}
 use Rattle.rv_pmp.specs.declared.entry.Entry.{Entry}
-use Rattle.rv_pmp.specs.Entry.{with_fields, configured, addressed}
-use Rattle.rv_pmp.specs.Pmp.{AllReadable, changed_at, with_config, with_address, is_locked_top}
+use Rattle.rv_pmp.specs.declared.entry.Matching.TheVariants.{Napot}
+use Rattle.rv_pmp.specs.Entry.{matching_of, configured, addressed}
+use Rattle.rv_pmp.specs.Pmp.{AllReadable}
+use Rattle.rv_pmp.specs.Registers.{changed_at, with_config, with_address, starts_locked}
+
+-- the way to match of the values from 3 on
+pub matching_rest : (code : ℕ) → code ≢ 0 → code ≢ 1 → code ≢ 2 → matching_of code ≡ Napot
+unfolding matching_of
+matching_rest zero a b c = absurd (a refl)
+matching_rest (suc zero) a b c = absurd (b refl)
+matching_rest (suc (suc zero)) a b c = absurd (c refl)
+matching_rest (suc (suc (suc zero))) a b c = refl
+matching_rest (suc (suc (suc (suc n)))) a b c = refl
 
 abbrev IsReadable : Entry → Type 0
 IsReadable e = IsTrue e.writable → IsTrue e.readable
@@ -18,8 +29,16 @@ configured-readable : (e : Entry) (byte : ℕ) → (IsTrue e.writable → IsTrue
     → IsTrue (configured e byte).writable → IsTrue (configured e byte).readable
 unfolding configured
 configured-readable e byte h = go e.locked where
-  go : (b : Bool) → IsTrue (if b then e else with_fields e byte).writable
-      → IsTrue (if b then e else with_fields e byte).readable
+  fields : Entry
+  fields = record e {
+    readable = byte % 2 == 1;
+    writable = (byte % 2 == 1) && (byte / 2 % 2 == 1);
+    executable = byte / 4 % 2 == 1;
+    locked = byte / 128 % 2 == 1;
+    matching = matching_of (byte / 8 % 4);
+  }
+
+  go : (b : Bool) → IsTrue (if b then e else fields).writable → IsTrue (if b then e else fields).readable
   go true w = h w
   go false w = both (byte % 2 == 1) (byte / 2 % 2 == 1) w
 
@@ -56,12 +75,12 @@ config-readable es place byte e h all =
     (configured-readable (get_or es place e) byte (All-get_or IsReadable es place e h all)) all
 
 pub with_address-at : (es : List Entry) (place word : ℕ) (e : Entry) → place < length es
-    → is_locked_top es (place + 1) ≡ false
+    → starts_locked es (place + 1) ≡ false
     → with_address es place word ≡ slice_set es place (addressed (get_or es place e) word)
 unfolding with_address
 with_address-at es place word e h free = rw free (changed-at es place (λ x. addressed x word) e h)
 
-pub with_address-locked : (es : List Entry) (place word : ℕ) → is_locked_top es (place + 1) ≡ true
+pub with_address-locked : (es : List Entry) (place word : ℕ) → starts_locked es (place + 1) ≡ true
     → with_address es place word ≡ es
 unfolding with_address
 with_address-locked es place word locked = rw locked refl
@@ -69,7 +88,7 @@ with_address-locked es place word locked = rw locked refl
 pub with_address-past : (es : List Entry) (place word : ℕ) → length es ≤ place
     → with_address es place word ≡ es
 unfolding with_address
-with_address-past es place word h = go (is_locked_top es (place + 1)) where
+with_address-past es place word h = go (starts_locked es (place + 1)) where
   go : (b : Bool) → (if b then es else changed_at es place (λ x. addressed x word)) ≡ es
   go true = refl
   go false = changed-past es place (λ x. addressed x word) h

@@ -1,7 +1,7 @@
 -- An entry of physical memory protection, and the bytes that it protects.
 -- RISC-V Privileged Architecture 20211203, section 3.7.1.
 -- To audit: public contracts cite this.
-use Rattle.std.specs.Prelude.{ℕ, ◌+◌, ◌*◌, ◌/◌, ◌%◌, ◌^◌, Bool, true, false, ◌==◌, ◌&&◌, ◌||◌, not, nat_le, nat_lt, if◌then◌else◌}
+use Rattle.std.specs.Prelude.{ℕ, ◌+◌, ◌*◌, ◌/◌, ◌%◌, ◌^◌, Bool, false, ◌==◌, ◌&&◌, ◌||◌, not, nat_le, nat_lt, if◌then◌else◌, [], ◌∷◌, slice_index_or}
 use Rattle.std.specs.List.{prefix_len, range_with_len}
 use Rattle.rv_isa.specs.Number.{bit, truth}
 use Rattle.rv_pmp.specs.declared.access.Access.{Access}
@@ -15,23 +15,15 @@ use Rattle.rv_pmp.specs.Mode.{is_machine}
 -- ---- the configuration byte: R in bit 0, W in bit 1, X in bit 2, A in bits 4 and 3, L in bit 7; bits 6 and
 -- 5 are zero
 
--- the value of the field A
+-- the value of the field A, and the way to match that a value stands for
 abbrev pub matching_code : Matching → ℕ
 matching_code Off = 0
 matching_code Tor = 1
 matching_code Na4 = 2
 matching_code Napot = 3
 
--- the way that a value of the field A stands for
 unfoldable pub matching_of : ℕ → Matching
-matching_of code = if code == 0 then Off else (if code == 1 then Tor else (if code == 2 then Na4 else Napot))
-
--- whether the address is the end of a region that begins at the address of the entry before
-abbrev pub is_top : Matching → Bool
-is_top Off = false
-is_top Tor = true
-is_top Na4 = false
-is_top Napot = false
+matching_of code = slice_index_or (Off ∷ Tor ∷ Na4 ∷ Napot ∷ []) code Napot
 
 -- the configuration byte as it is read
 unfoldable pub config_byte : Entry → ℕ
@@ -40,22 +32,19 @@ config_byte entry =
     + matching_code entry.matching * 8
     + truth entry.locked * 128
 
--- the entry with the fields of a byte; W is kept only together with R
-abbrev pub with_fields : Entry → ℕ → Entry
-with_fields entry byte = record {
-  address = entry.address;
-  readable = byte % 2 == 1;
-  writable = (byte % 2 == 1) && (byte / 2 % 2 == 1);
-  executable = byte / 4 % 2 == 1;
-  locked = byte / 128 % 2 == 1;
-  matching = matching_of (byte / 8 % 4);
-}
-
--- the entry after a write to its configuration byte: unchanged if it is locked
+-- the entry after a write to its configuration byte, unless it is locked; W is kept only together with R
 unfoldable pub configured : Entry → ℕ → Entry
-configured entry byte = if entry.locked then entry else with_fields entry byte
+configured entry byte =
+    if entry.locked then entry
+    else record entry {
+      readable = byte % 2 == 1;
+      writable = (byte % 2 == 1) && (byte / 2 % 2 == 1);
+      executable = byte / 4 % 2 == 1;
+      locked = byte / 128 % 2 == 1;
+      matching = matching_of (byte / 8 % 4);
+    }
 
--- the entry after a write to its address register: unchanged if it is locked
+-- the entry after a write to its address register, unless it is locked
 unfoldable pub addressed : Entry → ℕ → Entry
 addressed entry word = if entry.locked then entry else record entry { address = word }
 

@@ -4,5 +4,6 @@ pub mod Guards
 pub mod Mode
 pub mod PermissionCache
 pub mod Pmp
+pub mod Registers
 pub mod Span
 pub mod WidestSpan

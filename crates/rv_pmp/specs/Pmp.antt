@@ -1,16 +1,14 @@
 -- Physical memory protection: its registers, and what they grant. RISC-V Privileged Architecture 20211203,
 -- section 3.7.1.
 -- To audit: public contracts cite this.
-use Rattle.std.specs.Prelude.{◌≡◌, ℕ, zero, suc, ◌+◌, ◌-◌, ◌*◌, ◌/◌, ◌%◌, ◌^◌, Bool, false, ◌&&◌, nat_le, if◌then◌else◌, IsTrue, List, replicate, All, find, length, slice_get, slice_index_or, slice_set, Option, Some, None}
-use Rattle.std.specs.List.{list_any, list_all, range_with_len}
-use Rattle.std.specs.Option.{option_map, option_map_or}
+use Rattle.std.specs.Prelude.{◌≡◌, ℕ, zero, suc, ◌+◌, ◌-◌, ◌*◌, ◌/◌, ◌%◌, ◌^◌, Bool, false, ◌==◌, ◌&&◌, ◌||◌, not, nat_le, if◌then◌else◌, IsTrue, List, replicate, All, find, length, map, slice_index_or, Option, Some, None}
+use Rattle.std.specs.List.{list_any, list_all, range_with_len, sum_by}
+use Rattle.std.specs.Option.{option_map_or}
 use Rattle.rv_pmp.specs.declared.access.Access.{Access}
 use Rattle.rv_pmp.specs.declared.mode.Mode.{Mode}
 use Rattle.rv_pmp.specs.declared.entry.Entry.{Entry}
 use Rattle.rv_pmp.specs.declared.entry.Matching.TheVariants.{Off}
-use Rattle.rv_pmp.specs.declared.register.PmpRegister.{PmpRegister}
-use Rattle.rv_pmp.specs.declared.register.PmpRegister.TheVariants.{Config, Address}
-use Rattle.rv_pmp.specs.Entry.{is_top, config_byte, configured, addressed, matched, entry_grants}
+use Rattle.rv_pmp.specs.Entry.{matching_code, config_byte, configured, addressed, matched, entry_grants}
 use Rattle.rv_pmp.specs.Mode.{is_machine}
 
 -- the entries, of which the lowest-numbered has the highest priority
@@ -67,72 +65,44 @@ grants pmp mode access first count =
     option_map_or (λ n. list_all (matches pmp n) bytes && entry_grants (entry_at pmp n) mode access)
     (decides pmp bytes) (is_machine mode)
 
--- ---- the registers: pmpcfg0 to pmpcfg3, each with the configuration bytes of four entries, low byte first;
--- and pmpaddr0 to pmpaddr15
+-- ---- the registers: pmpcfg0 to pmpcfg3 at 0x3A0 to 0x3A3, each with the configuration bytes of four entries,
+-- low byte first; and pmpaddr0 to pmpaddr15 at 0x3B0 to 0x3BF
 
--- the register at an address of the control registers, if there is one
-unfoldable pub register_at : ℕ → Option PmpRegister
-register_at addr =
-    if nat_le 0x3A0 addr && nat_le addr 0x3A3 then Some (Config (4 * (addr - 0x3A0)))
-    else (if nat_le 0x3B0 addr && nat_le addr 0x3BF then Some (Address (addr - 0x3B0))
-    else None)
+-- whether a configuration register is at an address, and whether an address register is
+abbrev pub is_config : ℕ → Bool
+is_config addr = nat_le 0x3A0 addr && nat_le addr 0x3A3
 
--- the configuration byte of the entry at a place, and its address register: 0 if there is no entry
-abbrev pub config_at : PmpState → ℕ → ℕ
-config_at pmp place = option_map_or config_byte (slice_get pmp.entries place) 0
+abbrev pub is_address : ℕ → Bool
+is_address addr = nat_le 0x3B0 addr && nat_le addr 0x3BF
 
-abbrev pub address_at : PmpState → ℕ → ℕ
-address_at pmp place = option_map_or (λ entry. entry.address) (slice_get pmp.entries place) 0
-
--- the value of a register
-abbrev pub word_of : PmpState → PmpRegister → ℕ
-word_of pmp (Config first) =
-    config_at pmp first + config_at pmp (first + 1) * 2 ^ 8 + config_at pmp (first + 2) * 2 ^ 16
-    + config_at pmp (first + 3) * 2 ^ 24
-word_of pmp (Address place) = address_at pmp place
-
--- the entries with the one at a place changed, if there is one
-abbrev pub changed_at : List Entry → ℕ → (Entry → Entry) → List Entry
-changed_at entries place change =
-    option_map_or (λ entry. slice_set entries place (change entry)) (slice_get entries place) entries
-
--- byte i of a word, from 0 for the lowest
-abbrev pub byte_of : ℕ → ℕ → ℕ
-byte_of word i = word / 2 ^ (8 * i) % 2 ^ 8
-
--- the entries after a write to the configuration byte of the one at a place
-unfoldable pub with_config : List Entry → ℕ → ℕ → List Entry
-with_config entries place byte = changed_at entries place (λ entry. configured entry byte)
-
--- whether the entry at a place is locked and its region begins at the address of the entry before
-unfoldable pub is_locked_top : List Entry → ℕ → Bool
-is_locked_top entries place =
-    option_map_or (λ entry. entry.locked && is_top entry.matching) (slice_get entries place) false
-
--- the entries after a write to the address register of the one at a place: unchanged if a locked region
--- begins there
-unfoldable pub with_address : List Entry → ℕ → ℕ → List Entry
-with_address entries place word =
-    if is_locked_top entries (place + 1) then entries
-    else changed_at entries place (λ entry. addressed entry word)
-
--- the entries after a write of a word to a register
-unfoldable pub with_word : List Entry → PmpRegister → ℕ → List Entry
-with_word entries (Config first) word =
-    let one = with_config entries first (byte_of word 0) in
-    let two = with_config one (first + 1) (byte_of word 1) in
-    let three = with_config two (first + 2) (byte_of word 2) in
-    with_config three (first + 3) (byte_of word 3)
-with_word entries (Address place) word = with_address entries place word
+-- the value of the configuration register of four entries from one on
+abbrev pub config_word : PmpState → ℕ → ℕ
+config_word pmp first = sum_by (λ i. config_byte (entry_at pmp (first + i)) * 2 ^ (8 * i)) (range_with_len 0 4)
 
 -- the value that a read at an address gives, if a register is there
 unfoldable pub load : PmpState → ℕ → Option ℕ
-load pmp addr = option_map (word_of pmp) (register_at addr)
+load pmp addr =
+    if is_config addr then Some (config_word pmp (4 * (addr - 0x3A0)))
+    else (if is_address addr then Some (entry_at pmp (addr - 0x3B0)).address else None)
 
--- the registers after a write at an address, if a register is there
+-- whether an entry is locked and its region begins at the address of the entry before
+unfoldable pub is_locked_top : PmpState → ℕ → Bool
+is_locked_top pmp n = (entry_at pmp n).locked && (matching_code (entry_at pmp n).matching == 1)
+
+-- entry n after a write of a word at an address: byte n % 4 of pmpcfg(n / 4) is its configuration, and
+-- pmpaddr(n) its address, which stays as it is if a locked region begins there
+abbrev pub written : PmpState → ℕ → ℕ → ℕ → Entry
+written pmp addr word n =
+    if addr == 0x3A0 + n / 4 then configured (entry_at pmp n) (word / 2 ^ (8 * (n % 4)) % 2 ^ 8)
+    else (if (addr == 0x3B0 + n) && not (is_locked_top pmp (n + 1)) then addressed (entry_at pmp n) word
+    else entry_at pmp n)
+
+-- the registers after a write of a word at an address, if a register is there
 unfoldable pub store : PmpState → ℕ → ℕ → Option PmpState
 store pmp addr word =
-    option_map (λ register. record { entries = with_word pmp.entries register word }) (register_at addr)
+    if is_config addr || is_address addr
+    then Some (record { entries = map (written pmp addr word) (range_with_len 0 (length pmp.entries)) })
+    else None
 
 -- the result of a write at an address, and the registers after it: None if no register is there
 abbrev pub Stores : PmpState → ℕ → ℕ → PmpState → Option Unit → Type 0

@@ -1,5 +1,5 @@
 //! An entry: its registers' fields, and what it grants.
-ghost use Rattle.std.specs.Prelude.{◌≡◌};
+ghost use Rattle.std.specs.Prelude.{◌≡◌, ◌==◌};
 ghost use Rattle.rv_pmp.specs.Entry.{matching_code, matching_of, config_byte, entry_grants};
 ghost use Rattle.rv_pmp.specs.Entry as spec;
 ghost use Rattle.rv_pmp.specs.ActiveEntries.{is_matching};
@@ -36,13 +36,13 @@ impl Matching {
 
     /// Whether the address is the end of a region that begins at the address of the entry before.
     pub(crate) fn is_top(self) -> bool
-        ensures { result ≡ spec.is_top self }
+        ensures { result ≡ (matching_code self == 1) }
     {
         matches!(self, Matching::Tor)
     }
 
     /// Returns the way that a value of the field A, less than 4, stands for.
-    #[tactic(auto, unfolding(crate::specs::Entry::matching_of))]
+    #[tactic(auto, unfolding(crate::specs::Entry::matching_of), using(crate::proofs::Writes::matching_rest))]
     fn of(code: u8) -> Matching
         ensures { result ≡ matching_of code }
     {

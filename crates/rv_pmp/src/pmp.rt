@@ -4,8 +4,9 @@ ghost use Rattle.std.specs.List.{list_any};
 ghost use Rattle.rv_isa.specs.Width.{bytes_of};
 ghost use Rattle.rv_isa.specs.declared.op.Width.{Width};
 ghost use Rattle.rv_pmp.specs.ActiveEntries.{some_on, some_locked, actives_from, decision};
-ghost use Rattle.rv_pmp.specs.Pmp.{PmpState, reset, grants, load, config_at, with_config, with_address, with_word, AllReadable, WritableIsReadable, Stores};
-ghost use Rattle.rv_pmp.specs.Pmp as spec;
+ghost use Rattle.rv_pmp.specs.Pmp.{PmpState, reset, grants, load, AllReadable, WritableIsReadable, Stores};
+ghost use Rattle.rv_pmp.specs.Registers.{config_at, with_config, with_address, with_word, starts_locked};
+ghost use Rattle.rv_pmp.specs.Registers as spec;
 ghost use Rattle.rv_pmp.specs.WidestSpan.{AreForward, IsWidestSpan};
 ghost use Rattle.rv_pmp.specs.PermissionCache.{IsGranted, IsWidest};
 ghost use Rattle.rv_pmp.specs.declared.access.Access.{Access};
@@ -73,7 +74,7 @@ impl Pmp {
     }
 
     /// Reads the control register at address `addr`. Returns None if no register of protection is there.
-    #[tactic(auto, unfolding(crate::specs::Pmp::load))]
+    #[tactic(auto, using(crate::proofs::Registers::loads))]
     pub fn read_csr(&self, addr: u16) -> Option<u32>
         ensures value { result ≡ load self.now addr }
     {
@@ -83,7 +84,7 @@ impl Pmp {
     /// Writes the control register at address `addr`. The registers of a locked entry stay as they are, and
     /// so does the address at which the region of a locked entry begins. Returns None, and changes nothing,
     /// if no register of protection is there.
-    #[tactic(auto, unfolding(crate::specs::Pmp::store))]
+    #[tactic(auto, using(crate::proofs::Registers::writes))]
     pub fn write_csr(&mut self, addr: u16, value: u32) -> Option<()>
         ensures stored { Stores self.old addr value self.new result }
         ensures readable { WritableIsReadable self.new }
@@ -232,7 +233,7 @@ impl Pmp {
 }
 
 /// Writes `word` to a register.
-#[tactic(auto, unfolding(crate::specs::Pmp::with_word))]
+#[tactic(auto, unfolding(crate::specs::Registers::with_word))]
 fn write_word(entries: &mut [Entry; ENTRIES], register: PmpRegister, word: u32)
     requires { AllReadable entries.old }
     ensures written { entries.new ≡ with_word entries.old register word }
@@ -285,9 +286,9 @@ fn set_address(entries: &mut [Entry; ENTRIES], place: usize, word: u32)
 }
 
 /// Whether the entry at `place` is locked and its region begins at the address of the entry before.
-#[tactic(auto, unfolding(crate::specs::Pmp::is_locked_top))]
+#[tactic(auto, unfolding(crate::specs::Registers::starts_locked))]
 fn is_locked_top(entries: &[Entry; ENTRIES], place: usize) -> bool
-    ensures { result ≡ spec.is_locked_top entries.now place }
+    ensures { result ≡ starts_locked entries.now place }
 {
     entries
         .get(place)

@@ -1,0 +1,346 @@
+-- The registers by number are what the code reads and writes.
+use Rattle.std.proofs.Common.{◌≡◌, ◌≢◌, ◌∙◌, ℕ, zero, suc, ◌+◌, ◌-◌, ◌*◌, ◌/◌, ◌%◌, ◌<◌, ◌≤◌, ◌==◌, Bool, true, false, List, [], ◌∷◌, length, map, get_or, Option, Some, None, refl, ap, sym, arith, add-zero, nat_lt, eqb-true}
+use Rattle.std.specs.Prelude.{slice_get, slice_set, if◌then◌else◌, ◌&&◌, ◌||◌, not}
+use Rattle.std.specs.List.{range_with_len}
+use Rattle.std.specs.Option.{option_map, option_map_or}
+use Rattle.std.proofs.Math.ListN.{length-set, length-map, get_or-eq_default}
+use Rattle.std.proofs.Math.Seq.{ext_get_or, get_or-set_same, get_or-set_other}
+use Rattle.std.proofs.lemmas.Bool.Decides.{nat_tests}
+use Rattle.rv_pmp.specs.declared.entry.Entry.{Entry}
+use Rattle.rv_pmp.specs.declared.register.PmpRegister.{PmpRegister}
+use Rattle.rv_pmp.specs.declared.register.PmpRegister.TheVariants.{Config, Address}
+use Rattle.rv_pmp.specs.Entry.{matching_code, config_byte, configured, addressed}
+use Rattle.rv_pmp.specs.Pmp.{PmpState, off_entry, entry_at, is_config, is_address, config_word, is_locked_top, load, store, written}
+use Rattle.rv_pmp.specs.Registers.{register_at, config_at, word_of, byte_of, with_config, starts_locked, with_address, with_word}
+use Rattle.rv_pmp.proofs.Writes.{with_config-at, with_config-past, with_address-at, with_address-locked, with_address-past}
+
+-- ---- reads
+
+-- what is said of an entry, if there is one, is said of the entry by its number
+by_number : {A : Type 0} (f : Entry → A) (es : List Entry) (n : ℕ)
+    → option_map_or f (slice_get es n) (f off_entry) ≡ f (get_or es n off_entry)
+by_number f [] n = refl
+by_number f (e ∷ es) zero = refl
+by_number f (e ∷ es) (suc n) = by_number f es n
+
+config : (pmp : PmpState) (n : ℕ) → config_at pmp n ≡ config_byte (entry_at pmp n)
+unfolding config_byte
+config pmp n = by_number config_byte pmp.entries n
+
+four : (pmp : PmpState) (first : ℕ) → word_of pmp (Config first) ≡ config_word pmp first
+four pmp first =
+    rw (config pmp first, config pmp (first + 1), config pmp (first + 2), config pmp (first + 3))
+    (omega (arith, ap (λ n. config_byte (entry_at pmp n)) (add-zero first)))
+
+pub loads : (pmp : PmpState) (addr : ℕ) → load pmp addr ≡ option_map (word_of pmp) (register_at addr)
+unfolding load register_at
+loads pmp addr = go (is_config addr) (is_address addr) where
+  go : (a b : Bool)
+      → (if a then Some (config_word pmp (4 * (addr - 0x3A0)))
+      else (if b then Some (entry_at pmp (addr - 0x3B0)).address else None))
+      ≡ option_map (word_of pmp)
+      (if a then Some (Config (4 * (addr - 0x3A0))) else (if b then Some (Address (addr - 0x3B0)) else None))
+  go true b = ap Some (sym (four pmp (4 * (addr - 0x3A0))))
+  go false true = ap Some (sym (by_number (λ e. e.address) pmp.entries (addr - 0x3B0)))
+  go false false = refl
+
+-- ---- one change of an entry
+
+abbrev at : List Entry → ℕ → Entry
+at es n = get_or es n off_entry
+
+config-length : (es : List Entry) (p byte : ℕ) → length (with_config es p byte) ≡ length es
+unfolding with_config
+config-length es p byte = by (slice_get es p) where
+  by : (found : Option Entry)
+      → length (option_map_or (λ e. slice_set es p (configured e byte)) found es) ≡ length es
+  by None = refl
+  by (Some e) = length-set es p (configured e byte)
+
+address-length : (es : List Entry) (p word : ℕ) → length (with_address es p word) ≡ length es
+unfolding with_address
+address-length es p word = by (starts_locked es (p + 1)) (slice_get es p) where
+  by : (b : Bool) (found : Option Entry)
+      → length (if b then es else option_map_or (λ e. slice_set es p (addressed e word)) found es) ≡ length es
+  by true found = refl
+  by false None = refl
+  by false (Some e) = length-set es p (addressed e word)
+
+other : (i p : ℕ) → (i == p) ≡ false → i ≢ p
+other i p apart same = absurd (grind (arith, nat_tests))
+
+set-at : (es : List Entry) (p i : ℕ) (x : Entry) → p < length es
+    → at (slice_set es p x) i ≡ (if i == p then x else at es i)
+set-at es p i x within = go (i == p) refl where
+  go : (b : Bool) → (i == p) ≡ b → at (slice_set es p x) i ≡ (if b then x else at es i)
+  go true same =
+      ap (λ n. at (slice_set es p x) n) (eqb-true i p same) ∙ get_or-set_same es p x off_entry within
+  go false apart = get_or-set_other es p i x off_entry (other i p apart)
+
+-- the entry at a place after a change of the one at another place
+changed : (f : Entry → Entry) (es new : List Entry) (p i : ℕ) → i < length es
+    → (p < length es → new ≡ slice_set es p (f (at es p))) → (length es ≤ p → new ≡ es)
+    → at new i ≡ (if i == p then f (at es i) else at es i)
+changed f es new p i within inside outside = go (nat_lt p (length es)) refl where
+  here : (b : Bool) → (i == p) ≡ b
+      → (if b then f (at es p) else at es i) ≡ (if b then f (at es i) else at es i)
+  here true same = ap (λ n. f (at es n)) (sym (eqb-true i p same))
+  here false apart = refl
+
+  go : (b : Bool) → nat_lt p (length es) ≡ b → at new i ≡ (if i == p then f (at es i) else at es i)
+  go true less =
+      let room : p < length es = grind (arith, nat_tests) in
+      ap (λ l. at l i) (inside room) ∙ set-at es p i (f (at es p)) room ∙ here (i == p) refl
+  go false not_less =
+      let past : length es ≤ p = grind (arith, nat_tests) in
+      let apart : (i == p) ≡ false = grind (arith, nat_tests) in
+      rw apart (ap (λ l. at l i) (outside past))
+
+config-at : (es : List Entry) (p byte i : ℕ) → i < length es
+    → at (with_config es p byte) i ≡ (if i == p then configured (at es i) byte else at es i)
+config-at es p byte i within =
+    changed (λ e. configured e byte) es (with_config es p byte) p i within
+    (λ inside. with_config-at es p byte off_entry inside) (λ outside. with_config-past es p byte outside)
+
+-- ---- what is written of an entry, by the tests that `written` asks
+
+abbrev choose : PmpState → ℕ → ℕ → Bool → Bool → Bool → Entry
+choose pmp word i b c t =
+    if b then configured (entry_at pmp i) (byte_of word (i % 4))
+    else (if c && not t then addressed (entry_at pmp i) word else entry_at pmp i)
+
+-- ---- a write to a configuration register
+
+-- an entry after the four bytes of a word are written to the entries from `first` on
+abbrev one_by_one : Entry → ℕ → ℕ → ℕ → Entry
+one_by_one e first word i =
+    let one = if i == first then configured e (byte_of word 0) else e in
+    let two = if i == first + 1 then configured one (byte_of word 1) else one in
+    let three = if i == first + 2 then configured two (byte_of word 2) else two in
+    if i == first + 3 then configured three (byte_of word 3) else three
+
+configs-at : (es : List Entry) (first word i : ℕ) → i < length es
+    → at (with_word es (Config first) word) i ≡ one_by_one (at es i) first word i
+unfolding with_word
+configs-at es first word i within =
+    let one = with_config es first (byte_of word 0) in
+    let two = with_config one (first + 1) (byte_of word 1) in
+    let three = with_config two (first + 2) (byte_of word 2) in
+    let in_one : i < length one = omega (arith, config-length es first (byte_of word 0)) in
+    let in_two : i < length two = omega (arith, config-length one (first + 1) (byte_of word 1)) in
+    let in_three : i < length three = omega (arith, config-length two (first + 2) (byte_of word 2)) in
+    config-at three (first + 3) (byte_of word 3) i in_three
+    ∙ ap (λ e. if i == first + 3 then configured e (byte_of word 3) else e)
+    (config-at two (first + 2) (byte_of word 2) i in_two
+    ∙ ap (λ e. if i == first + 2 then configured e (byte_of word 2) else e)
+    (config-at one (first + 1) (byte_of word 1) i in_one
+    ∙ ap (λ e. if i == first + 1 then configured e (byte_of word 1) else e)
+    (config-at es first (byte_of word 0) i within)))
+
+configs-length : (es : List Entry) (first word : ℕ) → length (with_word es (Config first) word) ≡ length es
+unfolding with_word
+configs-length es first word =
+    let one = with_config es first (byte_of word 0) in
+    let two = with_config one (first + 1) (byte_of word 1) in
+    let three = with_config two (first + 2) (byte_of word 2) in
+    config-length three (first + 3) (byte_of word 3) ∙ config-length two (first + 2) (byte_of word 2)
+    ∙ config-length one (first + 1) (byte_of word 1) ∙ config-length es first (byte_of word 0)
+
+-- an entry of the four
+among : (e : Entry) (first word i r : ℕ) → i ≡ first + r → r < 4
+    → one_by_one e first word i ≡ configured e (byte_of word r)
+among e first word i zero is small =
+    let a : (i == first) ≡ true = grind (arith, nat_tests) in
+    let b : (i == first + 1) ≡ false = grind (arith, nat_tests) in
+    let c : (i == first + 2) ≡ false = grind (arith, nat_tests) in
+    let d : (i == first + 3) ≡ false = grind (arith, nat_tests) in
+    rw (a, b, c, d) refl
+among e first word i (suc zero) is small =
+    let a : (i == first) ≡ false = grind (arith, nat_tests) in
+    let b : (i == first + 1) ≡ true = grind (arith, nat_tests) in
+    let c : (i == first + 2) ≡ false = grind (arith, nat_tests) in
+    let d : (i == first + 3) ≡ false = grind (arith, nat_tests) in
+    rw (a, b, c, d) refl
+among e first word i (suc (suc zero)) is small =
+    let a : (i == first) ≡ false = grind (arith, nat_tests) in
+    let b : (i == first + 1) ≡ false = grind (arith, nat_tests) in
+    let c : (i == first + 2) ≡ true = grind (arith, nat_tests) in
+    let d : (i == first + 3) ≡ false = grind (arith, nat_tests) in
+    rw (a, b, c, d) refl
+among e first word i (suc (suc (suc zero))) is small =
+    let a : (i == first) ≡ false = grind (arith, nat_tests) in
+    let b : (i == first + 1) ≡ false = grind (arith, nat_tests) in
+    let c : (i == first + 2) ≡ false = grind (arith, nat_tests) in
+    let d : (i == first + 3) ≡ true = grind (arith, nat_tests) in
+    rw (a, b, c, d) refl
+among e first word i (suc (suc (suc (suc r)))) is small = absurd (omega arith)
+
+-- an entry outside of the four
+outside : (e : Entry) (first word i : ℕ) → ((r : ℕ) → r < 4 → i ≢ first + r) → one_by_one e first word i ≡ e
+outside e first word i apart =
+    let a : (i == first) ≡ false = grind (arith, nat_tests, apart 0 (omega arith), add-zero first) in
+    let b : (i == first + 1) ≡ false = grind (arith, nat_tests, apart 1 (omega arith)) in
+    let c : (i == first + 2) ≡ false = grind (arith, nat_tests, apart 2 (omega arith)) in
+    let d : (i == first + 3) ≡ false = grind (arith, nat_tests, apart 3 (omega arith)) in
+    rw (a, b, c, d) refl
+
+module _ (pmp : PmpState) (addr word i : ℕ) where
+  config_written : is_config addr ≡ true → i < 16
+      → one_by_one (entry_at pmp i) (4 * (addr - 0x3A0)) word i ≡ written pmp addr word i
+  config_written is small = go (addr == 0x3A0 + i / 4) refl (addr == 0x3B0 + i) refl where
+    go : (b : Bool) → (addr == 0x3A0 + i / 4) ≡ b → (c : Bool) → (addr == 0x3B0 + i) ≡ c
+        → one_by_one (entry_at pmp i) (4 * (addr - 0x3A0)) word i
+        ≡ (if b then configured (entry_at pmp i) (byte_of word (i % 4))
+        else (if c && not (is_locked_top pmp (i + 1)) then addressed (entry_at pmp i) word
+        else entry_at pmp i))
+    go true here c at_address =
+        let place : i ≡ 4 * (addr - 0x3A0) + i % 4 = grind (arith, nat_tests) in
+        among (entry_at pmp i) (4 * (addr - 0x3A0)) word i (i % 4) place (omega arith)
+    go false apart true at_address = absurd (grind (arith, nat_tests))
+    go false apart false at_address =
+        outside (entry_at pmp i) (4 * (addr - 0x3A0)) word i
+        (λ r less same. absurd (grind (arith, nat_tests)))
+
+  -- ---- a write to an address register
+  top : starts_locked pmp.entries (i + 1) ≡ is_locked_top pmp (i + 1)
+  unfolding starts_locked is_locked_top
+  top = by_number (λ e. e.locked && (matching_code e.matching == 1)) pmp.entries (i + 1)
+
+  address_written : is_address addr ≡ true → i < 16 → i < length pmp.entries
+      → at (with_address pmp.entries (addr - 0x3B0) word) i ≡ written pmp addr word i
+  address_written is small within =
+      go (starts_locked pmp.entries (addr - 0x3B0 + 1)) refl (addr == 0x3B0 + i) refl where
+        no_config : (addr == 0x3A0 + i / 4) ≡ false
+        no_config = grind (arith, nat_tests)
+
+        chosen : (c t : Bool) → (addr == 0x3B0 + i) ≡ c → is_locked_top pmp (i + 1) ≡ t
+            → written pmp addr word i ≡ choose pmp word i false c t
+        chosen c t at_address is_top =
+            ap (λ b. choose pmp word i b (addr == 0x3B0 + i) (is_locked_top pmp (i + 1))) no_config
+            ∙ ap (λ c. choose pmp word i false c (is_locked_top pmp (i + 1))) at_address
+            ∙ ap (λ t. choose pmp word i false c t) is_top
+
+        one_changed : starts_locked pmp.entries (addr - 0x3B0 + 1) ≡ false
+            → at (with_address pmp.entries (addr - 0x3B0) word) i
+            ≡ (if i == addr - 0x3B0 then addressed (entry_at pmp i) word else entry_at pmp i)
+        one_changed free =
+            changed (λ e. addressed e word) pmp.entries (with_address pmp.entries (addr - 0x3B0) word) (addr - 0x3B0) i
+            within (λ inside. with_address-at pmp.entries (addr - 0x3B0) word off_entry inside free)
+            (λ past. with_address-past pmp.entries (addr - 0x3B0) word past)
+
+        go : (t : Bool) → starts_locked pmp.entries (addr - 0x3B0 + 1) ≡ t → (c : Bool) → (addr == 0x3B0 + i) ≡ c
+            → at (with_address pmp.entries (addr - 0x3B0) word) i ≡ written pmp addr word i
+        go true locked true here =
+            let place : addr - 0x3B0 ≡ i = grind (arith, nat_tests) in
+            ap (λ l. at l i) (with_address-locked pmp.entries (addr - 0x3B0) word locked)
+            ∙ sym (chosen true true here (sym top ∙ ap (λ n. starts_locked pmp.entries (n + 1)) (sym place) ∙ locked))
+        go true locked false apart =
+            ap (λ l. at l i) (with_address-locked pmp.entries (addr - 0x3B0) word locked)
+            ∙ sym (chosen false (is_locked_top pmp (i + 1)) apart refl)
+        go false free true here =
+            let place : addr - 0x3B0 ≡ i = grind (arith, nat_tests) in
+            let same : (i == addr - 0x3B0) ≡ true = grind (arith, nat_tests) in
+            one_changed free
+            ∙ ap (λ b. if b then addressed (entry_at pmp i) word else entry_at pmp i) same
+            ∙ sym (chosen true false here (sym top ∙ ap (λ n. starts_locked pmp.entries (n + 1)) (sym place) ∙ free))
+        go false free false apart =
+            let differ : (i == addr - 0x3B0) ≡ false = grind (arith, nat_tests) in
+            one_changed free
+            ∙ ap (λ b. if b then addressed (entry_at pmp i) word else entry_at pmp i) differ
+            ∙ sym (chosen false (is_locked_top pmp (i + 1)) apart refl)
+
+abbrev with_entries : List Entry → PmpState
+with_entries es = record { entries = es }
+
+written-at : (f : ℕ → Entry) (a n i : ℕ) → i < n → at (map f (range_with_len a n)) i ≡ f (a + i)
+written-at f a zero i less = absurd (omega arith)
+written-at f a (suc n) zero less = ap f (sym (add-zero a))
+written-at f a (suc n) (suc i) less =
+    let place : a + 1 + i ≡ a + suc i = omega arith in
+    written-at f (a + 1) n i (omega arith) ∙ ap f place
+
+written-past : (f : ℕ → Entry) (a n i : ℕ) → n ≤ i → at (map f (range_with_len a n)) i ≡ off_entry
+written-past f a zero i past = refl
+written-past f a (suc n) zero past = absurd (omega arith)
+written-past f a (suc n) (suc i) past = written-past f (a + 1) n i (omega arith)
+
+-- each entry after a write
+pub stored_entry : (pmp new : PmpState) (addr word : ℕ) → store pmp addr word ≡ Some new → (n : ℕ)
+    → entry_at new n ≡ (if nat_lt n (length pmp.entries) then written pmp addr word n else entry_at pmp n)
+unfolding store
+stored_entry pmp new addr word is n = by (is_config addr || is_address addr) is where
+  all : List Entry
+  all = map (written pmp addr word) (range_with_len 0 (length pmp.entries))
+
+  one : (b : Bool) → nat_lt n (length pmp.entries) ≡ b
+      → at all n ≡ (if b then written pmp addr word n else entry_at pmp n)
+  one true less =
+      let first : 0 + n ≡ n = omega arith in
+      written-at (written pmp addr word) 0 (length pmp.entries) n (grind (arith, nat_tests))
+      ∙ ap (written pmp addr word) first
+  one false not_less =
+      let past : length pmp.entries ≤ n = grind (arith, nat_tests) in
+      written-past (written pmp addr word) 0 (length pmp.entries) n past
+      ∙ sym (get_or-eq_default pmp.entries off_entry past)
+
+  by : (b : Bool) → (if b then Some (with_entries all) else None) ≡ Some new
+      → entry_at new n ≡ (if nat_lt n (length pmp.entries) then written pmp addr word n else entry_at pmp n)
+  by true gives =
+      let same : with_entries all ≡ new = cc in
+      ap (λ (p : PmpState). entry_at p n) (sym same) ∙ one (nat_lt n (length pmp.entries)) refl
+  by false gives = absurd cc
+
+range-length : (a n : ℕ) → length (range_with_len a n) ≡ n
+range-length a zero = refl
+range-length a (suc n) = ap suc (range-length (a + 1) n)
+
+module _ (pmp : PmpState) (addr word : ℕ) (sixteen : length pmp.entries ≡ 16) where
+  entries : List Entry
+  entries = map (written pmp addr word) (range_with_len 0 (length pmp.entries))
+
+  entries-length : length entries ≡ length pmp.entries
+  unfolding entries
+  entries-length =
+      length-map (range_with_len 0 (length pmp.entries)) (written pmp addr word) ∙ range-length 0 (length pmp.entries)
+
+  same : (new : List Entry) → length new ≡ length pmp.entries
+      → ((i : ℕ) → i < 16 → at new i ≡ written pmp addr word i) → new ≡ entries
+  unfolding entries
+  same new long each =
+      ext_get_or off_entry new entries (long ∙ sym entries-length)
+      (λ i less. let within : i < length pmp.entries = omega arith in
+      let first : 0 + i ≡ i = omega arith in
+      each i (omega arith)
+      ∙ sym (written-at (written pmp addr word) 0 (length pmp.entries) i within
+      ∙ ap (written pmp addr word) first))
+
+  pub stores : store pmp addr word
+      ≡ option_map (λ register. with_entries (with_word pmp.entries register word)) (register_at addr)
+  unfolding store register_at entries with_word
+  stores = go (is_config addr) refl (is_address addr) refl where
+    go : (a : Bool) → is_config addr ≡ a → (b : Bool) → is_address addr ≡ b
+        → (if a || b then Some (with_entries entries) else None)
+        ≡ option_map (λ register. with_entries (with_word pmp.entries register word))
+        (if a then Some (Config (4 * (addr - 0x3A0))) else (if b then Some (Address (addr - 0x3B0)) else None))
+    go true is b also =
+        ap (λ (es : List Entry). Some (with_entries es))
+        (sym (same _ (configs-length pmp.entries (4 * (addr - 0x3A0)) word)
+        (λ i less. configs-at pmp.entries (4 * (addr - 0x3A0)) word i (omega arith)
+        ∙ config_written pmp addr word i is less)))
+    go false not_config true is =
+        ap (λ (es : List Entry). Some (with_entries es))
+        (sym (same _ (address-length pmp.entries (addr - 0x3B0) word)
+        (λ i less. address_written pmp addr word i is less (omega arith))))
+    go false not_config false not_address = refl
+
+  pub stored_by : (register : PmpRegister) (new : PmpState) → Some register ≡ register_at addr
+      → new ≡ record { entries = with_word pmp.entries register word } → store pmp addr word ≡ Some new
+  stored_by register new there is =
+      stores ∙ ap (option_map (λ register. with_entries (with_word pmp.entries register word))) (sym there)
+      ∙ ap Some (sym is)
+
+  pub none_stored : None ≡ register_at addr → store pmp addr word ≡ None
+  none_stored none =
+      stores ∙ ap (option_map (λ register. with_entries (with_word pmp.entries register word))) (sym none)
+
+pub ruleset writes = (stored_by, none_stored)
