@@ -8,7 +8,7 @@ use Rattle.rv_isa.specs.Names.{csr_names}
 use Rattle.rv_base.specs.Words.{words, begins_comment}
 use Rattle.rv_base.specs.Limits.{line_limit}
 use Rattle.rv_commands.specs.Addresses.{address_of}
-use Rattle.rv_commands.specs.Commands.{IsNamed, byte_count, only, number_alone, address_alone, alone, steps, going, control_register, memory, edge_source, edges, row, said_by, command_of}
+use Rattle.rv_commands.specs.Commands.{IsNamed, number_between, control_register, alone, counted, with_one, ranged, commands, said_by, command_of}
 use Rattle.rv_commands.specs.declared.command.Command.{Command}
 use Rattle.rv_commands.specs.declared.command.Command.TheVariants.{Step, Go, SetBreak, ClearBreak, Registers, ControlRegister, Memory, Instruction, Traps, Edges, Quit, Nothing}
 
@@ -18,81 +18,84 @@ either true x y h k = h
 either false x y h k = k
 
 -- a command with one operand
-with_one : (command : ℕ → Command) (o : Option ℕ) → ((n : ℕ) → IsNamed (command n))
+mapped : {A : Type 0} (command : A → Command) (o : Option A) → ((x : A) → IsNamed (command x))
     → IfSome (option_map command o) IsNamed
-with_one command None h = tt
-with_one command (Some n) h = h n
+mapped command None h = tt
+mapped command (Some x) h = h x
 
 with_two : (command : ℕ → ℕ → Command) (o p : Option ℕ) → ((m n : ℕ) → IsNamed (command m n))
     → IfSome (option_and_then (λ m. option_map (command m) p) o) IsNamed
 with_two command None p h = tt
-with_two command (Some m) p h = with_one (command m) p (h m)
+with_two command (Some m) p h = mapped (command m) p (h m)
 
 alone_named : (command : Command) (ws : List (List ℕ)) → IsNamed command → IfSome (alone command ws) IsNamed
 alone_named command [] h = h
 alone_named command (w ∷ ws) h = tt
 
-steps_named : (ws : List (List ℕ)) → IfSome (steps ws) IsNamed
-unfolding steps
-steps_named [] = tt
-steps_named (w ∷ ws) = with_one (λ count. Step count) (number_alone (w ∷ ws)) (λ n. tt)
+with_one_named : {A : Type 0} (command : A → Command) (f : List ℕ → Option A) (ws : List (List ℕ))
+    → ((x : A) → IsNamed (command x)) → IfSome (with_one command f ws) IsNamed
+with_one_named command f [] h = tt
+with_one_named command f (w ∷ []) h = mapped command (f w) h
+with_one_named command f (w ∷ v ∷ ws) h = tt
 
-going_named : (ws : List (List ℕ)) → IfSome (going ws) IsNamed
-unfolding going
-going_named [] = tt
-going_named (w ∷ ws) = with_one (λ count. Go (Some count)) (number_alone (w ∷ ws)) (λ n. tt)
+counted_named : (uncounted : Command) (command : ℕ → Command) (ws : List (List ℕ)) → IsNamed uncounted
+    → ((n : ℕ) → IsNamed (command n)) → IfSome (counted uncounted command ws) IsNamed
+counted_named uncounted command [] h k = h
+counted_named uncounted command (w ∷ ws) h k =
+    with_one_named command (number_between 0 1000000000) (w ∷ ws) k
 
-memory_by : (symbols : List ℕ → Option ℤ) (ws : List (List ℕ)) → IfSome (memory symbols ws) IsNamed
-unfolding memory
-memory_by symbols [] = tt
-memory_by symbols (a ∷ []) = tt
-memory_by symbols (a ∷ n ∷ []) =
-    with_two (λ addr count. Memory addr count) (address_of symbols a) (byte_count n) (λ m n. tt)
-memory_by symbols (a ∷ n ∷ w ∷ ws) = tt
+ranged_named : (symbols : List ℕ → Option ℤ) (ws : List (List ℕ)) → IfSome (ranged symbols ws) IsNamed
+ranged_named symbols [] = tt
+ranged_named symbols (a ∷ []) = tt
+ranged_named symbols (a ∷ n ∷ []) =
+    with_two (λ addr count. Memory addr count) (address_of symbols a) (number_between 1 256 n) (λ m n. tt)
+ranged_named symbols (a ∷ n ∷ w ∷ ws) = tt
 
 register_found : (name : List ℕ) (o : Option ℕ) → lookup name csr_names ≡ o
     → IfSome (option_map (λ csr. ControlRegister name csr) o) IsNamed
 register_found name None e = tt
 register_found name (Some csr) e = e
 
-register_named : (o : Option (List ℕ))
-    → IfSome
-    (option_and_then
-    (λ name. option_map (λ csr. ControlRegister name csr) (lookup name csr_names)) o) IsNamed
-register_named None = tt
-register_named (Some name) = register_found name (lookup name csr_names) refl
+same_named : (o : Option Command) → IfSome o IsNamed → IfSome (option_map (λ command. command) o) IsNamed
+same_named None h = tt
+same_named (Some x) h = h
 
-control_register_named : (ws : List (List ℕ)) → IfSome (control_register ws) IsNamed
-unfolding control_register
-control_register_named ws = register_named (only ws)
+register_named : (ws : List (List ℕ)) → IfSome (with_one (λ command. command) control_register ws) IsNamed
+register_named [] = tt
+register_named (name ∷ []) = same_named (control_register name) (register_found name (lookup name csr_names) refl)
+register_named (w ∷ v ∷ ws) = tt
 
-edges_named : (ws : List (List ℕ)) → IfSome (edges ws) IsNamed
-unfolding edges
-edges_named ws = with_one (λ source. Edges source) (option_and_then edge_source (only ws)) (λ n. tt)
+-- one row, or those below it
+found : (b : Bool) (f : List (List ℕ) → Option Command) (ws : List (List ℕ))
+    → (o : Option (List (List ℕ) → Option Command)) → IfSome (f ws) IsNamed
+    → IfSome (option_and_then (λ reads. reads ws) o) IsNamed
+    → IfSome (option_and_then (λ reads. reads ws) (cond b (Some f) o)) IsNamed
+found true f ws o h k = h
+found false f ws o h k = k
 
 row_named : (symbols : List ℕ → Option ℤ) (w : List ℕ) (ws : List (List ℕ))
-    → IfSome (row symbols w ws) IsNamed
-unfolding row
+    → IfSome (option_and_then (λ reads. reads ws) (lookup w (commands symbols))) IsNamed
 row_named symbols w ws =
-    either (bytes_eq w (codes "s")) _ _ (steps_named ws)
-    (either (bytes_eq w (codes "c")) _ _ (going_named ws)
-    (either (bytes_eq w (codes "b")) _ _
-    (with_one (λ addr. SetBreak addr) (address_alone symbols ws) (λ n. tt))
-    (either (bytes_eq w (codes "d")) _ _
-    (with_one (λ addr. ClearBreak addr) (address_alone symbols ws) (λ n. tt))
-    (either (bytes_eq w (codes "r")) _ _ (alone_named Registers ws tt)
-    (either (bytes_eq w (codes "p")) _ _ (control_register_named ws)
-    (either (bytes_eq w (codes "m")) _ _ (memory_by symbols ws)
-    (either (bytes_eq w (codes "i")) _ _
-    (with_one (λ addr. Instruction addr) (address_alone symbols ws) (λ n. tt))
-    (either (bytes_eq w (codes "t")) _ _ (alone_named Traps ws tt)
-    (either (bytes_eq w (codes "e")) _ _ (edges_named ws)
-    (either (bytes_eq w (codes "q")) _ _ (alone_named Quit ws tt) tt))))))))))
+    found (bytes_eq (codes "s") w) _ ws _ (counted_named (Step 1) (λ n. Step n) ws tt (λ n. tt))
+    (found (bytes_eq (codes "c") w) _ ws _ (counted_named (Go None) (λ n. Go (Some n)) ws tt (λ n. tt))
+    (found (bytes_eq (codes "b") w) _ ws _
+    (with_one_named (λ addr. SetBreak addr) (address_of symbols) ws (λ n. tt))
+    (found (bytes_eq (codes "d") w) _ ws _
+    (with_one_named (λ addr. ClearBreak addr) (address_of symbols) ws (λ n. tt))
+    (found (bytes_eq (codes "r") w) _ ws _ (alone_named Registers ws tt)
+    (found (bytes_eq (codes "p") w) _ ws _ (register_named ws)
+    (found (bytes_eq (codes "m") w) _ ws _ (ranged_named symbols ws)
+    (found (bytes_eq (codes "i") w) _ ws _
+    (with_one_named (λ addr. Instruction addr) (address_of symbols) ws (λ n. tt))
+    (found (bytes_eq (codes "t") w) _ ws _ (alone_named Traps ws tt)
+    (found (bytes_eq (codes "e") w) _ ws _
+    (with_one_named (λ source. Edges source) (number_between 24 31) ws (λ n. tt))
+    (found (bytes_eq (codes "q") w) _ ws _ (alone_named Quit ws tt) tt))))))))))
 
 said_named : (symbols : List ℕ → Option ℤ) (ws : List (List ℕ)) → IfSome (said_by symbols ws) IsNamed
 said_named symbols [] = tt
 said_named symbols (w ∷ ws) =
-    either (begins_comment w) (Some Nothing) (row symbols w ws) tt (row_named symbols w ws)
+    either (begins_comment w) (Some Nothing) _ tt (row_named symbols w ws)
 
 line_named : (line : List ℕ) (symbols : List ℕ → Option ℤ) → IfSome (command_of line symbols) IsNamed
 unfolding command_of

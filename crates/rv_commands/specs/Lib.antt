@@ -1,2 +1,3 @@
 pub mod Addresses
 pub mod Commands
+pub mod Rows

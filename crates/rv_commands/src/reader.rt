@@ -1,8 +1,9 @@
 //! Reads commands.
-ghost use Rattle.std.specs.Prelude.{◌≡◌, ◌≤◌, IfSome};
+ghost use Rattle.std.specs.Prelude.{◌≡◌, ◌≤◌, ◌<◌, IfSome};
 ghost use Rattle.std.specs.Option.{option_copied};
 ghost use Rattle.rv_base.specs.Words.{words};
-ghost use Rattle.rv_commands.specs.Commands.{number_of, byte_count, edge_source, only, number_alone, address_alone, alone, steps, going, control_register, memory, edges, row, command_of, IsNamed};
+ghost use Rattle.rv_commands.specs.Commands.{number_between, alone, command_of, IsNamed};
+ghost use Rattle.rv_commands.specs.Rows.{only, number_alone, address_alone, steps, going, named, memory, row};
 
 use crate::address::address;
 use crate::{Command, SymbolLookup};
@@ -11,36 +12,19 @@ use rv_isa::csr_named;
 use rv_plic::Source;
 use rv_tokens::Name;
 
-/// The largest number in a command.
+/// The largest number of steps in a command.
 const MOST_STEPS: u64 = 1_000_000_000;
 
-/// Reads a decimal number of at most 1,000,000,000.
-fn number(word: &[u8]) -> Option<u64>
-    ensures { result ≡ number_of word.now }
+/// Reads a decimal number from `low` to `high`.
+#[tactic(auto, unfolding(crate::specs::Commands::number_between))]
+fn number_between(low: u64, high: u64, word: &[u8]) -> Option<u64>
+    requires { high < 10000000000 }
+    ensures value { result ≡ number_between low high word.now }
+    ensures least { IfSome result (λ n. low ≤ n) }
+    ensures most { IfSome result (λ n. n ≤ high) }
 {
-    decimal(MOST_STEPS, word)
-}
-
-/// Reads a number of bytes, 1 to 256.
-#[tactic(auto, unfolding(crate::specs::Commands::byte_count))]
-fn byte_count(word: &[u8]) -> Option<u32>
-    ensures { result ≡ byte_count word.now }
-{
-    match number(word)? {
-        count @ 1..=256 => Some(count as u32),
-        _ => None,
-    }
-}
-
-/// Reads the number of an edge source, 24 to 31.
-#[tactic(auto, unfolding(crate::specs::Commands::edge_source))]
-fn edge_source(word: &[u8]) -> Option<Source>
-    ensures { result ≡ edge_source word.now }
-{
-    match number(word)? {
-        source @ 24..=31 => Source::new(source as u8),
-        _ => None,
-    }
+    let number = decimal(high, word)?;
+    if low <= number { Some(number) } else { None }
 }
 
 /// Returns the only word of a text.
@@ -51,16 +35,19 @@ fn only_word<'a>(text: &'a [u8]) -> Option<&'a [u8]>
     if has_word(rest) { None } else { Some(word) }
 }
 
-/// Reads a number, the only word of a text.
-#[tactic(auto, unfolding(crate::specs::Commands::number_alone))]
-fn only_number(text: &[u8]) -> Option<u64>
-    ensures { result ≡ number_alone (words text.now) }
+/// Reads a number from `low` to `high`, the only word of a text.
+#[tactic(auto, unfolding(crate::specs::Rows::number_alone))]
+fn only_number(low: u64, high: u64, text: &[u8]) -> Option<u64>
+    requires { high < 10000000000 }
+    ensures value { result ≡ number_alone low high (words text.now) }
+    ensures least { IfSome result (λ n. low ≤ n) }
+    ensures most { IfSome result (λ n. n ≤ high) }
 {
-    number(only_word(text)?)
+    number_between(low, high, only_word(text)?)
 }
 
 /// Reads an address, the only word of a text.
-#[tactic(auto, unfolding(crate::specs::Commands::address_alone))]
+#[tactic(auto, unfolding(crate::specs::Rows::address_alone))]
 fn only_address<S: SymbolLookup>(text: &[u8], symbols: &S) -> Option<u32>
     ensures { result ≡ address_alone (S.symbols symbols.now) (words text.now) }
 {
@@ -68,33 +55,33 @@ fn only_address<S: SymbolLookup>(text: &[u8], symbols: &S) -> Option<u32>
 }
 
 /// Reads the words following `s`: a number of steps, or nothing for one step.
-#[tactic(auto, unfolding(crate::specs::Commands::steps))]
+#[tactic(auto, unfolding(crate::specs::Rows::steps))]
 fn read_step<'a>(text: &[u8]) -> Option<Command<'a>>
     ensures { result ≡ steps (words text.now) }
 {
     if !has_word(text) {
         return Some(Command::Step { count: 1 });
     }
-    let count = only_number(text)?;
+    let count = only_number(0, MOST_STEPS, text)?;
     Some(Command::Step { count })
 }
 
 /// Reads the words following `c`: the most steps, or nothing for all that are left.
-#[tactic(auto, unfolding(crate::specs::Commands::going))]
+#[tactic(auto, unfolding(crate::specs::Rows::going))]
 fn read_go<'a>(text: &[u8]) -> Option<Command<'a>>
     ensures { result ≡ going (words text.now) }
 {
     if !has_word(text) {
         return Some(Command::Go { count: None });
     }
-    let count = only_number(text)?;
+    let count = only_number(0, MOST_STEPS, text)?;
     Some(Command::Go { count: Some(count) })
 }
 
 /// Reads the words following `p`: the name of a control register.
-#[tactic(auto, unfolding(crate::specs::Commands::control_register))]
+#[tactic(auto, unfolding(crate::specs::Rows::named))]
 fn read_control_register<'a>(text: &'a [u8]) -> Option<Command<'a>>
-    ensures { result ≡ control_register (words text.now) }
+    ensures { result ≡ named (words text.now) }
 {
     let name = only_word(text)?;
     let csr = csr_named(name)?;
@@ -103,24 +90,23 @@ fn read_control_register<'a>(text: &'a [u8]) -> Option<Command<'a>>
 }
 
 /// Reads the words following `m`: an address and a number of bytes.
-#[tactic(auto, unfolding(crate::specs::Commands::memory))]
+#[tactic(auto, unfolding(crate::specs::Rows::memory))]
 fn read_memory<'a, S: SymbolLookup>(text: &[u8], symbols: &S) -> Option<Command<'a>>
     ensures { result ≡ memory (S.symbols symbols.now) (words text.now) }
 {
     let (first, rest) = first_word(text)?;
     let second = only_word(rest)?;
     let addr = address(first, symbols)?;
-    let count = byte_count(second)?;
+    let count = number_between(1, 256, second)? as u32;
     Some(Command::Memory { addr, count })
 }
 
-/// Reads the words following `e`: the number of an edge source.
-#[tactic(auto, unfolding(crate::specs::Commands::edges))]
-fn read_edges<'a>(text: &[u8]) -> Option<Command<'a>>
-    ensures { result ≡ edges (words text.now) }
+/// Reads the number of an edge source, the only word of a text.
+fn only_source(text: &[u8]) -> Option<Source>
+    ensures { result ≡ number_alone 24 31 (words text.now) }
 {
-    let source = edge_source(only_word(text)?)?;
-    Some(Command::Edges { source })
+    let number = only_number(24, 31, text)?;
+    Source::new(number as u8)
 }
 
 /// Returns a command if no word follows its first.
@@ -131,7 +117,7 @@ fn without_operands<'a>(command: Command<'a>, text: &[u8]) -> Option<Command<'a>
 }
 
 /// Reads a command, given its first word and the text following it.
-#[tactic(auto, unfolding(crate::specs::Commands::row))]
+#[tactic(auto, unfolding(crate::specs::Rows::row))]
 fn read_row<'a, S: SymbolLookup>(word: &[u8], rest: &'a [u8], symbols: &S) -> Option<Command<'a>>
     ensures { result ≡ row (S.symbols symbols.now) word.now (words rest.now) }
 {
@@ -154,14 +140,17 @@ fn read_row<'a, S: SymbolLookup>(word: &[u8], rest: &'a [u8], symbols: &S) -> Op
             Some(Command::Instruction { addr })
         }
         b"t" => without_operands(Command::Traps, rest),
-        b"e" => read_edges(rest),
+        b"e" => {
+            let source = only_source(rest)?;
+            Some(Command::Edges { source })
+        }
         b"q" => without_operands(Command::Quit, rest),
         _ => None,
     }
 }
 
 /// Reads a command line, as `read_command`.
-#[tactic(auto, unfolding(crate::specs::Commands::command_of))]
+#[tactic(auto, unfolding(crate::specs::Commands::command_of), using(crate::proofs::Rows::row_is))]
 fn read<'a, S: SymbolLookup>(line: &'a [u8], symbols: &S) -> Option<Command<'a>>
     ensures { result ≡ command_of line.now (S.symbols symbols.now) }
 {

@@ -1,15 +1,16 @@
 -- Inputs following others.
 use Rattle.std.proofs.Common.{◌≡◌, ◌∙◌, ℕ, suc, ◌-◌, ◌<◌, ◌≤◌, Bool, true, false, cond, List, [], ◌∷◌, ◌++◌, length, get_or, refl, sym, ap, arith, append-nil, append_assoc}
 use Rattle.std.proofs.lemmas.Bool.Decides.{nat_tests}
-use Rattle.std.specs.Prelude.{Option, Some, None, nat_le, nat_lt, ◌&&◌, codes}
+use Rattle.std.specs.Prelude.{Option, Some, None, nat_eq, nat_le, nat_lt, ◌&&◌, codes, option_and_then}
 use Rattle.std.specs.Str.{bytes_eq}
 use Rattle.std.specs.Option.{option_map}
 use Rattle.rv_lists.specs.declared.input.Input.{Input}
-use Rattle.rv_lists.specs.declared.input.Input.TheVariants.{Rx}
+use Rattle.rv_lists.specs.declared.input.Input.TheVariants.{Rx, Line}
 use Rattle.rv_lists.specs.declared.input.TimedInput.{TimedInput}
 use Rattle.rv_base.specs.Numbers.{byte_of}
-use Rattle.rv_lists.specs.Timed.{joined, all_of, byte_input, received, driven, inputs_of, at, never_falls}
-use Rattle.rv_lists.specs.Reading.{latest_step, with_inputs, with_line}
+use Rattle.rv_base.specs.Tables.{lookup}
+use Rattle.rv_lists.specs.Timed.{joined, all_of, byte_input, received, source_of, level_of, driven, kinds, inputs_of, at, never_falls}
+use Rattle.rv_lists.specs.Reading.{latest_step, with_inputs, with_line, inputs_by}
 
 pub latest_is : (xs : List TimedInput) (d : TimedInput) → 0 < length xs
     → (get_or xs (length xs - 1) d).step ≡ latest_step xs
@@ -141,17 +142,58 @@ unfolding all_of
 received_some [] is e = absurd cc
 received_some (w ∷ ws) is e = received_by (byte_of w) (all_of byte_input ws) is e
 
-some_by : (a b : Bool) (r : Option (List Input)) (d : Option Input)
-    → ((is : List Input) → r ≡ Some is → 0 < length is) → (is : List Input)
-    → cond a r (cond b (option_map (λ i. i ∷ []) d) None) ≡ Some is → 0 < length is
-some_by true b r d some is e = some is e
-some_by false true r None some is e = absurd cc
-some_by false true r (Some i) some is e = let same : i ∷ [] ≡ is = cc in rw (← same) (omega arith)
-some_by false false r d some is e = absurd cc
+driven_by : (source : Option ℕ) (level : Option Bool) (is : List Input)
+    → option_and_then (λ n. option_map (λ high. Line n high ∷ []) level) source ≡ Some is → 0 < length is
+driven_by None level is e = absurd cc
+driven_by (Some n) None is e = absurd cc
+driven_by (Some n) (Some high) is e = let same : Line n high ∷ [] ≡ is = cc in rw (← same) (omega arith)
+
+driven_some : (ws : List (List ℕ)) (is : List Input) → driven ws ≡ Some is → 0 < length is
+driven_some [] is e = absurd cc
+driven_some (n ∷ []) is e = absurd cc
+driven_some (n ∷ v ∷ []) is e = driven_by (source_of n) (level_of v) is e
+driven_some (n ∷ v ∷ w ∷ ws) is e = absurd cc
+
+some_by : (a b : Bool) (r d : Option (List Input)) → ((is : List Input) → r ≡ Some is → 0 < length is)
+    → ((is : List Input) → d ≡ Some is → 0 < length is) → (is : List Input)
+    → cond a r (cond b d None) ≡ Some is → 0 < length is
+some_by true b r d some more is e = some is e
+some_by false true r d some more is e = more is e
+some_by false false r d some more is e = absurd cc
+
+-- the choice by a name is the look-up in the table of kinds
+eq_turned : (m n : ℕ) → nat_eq m n ≡ nat_eq n m
+eq_turned m n = grind (arith, nat_tests)
+
+turned : (xs ys : List ℕ) → bytes_eq xs ys ≡ bytes_eq ys xs
+turned [] [] = refl
+turned [] (y ∷ ys) = refl
+turned (x ∷ xs) [] = refl
+turned (x ∷ xs) (y ∷ ys) = rw (eq_turned x y, turned xs ys) refl
+
+looked_up : (a b : Bool) (f g : List (List ℕ) → Option (List Input)) (ws : List (List ℕ))
+    → cond a (f ws) (cond b (g ws) None)
+    ≡ option_and_then (λ reads. reads ws) (cond a (Some f) (cond b (Some g) None))
+looked_up true b f g ws = refl
+looked_up false true f g ws = refl
+looked_up false false f g ws = refl
+
+pub inputs_are : (kind : List ℕ) (ws : List (List ℕ)) → inputs_by kind ws ≡ inputs_of (kind ∷ ws)
+unfolding inputs_of inputs_by
+inputs_are kind ws =
+    rw (turned kind (codes "rx"), turned kind (codes "line"))
+    (looked_up (bytes_eq (codes "rx") kind) (bytes_eq (codes "line") kind) received driven ws)
+
+none_of : (is : List Input) → inputs_of [] ≡ Some is → ⊥
+unfolding inputs_of
+none_of is e = absurd cc
+
+by_kind : (kind : List ℕ) (ws : List (List ℕ)) (is : List Input) → inputs_by kind ws ≡ Some is → 0 < length is
+unfolding inputs_by
+by_kind kind ws is e =
+    some_by (bytes_eq kind (codes "rx")) (bytes_eq kind (codes "line")) (received ws) (driven ws)
+    (received_some ws) (driven_some ws) is e
 
 pub inputs_some : (ws : List (List ℕ)) (is : List Input) → inputs_of ws ≡ Some is → 0 < length is
-unfolding inputs_of
-inputs_some [] is e = absurd cc
-inputs_some (kind ∷ ws) is e =
-    some_by (bytes_eq kind (codes "rx")) (bytes_eq kind (codes "line")) (received ws) (driven ws)
-    (received_some ws) is e
+inputs_some [] is e = absurd (none_of is e)
+inputs_some (kind ∷ ws) is e = by_kind kind ws is (inputs_are kind ws ∙ e)

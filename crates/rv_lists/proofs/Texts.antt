@@ -19,7 +19,7 @@ use Rattle.rv_lists.specs.declared.input.Input.TheVariants.{Rx, Line}
 use Rattle.rv_lists.specs.declared.input.TimedInput.{TimedInput}
 use Rattle.rv_lists.specs.Reading.{is_input}
 use Rattle.rv_lists.specs.Text.{input_text, line_text, list_text, HasSteps, ReadsAs}
-use Rattle.rv_lists.specs.Timed.{all_of, step_of, source_of, inputs_of, said, never_falls, timed}
+use Rattle.rv_lists.specs.Timed.{all_of, step_of, source_of, level_of, inputs_of, said, never_falls, timed}
 use Rattle.rv_lists.proofs.Lines.{said_step}
 
 -- ---- comparisons as tests
@@ -284,7 +284,7 @@ module _ (n : ℕ) (high : Bool) (some : 0 < n) (few : n < 32) where
   source_read = rw (read_back 31 n (decimal n) number (omega arith), le 1 n (omega arith)) refl
 
   driven_read : (b : Bool) → inputs_of (codes "line" ∷ decimal n ∷ level_text b ∷ []) ≡ Some (Line n b ∷ [])
-  unfolding inputs_of
+  unfolding inputs_of level_of
   driven_read true = rw source_read refl
   driven_read false = rw source_read refl
 

@@ -1,13 +1,14 @@
 -- Not to audit: private contracts alone cite this.
 -- Reading a timed list, line by line, and writing one.
-use Rattle.std.specs.Prelude.{◌≡◌, ℕ, ◌&&◌, Bool, nat_lt, List, [], ◌∷◌, ◌++◌, Option, Some, None, Result, Ok, Err, option_and_then}
+use Rattle.std.specs.Prelude.{◌≡◌, ℕ, ◌&&◌, Bool, nat_lt, List, [], ◌∷◌, ◌++◌, if◌then◌else◌, Option, Some, None, Result, Ok, Err, codes, option_and_then}
 use Rattle.std.specs.Option.{option_map}
+use Rattle.std.specs.Str.{bytes_eq}
 use Rattle.rv_lists.specs.declared.input.Input.{Input}
 use Rattle.rv_lists.specs.declared.input.Input.TheVariants.{Rx, Line}
 use Rattle.rv_lists.specs.declared.input.TimedInput.{TimedInput}
 use Rattle.rv_lists.specs.declared.line_refusal.LineRefusal.{LineRefusal}
 use Rattle.rv_lists.specs.declared.line_refusal.LineRefusal.TheVariants.{BadLine, OutOfMemory}
-use Rattle.rv_lists.specs.Timed.{at, unless_falling}
+use Rattle.rv_lists.specs.Timed.{received, driven, at, unless_falling}
 
 -- the step of the last input, or 0 if there is none
 abbrev pub latest_step : List TimedInput → ℕ
@@ -32,6 +33,12 @@ with_inputs before step inputs = option_map (λ is. before ++ at step is) inputs
 -- the inputs of a line, following others, unless a step falls
 abbrev pub with_line : List TimedInput → Option (List TimedInput) → Option (List TimedInput)
 with_line before said = option_and_then (λ inputs. unless_falling (before ++ inputs)) said
+
+-- the inputs of a kind, by the words following it: a choice by its name
+unfoldable pub inputs_by : List ℕ → List (List ℕ) → Option (List Input)
+inputs_by kind more =
+    if bytes_eq kind (codes "rx") then received more
+    else (if bytes_eq kind (codes "line") then driven more else None)
 
 -- ---- the ranges of an input's fields, as they are written
 

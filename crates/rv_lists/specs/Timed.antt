@@ -3,9 +3,9 @@
 -- The language is this project's own: docs/MONITOR.md.
 use Rattle.std.specs.Prelude.{◌≡◌, ℕ, ◌<◌, ◌≤◌, ◌&&◌, Bool, true, false, List, [], ◌∷◌, ◌++◌, length, map, take, if◌then◌else◌, nat_le, nat_lt, Option, Some, None, Result, Ok, Err, codes, option_and_then, is_some}
 use Rattle.std.specs.Option.{option_map}
-use Rattle.std.specs.Str.{bytes_eq}
 use Rattle.rv_base.specs.Limits.{line_limit}
 use Rattle.rv_base.specs.Lines.{lines}
+use Rattle.rv_base.specs.Tables.{lookup}
 use Rattle.rv_lists.specs.declared.input.Input.{Input}
 use Rattle.rv_lists.specs.declared.input.Input.TheVariants.{Rx, Line}
 use Rattle.rv_lists.specs.declared.input.TimedInput.{TimedInput}
@@ -34,9 +34,8 @@ unfoldable pub source_of : List ℕ → Option ℕ
 source_of word = option_and_then (λ n. if nat_le 1 n then Some n else None) (decimal 31 word)
 
 -- V of `line`: 0 for low, 1 for high
-abbrev pub level_of : List ℕ → Option Bool
-level_of word =
-    if bytes_eq word (codes "0") then Some false else (if bytes_eq word (codes "1") then Some true else None)
+unfoldable pub level_of : List ℕ → Option Bool
+level_of word = lookup word ((codes "0", false) ∷ (codes "1", true) ∷ [])
 
 -- HH: a byte that the serial port receives
 abbrev pub byte_input : List ℕ → Option (List Input)
@@ -48,17 +47,19 @@ received [] = None
 received (word ∷ more) = all_of byte_input (word ∷ more)
 
 -- the words following `line`: a source and a level
-abbrev pub driven : List (List ℕ) → Option Input
+abbrev pub driven : List (List ℕ) → Option (List Input)
 driven (n ∷ v ∷ []) =
-    option_and_then (λ source. option_map (λ high. Line source high) (level_of v)) (source_of n)
+    option_and_then (λ source. option_map (λ high. Line source high ∷ []) (level_of v)) (source_of n)
 driven _ = None
+
+-- the kinds of inputs, each with what the words following it may be
+abbrev pub kinds : List (List ℕ × (List (List ℕ) → Option (List Input)))
+kinds = (codes "rx", received) ∷ (codes "line", driven) ∷ []
 
 -- the inputs of the words following STEP
 unfoldable pub inputs_of : List (List ℕ) → Option (List Input)
 inputs_of [] = None
-inputs_of (kind ∷ more) =
-    if bytes_eq kind (codes "rx") then received more
-    else (if bytes_eq kind (codes "line") then option_map (λ input. input ∷ []) (driven more) else None)
+inputs_of (kind ∷ more) = option_and_then (λ reads. reads more) (lookup kind kinds)
 
 -- inputs, all at one step
 abbrev pub at : ℕ → List Input → List TimedInput

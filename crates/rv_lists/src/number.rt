@@ -2,7 +2,7 @@
 ghost use Rattle.std.specs.Prelude.{◌≡◌};
 ghost use Rattle.rv_lists.specs.Timed.{step_of, source_of, level_of};
 
-use rv_base::decimal;
+use rv_base::{decimal, look_up};
 use rv_plic::Source;
 
 /// The largest step that an input comes before: ten decimal digits.
@@ -28,13 +28,13 @@ pub fn source(word: &[u8]) -> Option<Source>
     Source::new(number as u8)
 }
 
+/// The words of the levels: low and high.
+static LEVELS: [(&str, bool); 2] = [("0", false), ("1", true)];
+
 /// Reads a level: `0` for low, `1` for high.
+#[tactic(auto, unfolding(crate::specs::Timed::level_of))]
 pub fn level(word: &[u8]) -> Option<bool>
     ensures { result ≡ level_of word.now }
 {
-    match word {
-        b"0" => Some(false),
-        b"1" => Some(true),
-        _ => None,
-    }
+    look_up(&LEVELS, word)
 }

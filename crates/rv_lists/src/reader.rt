@@ -38,7 +38,7 @@ fn read_bytes(step: u64, text: &[u8], out: &mut Vec<TimedInput>) -> Result<(), L
 
 /// Reads a source and its level.
 fn line_input(text: &[u8]) -> Option<Input>
-    ensures { result ≡ driven (words text.now) }
+    ensures { option_map (λ input. input ∷ []) result ≡ driven (words text.now) }
 {
     let (number, rest) = first_word(text)?;
     let (value, rest) = first_word(rest)?;
@@ -53,7 +53,7 @@ fn line_input(text: &[u8]) -> Option<Input>
 /// Reads the words following `line`, and appends their input.
 fn read_level(step: u64, text: &[u8], out: &mut Vec<TimedInput>) -> Result<(), LineRefusal>
     ensures { Becomes out.new.items result
-        (with_inputs out.old.items step (option_map (λ input. input ∷ []) (driven (words text.now)))) }
+        (with_inputs out.old.items step (driven (words text.now))) }
 {
     let Some(input) = line_input(text) else {
         return Err(LineRefusal::BadLine);
@@ -62,7 +62,7 @@ fn read_level(step: u64, text: &[u8], out: &mut Vec<TimedInput>) -> Result<(), L
 }
 
 /// Reads the words following a step, and appends their inputs.
-#[tactic(auto, unfolding(crate::specs::Timed::inputs_of))]
+#[tactic(auto, unfolding(crate::specs::Timed::inputs_of, crate::specs::Reading::inputs_by), using(crate::proofs::Inputs::inputs_are))]
 fn read_inputs(step: u64, text: &[u8], out: &mut Vec<TimedInput>) -> Result<(), LineRefusal>
     ensures { Becomes out.new.items result (with_inputs out.old.items step (inputs_of (words text.now))) }
 {

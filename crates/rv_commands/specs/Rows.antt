@@ -1,0 +1,54 @@
+-- Not to audit: private contracts alone cite this.
+-- The commands as the code reads them: a choice by the first word.
+use Rattle.std.specs.Prelude.{ℕ, ℤ, List, [], ◌∷◌, if◌then◌else◌, Option, Some, None, codes, option_and_then}
+use Rattle.std.specs.Option.{option_map}
+use Rattle.std.specs.Str.{bytes_eq}
+use Rattle.rv_commands.specs.Addresses.{address_of}
+use Rattle.rv_commands.specs.Commands.{number_between, control_register, alone, ranged}
+use Rattle.rv_commands.specs.declared.command.Command.{Command}
+use Rattle.rv_commands.specs.declared.command.Command.TheVariants.{Step, Go, SetBreak, ClearBreak, Registers, Instruction, Traps, Edges, Quit}
+
+-- the only word
+abbrev pub only : List (List ℕ) → Option (List ℕ)
+only (word ∷ []) = Some word
+only _ = None
+
+-- what the only word says
+unfoldable pub number_alone : ℕ → ℕ → List (List ℕ) → Option ℕ
+number_alone low high more = option_and_then (number_between low high) (only more)
+
+unfoldable pub address_alone : (List ℕ → Option ℤ) → List (List ℕ) → Option ℕ
+address_alone symbols more = option_and_then (address_of symbols) (only more)
+
+-- `s [N]`, `c [N]`
+unfoldable pub steps : List (List ℕ) → Option Command
+steps [] = Some (Step 1)
+steps more = option_map (λ count. Step count) (number_alone 0 1000000000 more)
+
+unfoldable pub going : List (List ℕ) → Option Command
+going [] = Some (Go None)
+going more = option_map (λ count. Go (Some count)) (number_alone 0 1000000000 more)
+
+-- `p NAME`
+unfoldable pub named : List (List ℕ) → Option Command
+named more = option_and_then control_register (only more)
+
+-- `m ADDR N`
+unfoldable pub memory : (List ℕ → Option ℤ) → List (List ℕ) → Option Command
+memory symbols more = ranged symbols more
+
+-- a command by its first word and the words following it
+unfoldable pub row : (List ℕ → Option ℤ) → List ℕ → List (List ℕ) → Option Command
+row symbols word more =
+    if bytes_eq word (codes "s") then steps more
+    else (if bytes_eq word (codes "c") then going more
+    else (if bytes_eq word (codes "b") then option_map (λ addr. SetBreak addr) (address_alone symbols more)
+    else (if bytes_eq word (codes "d") then option_map (λ addr. ClearBreak addr) (address_alone symbols more)
+    else (if bytes_eq word (codes "r") then alone Registers more
+    else (if bytes_eq word (codes "p") then named more
+    else (if bytes_eq word (codes "m") then memory symbols more
+    else (if bytes_eq word (codes "i") then option_map (λ addr. Instruction addr) (address_alone symbols more)
+    else (if bytes_eq word (codes "t") then alone Traps more
+    else (if bytes_eq word (codes "e") then option_map (λ source. Edges source) (number_alone 24 31 more)
+    else (if bytes_eq word (codes "q") then alone Quit more
+    else None))))))))))
