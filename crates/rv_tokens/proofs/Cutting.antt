@@ -6,38 +6,39 @@ use Rattle.rv_tokens.specs.declared.fault.LineFault.{LineFault}
 use Rattle.rv_tokens.specs.declared.fault.LineFault.TheVariants.{BadByte, LineTooLong, Syntax, UnknownWord, BadOperands, OutOfMemory}
 use Rattle.rv_tokens.specs.Faults.{Fails}
 use Rattle.rv_base.specs.Words.{is_blank}
-use Rattle.rv_tokens.specs.Tokens.{cut, with_tokens, is_comment, front, fault_at}
+use Rattle.rv_tokens.specs.Tokens.{is_comment, front, fault_at}
+use Rattle.rv_tokens.specs.Partial.{tokens_after, with_tokens}
 
-pub cut_drop : (line : List ℕ) (n : ℕ) → cut line n ≡ cut (drop n line) 0
-unfolding cut
+pub cut_drop : (line : List ℕ) (n : ℕ) → tokens_after line n ≡ tokens_after (drop n line) 0
+unfolding tokens_after
 cut_drop [] zero = refl
 cut_drop [] (suc n) = refl
 cut_drop (b ∷ bs) zero = refl
 cut_drop (b ∷ bs) (suc n) = cut_drop bs n
 
 pub cut_blank : (line : List ℕ) → 0 < length line → is_blank (get_or line 0 0) ≡ true
-    → cut line 0 ≡ cut (drop 1 line) 0
-unfolding cut
+    → tokens_after line 0 ≡ tokens_after (drop 1 line) 0
+unfolding tokens_after
 cut_blank [] h e = absurd (omega arith)
 cut_blank (b ∷ bs) h e = rw e refl
 
 pub cut_comment : (line : List ℕ) → 0 < length line → is_blank (get_or line 0 0) ≡ false
-    → is_comment line ≡ true → cut line 0 ≡ Ok []
-unfolding cut
+    → is_comment line ≡ true → tokens_after line 0 ≡ Ok []
+unfolding tokens_after
 cut_comment [] h e f = absurd (omega arith)
 cut_comment (b ∷ bs) h e f = rw (e, f) refl
 
 pub cut_token : (line : List ℕ) (t : Token) (n : ℕ) → 0 < length line → is_blank (get_or line 0 0) ≡ false
     → is_comment line ≡ false → front line ≡ Some (t, n) → 0 < n
-    → cut line 0 ≡ with_tokens (t ∷ []) (cut (drop n line) 0)
-unfolding cut
+    → tokens_after line 0 ≡ with_tokens (t ∷ []) (tokens_after (drop n line) 0)
+unfolding tokens_after
 cut_token [] t n h e f g i = absurd (omega arith)
 cut_token (b ∷ bs) t zero h e f g i = absurd (omega arith)
 cut_token (b ∷ bs) t (suc n) h e f g i = rw (e, f, g) (ap (with_tokens (t ∷ [])) (cut_drop bs n))
 
 pub cut_none : (line : List ℕ) → 0 < length line → is_blank (get_or line 0 0) ≡ false
-    → is_comment line ≡ false → front line ≡ None → cut line 0 ≡ Err (fault_at (get_or line 0 0))
-unfolding cut
+    → is_comment line ≡ false → front line ≡ None → tokens_after line 0 ≡ Err (fault_at (get_or line 0 0))
+unfolding tokens_after
 cut_none [] h e f g = absurd (omega arith)
 cut_none (b ∷ bs) h e f g = rw (e, f, g) refl
 
@@ -46,8 +47,8 @@ pub with_tokens-append : (ts us : List Token) (r : Result (List Token) LineFault
 with_tokens-append ts us (Ok vs) = ap (λ x. Ok x) (sym (append_assoc ts us vs))
 with_tokens-append ts us (Err fault) = refl
 
-pub cut_end : (line : List ℕ) → length line ≡ 0 → cut line 0 ≡ Ok []
-unfolding cut
+pub cut_end : (line : List ℕ) → length line ≡ 0 → tokens_after line 0 ≡ Ok []
+unfolding tokens_after
 cut_end [] h = refl
 cut_end (b ∷ bs) h = absurd (omega arith)
 

@@ -7,3 +7,4 @@ pub mod Cutting
 pub mod PartsLemmas
 pub mod Placing
 pub mod Spellings
+pub mod Signs

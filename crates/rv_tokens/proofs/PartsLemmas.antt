@@ -13,37 +13,32 @@ use Rattle.rv_tokens.specs.declared.token.Token.{Token}
 use Rattle.rv_tokens.specs.declared.fault.LineFault.{LineFault}
 use Rattle.rv_tokens.specs.declared.fault.LineFault.TheVariants.{BadByte, LineTooLong, Syntax, UnknownWord, BadOperands, OutOfMemory}
 use Rattle.rv_base.specs.Words.{is_blank}
-use Rattle.rv_tokens.specs.Tokens.{token_of, token_in, may_precede, front, is_comment, fault_at, with_tokens, cut, tokens}
-use Rattle.rv_tokens.specs.Parts.{Spells, IsLongest, BeginsWith, IsOver, IsStuck, IsTokensThen, IsCutInto}
+use Rattle.rv_tokens.specs.Tokens.{token_of, token_in, may_precede, front, is_comment, fault_at, tokens}
+use Rattle.rv_tokens.specs.Partial.{with_tokens, tokens_after}
+use Rattle.rv_tokens.specs.Parts.{Spells, IsLongest, IsPast, BeginsWith, IsOver, IsStuck, IsTokensThen, IsCutInto}
 use Rattle.rv_tokens.proofs.Bools.{list_all_split}
 use Rattle.rv_tokens.proofs.Longest.{longest_is, longest_found, longest_none, longest_missing}
+use Rattle.rv_tokens.proofs.Signs.{token_is}
+use Rattle.rv_tokens.proofs.Placing.{tokens_are}
 use Rattle.rv_tokens.proofs.Cutting.{cut_blank, cut_comment, cut_token, cut_none, cut_end}
 
 -- ---- from the token at the front of a line to the parts of the line, and back
 
-kept_is : (t u : Token) (rest : List ℕ) (b : Bool) → may_precede t rest ≡ b
-    → ◌≡◌ {A = Option Token} (cond b (Some t) None) (Some u) → (t ≡ u) × (may_precede u rest ≡ true)
-kept_is t u rest true e h = let f : t ≡ u = cc in (f, rw (← f) e)
-kept_is t u rest false e h = absurd cc
-
-spelled_in : (line : List ℕ) (n : ℕ) (o : Option Token) (u : Token) → token_of (take n line) ≡ o
-    → token_in line n ≡ Some u → Spells (take n line) (drop n line) u
-unfolding token_in
-spelled_in line n None u e h = let f = rw e at h in absurd cc
-spelled_in line n (Some t) u e h =
-    let f = rw e at h in
-    let p = kept_is t u (drop n line) (may_precede t (drop n line)) refl f in
-    (rw (← p.0) e, p.1)
+spelled_in : (text rest : List ℕ) (u : Token) (b : Bool) → may_precede text rest ≡ b
+    → cond b (token_of text) None ≡ Some u → Spells text rest u
+spelled_in text rest u true e h = (h, e)
+spelled_in text rest u false e h = absurd cc
 
 -- the token of the first n bytes is spelled by them
 in_spells : (line : List ℕ) (n : ℕ) (u : Token) → token_in line n ≡ Some u
     → Spells (take n line) (drop n line) u
-in_spells line n u h = spelled_in line n (token_of (take n line)) u refl h
+unfolding token_in
+in_spells line n u h = spelled_in (take n line) (drop n line) u (may_precede (take n line) (drop n line)) refl h
 
 spells_in : (line : List ℕ) (n : ℕ) (u : Token) → Spells (take n line) (drop n line) u
     → token_in line n ≡ Some u
 unfolding token_in
-spells_in line n u h = rw (h.0, h.1) refl
+spells_in line n u h = rw h.1 h.0
 
 none_unless : (o : Option Token) → ((u : Token) → o ≡ Some u → ⊥) → o ≡ None
 none_unless None h = refl
@@ -56,8 +51,7 @@ text_in text rest u h =
     spells_in (text ++ rest) (length text) u (rw (take-append_seam text rest, drop-append_seam text rest) h)
 
 some_text : (text : List ℕ) (u : Token) → token_of text ≡ Some u → 0 < length text
-unfolding token_of
-some_text [] u h = absurd cc
+some_text [] u h = let f = rw (token_is []) at h in absurd cc
 some_text (b ∷ bs) u h = omega arith
 
 -- the first n bytes of a line extend a text at its front
@@ -79,8 +73,11 @@ none_longer text rest m longest more le =
     let back : drop m (text ++ rest) ≡ drop n rest =
     ap (λ k. drop k (text ++ rest)) (sym e) ∙ drop-append-add text rest n in
     longest (take n rest) (drop n rest) u (sym (take-append-drop n rest))
-    (omega (arith, length-take n rest, length-append text rest))
-    (ap token_of (sym front) ∙ s.0, ap (may_precede u) (sym back) ∙ s.1))
+    (omega (arith, length-take n rest, length-append text rest)) (
+      ap token_of (sym front) ∙ s.0,
+      ap (λ x. may_precede x (drop n rest)) (sym front)
+          ∙ (ap (may_precede (take m (text ++ rest))) (sym back) ∙ s.1),
+    ))
 
 -- the longest text at the front of a line
 front_is : (text rest : List ℕ) (t : Token) → Spells text rest t → IsLongest text rest
@@ -96,24 +93,20 @@ front_is text rest t h longest = longest_is (token_in (text ++ rest)) (length (t
 -- ---- neither a blank nor a comment begins where a token does
 
 space_none : (bs : List ℕ) → token_of (32 ∷ bs) ≡ None
-unfolding token_of
-space_none [] = refl
-space_none (c ∷ cs) = refl
+space_none [] = token_is (32 ∷ [])
+space_none (c ∷ cs) = token_is (32 ∷ c ∷ cs)
 
 tab_none : (bs : List ℕ) → token_of (9 ∷ bs) ≡ None
-unfolding token_of
-tab_none [] = refl
-tab_none (c ∷ cs) = refl
+tab_none [] = token_is (9 ∷ [])
+tab_none (c ∷ cs) = token_is (9 ∷ c ∷ cs)
 
 hash_none : (bs : List ℕ) → token_of (35 ∷ bs) ≡ None
-unfolding token_of
-hash_none [] = refl
-hash_none (c ∷ cs) = refl
+hash_none [] = token_is (35 ∷ [])
+hash_none (c ∷ cs) = token_is (35 ∷ c ∷ cs)
 
 slash_none : (bs : List ℕ) → token_of (47 ∷ bs) ≡ None
-unfolding token_of
-slash_none [] = refl
-slash_none (c ∷ cs) = refl
+slash_none [] = token_is (47 ∷ [])
+slash_none (c ∷ cs) = token_is (47 ∷ c ∷ cs)
 
 differs_step : (b n : ℕ) (s : Bool) → (b == n) ≡ s → (b ≡ n → ⊥) → s ≡ false
 differs_step b n true e h = absurd (h (grind (arith, nat_tests)))
@@ -158,43 +151,43 @@ comment_step b bs false false e f h = refl
 
 -- ---- from the parts of a line to its cut
 
-cut_blanks : (blanks xs : List ℕ) → list_all is_blank blanks ≡ true → cut (blanks ++ xs) 0 ≡ cut xs 0
+cut_blanks : (blanks xs : List ℕ) → list_all is_blank blanks ≡ true → tokens_after (blanks ++ xs) 0 ≡ tokens_after xs 0
 cut_blanks [] xs h = refl
 cut_blanks (b ∷ bs) xs h =
     let p = list_all_split is_blank b bs h in
     cut_blank (b ∷ (bs ++ xs)) (omega arith) p.0 ∙ cut_blanks bs xs p.1
 
 begins_cut : (line rest : List ℕ) (t : Token) → BeginsWith line t rest
-    → cut line 0 ≡ with_tokens (t ∷ []) (cut rest 0)
+    → tokens_after line 0 ≡ with_tokens (t ∷ []) (tokens_after rest 0)
 begins_cut line rest t w =
     let s = starts w.text rest t w.spells.0 in
     let some = some_text w.text t w.spells.0 in
     let long : 0 < length (w.text ++ rest) = omega (arith, some, length-append w.text rest) in
-    ap (λ l. cut l 0) w.parts
-    ∙ (cut_blanks w.blanks (w.text ++ rest) w.are_blank
+    ap (λ l. tokens_after l 0) w.past.1
+    ∙ (cut_blanks w.past.0 (w.text ++ rest) w.past.2
     ∙ (cut_token (w.text ++ rest) t (length w.text) long s.0 s.1
     (front_is w.text rest t w.spells w.longest) some
-    ∙ ap (λ l. with_tokens (t ∷ []) (cut l 0)) (drop-append_seam w.text rest)))
+    ∙ ap (λ l. with_tokens (t ∷ []) (tokens_after l 0)) (drop-append_seam w.text rest)))
 
-ended_cut : (rest : List ℕ) → ((rest ≡ []) ⊎ (is_comment rest ≡ true)) → cut rest 0 ≡ Ok []
+ended_cut : (rest : List ℕ) → ((rest ≡ []) ⊎ (is_comment rest ≡ true)) → tokens_after rest 0 ≡ Ok []
 ended_cut [] e = cut_end [] refl
 ended_cut (b ∷ bs) (inl e) = absurd cc
 ended_cut (b ∷ bs) (inr e) =
     cut_comment (b ∷ bs) (omega arith) (comment_step b bs (b == 32) (b == 9) refl refl e) e
 
-over_cut : (line : List ℕ) → IsOver line → cut line 0 ≡ Ok []
+over_cut : (line : List ℕ) → IsOver line → tokens_after line 0 ≡ Ok []
 over_cut line o =
-    ap (λ l. cut l 0) o.parts ∙ (cut_blanks o.blanks o.rest o.are_blank ∙ ended_cut o.rest o.ends)
+    ap (λ l. tokens_after l 0) o.1.1 ∙ (cut_blanks o.1.0 o.0 o.1.2 ∙ ended_cut o.0 o.2)
 
-stuck_cut : (fault : LineFault) (line : List ℕ) → IsStuck fault line → cut line 0 ≡ Err fault
+stuck_cut : (fault : LineFault) (line : List ℕ) → IsStuck fault line → tokens_after line 0 ≡ Err fault
 stuck_cut fault line s =
     let here : List ℕ = s.byte ∷ s.bytes in
     let none : front here ≡ None = longest_none (token_in here) (length here) (λ m p q.
     none_unless (token_in here m)
     (λ u h. s.no_token (take m here) (drop m here) u (sym (take-append-drop m here))
     (in_spells here m u h))) in
-    ap (λ l. cut l 0) s.parts
-    ∙ (cut_blanks s.blanks here s.are_blank
+    ap (λ l. tokens_after l 0) s.past.1
+    ∙ (cut_blanks s.past.0 here s.past.2
     ∙ (cut_none here (omega arith) s.no_blank s.no_comment none ∙ ap (λ f. Err f) (sym s.is)))
 
 with_none : (r : Result (List Token) LineFault) → with_tokens [] r ≡ r
@@ -206,8 +199,8 @@ with_more : (t : Token) (ts : List Token) (r : Result (List Token) LineFault)
 with_more t ts (Ok us) = refl
 with_more t ts (Err fault) = refl
 
-then_cut : (End : List ℕ → Type 0) (r : Result (List Token) LineFault) → ((l : List ℕ) → End l → cut l 0 ≡ r)
-    → (ts : List Token) (line : List ℕ) → IsTokensThen End ts line → cut line 0 ≡ with_tokens ts r
+then_cut : (End : List ℕ → Type 0) (r : Result (List Token) LineFault) → ((l : List ℕ) → End l → tokens_after l 0 ≡ r)
+    → (ts : List Token) (line : List ℕ) → IsTokensThen End ts line → tokens_after line 0 ≡ with_tokens ts r
 then_cut End r ends [] line h = ends line h ∙ sym (with_none r)
 then_cut End r ends (t ∷ ts) line h =
     begins_cut line h.0 t h.1
@@ -219,11 +212,11 @@ short n h = grind (arith, nat_tests)
 long : (n : ℕ) → 1024 < n → nat_lt 1024 n ≡ true
 long n h = grind (arith, nat_tests)
 
-short_tokens : (line : List ℕ) → length line ≤ 1024 → tokens line ≡ cut line 0
+pub short_tokens : (line : List ℕ) → length line ≤ 1024 → tokens line ≡ tokens_after line 0
 unfolding tokens
-short_tokens line h = rw (short (length line) h) refl
+short_tokens line h = rw (short (length line) h) (sym (tokens_are (length line) line))
 
-long_tokens : (line : List ℕ) → 1024 < length line → tokens line ≡ Err LineTooLong
+pub long_tokens : (line : List ℕ) → 1024 < length line → tokens line ≡ Err LineTooLong
 unfolding tokens
 long_tokens line h = rw (long (length line) h) refl
 
@@ -249,6 +242,9 @@ abbrev IsMade : List ℕ → Result (List Token) LineFault → Type 0
 IsMade line (Ok ts) = IsTokensThen IsOver ts line
 IsMade line (Err fault) = (ts : List Token) × IsTokensThen (IsStuck fault) ts line
 
+blank_past : (b : ℕ) (line rest : List ℕ) → is_blank b ≡ true → IsPast line rest → IsPast (b ∷ line) rest
+blank_past b line rest e p = (b ∷ p.0, ap (λ l. b ∷ l) p.1, rw (e, p.2) refl)
+
 blank_then : (End : List ℕ → Type 0) (b : ℕ) (line : List ℕ) → is_blank b ≡ true → (End line → End (b ∷ line))
     → (ts : List Token) → IsTokensThen End ts line → IsTokensThen End ts (b ∷ line)
 blank_then End b line e ends [] h = ends h
@@ -256,10 +252,8 @@ blank_then End b line e ends (t ∷ ts) h =
     let w = h.1 in (
       h.0,
       record {
-        blanks = b ∷ w.blanks;
         text = w.text;
-        parts = ap (λ l. b ∷ l) w.parts;
-        are_blank = rw (e, w.are_blank) refl;
+        past = blank_past b line (w.text ++ h.0) e w.past;
         spells = w.spells;
         longest = w.longest;
       },
@@ -267,23 +261,14 @@ blank_then End b line e ends (t ∷ ts) h =
     )
 
 blank_over : (b : ℕ) (line : List ℕ) → is_blank b ≡ true → IsOver line → IsOver (b ∷ line)
-blank_over b line e o =
-    record {
-      blanks = b ∷ o.blanks;
-      rest = o.rest;
-      parts = ap (λ l. b ∷ l) o.parts;
-      are_blank = rw (e, o.are_blank) refl;
-      ends = o.ends;
-    }
+blank_over b line e o = (o.0, blank_past b line o.0 e o.1, o.2)
 
 blank_stuck : (fault : LineFault) (b : ℕ) (line : List ℕ) → is_blank b ≡ true → IsStuck fault line
     → IsStuck fault (b ∷ line)
 blank_stuck fault b line e s = record {
-  blanks = b ∷ s.blanks;
   byte = s.byte;
   bytes = s.bytes;
-  parts = ap (λ l. b ∷ l) s.parts;
-  are_blank = rw (e, s.are_blank) refl;
+  past = blank_past b line (s.byte ∷ s.bytes) e s.past;
   no_blank = s.no_blank;
   no_comment = s.no_comment;
   no_token = s.no_token;
@@ -300,10 +285,8 @@ begun : (line : List ℕ) (t : Token) (n : ℕ) → front line ≡ Some (t, n) �
 begun line t n h =
     let l = longest_found (token_in line) (length line) n t h in
     record {
-      blanks = [];
       text = take n line;
-      parts = sym (take-append-drop n line);
-      are_blank = refl;
+      past = ([], sym (take-append-drop n line), refl);
       spells = in_spells line n t l.is;
       longest = λ more others u e some s.
           (let text : List ℕ = take n line ++ more in
@@ -329,11 +312,9 @@ made_stuck : (b : ℕ) (bs : List ℕ) → is_blank b ≡ false → is_comment (
 made_stuck b bs blank comment none = (
   [],
   record {
-    blanks = [];
     byte = b;
     bytes = bs;
-    parts = refl;
-    are_blank = refl;
+    past = ([], refl, refl);
     no_blank = blank;
     no_comment = comment;
     no_token = λ text rest t e s.
@@ -350,32 +331,32 @@ made_stuck b bs blank comment none = (
 
 -- a line, if each of its ends has the parts that it is cut into
 made_front : (b : ℕ) (bs : List ℕ) (o : Option (Token × ℕ))
-    → ((l : List ℕ) → length l ≤ length bs → IsMade l (cut l 0)) → is_blank b ≡ false
-    → is_comment (b ∷ bs) ≡ false → front (b ∷ bs) ≡ o → IsMade (b ∷ bs) (cut (b ∷ bs) 0)
+    → ((l : List ℕ) → length l ≤ length bs → IsMade l (tokens_after l 0)) → is_blank b ≡ false
+    → is_comment (b ∷ bs) ≡ false → front (b ∷ bs) ≡ o → IsMade (b ∷ bs) (tokens_after (b ∷ bs) 0)
 made_front b bs None more blank comment e =
     rw (cut_none (b ∷ bs) (omega arith) blank comment e) (made_stuck b bs blank comment e)
 made_front b bs (Some at) more blank comment e =
     let l = longest_found (token_in (b ∷ bs)) (length (b ∷ bs)) at.1 at.0 e in
     rw (cut_token (b ∷ bs) at.0 at.1 (omega arith) blank comment e l.some)
-    (made_token (b ∷ bs) at.0 at.1 (cut (drop at.1 (b ∷ bs)) 0) e
+    (made_token (b ∷ bs) at.0 at.1 (tokens_after (drop at.1 (b ∷ bs)) 0) e
     (more (drop at.1 (b ∷ bs)) (omega (arith, length-drop at.1 (b ∷ bs), l.some, l.within))))
 
-made_comment : (b : ℕ) (bs : List ℕ) (c : Bool) → ((l : List ℕ) → length l ≤ length bs → IsMade l (cut l 0))
-    → is_blank b ≡ false → is_comment (b ∷ bs) ≡ c → IsMade (b ∷ bs) (cut (b ∷ bs) 0)
+made_comment : (b : ℕ) (bs : List ℕ) (c : Bool) → ((l : List ℕ) → length l ≤ length bs → IsMade l (tokens_after l 0))
+    → is_blank b ≡ false → is_comment (b ∷ bs) ≡ c → IsMade (b ∷ bs) (tokens_after (b ∷ bs) 0)
 made_comment b bs true more blank e =
     rw (cut_comment (b ∷ bs) (omega arith) blank e)
-    (record { blanks = []; rest = b ∷ bs; parts = refl; are_blank = refl; ends = inr e })
+    (b ∷ bs, ([], refl, refl), inr e)
 made_comment b bs false more blank e = made_front b bs (front (b ∷ bs)) more blank e refl
 
-made_step : (b : ℕ) (bs : List ℕ) (s : Bool) → ((l : List ℕ) → length l ≤ length bs → IsMade l (cut l 0))
-    → is_blank b ≡ s → IsMade (b ∷ bs) (cut (b ∷ bs) 0)
+made_step : (b : ℕ) (bs : List ℕ) (s : Bool) → ((l : List ℕ) → length l ≤ length bs → IsMade l (tokens_after l 0))
+    → is_blank b ≡ s → IsMade (b ∷ bs) (tokens_after (b ∷ bs) 0)
 made_step b bs true more e =
-    rw (cut_blank (b ∷ bs) (omega arith) e) (made_blank b bs (cut bs 0) e (more bs (omega arith)))
+    rw (cut_blank (b ∷ bs) (omega arith) e) (made_blank b bs (tokens_after bs 0) e (more bs (omega arith)))
 made_step b bs false more e = made_comment b bs (is_comment (b ∷ bs)) more e refl
 
-made : (k : ℕ) (line : List ℕ) → length line ≤ k → IsMade line (cut line 0)
+made : (k : ℕ) (line : List ℕ) → length line ≤ k → IsMade line (tokens_after line 0)
 made k [] h =
-    rw (cut_end [] refl) (record { blanks = []; rest = []; parts = refl; are_blank = refl; ends = inl refl })
+    rw (cut_end [] refl) ([], ([], refl, refl), inl refl)
 made zero (b ∷ bs) h = absurd (omega arith)
 made (suc k) (b ∷ bs) h = made_step b bs (is_blank b) (λ l m. made k l (omega (arith, h, m))) refl
 
@@ -403,7 +384,7 @@ is_cut line = elim (dec_lt 1024 (length line)) [
   | no less ↦
       (let le : length line ≤ 1024 =
       omega arith in rw (short_tokens line le)
-      (cut_into line (cut line 0) le (made (length line) line (omega arith))))
+      (cut_into line (tokens_after line 0) le (made (length line) line (omega arith))))
 ]
 
 -- the parts of a line are its tokens

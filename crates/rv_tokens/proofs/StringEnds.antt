@@ -16,6 +16,8 @@ use Rattle.rv_tokens.specs.declared.token.Token.{Token}
 use Rattle.rv_tokens.specs.declared.token.Token.TheVariants.{Text}
 use Rattle.rv_tokens.specs.Literals.{longest, is_digit, number_in, byte_in, escape, spelled, is_plain_in_string, between, first_byte, bytes_after, bytes_of, string}
 use Rattle.rv_tokens.specs.Tokens.{token_of, token_in, may_precede, front}
+use Rattle.rv_tokens.proofs.Signs.{token_is}
+use Rattle.rv_tokens.proofs.Front.{kept_in, no_name_last}
 use Rattle.rv_tokens.proofs.Digits.{number_in_is}
 use Rattle.rv_tokens.proofs.Longest.{longest_is, longest_found, longest_missing, longest_none}
 use Rattle.rv_tokens.proofs.Spellings.{string_byte_in, bytes_of_none, bytes_of_some}
@@ -215,19 +217,25 @@ quoted_cond false ys = refl
 
 token_of_string : (ys : List ℕ) (n : ℕ) → length ys ≡ suc n
     → token_of (34 ∷ ys) ≡ cond (get_or ys n 0 == 34) (option_map (λ s. Text s) (bytes_of (take n ys))) None
-unfolding token_of string
+unfolding string
 token_of_string [] n len = absurd (omega arith)
 token_of_string (c ∷ cs) n len =
-    ap (λ o. option_map (λ s. Text s) (option_and_then bytes_of o)) (quoted_between (c ∷ cs) n len)
+    token_is (34 ∷ c ∷ cs)
+    ∙ ap (λ o. option_map (λ s. Text s) (option_and_then bytes_of o)) (quoted_between (c ∷ cs) n len)
     ∙ quoted_cond (get_or (c ∷ cs) n 0 == 34) (take n (c ∷ cs))
 
-text_kept : (t : Bool) (o : Option (List ℕ)) (rest : List ℕ) →
-    ◌≡◌ {A = Option Token}
-    (option_and_then (λ u. cond (may_precede u rest) (Some u) None)
-    (cond t (option_map (λ s. Text s) o) None)) (cond t (option_map (λ s. Text s) o) None)
-text_kept true None rest = refl
-text_kept true (Some s) rest = refl
-text_kept false o rest = refl
+text_open : (may : Bool) → ◌≡◌ {A = Option Token} (cond may None None) None
+text_open true = refl
+text_open false = refl
+
+text_kept : (xs rest : List ℕ) (c : ℕ) (t : Bool) (o : Option (List ℕ)) → get_or xs (length xs - 1) 0 ≡ c
+    → (c == 34) ≡ t
+    → ◌≡◌ {A = Option Token} (cond (may_precede xs rest) (cond t (option_map (λ s. Text s) o) None) None)
+    (cond t (option_map (λ s. Text s) o) None)
+text_kept xs rest c true o e f =
+    let last : c ≡ 34 = grind (arith, nat_tests) in
+    rw (no_name_last xs rest (rw (e, last) refl)) refl
+text_kept xs rest c false o e f = text_open (may_precede xs rest)
 
 string_in : (text : List ℕ) (m : ℕ) → m < length text
     → token_in (34 ∷ text) (suc (suc m))
@@ -238,12 +246,15 @@ string_in text m lt =
     let last : get_or (take (suc m) text) m 0 ≡ get_or text m 0 =
     get_or-take (suc m) text m 0 (omega arith) in
     let front : take m (take (suc m) text) ≡ take m text = take-take m (suc m) text (omega arith) in
+    let index : length (34 ∷ take (suc m) text) - 1 ≡ suc m = omega (arith, len) in
+    let end : get_or (34 ∷ take (suc m) text) (length (34 ∷ take (suc m) text) - 1) 0 ≡ get_or text m 0 =
+    rw index last in
     rw (token_of_string (take (suc m) text) m len, last, front)
-    (text_kept (get_or text m 0 == 34) (bytes_of (take m text)) (drop (suc m) text))
+    (text_kept (34 ∷ take (suc m) text) (drop (suc m) text) (get_or text m 0) (get_or text m 0 == 34)
+    (bytes_of (take m text)) end refl)
 
 lone_quote : (text : List ℕ) → token_in (34 ∷ text) 1 ≡ None
-unfolding token_in token_of
-lone_quote text = refl
+lone_quote text = kept_in (34 ∷ text) 1 (no_name_last (34 ∷ []) text refl) ∙ token_is (34 ∷ [])
 
 cond_none : (t : Bool) (o : Option (List ℕ)) → (t ≡ true → o ≡ None)
     → ◌≡◌ {A = Option Token} (cond t (option_map (λ s. Text s) o) None) None

@@ -2,4 +2,4 @@ pub mod Faults
 pub mod Literals
 pub mod Tokens
 pub mod Parts
-pub mod Places
+pub mod Partial

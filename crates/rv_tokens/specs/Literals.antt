@@ -1,10 +1,11 @@
 -- The spelling of numbers, characters and strings.
 -- To audit: public contracts cite this.
 -- The language is this project's own: docs/ASSEMBLER.md.
-use Rattle.std.specs.Prelude.{ℕ, zero, suc, pred, ◌+◌, ◌-◌, ◌*◌, Bool, false, not, ◌&&◌, ◌||◌, List, [], ◌∷◌, length, take, drop, fold, if◌then◌else◌, ◌==◌, nat_le, nat_lt, Option, Some, None, option_and_then, slice_index}
+use Rattle.std.specs.Prelude.{ℕ, zero, suc, pred, ◌+◌, ◌-◌, ◌*◌, Bool, false, not, ◌&&◌, ◌||◌, List, [], ◌∷◌, length, take, drop, fold, if◌then◌else◌, ◌==◌, nat_le, nat_lt, Option, Some, None, option_and_then, slice_index, codes}
 use Rattle.std.specs.List.{list_all}
 use Rattle.std.specs.Option.{option_map, option_map_or, option_or, unwrap_or}
 use Rattle.rv_base.specs.Numbers.{hex_digit}
+use Rattle.rv_base.specs.Tables.{lookup}
 
 -- Of the prefixes of a text up to n bytes, the longest that spells something: what it spells, and its length.
 -- `spells n` is what the prefix of n bytes spells.
@@ -33,24 +34,19 @@ number_in base digits =
     then Some (value base digits)
     else None
 
--- whether a text begins with `0` and a letter in either case
-abbrev pub has_prefix : ℕ → ℕ → List ℕ → Bool
-has_prefix lower upper text =
-    nat_lt 1 (length text)
-    && ((slice_index text 0 == 48) && ((slice_index text 1 == lower) || (slice_index text 1 == upper)))
-
 -- whether a text begins with `0` and goes on
 abbrev pub has_leading_zero : List ℕ → Bool
 has_leading_zero text = nat_lt 1 (length text) && (slice_index text 0 == 48)
 
--- a number: `0x` or `0X` and hexadecimal digits, `0b` or `0B` and binary digits, `0` and octal digits,
--- or decimal digits without a leading zero
+-- the bases of numbers, by the two bytes that they begin with
+abbrev pub prefixes : List (List ℕ × ℕ)
+prefixes = (codes "0x", 16) ∷ (codes "0X", 16) ∷ (codes "0b", 2) ∷ (codes "0B", 2) ∷ []
+
+-- a number: a prefix and digits in its base, `0` and octal digits, or decimal digits without a leading zero
 unfoldable pub number : List ℕ → Option ℕ
 number text =
-    if has_prefix 120 88 text then number_in 16 (drop 2 text)
-    else (if has_prefix 98 66 text then number_in 2 (drop 2 text)
-    else (if has_leading_zero text then number_in 8 (drop 1 text)
-    else number_in 10 text))
+    option_map_or (λ base. number_in base (drop 2 text)) (lookup (take 2 text) prefixes)
+    (if has_leading_zero text then number_in 8 (drop 1 text) else number_in 10 text)
 
 -- a short number: one to four decimal digits without a leading zero
 unfoldable pub short_decimal : List ℕ → Option ℕ
@@ -58,16 +54,11 @@ short_decimal text = if nat_lt 4 (length text) || has_leading_zero text then Non
 
 -- ---- characters and strings
 
--- the byte of `\n`, `\t`, `\r`, `\b`, `\f`, `\\`, `\"` and `\'`, by the letter following the `\`
-abbrev pub letter_escape : ℕ → Option ℕ
-letter_escape b =
-    if b == 110 then Some 10
-    else (if b == 116 then Some 9
-    else (if b == 114 then Some 13
-    else (if b == 98 then Some 8
-    else (if b == 102 then Some 12
-    else (if (b == 92) || ((b == 34) || (b == 39)) then Some b
-    else None)))))
+-- the bytes of `\n`, `\t`, `\r`, `\b`, `\f`, `\\`, `\"` and `\'`
+abbrev pub letters : List (List ℕ × ℕ)
+letters =
+    (codes "n", 10) ∷ (codes "t", 9) ∷ (codes "r", 13) ∷ (codes "b", 8) ∷ (codes "f", 12)
+    ∷ (codes "\\", 92) ∷ (codes "\"", 34) ∷ (codes "'", 39) ∷ []
 
 -- digits of a value below 256
 abbrev pub byte_in : ℕ → List ℕ → Option ℕ
@@ -75,7 +66,7 @@ byte_in base digits = option_and_then (λ n. if nat_lt n 256 then Some n else No
 
 -- an escape without its `\`: a letter, `x` and two hexadecimal digits, or one to three octal digits
 unfoldable pub escape : List ℕ → Option ℕ
-escape (b ∷ []) = option_or (letter_escape b) (byte_in 8 (b ∷ []))
+escape (b ∷ []) = option_or (lookup (b ∷ []) letters) (byte_in 8 (b ∷ []))
 escape (b ∷ c ∷ []) = byte_in 8 (b ∷ c ∷ [])
 escape (b ∷ c ∷ d ∷ []) = if b == 120 then byte_in 16 (c ∷ d ∷ []) else byte_in 8 (b ∷ c ∷ d ∷ [])
 escape _ = None

@@ -14,7 +14,7 @@ use Rattle.rv_tokens.specs.Tokens.{token_of, may_precede, is_comment, fault_at, 
 
 -- a text spells a token that may precede the rest of the line
 abbrev pub Spells : List ℕ → List ℕ → Token → Type 0
-Spells text rest t = (token_of text ≡ Some t) × (may_precede t rest ≡ true)
+Spells text rest t = (token_of text ≡ Some t) × (may_precede text rest ≡ true)
 
 -- no longer text, which goes on into the rest of the line, spells a token
 abbrev pub IsLongest : List ℕ → List ℕ → Type 0
@@ -22,30 +22,26 @@ IsLongest text rest =
     (more others : List ℕ) (t : Token) → rest ≡ more ++ others → 0 < length more
     → Spells (text ++ more) others t → ⊥
 
+-- a line is blanks, and the rest
+abbrev pub IsPast : List ℕ → List ℕ → Type 0
+IsPast line rest = (blanks : List ℕ) × (line ≡ blanks ++ rest) × (list_all is_blank blanks ≡ true)
+
 -- a line is blanks, the text of a token, and the rest
 pub record BeginsWith (line : List ℕ) (t : Token) (rest : List ℕ) : Type 0 where
-  pub blanks : List ℕ
   pub text : List ℕ
-  pub parts : line ≡ blanks ++ (text ++ rest)
-  pub are_blank : list_all is_blank blanks ≡ true
+  pub past : IsPast line (text ++ rest)
   pub spells : Spells text rest t
   pub longest : IsLongest text rest
 
 -- a line is blanks, followed by a comment or nothing
-pub record IsOver (line : List ℕ) : Type 0 where
-  pub blanks : List ℕ
-  pub rest : List ℕ
-  pub parts : line ≡ blanks ++ rest
-  pub are_blank : list_all is_blank blanks ≡ true
-  pub ends : (rest ≡ []) ⊎ (is_comment rest ≡ true)
+abbrev pub IsOver : List ℕ → Type 0
+IsOver line = (rest : List ℕ) × IsPast line rest × ((rest ≡ []) ⊎ (is_comment rest ≡ true))
 
 -- a line is blanks, followed by a byte at which neither a comment nor a token begins
 pub record IsStuck (fault : LineFault) (line : List ℕ) : Type 0 where
-  pub blanks : List ℕ
   pub byte : ℕ
   pub bytes : List ℕ
-  pub parts : line ≡ blanks ++ (byte ∷ bytes)
-  pub are_blank : list_all is_blank blanks ≡ true
+  pub past : IsPast line (byte ∷ bytes)
   pub no_blank : is_blank byte ≡ false
   pub no_comment : is_comment (byte ∷ bytes) ≡ false
   pub no_token : (text rest : List ℕ) (t : Token) → byte ∷ bytes ≡ text ++ rest → Spells text rest t → ⊥

@@ -1,6 +1,7 @@
 //! Numbers, characters and strings.
 ghost use Rattle.std.specs.Prelude.{◌≡◌, ◌<◌, ◌≤◌, IfSome, length};
-ghost use Rattle.rv_tokens.specs.Literals.{digit_value, is_digit, number_in, has_prefix, has_leading_zero, number, short_decimal, letter_escape, byte_in, escape, escaped, spelled, is_plain_in_character, is_plain_in_string, character, first_byte};
+ghost use Rattle.rv_tokens.specs.Literals.{digit_value, is_digit, number_in, has_leading_zero, number, short_decimal, byte_in, escape, escaped, spelled, is_plain_in_character, is_plain_in_string, character, first_byte};
+ghost use Rattle.rv_tokens.specs.Partial.{has_prefix, letter_escape};
 
 use rv_base::hex_digit;
 
@@ -56,7 +57,7 @@ fn has_leading_zero(text: &[u8]) -> bool
 }
 
 /// Reads a number: hexadecimal after `0x`, binary after `0b`, octal after `0`, or decimal.
-#[tactic(auto, unfolding(crate::specs::Literals::number))]
+#[tactic(auto, using(crate::proofs::Signs::number_decimal))]
 pub fn number(text: &[u8]) -> Option<u32>
     ensures { result ≡ number text.now }
 {
@@ -111,7 +112,7 @@ fn byte_in(base: u64, digits: &[u8]) -> Option<u8>
 }
 
 /// Reads an escape without its `\`: a letter, `x` and two hexadecimal digits, or one to three octal digits.
-#[tactic(auto, unfolding(crate::specs::Literals::escape))]
+#[tactic(auto, unfolding(crate::specs::Literals::escape), using(crate::proofs::Signs::letter_is))]
 fn escape(text: &[u8]) -> Option<u8>
     ensures { result ≡ escape text.now }
 {

@@ -1,6 +1,7 @@
 //! Where the tokens of a line stand.
 ghost use Rattle.std.specs.Prelude.{◌≡◌, ◌+◌, ◌≤◌, ◌<◌, length, slice_get, IfSome};
-ghost use Rattle.rv_tokens.specs.Places.{places_in, places};
+ghost use Rattle.rv_tokens.specs.Tokens.{places};
+ghost use Rattle.rv_tokens.specs.Partial.{places_after};
 
 use crate::scan::{front, is_comment};
 use rv_base::is_blank;
@@ -15,10 +16,10 @@ pub struct Place {
 }
 
 /// Returns the place of the token with an index in the rest of a line that has `total` bytes.
-#[tactic(auto, unfolding(crate::specs::Places::places_in))]
+#[tactic(auto, unfolding(crate::specs::Partial::places_after))]
 fn place_in(total: usize, rest: &[u8], index: usize) -> Option<Place>
     requires { length rest.now ≤ total }
-    ensures value { result ≡ slice_get (places_in total rest.now 0) index }
+    ensures value { result ≡ slice_get (places_after total rest.now 0) index }
     ensures within { IfSome result (λ p. p.column + p.len ≤ total) }
 {
     let [first, others @ ..] = rest else {
@@ -40,6 +41,7 @@ fn place_in(total: usize, rest: &[u8], index: usize) -> Option<Place>
 
 /// Returns the place of the token with an index, counted from 0, in a line without its line end; `None` if
 /// fewer tokens can be cut from the line.
+#[tactic(auto, using(crate::proofs::Placing::places_are))]
 pub fn place_of(line: &[u8], index: usize) -> Option<Place>
     ensures value { result ≡ slice_get (places line.now) index }
     ensures within { IfSome result (λ p. p.column + p.len ≤ length line.now) }

@@ -3,7 +3,8 @@ ghost use Rattle.std.specs.Prelude.{◌≡◌, ◌==◌, IfOk, IsTrue, ◌<◌, 
 ghost use Rattle.std.specs.List.{list_all};
 ghost use Rattle.rv_tokens.specs.Faults.{Gives};
 ghost use Rattle.rv_tokens.specs.Parts.{IsCutInto, OneCut};
-ghost use Rattle.rv_tokens.specs.Tokens.{is_name_start, is_name_byte, local, word, sign, half, front, is_comment, begins_with_name_byte, fault_at, cut, tokens};
+ghost use Rattle.rv_tokens.specs.Partial.{sign, half, tokens_after};
+ghost use Rattle.rv_tokens.specs.Tokens.{is_name_start, is_name_byte, local, word, front, is_comment, begins_with_name_byte, fault_at, tokens};
 
 use crate::literal::{character, first_byte, number, short_decimal};
 use crate::token::{Text, Token};
@@ -225,7 +226,7 @@ pub fn front<'a>(line: &'a [u8]) -> Option<(Token<'a>, usize)>
 
 /// Cuts a line of any length into its tokens.
 fn cut<'a>(alloc: Global, line: &'a [u8]) -> Result<Vec<Token<'a>>, LineFault>
-    ensures value { Gives (λ v. v.items) result (cut line.now 0) }
+    ensures value { Gives (λ v. v.items) result (tokens_after line.now 0) }
     ensures short { IfOk result (λ v. length v.items ≤ length line.now) }
 {
     let mut out = Vec::new(alloc);
@@ -255,7 +256,7 @@ fn cut<'a>(alloc: Global, line: &'a [u8]) -> Result<Vec<Token<'a>>, LineFault>
 /// - `LineTooLong` if the line has more than 1,024 bytes, whatever they are.
 /// - `BadByte` or `Syntax` if no token begins at some place: `BadByte` if no token has the byte there.
 /// - `OutOfMemory` may come in place of any result.
-#[tactic(auto, unfolding(crate::specs::Tokens::tokens), using(crate::proofs::PartsLemmas::is_cut))]
+#[tactic(auto, using(crate::proofs::PartsLemmas::is_cut, crate::proofs::PartsLemmas::short_tokens, crate::proofs::PartsLemmas::long_tokens))]
 pub fn cut_line<'a>(alloc: Global, line: &'a [u8]) -> Result<Vec<Token<'a>>, LineFault>
     ensures value { Gives (λ v. v.items) result (tokens line.now) }
     ensures parts { IsCutInto line.now (tokens line.now) }

@@ -1,7 +1,7 @@
 use Rattle.std.proofs.Common.{◌≡◌, sym, ap, ◌∙◌, get_or, rules}
 use Rattle.std.specs.Prelude.{Some, None}
 use Rattle.std.specs.Option.{option_map}
-use Rattle.rv_tokens.specs.Tokens.{sign}
+use Rattle.rv_tokens.specs.Partial.{sign}
 use Rattle.rv_tokens.proofs.Front.{front_sign}
 use Rattle.rv_tokens.proofs.scan.sign_front.Goals as goal
 
