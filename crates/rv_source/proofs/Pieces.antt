@@ -4,11 +4,14 @@ use Rattle.std.proofs.Math.Numerals.{one-add}
 use Rattle.std.specs.Prelude.{◌++◌, Option, Some, None, nat_lt, option_and_then}
 use Rattle.std.specs.Option.{option_map}
 use Rattle.std.proofs.lemmas.List.{length-take-le}
-use Rattle.std.specs.List.{position_or_len, position}
+use Rattle.std.specs.List.{position_or_len, position, slice_split, onto_first}
 use Rattle.std.proofs.lemmas.Bool.Decides.{nat_tests}
 use Rattle.rv_tokens.specs.declared.token.Token.{Token}
 use Rattle.rv_source.specs.declared.operand.Operand.{Operand}
-use Rattle.rv_source.specs.Operands.{is_comma, before, pieces, operand, operands}
+use Rattle.rv_source.specs.Operands.{is_comma, operand, operands}
+
+abbrev pub pieces : List Token → List (List Token)
+pieces ts = slice_split is_comma ts
 
 -- the number of tokens before the first comma
 abbrev pub until_comma : List Token → ℕ
@@ -19,10 +22,9 @@ comma_step : (t : Token) (ts : List Token) (b : Bool) → is_comma t ≡ b
     ∷ pieces (drop (suc (until_comma ts)) ts))
     → until_comma (t ∷ ts) < length (t ∷ ts) → pieces (t ∷ ts) ≡ take (until_comma (t ∷ ts)) (t ∷ ts)
     ∷ pieces (drop (suc (until_comma (t ∷ ts))) (t ∷ ts))
-unfolding pieces
 comma_step t ts true e h k = rw e refl
 comma_step t ts false e h k =
-    let m = rw (e, one-add) at k in rw (e, one-add) (ap (before t) (h (omega arith)))
+    let m = rw (e, one-add) at k in rw (e, one-add) (ap (onto_first t) (h (omega arith)))
 
 pieces_comma : (ts : List Token) → until_comma ts < length ts →
     pieces ts ≡ take (until_comma ts) ts ∷ pieces (drop (suc (until_comma ts)) ts)
@@ -32,12 +34,10 @@ pieces_comma (t ∷ ts) h = comma_step t ts (is_comma t) refl (pieces_comma ts) 
 last_step : (t : Token) (ts : List Token) (b : Bool) → is_comma t ≡ b →
     (length ts ≤ until_comma ts → pieces ts ≡ ts ∷ []) → length (t ∷ ts) ≤ until_comma (t ∷ ts) →
     pieces (t ∷ ts) ≡ (t ∷ ts) ∷ []
-unfolding pieces
 last_step t ts true e h k = let m = rw e at k in absurd (omega arith)
-last_step t ts false e h k = let m = rw (e, one-add) at k in rw e (ap (before t) (h (omega arith)))
+last_step t ts false e h k = let m = rw (e, one-add) at k in rw e (ap (onto_first t) (h (omega arith)))
 
 pieces_last : (ts : List Token) → length ts ≤ until_comma ts → pieces ts ≡ ts ∷ []
-unfolding pieces
 pieces_last [] h = refl
 pieces_last (t ∷ ts) h = last_step t ts (is_comma t) refl (pieces_last ts) h
 

@@ -1,7 +1,7 @@
 -- What the operands of a row give: the fields of an instruction, and the values that it waits for.
 -- To audit: public contracts cite this.
 -- The language is this project's own: docs/ASSEMBLER.md.
-use Rattle.std.specs.Prelude.{ℕ, ℤ, ◌+◌, ◌*◌, Bool, true, false, not, ◌&&◌, List, [], ◌∷◌, Option, Some, None, option_and_then, is_some, if◌then◌else◌, ◌==◌, nat_lt, slice_get, pos, negsuc}
+use Rattle.std.specs.Prelude.{ℕ, ℤ, ◌+◌, ◌*◌, Bool, true, false, List, [], ◌∷◌, Option, Some, None, option_and_then, is_some, if◌then◌else◌, ◌==◌, nat_lt, slice_get, pos, negsuc, codes}
 use Rattle.std.specs.Option.{option_map}
 use Rattle.rv_base.specs.Tables.{lookup}
 use Rattle.rv_isa.specs.Names.{register_names, csr_names}
@@ -21,7 +21,7 @@ use Rattle.rv_source.specs.declared.row.Role.{Role}
 use Rattle.rv_source.specs.declared.row.Role.TheVariants as r
 use Rattle.rv_source.specs.declared.row.Given.{Given}
 use Rattle.rv_source.specs.declared.row.Given.TheVariants as g
-use Rattle.rv_source.specs.Operands.{is_nothing, terms_of}
+use Rattle.rv_source.specs.Operands.{terms_of}
 
 -- ---- operands in their roles
 
@@ -54,23 +54,16 @@ csr_of _ = None
 abbrev pub csr : Operand → Option ℕ
 csr x = option_and_then csr_of (atom_alone x)
 
--- 1 if the letter comes first, else 0, and the rest
-abbrev pub letter : ℕ → List ℕ → ℕ × List ℕ
-letter l [] = (0, [])
-letter l (b ∷ bs) = if b == l then (1, bs) else (0, b ∷ bs)
-
--- the set of one or more of the letters i, o, r and w, in this order
-unfoldable pub fence_letters : List ℕ → Option ℕ
-fence_letters name =
-    let i = letter 105 name in
-    let o = letter 111 i.1 in
-    let r = letter 114 o.1 in
-    let w = letter 119 r.1 in
-    if is_nothing w.1 && not (is_nothing name) then Some (8 * i.0 + 4 * o.0 + 2 * r.0 + w.0) else None
+-- the sets of accesses, each with the sum of i 8, o 4, r 2 and w 1
+unfoldable pub fence_sets : List (List ℕ × ℕ)
+fence_sets =
+    (codes "w", 1) ∷ (codes "r", 2) ∷ (codes "rw", 3) ∷ (codes "o", 4) ∷ (codes "ow", 5) ∷ (codes "or", 6)
+    ∷ (codes "orw", 7) ∷ (codes "i", 8) ∷ (codes "iw", 9) ∷ (codes "ir", 10) ∷ (codes "irw", 11) ∷ (codes "io", 12)
+    ∷ (codes "iow", 13) ∷ (codes "ior", 14) ∷ (codes "iorw", 15) ∷ []
 
 -- the set of accesses that an operand names
 abbrev pub set : Operand → Option ℕ
-set x = option_and_then fence_letters (name x)
+set x = option_and_then (λ name. lookup name fence_sets) (name x)
 
 -- a value without a base, or its upper or lower part if that may be
 abbrev pub is_value : Bool → Bool → Form → Bool
@@ -114,11 +107,6 @@ unfoldable pub in_roles : List Role → List Operand → Fields → Option Field
 in_roles [] [] fields = Some fields
 in_roles (role ∷ roles) (x ∷ xs) fields = option_and_then (in_roles roles xs) (put role x fields)
 in_roles _ _ fields = None
-
--- the fields with operands that are all in one role
-unfoldable pub in_role : Role → List Operand → Fields → Option Fields
-in_role role [] fields = Some fields
-in_role role (x ∷ xs) fields = option_and_then (in_role role xs) (put role x fields)
 
 -- fields with two registers and an immediate that are given; a fence orders all before all after it
 abbrev pub start : ℕ → ℕ → ℤ → Fields

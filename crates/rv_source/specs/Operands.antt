@@ -2,6 +2,7 @@
 -- To audit: public contracts cite this.
 -- The language is this project's own: docs/ASSEMBLER.md.
 use Rattle.std.specs.Prelude.{ℕ, ◌+◌, ◌-◌, Bool, true, false, List, [], ◌∷◌, ◌++◌, take, drop, length, Option, Some, None, option_and_then, if◌then◌else◌}
+use Rattle.std.specs.List.{flat_map, slice_split}
 use Rattle.std.specs.Option.{option_map, option_or}
 use Rattle.rv_tokens.specs.declared.token.Token.{Token}
 use Rattle.rv_tokens.specs.declared.token.Token.TheVariants as t
@@ -77,16 +78,6 @@ form_of (t ∷ ts) = plain (t ∷ ts)
 
 -- ---- the operands of a mnemonic or directive
 
--- a token in front of the first piece
-abbrev pub before : Token → List (List Token) → List (List Token)
-before t [] = (t ∷ []) ∷ []
-before t (piece ∷ pieces) = (t ∷ piece) ∷ pieces
-
--- the pieces between commas
-unfoldable pub pieces : List Token → List (List Token)
-pieces [] = [] ∷ []
-pieces (t ∷ ts) = if is_comma t then [] ∷ pieces ts else before t (pieces ts)
-
 -- an operand that begins at token n of its line
 abbrev pub operand : ℕ → List Token → Option Operand
 operand n ts = option_map (λ form. record { first = n; count = length ts; form = form }) (form_of ts)
@@ -101,7 +92,7 @@ operands n (piece ∷ pieces) =
 -- the operands of a mnemonic or directive by the tokens following it, the first of which is token n
 unfoldable pub operands_of : ℕ → List Token → Option (List Operand)
 operands_of n [] = Some []
-operands_of n (t ∷ ts) = operands n (pieces (t ∷ ts))
+operands_of n (t ∷ ts) = operands n (slice_split is_comma (t ∷ ts))
 
 -- ---- what operands have
 
@@ -119,6 +110,4 @@ bytes_of x = elim x.form as (λ _. List ℕ) [ f.Value part e base ↦ [] | f.Te
 
 -- the bytes of strings, each followed by a byte 0 if they are terminated
 unfoldable pub strings : Bool → List Operand → List ℕ
-strings terminated [] = []
-strings terminated (x ∷ xs) =
-    bytes_of x ++ (if terminated then 0 ∷ [] else []) ++ strings terminated xs
+strings terminated xs = flat_map (λ x. bytes_of x ++ (if terminated then 0 ∷ [] else [])) xs

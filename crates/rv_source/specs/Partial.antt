@@ -1,6 +1,6 @@
 -- The rows of the program's tables, and labels that are read.
 -- Not to audit: private contracts alone cite this.
-use Rattle.std.specs.Prelude.{ℕ, Bool, false, List, [], ◌∷◌, ◌++◌, ◌==◌, map, Option, Result, if◌then◌else◌}
+use Rattle.std.specs.Prelude.{ℕ, Bool, false, List, [], ◌∷◌, ◌++◌, ◌==◌, map, Option, Some, option_and_then, Result, if◌then◌else◌}
 use Rattle.std.specs.Option.{option_map, ok_or}
 use Rattle.std.specs.Borrow.{Bor}
 use Rattle.rv_tokens.specs.declared.token.Token.{Token}
@@ -17,6 +17,9 @@ use Rattle.rv_source.specs.declared.row.Way.TheVariants as way
 use Rattle.rv_source.specs.declared.row.Template.TheVariants as t
 use Rattle.rv_source.specs.declared.row.Given.TheVariants.{Link}
 use Rattle.rv_isa.specs.declared.op.Operation.{Operation}
+use Rattle.rv_source.specs.declared.field.Fields.{Fields}
+use Rattle.rv_source.specs.declared.row.Role.{Role}
+use Rattle.rv_source.specs.Fields.{put}
 use Rattle.rv_source.specs.Table.{Row, These, Each, first_fit, near, far}
 
 -- a row of the program, as a row of the language
@@ -37,6 +40,11 @@ rows table = map (λ entry. (entry.0.now, row_of entry.1)) table
 -- the statement of the first of these rows that takes the operands, or a fault: this one if there are no rows
 abbrev pub fitted_or : LineFault → List Operand → List Row → Result Statement LineFault
 fitted_or unless xs rows = ok_or (first_fit xs rows) (if is_nothing rows then unless else BadOperands)
+
+-- the fields with operands that are all in one role
+unfoldable pub in_role : Role → List Operand → Fields → Option Fields
+in_role role [] fields = Some fields
+in_role role (x ∷ xs) fields = option_and_then (in_role role xs) (put role x fields)
 
 -- whether a word begins with `.`
 abbrev pub has_dot : List ℕ → Bool

@@ -1,7 +1,7 @@
 -- The tables of the language, and the statement of a word with its operands.
 -- To audit: public contracts cite this.
 -- The language is this project's own: docs/ASSEMBLER.md.
-use Rattle.std.specs.Prelude.{ℕ, Bool, true, false, List, map, [], ◌∷◌, ◌++◌, Option, Some, None, option_and_then, if◌then◌else◌, Result, codes}
+use Rattle.std.specs.Prelude.{ℕ, Bool, true, false, List, length, replicate, map, [], ◌∷◌, ◌++◌, Option, Some, None, option_and_then, if◌then◌else◌, Result, codes}
 use Rattle.std.specs.List.{list_any}
 use Rattle.std.specs.Option.{option_map, option_map_or, option_or, ok_or}
 use Rattle.std.specs.Str.{bytes_eq}
@@ -24,7 +24,7 @@ use Rattle.rv_source.specs.declared.row.Template.TheVariants as t
 use Rattle.rv_source.specs.declared.row.Given.{Given}
 use Rattle.rv_source.specs.declared.row.Given.TheVariants as g
 use Rattle.rv_source.specs.Operands.{is_nothing, strings}
-use Rattle.rv_source.specs.Fields.{in_roles, in_role, given, instruction, name}
+use Rattle.rv_source.specs.Fields.{in_roles, given, instruction, name}
 
 -- ---- the meaning of a row
 
@@ -58,7 +58,7 @@ pub data Row : Type 0 where
 abbrev pub meant : Row → List Operand → Option Statement
 meant (These roles template fields) xs = option_and_then (filled template xs) (in_roles roles xs (given fields))
 meant (Each role template) xs =
-    if is_nothing xs then None else option_and_then (filled template xs) (in_role role xs (given g.Zeros))
+    if is_nothing xs then None else option_and_then (filled template xs) (in_roles (replicate (length xs) role) xs (given g.Zeros))
 
 -- the statement of the first row that takes the operands
 abbrev pub first_fit : List Operand → List Row → Option Statement

@@ -2,10 +2,13 @@
 ghost use Rattle.std.specs.Prelude.{◌≡◌, ◌<◌, ◌≤◌, ◌^◌};
 ghost use Rattle.std.specs.Option.{option_map};
 ghost use Rattle.rv_isa.specs.Number.{IsWithin};
-ghost use Rattle.rv_source.specs.Fields.{atom_alone, base, csr, csr_number, fence_letters, given, immediate, instruction, is_text, is_value, letter, name, put, register, set, in_roles, in_role, start, value_in};
+ghost use Rattle.rv_source.specs.Fields.{atom_alone, base, csr, csr_number, fence_sets, given, immediate, instruction, is_text, is_value, name, put, register, set, in_roles, start, value_in};
+ghost use Rattle.rv_source.specs.Partial.{in_role};
+ghost use Rattle.rv_base.specs.Tables.{lookup};
 
 use crate::row::{Given, Role};
 use crate::{Atom, Form, Operand, Part, Value};
+use rv_base::look_up;
 use rv_isa::{Instr, Kind, Operation, Reg, csr_named, reg_named};
 use rv_tokens::Name;
 use std::marker::Model;
@@ -139,37 +142,33 @@ fn control_register(operand: &Operand) -> Option<Csr>
     }
 }
 
-/// Takes a letter off the front of a text, if it is there: returns 1 or 0, and the rest.
-fn letter(wanted: u8, text: &[u8]) -> (u16, &[u8])
-    ensures count { result.0 ≡ (letter wanted text.now).0 }
-    ensures rest { result.1.now ≡ (letter wanted text.now).1 }
-    ensures one { result.0 ≤ 1 }
-{
-    match text {
-        [first, rest @ ..] => {
-            if *first == wanted {
-                (1, rest)
-            } else {
-                (0, text)
-            }
-        }
-        [] => (0, text),
-    }
-}
+/// The sets of accesses, each with the sum of its letters.
+static FENCE_SETS: [(&str, u16); 15] = [
+    ("w", 1),
+    ("r", 2),
+    ("rw", 3),
+    ("o", 4),
+    ("ow", 5),
+    ("or", 6),
+    ("orw", 7),
+    ("i", 8),
+    ("iw", 9),
+    ("ir", 10),
+    ("irw", 11),
+    ("io", 12),
+    ("iow", 13),
+    ("ior", 14),
+    ("iorw", 15),
+];
 
-/// Reads the letters of a set: one or more of `iorw`, in this order.
-#[tactic(auto, unfolding(crate::specs::Fields::fence_letters))]
-fn fence_letters(text: &[u8]) -> Option<FenceSet>
-    ensures { result ≡ fence_letters text.now }
+/// Returns the set of accesses with these letters: one or more of `iorw`, in this order.
+#[tactic(auto, using(crate::proofs::Sets::below), unfolding(crate::specs::Fields::fence_sets))]
+fn set_of(letters: &[u8]) -> Option<FenceSet>
+    ensures { result ≡ lookup letters.now fence_sets }
 {
-    let (i, rest) = letter(b'i', text);
-    let (o, rest) = letter(b'o', rest);
-    let (r, rest) = letter(b'r', rest);
-    let (w, rest) = letter(b'w', rest);
-    if rest.is_empty() && !text.is_empty() {
-        Some(FenceSet(8 * i + 4 * o + 2 * r + w))
-    } else {
-        None
+    match look_up(&FENCE_SETS, letters) {
+        Some(bits) => Some(FenceSet(bits)),
+        None => None,
     }
 }
 
@@ -178,7 +177,7 @@ fn set(operand: &Operand) -> Option<FenceSet>
     ensures { result ≡ set operand.now }
 {
     match name(operand) {
-        Some(name) => fence_letters(name.bytes()),
+        Some(name) => set_of(name.bytes()),
         None => None,
     }
 }
@@ -323,7 +322,7 @@ pub fn in_roles<'t, 'a>(
 }
 
 /// Returns the fields with operands that are all in one role.
-#[tactic(auto, unfolding(crate::specs::Fields::in_role))]
+#[tactic(auto, unfolding(crate::specs::Partial::in_role))]
 pub fn in_role<'t, 'a>(
     role: Role,
     operands: &'t [Operand<'a>],

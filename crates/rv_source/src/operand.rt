@@ -1,8 +1,8 @@
 //! Reads operands.
 ghost use Rattle.std.specs.Prelude.{◌≡◌, ◌<◌, ◌≤◌, ◌+◌, ◌++◌, ◌∷◌, [], length, IfOk, IfSome, Some, None, if◌then◌else◌};
 ghost use Rattle.std.specs.Option.{option_map};
-ghost use Rattle.std.specs.List.{position};
-ghost use Rattle.rv_source.specs.Operands.{base_of, but_last, enclosed, form_of, is_comma, last, low, offset, operand, operands, operands_of, pieces, plain, valued};
+ghost use Rattle.std.specs.List.{position, slice_split};
+ghost use Rattle.rv_source.specs.Operands.{base_of, but_last, enclosed, form_of, is_comma, last, low, offset, operand, operands, operands_of, plain, valued};
 
 use crate::terms::read_value;
 use crate::{Atom, Expression, Term};
@@ -214,7 +214,7 @@ fn read_more<'a>(
     out: &mut Vec<Operand<'a>>,
 ) -> Result<bool, AllocError>
     requires { first + length tokens.now ≤ 1024 }
-    ensures { IfOk result (λ ok. option_map (λ xs. out.old.items ++ xs) (operands first (pieces tokens.now)) ≡ (if ok then Some out.new.items else None)) }
+    ensures { IfOk result (λ ok. option_map (λ xs. out.old.items ++ xs) (operands first (slice_split is_comma tokens.now)) ≡ (if ok then Some out.new.items else None)) }
 {
     let Some(end) = comma(tokens) else {
         return read_operand(alloc, first, tokens, out);

@@ -194,6 +194,7 @@ fn fill<'t, 'a>(
 }
 
 /// Returns the statement of a row with these operands, or `None` if it doesn't take them.
+#[tactic(auto, using(crate::proofs::Roles::in_one_role))]
 pub fn meant<'t, 'a>(row: Row, operands: &'t [Operand<'a>]) -> Option<Statement<'t, 'a>>
     ensures { result ≡ meant (row_of row) operands.now }
 {
