@@ -1,6 +1,7 @@
 -- An image in a memory of zeros.
-use Rattle.std.proofs.Common.{◌≡◌, ℕ, zero, suc, ◌+◌, ◌<◌, ◌≤◌, ◌++◌, List, [], ◌∷◌, length, take, drop, set, get_or, refl, sym, ap, ◌∙◌, add-one, arith}
-use Rattle.rv_ram.specs.Bytes.{zeros}
+use Rattle.std.proofs.Common.{◌≡◌, ℕ, zero, suc, ◌+◌, ◌%◌, ◌<◌, ◌≤◌, ◌++◌, List, [], ◌∷◌, length, take, drop, set, get_or, refl, sym, ap, ◌∙◌, add-one, arith}
+use Rattle.rv_ram.specs.Bytes.{put, zeros}
+use Rattle.rv_ram.proofs.Put.{put_byte}
 use Rattle.rv_ram.proofs.Zeros.{drop_zeros}
 use Rattle.rv_board.specs.Boot.{ram_with}
 
@@ -16,6 +17,10 @@ take-set (x ∷ image) [] i within fits = absurd (omega (arith, fits))
 take-set (x ∷ image) (y ∷ old) zero within fits = refl
 take-set (x ∷ image) (y ∷ old) (suc i) within fits =
     ap (λ bs. x ∷ bs) (take-set image old i (omega (arith, within)) (omega (arith, fits)))
+
+-- a store of a byte
+pub one_byte : (bs : List ℕ) (i v : ℕ) → v < 256 → put bs i 1 v ≡ set bs i v
+one_byte bs i v small = let e : v % 256 ≡ v = omega arith in sym (put_byte bs i v) ∙ ap (set bs i) e
 
 -- a memory that has the first bytes of an image has one more after the next one is stored
 pub one_more_byte : (image old now new : List ℕ) (i : ℕ) → i < length image → length image ≤ length old

@@ -1,59 +1,26 @@
 -- Loads, stores and fetches read and write only their own bytes of the memory. Each law compares a bus with
 -- the same bus over another memory of the same size.
-use Rattle.std.proofs.Common.{◌≡◌, ◌≢◌, ℕ, ◌+◌, ◌-◌, ◌/◌, ◌%◌, ◌≤◌, ◌<◌, List, slice_index, slice_set, length, Option, Some, None, Bool, true, false, nat_le, nat_lt, ◌&&◌, ◌==◌, if◌then◌else◌, arith, inl, inr, add-zero, refl, sym, ap, subst, ◌∙◌}
-use Rattle.std.specs.Option.{option_map}
-use Rattle.std.proofs.lemmas.Bool.{and_parts, leb-true, ltb-false, cases_eq, cases_lt}
+use Rattle.std.proofs.Common.{◌≡◌, ◌≢◌, ℕ, zero, suc, ◌+◌, ◌-◌, ◌≤◌, ◌<◌, List, slice_index, slice_set, length, Option, Some, None, Bool, true, false, nat_le, nat_lt, ◌&&◌, if◌then◌else◌, arith, inl, inr, refl, sym, ap, subst, ◌∙◌}
+use Rattle.std.proofs.lemmas.Bool.{leb-true, ltb-false, cases_eq, cases_lt}
 use Rattle.std.proofs.lemmas.Bool.Decides.{nat_tests}
-use Rattle.std.proofs.lemmas.Grind.{common_steps, get_or-set_at}
+use Rattle.std.proofs.lemmas.Grind.{get_or-set_at}
 use Rattle.std.proofs.lemmas.List.{set_past, get_or_past, get_or-set_other}
 use Rattle.rv_base.specs.Limits.{ram_base}
 use Rattle.rv_isa.specs.declared.op.Width.{Width}
-use Rattle.rv_isa.specs.declared.op.Width.TheVariants.{One, Two, Four}
+use Rattle.rv_isa.specs.declared.op.Width.TheVariants.{Four}
 use Rattle.rv_isa.specs.Width.{bytes_of}
 use Rattle.rv_ram.specs.Bytes.{value_at, put}
-use Rattle.rv_mmio.specs.Timer.{TimerState}
-use Rattle.rv_mmio.specs.Timer as timer
-use Rattle.rv_mmio.specs.declared.serial.SerialReg.{SerialReg}
-use Rattle.rv_mmio.specs.declared.serial.SerialReg.TheVariants.{Tx, Rx, Status}
 use Rattle.rv_bus.specs.State.{BusState}
-use Rattle.rv_bus.specs.Locations.{location_of, serial_at, takes, window}
-use Rattle.rv_bus.specs.declared.locations.Location.{Location}
-use Rattle.rv_bus.specs.declared.locations.Location.TheVariants.{Ram, Halt, Timer, Plic, Serial, Nowhere}
-use Rattle.rv_bus.specs.Access.{word_of, fetch, load, load_at, after_load, after_load_at, store, store_at, ram_byte}
-use Rattle.rv_bus.proofs.Others.{byte-put, length-put}
+use Rattle.rv_bus.specs.Locations.{location_of}
+use Rattle.rv_bus.specs.Access.{fetch_at, fetch, load, load_at, after_load, after_load_at, store, store_at, ram_byte}
+use Rattle.rv_bus.proofs.Others.{byte_put}
+use Rattle.rv_bus.proofs.Windows.{each_location}
+use Rattle.rv_ram.proofs.Put.{length_put}
+use Rattle.rv_ram.proofs.Value.{same_value}
 
 -- the bus over another memory
 abbrev pub with_ram : BusState → List ℕ → BusState
 with_ram b ram = record b { ram = ram }
-
--- ---- a property of each location is one of the location at an address
-
-either : (P : Location → Type 0) (b : Bool) (p q : Location) → (b ≡ true → P p) → P q → P (if b then p else q)
-either P true p q here later = here refl
-either P false p q here later = later
-
-serial : (P : Location → Type 0) (off : ℕ) → ((reg : SerialReg) → P (Serial reg)) → P Nowhere
-    → P (serial_at off)
-serial P off registers nowhere =
-    either P (off == 0) (Serial Tx) _ (λ t. registers Tx)
-    (either P (off == 4) (Serial Rx) _ (λ t. registers Rx)
-    (either P (off == 8) (Serial Status) Nowhere (λ t. registers Status) nowhere))
-
-pub each_location : (P : Location → Type 0) (size a : ℕ) (w : Width)
-    → (ram_base ≤ a → P (Ram (a - ram_base))) → P Halt → ((off : ℕ) → P (Timer off))
-    → ((off : ℕ) → P (Plic off)) → ((reg : SerialReg) → P (Serial reg)) → P Nowhere
-    → P (location_of size a w)
-unfolding location_of
-each_location P size a w ram halt timer plic registers nowhere =
-    either P (takes (window ram_base size 1 (λ off. Ram off)) a w) (Ram (a - ram_base)) _
-    (λ t. ram (leb-true ram_base a ((and_parts (nat_le ram_base a) _ ((and_parts (nat_le 1 (bytes_of w)) _ t).1)).0)))
-    (either P (takes (window 0x10000000 12 1 serial_at) a w) (serial_at (a - 0x10000000)) _
-    (λ t. serial P (a - 0x10000000) registers nowhere)
-    (either P (takes (window 0x00100000 4 4 (λ off. Halt)) a w) Halt _ (λ t. halt)
-    (either P (takes (window 0x02000000 0xc000 4 (λ off. Timer off)) a w) (Timer (a - 0x02000000)) _
-    (λ t. timer (a - 0x02000000))
-    (either P (takes (window 0x0c000000 0x4000000 4 (λ off. Plic off)) a w) (Plic (a - 0x0c000000)) Nowhere
-    (λ t. plic (a - 0x0c000000)) nowhere))))
 
 -- ---- the bytes of an access
 
@@ -61,24 +28,9 @@ each_location P size a w ram halt timer plic registers nowhere =
 abbrev pub SameBytes : List ℕ → List ℕ → ℕ → ℕ → Type 0
 SameBytes one other off count = (i : ℕ) → i < count → slice_index other (off + i) ≡ slice_index one (off + i)
 
-first_byte : (one other : List ℕ) (off count : ℕ) → 0 < count → SameBytes one other off count
-    → slice_index other off ≡ slice_index one off
-first_byte one other off count some same =
-    subst (λ k. slice_index other k ≡ slice_index one k) (add-zero off) (same 0 some)
-
-pub same_value : (one other : List ℕ) (off : ℕ) (w : Width) → SameBytes one other off (bytes_of w)
-    → value_at other off w ≡ value_at one off w
-same_value one other off One same = first_byte one other off 1 (omega arith) same
-same_value one other off Two same =
-    let e0 = first_byte one other off 2 (omega arith) same in
-    let e1 = same 1 (omega arith) in
-    cc
-same_value one other off Four same =
-    let e0 = first_byte one other off 4 (omega arith) same in
-    let e1 = same 1 (omega arith) in
-    let e2 = same 2 (omega arith) in
-    let e3 = same 3 (omega arith) in
-    cc
+pub same_number : (one other : List ℕ) (off n : ℕ) → SameBytes one other off n
+    → value_at other off n ≡ value_at one off n
+same_number one other off n same = same_value other one off off n same
 
 -- ---- loads and fetches
 
@@ -90,7 +42,7 @@ unfolding load
 same_load b ram a w size same =
     ap (λ n. load_at (with_ram b ram) (location_of n a w) w) size
     ∙ each_location (λ p. load_at (with_ram b ram) p w ≡ load_at b p w) (length b.ram) a w
-    (λ above. ap Some (same_value b.ram ram (a - ram_base) w (same above))) refl (λ off. refl) (λ off. refl)
+    (λ above. ap Some (same_number b.ram ram (a - ram_base) (bytes_of w) (same above))) refl (λ off. refl) (λ off. refl)
     (λ reg. refl) refl
 
 -- the devices after a load don't depend on the memory
@@ -101,7 +53,7 @@ same_after_load b ram a w size =
     ap (λ n. after_load_at (with_ram b ram) (location_of n a w)) size
     ∙ each_location (λ p. after_load_at (with_ram b ram) p ≡ with_ram (after_load_at b p) ram)
     (length b.ram) a w
-    (λ above. refl) refl (λ off. refl) (λ off. refl) (λ reg. refl) refl
+    (λ above. refl) refl (λ reg. refl) (λ off. refl) (λ reg. refl) refl
 
 pub memory_after_load : (b : BusState) (a : ℕ) (w : Width) → (after_load b a w).ram ≡ b.ram
 unfolding after_load
@@ -113,9 +65,9 @@ pub same_fetch : (one other : List ℕ) (a : ℕ) → length other ≡ length on
     → (ram_base ≤ a → SameBytes one other (a - ram_base) 4) → fetch other a ≡ fetch one a
 unfolding fetch
 same_fetch one other a size same =
-    ap (λ n. word_of other (location_of n a Four)) size
-    ∙ each_location (λ p. word_of other p ≡ word_of one p) (length one) a Four
-    (λ above. ap Some (same_value one other (a - ram_base) Four (same above))) refl (λ off. refl)
+    ap (λ n. fetch_at other (location_of n a Four)) size
+    ∙ each_location (λ p. fetch_at other p ≡ fetch_at one p) (length one) a Four
+    (λ above. ap Some (same_number one other (a - ram_base) 4 (same above))) refl (λ off. refl)
     (λ off. refl) (λ reg. refl) refl
 
 -- ---- stores
@@ -134,27 +86,15 @@ same_set one other i v k size same =
       | inr away ↦ get_or-set_other other i k v 0 away ∙ (same ∙ sym (get_or-set_other one i k v 0 away))
     ]
 
-length_set : (bs : List ℕ) (i v : ℕ) → length (slice_set bs i v) ≡ length bs
-length_set bs i v = grind (arith, common_steps)
-
 -- a byte that is the same in both memories is the same after the same store
-same_put : (one other : List ℕ) (off v k : ℕ) (w : Width) → length other ≡ length one
+same_put : (one other : List ℕ) (off n v k : ℕ) → length other ≡ length one
     → slice_index other k ≡ slice_index one k
-    → slice_index (put other off w v) k ≡ slice_index (put one off w v) k
-same_put one other off v k One size same = same_set one other off (v % 256) k size same
-same_put one other off v k Two size same =
-    let size1 = length_set other off (v % 256) ∙ (size ∙ sym (length_set one off (v % 256))) in
-    same_set _ _ (off + 1) (v / 256 % 256) k size1 (same_set one other off (v % 256) k size same)
-same_put one other off v k Four size same =
-    let size1 = length_set other off (v % 256) ∙ (size ∙ sym (length_set one off (v % 256))) in
-    let size2 = length_set (slice_set other off (v % 256)) (off + 1) (v / 256 % 256)
-    ∙ (size1 ∙ sym (length_set (slice_set one off (v % 256)) (off + 1) (v / 256 % 256))) in
-    let size3 = length_set (slice_set (slice_set other off (v % 256)) (off + 1) (v / 256 % 256)) (off + 2)
-    (v / 65536 % 256) ∙ (size2 ∙ sym (length_set
-    (slice_set (slice_set one off (v % 256)) (off + 1) (v / 256 % 256)) (off + 2) (v / 65536 % 256))) in
-    same_set _ _ (off + 3) (v / 16777216) k size3
-    (same_set _ _ (off + 2) (v / 65536 % 256) k size2
-    (same_set _ _ (off + 1) (v / 256 % 256) k size1 (same_set one other off (v % 256) k size same)))
+    → slice_index (put other off n v) k ≡ slice_index (put one off n v) k
+unfolding put
+same_put one other off zero v k size same = same
+same_put one other off (suc n) v k size same =
+    same_set (put one off n v) (put other off n v) (off + n) _ k
+    (length_put other off n v ∙ (size ∙ sym (length_put one off n v))) (same_put one other off n v k size same)
 
 -- the bus b after a store, `one`, and the same bus over another memory after it, `other`: only the memories
 -- differ, only the store's own bytes are written, and bytes that were the same stay the same
@@ -173,7 +113,7 @@ BothStore b ram a w None (Some other) = ⊥
 BothStore b ram a w (Some one) None = ⊥
 BothStore b ram a w (Some one) (Some other) = StoresAlike b ram a w one other
 
--- stores to a device, to the memory, and to the timer
+-- stores to a device and to the memory
 device_store : (b : BusState) (ram : List ℕ) (a : ℕ) (w : Width) (one : BusState)
     → length ram ≡ length b.ram → one.ram ≡ b.ram → StoresAlike b ram a w one (with_ram one ram)
 device_store b ram a w one size still = record {
@@ -185,22 +125,16 @@ device_store b ram a w one size still = record {
 }
 
 memory_store : (b : BusState) (ram : List ℕ) (a v : ℕ) (w : Width) → length ram ≡ length b.ram → ram_base ≤ a
-    → StoresAlike b ram a w (record b { ram = put b.ram (a - ram_base) w v })
-    (record b { ram = put ram (a - ram_base) w v })
+    → StoresAlike b ram a w (record b { ram = put b.ram (a - ram_base) (bytes_of w) v })
+    (record b { ram = put ram (a - ram_base) (bytes_of w) v })
 memory_store b ram a v w size above = record {
   rest = refl;
-  size = length-put b.ram (a - ram_base) v w;
-  other_size = length-put ram (a - ram_base) v w ∙ (size ∙ sym (length-put b.ram (a - ram_base) v w));
-  kept = λ k others. byte-put b.ram (a - ram_base) v k w (λ i less e. others i less (omega arith));
-  same = λ k e. same_put b.ram ram (a - ram_base) v k w size e;
+  size = length_put b.ram (a - ram_base) (bytes_of w) v;
+  other_size = length_put ram (a - ram_base) (bytes_of w) v
+      ∙ (size ∙ sym (length_put b.ram (a - ram_base) (bytes_of w) v));
+  kept = λ k others. byte_put b.ram (a - ram_base) (bytes_of w) v k (λ i less e. others i less (omega arith));
+  same = λ k e. same_put b.ram ram (a - ram_base) (bytes_of w) v k size e;
 }
-
-timer_store : (b : BusState) (ram : List ℕ) (a : ℕ) (w : Width) (t : Option TimerState)
-    → length ram ≡ length b.ram
-    → BothStore b ram a w (option_map (λ t. record b { timer = t }) t)
-    (option_map (λ t. record (with_ram b ram) { timer = t }) t)
-timer_store b ram a w None size = tt
-timer_store b ram a w (Some t) size = device_store b ram a w (record b { timer = t }) size refl
 
 pub same_store : (b : BusState) (ram : List ℕ) (a v : ℕ) (w : Width) → length ram ≡ length b.ram
     → BothStore b ram a w (store b a w v) (store (with_ram b ram) a w v)
@@ -212,7 +146,7 @@ same_store b ram a v w size =
     (length b.ram) a w
     (λ above. memory_store b ram a v w size above)
     (device_store b ram a w _ size refl)
-    (λ off. timer_store b ram a w (timer.store b.timer off v) size)
+    (λ reg. device_store b ram a w _ size refl)
     (λ off. device_store b ram a w _ size refl)
     (λ reg. device_store b ram a w _ size refl)
     tt)

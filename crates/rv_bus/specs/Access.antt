@@ -1,12 +1,12 @@
 -- To audit: public contracts cite this.
 -- Loads, stores, fetches and the passing of time on the bus.
-use Rattle.std.specs.Prelude.{ℕ, Bool, true, false, ◌-◌, ◌%◌, nat_lt, nat_le, ◌&&◌, if◌then◌else◌, List, length, slice_index, Option, Some, None}
-use Rattle.std.specs.Option.{option_map}
+use Rattle.std.specs.Prelude.{ℕ, Bool, true, false, ◌-◌, ◌%◌, ◌^◌, nat_lt, nat_le, ◌&&◌, if◌then◌else◌, List, length, slice_index, Option, Some, None}
 use Rattle.rv_base.specs.Limits.{ram_base}
 use Rattle.rv_isa.specs.declared.op.Width.{Width}
-use Rattle.rv_isa.specs.declared.op.Width.TheVariants.{One, Two, Four}
+use Rattle.rv_isa.specs.declared.op.Width.TheVariants.{Four}
+use Rattle.rv_isa.specs.Width.{bytes_of}
 use Rattle.rv_isa.specs.declared.InterruptLines.{InterruptLines}
-use Rattle.rv_ram.specs.Bytes.{word_at, put, value_at}
+use Rattle.rv_ram.specs.Bytes.{put, value_at}
 use Rattle.rv_plic.specs.Plic as plic
 use Rattle.rv_mmio.specs.Timer as timer
 use Rattle.rv_mmio.specs.Serial as serial
@@ -19,15 +19,13 @@ use Rattle.rv_bus.specs.declared.locations.Location.TheVariants.{Ram, Halt, Time
 
 -- the low bits of a register, by the width of an access
 abbrev pub low_bits : ℕ → Width → ℕ
-low_bits v One = v % 256
-low_bits v Two = v % 65536
-low_bits v Four = v
+low_bits v w = v % 256 ^ bytes_of w
 
 -- the value that a load at a location returns: that of the bytes, or of the register
 abbrev pub load_at : BusState → Location → Width → Option ℕ
-load_at b (Ram off) w = Some (value_at b.ram off w)
+load_at b (Ram off) w = Some (value_at b.ram off (bytes_of w))
 load_at b Halt w = Some 0
-load_at b (Timer off) w = timer.load b.timer off
+load_at b (Timer reg) w = Some (timer.load_value b.timer reg)
 load_at b (Plic off) w = Some (plic.load_value b.plic off)
 load_at b (Serial reg) w = Some (low_bits (serial.load_value b.serial reg) w)
 load_at b Nowhere w = None
@@ -40,9 +38,9 @@ after_load_at b p = b
 
 -- the bus after a store at a location, or none for a fault
 abbrev pub store_at : BusState → Location → Width → ℕ → Option BusState
-store_at b (Ram off) w v = Some (record b { ram = put b.ram off w v })
+store_at b (Ram off) w v = Some (record b { ram = put b.ram off (bytes_of w) v })
 store_at b Halt w v = Some (record b { halt = halted_by b.halt v })
-store_at b (Timer off) w v = option_map (λ t. record b { timer = t }) (timer.store b.timer off v)
+store_at b (Timer reg) w v = Some (record b { timer = timer.stored b.timer reg v })
 store_at b (Plic off) w v = Some (record b { plic = plic.stored b.plic off v })
 store_at b (Serial reg) w v = Some (record b { serial = serial.stored b.serial reg v })
 store_at b Nowhere w v = None
@@ -73,14 +71,14 @@ store b a w v = store_at b (location b a w) w v
 unfoldable pub writes : BusState → ℕ → Width → Bool
 writes b a w = is_written (location b a w)
 
--- the word at a location: only the memory can be fetched from
-abbrev pub word_of : List ℕ → Location → Option ℕ
-word_of ram (Ram off) = Some (word_at ram off)
-word_of ram p = None
+-- the word that a fetch at a location returns: only the memory can be fetched from
+abbrev pub fetch_at : List ℕ → Location → Option ℕ
+fetch_at ram (Ram off) = Some (value_at ram off 4)
+fetch_at ram p = None
 
 -- the word that a fetch at an address returns, or none for a fault
 unfoldable pub fetch : List ℕ → ℕ → Option ℕ
-fetch ram a = word_of ram (location_of (length ram) a Four)
+fetch ram a = fetch_at ram (location_of (length ram) a Four)
 
 -- the byte of the memory at an address, if there is one
 abbrev pub ram_byte : List ℕ → ℕ → Option ℕ

@@ -1,16 +1,17 @@
 -- To audit: public contracts cite this.
--- The address table (docs/BOARD.md). Accesses are at multiples of their width, so that all bytes of one lie in
--- the window that has its first. Every other access is a fault.
-use Rattle.std.specs.Prelude.{ℕ, ◌-◌, ◌==◌, ◌&&◌, Bool, nat_lt, nat_le, if◌then◌else◌, List, [], ◌∷◌}
+-- The address table (docs/BOARD.md). Accesses are at multiples of their width, so that all bytes of one to the
+-- memory or the interrupt controller are there. Every other access is a fault.
+use Rattle.std.specs.Prelude.{ℕ, ◌-◌, ◌&&◌, Bool, nat_lt, nat_le, if◌then◌else◌, List, [], ◌∷◌}
 use Rattle.rv_base.specs.Limits.{ram_base}
 use Rattle.rv_isa.specs.declared.op.Width.{Width}
 use Rattle.rv_isa.specs.Width.{bytes_of}
 use Rattle.rv_mmio.specs.declared.serial.SerialReg.TheVariants.{Tx, Rx, Status}
+use Rattle.rv_mmio.specs.declared.timer.TimerReg.TheVariants.{Msip, MtimecmpLow, MtimecmpHigh, MtimeLow, MtimeHigh}
 use Rattle.rv_bus.specs.declared.locations.Location.{Location}
 use Rattle.rv_bus.specs.declared.locations.Location.TheVariants.{Ram, Halt, Timer, Plic, Serial, Nowhere}
 
--- a window: its first address, its number of bytes, the bytes of the narrowest access that it takes, and the
--- location at an offset in it
+-- a window: its first address, at how many addresses an access of it may begin, the bytes of the narrowest
+-- access that it takes, and the location at an offset in it
 pub record Window : Type 0 where
   pub first : ℕ
   pub size : ℕ
@@ -21,19 +22,23 @@ abbrev pub window : ℕ → ℕ → ℕ → (ℕ → Location) → Window
 window first size narrowest location =
     record { first = first; size = size; narrowest = narrowest; location = location }
 
--- the registers of the serial port
-abbrev pub serial_at : ℕ → Location
-serial_at off =
-    if off == 0 then Serial Tx else (if off == 4 then Serial Rx
-    else (if off == 8 then Serial Status else Nowhere))
+-- the window of one register
+abbrev pub register : ℕ → ℕ → Location → Window
+register address narrowest location = window address 1 narrowest (λ off. location)
 
 -- the windows, where the memory has `size` bytes
 abbrev pub windows : ℕ → List Window
 windows size =
     window ram_base size 1 (λ off. Ram off)
-    ∷ window 0x10000000 12 1 serial_at
-    ∷ window 0x00100000 4 4 (λ off. Halt)
-    ∷ window 0x02000000 0xc000 4 (λ off. Timer off)
+    ∷ register 0x10000000 1 (Serial Tx)
+    ∷ register 0x10000004 1 (Serial Rx)
+    ∷ register 0x10000008 1 (Serial Status)
+    ∷ register 0x00100000 4 Halt
+    ∷ register 0x02000000 4 (Timer Msip)
+    ∷ register 0x02004000 4 (Timer MtimecmpLow)
+    ∷ register 0x02004004 4 (Timer MtimecmpHigh)
+    ∷ register 0x0200bff8 4 (Timer MtimeLow)
+    ∷ register 0x0200bffc 4 (Timer MtimeHigh)
     ∷ window 0x0c000000 0x4000000 4 (λ off. Plic off)
     ∷ []
 

@@ -5,15 +5,23 @@ use Rattle.rv_base.specs.Limits.{ram_base}
 use Rattle.rv_isa.specs.declared.op.Width.{Width}
 use Rattle.rv_isa.specs.declared.op.Width.TheVariants.{One, Two, Four}
 use Rattle.rv_mmio.specs.declared.serial.SerialReg.TheVariants.{Tx, Rx, Status}
+use Rattle.rv_mmio.specs.declared.timer.TimerReg.TheVariants.{Msip, MtimecmpLow, MtimecmpHigh, MtimeLow, MtimeHigh}
 use Rattle.rv_bus.specs.declared.locations.Location.{Location}
 use Rattle.rv_bus.specs.declared.locations.Location.TheVariants.{Ram, Halt, Timer, Plic, Serial, Nowhere}
+
+-- the interrupt controller
+abbrev pub controller : ℕ → Location
+controller a = if nat_le 0x0c000000 a && nat_lt a 0x10000000 then Plic (a - 0x0c000000) else Nowhere
 
 -- the devices that take only words
 abbrev pub word_device : ℕ → Location
 word_device a =
     if a == 0x00100000 then Halt else (
-    if nat_le 0x02000000 a && nat_lt a 0x0200c000 then Timer (a - 0x02000000) else (
-    if nat_le 0x0c000000 a && nat_lt a 0x10000000 then Plic (a - 0x0c000000) else Nowhere))
+    if a == 0x02000000 then Timer Msip else (
+    if a == 0x02004000 then Timer MtimecmpLow else (
+    if a == 0x02004004 then Timer MtimecmpHigh else (
+    if a == 0x0200bff8 then Timer MtimeLow else (
+    if a == 0x0200bffc then Timer MtimeHigh else controller a)))))
 
 -- the same devices, by the width of an access
 abbrev pub of_width : ℕ → Width → Location

@@ -176,7 +176,7 @@ impl<M: ByteMemory> Bus<M> {
         match self.location(addr, width) {
             Location::Ram(off) => Ok(self.load_ram(off, width)),
             Location::Halt => Ok(0),
-            Location::Timer(off) => self.timer.load(off).ok_or(BusFault),
+            Location::Timer(register) => Ok(self.timer.load(register)),
             Location::Plic(off) => Ok(self.plic.load(off)),
             Location::Serial(register) => Ok(self.load_serial(register, width)),
             Location::Nowhere => Err(BusFault),
@@ -195,10 +195,11 @@ impl<M: ByteMemory> Bus<M> {
 
     /// Returns the value at an offset of the memory.
     #[inline(always)]
+    #[tactic(auto, using(rv_ram::proofs::Value::byte_value, rv_ram::proofs::Value::half_value))]
     pub fn load_ram(&self, off: u32, width: Width) -> u32
         requires within { off + bytes_of width ≤ length self.now.ram }
         requires aligned { off % bytes_of width ≡ 0 }
-        ensures { result ≡ value_at self.now.ram off width }
+        ensures { result ≡ value_at self.now.ram off (bytes_of width) }
     {
         match width {
             Width::One => self.ram.read(off) as u32,
@@ -234,7 +235,7 @@ impl<M: ByteMemory> Bus<M> {
         match self.location(addr, width) {
             Location::Ram(off) => self.ram.write(off, width, value)?,
             Location::Halt => self.halt.store(value),
-            Location::Timer(off) => self.timer.store(off, value).ok_or(StoreRefusal::Fault)?,
+            Location::Timer(register) => self.timer.store(register, value),
             Location::Plic(off) => self.plic.store(off, value),
             Location::Serial(register) => self.serial.store(register, value)?,
             Location::Nowhere => return Err(StoreRefusal::Fault),
@@ -250,7 +251,7 @@ impl<M: ByteMemory> Bus<M> {
     pub fn overwrite_ram(&mut self, off: u32, width: Width, value: u32) -> bool
         requires within { off + bytes_of width ≤ length self.old.ram }
         requires aligned { off % bytes_of width ≡ 0 }
-        ensures written { result ≡ true → self.new ≡ record self.old { ram = put self.old.ram off width value } }
+        ensures written { result ≡ true → self.new ≡ record self.old { ram = put self.old.ram off (bytes_of width) value } }
         ensures refused { result ≡ false → self.new ≡ self.old }
         ensures blank { result ≡ false → is_zero_page self.old.ram off ≡ true }
         ensures others { (a : ℕ) → a % 4 ≡ 0 → a ≢ (ram_base + off) / 4 * 4

@@ -2,21 +2,12 @@
 ghost use Rattle.std.specs.Prelude.{◌≡◌, ◌%◌, ◌≤◌, ◌^◌, ℕ};
 ghost use Rattle.rv_isa.specs.Width.{bytes_of};
 ghost use Rattle.rv_bus.specs.Locations.{location_of};
-ghost use Rattle.rv_bus.specs.Routes.{device_of, word_device};
+ghost use Rattle.rv_bus.specs.Routes.{controller, device_of, word_device};
 ghost use Rattle.rv_bus.specs.Within.{IsWithin};
 
 use rv_base::RAM_BASE;
 use rv_isa::Width;
-use rv_mmio::SerialReg;
-
-/// The address of the halt register.
-const HALT: u32 = 0x0010_0000;
-
-/// The first address of the timer's window.
-const TIMER: u32 = 0x0200_0000;
-
-/// The first address after the timer's window.
-const TIMER_END: u32 = 0x0200_c000;
+use rv_mmio::{SerialReg, TimerReg};
 
 /// The first address of the interrupt controller's window.
 const PLIC: u32 = 0x0c00_0000;
@@ -31,9 +22,8 @@ pub enum Location {
     Ram(u32),
     /// The halt register. It takes words.
     Halt,
-    /// This offset in bytes in the timer's window. It takes words; where the timer has no register, an access
-    /// is a fault.
-    Timer(u32),
+    /// A register of the timer. It takes words.
+    Timer(TimerReg),
     /// This offset in bytes in the interrupt controller's window. It takes words.
     Plic(u32),
     /// A register of the serial port. It takes accesses of every width.
@@ -43,7 +33,7 @@ pub enum Location {
 }
 
 /// Returns the location at an address, for an access of this width to a memory of `size` bytes.
-#[tactic(auto, using(crate::proofs::Fit::memory_within, crate::proofs::Windows::located))]
+#[tactic(auto, using(crate::proofs::Fit::memory_within, crate::proofs::Windows::located, crate::proofs::Windows::located_below))]
 pub(crate) fn find_location(size: u32, addr: u32, width: Width) -> Location
     requires words { size % 4096 ≡ 0 }
     requires aligned { addr % bytes_of width ≡ 0 }
@@ -84,16 +74,28 @@ fn word_device(addr: u32) -> Location
     ensures location { result ≡ word_device addr }
     ensures within { (size : ℕ) (w : Width) → IsWithin size addr w result }
 {
-    if addr == HALT {
-        return Location::Halt;
+    match addr {
+        0x0010_0000 => Location::Halt,
+        0x0200_0000 => Location::Timer(TimerReg::Msip),
+        0x0200_4000 => Location::Timer(TimerReg::MtimecmpLow),
+        0x0200_4004 => Location::Timer(TimerReg::MtimecmpHigh),
+        0x0200_bff8 => Location::Timer(TimerReg::MtimeLow),
+        0x0200_bffc => Location::Timer(TimerReg::MtimeHigh),
+        _ => controller(addr),
     }
-    if addr >= TIMER && addr < TIMER_END {
-        return Location::Timer(addr - TIMER);
-    }
+}
+
+/// Returns the location of the interrupt controller at an address, if it is there.
+fn controller(addr: u32) -> Location
+    requires { addr % 4 ≡ 0 }
+    ensures location { result ≡ controller addr }
+    ensures within { (size : ℕ) (w : Width) → IsWithin size addr w result }
+{
     if addr >= PLIC && addr < PLIC_END {
-        return Location::Plic(addr - PLIC);
+        Location::Plic(addr - PLIC)
+    } else {
+        Location::Nowhere
     }
-    Location::Nowhere
 }
 
 ghost use Rattle.rv_isa.specs.declared.op.Width.{Width};

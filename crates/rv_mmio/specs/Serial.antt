@@ -1,6 +1,6 @@
 -- To audit: public contracts cite this.
 -- The serial port: a queue of received bytes, and the console, which is the bytes that were sent.
-use Rattle.std.specs.Prelude.{ℕ, Bool, true, false, ◌+◌, ◌%◌, nat_lt, if◌then◌else◌, List, [], ◌∷◌, ◌++◌, length, drop, slice_get, Option, Some, None}
+use Rattle.std.specs.Prelude.{ℕ, Bool, true, false, ◌+◌, ◌%◌, nat_lt, if◌then◌else◌, List, [], ◌∷◌, ◌++◌, length, drop, slice_get, unwrap_or}
 use Rattle.rv_mmio.specs.declared.serial.SerialReg.{SerialReg}
 use Rattle.rv_mmio.specs.declared.serial.SerialReg.TheVariants.{Tx, Rx, Status}
 
@@ -15,21 +15,17 @@ pub record SerialState : Type 0 where
 abbrev pub reset : SerialState
 reset = record { waiting = []; sent = []; overrun = false }
 
--- the word of a waiting byte, or one that no byte has
-abbrev pub received_word : Option ℕ → ℕ
-received_word (Some byte) = byte
-received_word None = 0x80000000
-
 -- the status: bit 0 where a byte is waiting, bit 1 since a byte may always be sent, bit 2 where a byte was
 -- lost
 abbrev pub status_word : SerialState → ℕ
 status_word serial =
     (if nat_lt 0 (length serial.waiting) then 1 else 0) + 2 + (if serial.overrun then 4 else 0)
 
--- the word that a load of a register returns
+-- the word that a load of a register returns: for the receive register the oldest byte, or a word that no byte
+-- has if none is waiting
 abbrev pub load_value : SerialState → SerialReg → ℕ
 load_value serial Tx = 0
-load_value serial Rx = received_word (slice_get serial.waiting 0)
+load_value serial Rx = unwrap_or (slice_get serial.waiting 0) 0x80000000
 load_value serial Status = status_word serial
 
 -- the port after a load of a register: the oldest byte is taken, or the overrun cleared

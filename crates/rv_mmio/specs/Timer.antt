@@ -1,8 +1,7 @@
 -- To audit: public contracts cite this.
 -- The machine timer: mtime and mtimecmp of the Privileged Architecture 20211203, section 3.2.1, and the
 -- software interrupt bit msip of section 3.1.9, each read and written by words.
-use Rattle.std.specs.Prelude.{◌≡◌, ℕ, Bool, false, ◌+◌, ◌-◌, ◌/◌, ◌%◌, ◌^◌, ◌==◌, nat_le, if◌then◌else◌, Option, Some, None}
-use Rattle.std.specs.Option.{option_map}
+use Rattle.std.specs.Prelude.{ℕ, Bool, false, ◌+◌, ◌-◌, ◌/◌, ◌%◌, ◌^◌, ◌==◌, nat_le, if◌then◌else◌}
 use Rattle.rv_base.specs.Halves.{with_low, with_high}
 use Rattle.rv_mmio.specs.declared.timer.TimerReg.{TimerReg}
 use Rattle.rv_mmio.specs.declared.timer.TimerReg.TheVariants.{Msip, MtimecmpLow, MtimecmpHigh, MtimeLow, MtimeHigh}
@@ -29,41 +28,18 @@ later timer ticks = record timer { time = (timer.time + ticks) % 2 ^ 64 }
 abbrev pub is_due : TimerState → Bool
 is_due timer = nat_le timer.compare timer.time
 
--- the register at an offset
-unfoldable pub register_at : ℕ → Option TimerReg
-register_at off =
-    if off == 0 then Some Msip
-    else (if off == 0x4000 then Some MtimecmpLow
-    else (if off == 0x4004 then Some MtimecmpHigh
-    else (if off == 0xBFF8 then Some MtimeLow
-    else (if off == 0xBFFC then Some MtimeHigh
-    else None))))
-
 -- the word of a register
-abbrev pub word_of : TimerState → TimerReg → ℕ
-word_of timer Msip = if timer.software then 1 else 0
-word_of timer MtimecmpLow = timer.compare % 2 ^ 32
-word_of timer MtimecmpHigh = timer.compare / 2 ^ 32
-word_of timer MtimeLow = timer.time % 2 ^ 32
-word_of timer MtimeHigh = timer.time / 2 ^ 32
+abbrev pub load_value : TimerState → TimerReg → ℕ
+load_value timer Msip = if timer.software then 1 else 0
+load_value timer MtimecmpLow = timer.compare % 2 ^ 32
+load_value timer MtimecmpHigh = timer.compare / 2 ^ 32
+load_value timer MtimeLow = timer.time % 2 ^ 32
+load_value timer MtimeHigh = timer.time / 2 ^ 32
 
 -- the timer after a word is stored in a register: msip keeps bit 0
-abbrev pub with_word : TimerState → TimerReg → ℕ → TimerState
-with_word timer Msip word = record timer { software = word % 2 == 1 }
-with_word timer MtimecmpLow word = record timer { compare = with_low timer.compare word }
-with_word timer MtimecmpHigh word = record timer { compare = with_high timer.compare word }
-with_word timer MtimeLow word = record timer { time = with_low timer.time word }
-with_word timer MtimeHigh word = record timer { time = with_high timer.time word }
-
--- the word that a load at an offset returns, if there is a register
-unfoldable pub load : TimerState → ℕ → Option ℕ
-load timer off = option_map (word_of timer) (register_at off)
-
--- the timer after a store at an offset, if there is a register
-unfoldable pub store : TimerState → ℕ → ℕ → Option TimerState
-store timer off word = option_map (λ reg. with_word timer reg word) (register_at off)
-
--- what a store of a word at an offset leaves, by whether it succeeds
-abbrev pub Stores : TimerState → ℕ → ℕ → TimerState → Option Unit → Type 0
-Stores old off word new (Some done) = store old off word ≡ Some new
-Stores old off word new None = (store old off word ≡ None) × (new ≡ old)
+abbrev pub stored : TimerState → TimerReg → ℕ → TimerState
+stored timer Msip word = record timer { software = word % 2 == 1 }
+stored timer MtimecmpLow word = record timer { compare = with_low timer.compare word }
+stored timer MtimecmpHigh word = record timer { compare = with_high timer.compare word }
+stored timer MtimeLow word = record timer { time = with_low timer.time word }
+stored timer MtimeHigh word = record timer { time = with_high timer.time word }

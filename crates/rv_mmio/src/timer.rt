@@ -1,43 +1,26 @@
 //! The machine timer.
 ghost use Rattle.std.specs.Prelude.{◌≡◌};
-ghost use Rattle.rv_mmio.specs.Timer.{reset, ticked, is_due, register_at, word_of, with_word, load, Stores};
+ghost use Rattle.rv_mmio.specs.Timer.{reset, ticked, is_due, load_value, stored};
 
 use rv_base::{high_word, low_word, with_high_word, with_low_word};
 use std::marker::Model;
 
-/// A register of the timer: one word, at an offset of its own.
+/// A register of the timer: one word, at an address of its own.
 ///
 /// Privileged Architecture 20211203, section 3.2.1: mtime and mtimecmp have 64 bits, and a hart of 32 bits
 /// accesses them word by word.
 #[derive(Clone, Copy)]
 pub enum TimerReg {
-    /// The software interrupt bit msip, in bit 0, at 0 (section 3.1.9).
+    /// The software interrupt bit msip, in bit 0 (section 3.1.9).
     Msip,
-    /// The low word of mtimecmp, the time to compare with, at 0x4000.
+    /// The low word of mtimecmp, the time to compare with.
     MtimecmpLow,
-    /// The high word of mtimecmp, at 0x4004.
+    /// The high word of mtimecmp.
     MtimecmpHigh,
-    /// The low word of mtime, the time, at 0xBFF8.
+    /// The low word of mtime, the time.
     MtimeLow,
-    /// The high word of mtime, at 0xBFFC.
+    /// The high word of mtime.
     MtimeHigh,
-}
-
-impl TimerReg {
-    /// Returns the register at an offset, if there is one.
-    #[tactic(auto, unfolding(crate::specs::Timer::register_at))]
-    fn at(off: u32) -> Option<TimerReg>
-        ensures { result ≡ register_at off }
-    {
-        match off {
-            0 => Some(TimerReg::Msip),
-            0x4000 => Some(TimerReg::MtimecmpLow),
-            0x4004 => Some(TimerReg::MtimecmpHigh),
-            0xBFF8 => Some(TimerReg::MtimeLow),
-            0xBFFC => Some(TimerReg::MtimeHigh),
-            _ => None,
-        }
-    }
 }
 
 /// The machine timer: the time, the time at which its interrupt line rises, and the level of the software
@@ -100,25 +83,6 @@ impl Timer {
         Timer { time, ..*self }
     }
 
-    /// Returns the word of the register at an offset, or `None` where there is no register.
-    #[tactic(auto, unfolding(crate::specs::Timer::load))]
-    pub fn load(&self, off: u32) -> Option<u32>
-        ensures { result ≡ load self.now off }
-    {
-        TimerReg::at(off).map(|reg| self.word(reg))
-    }
-
-    /// Stores a word in the register at an offset. Where there is no register, returns `None` and changes
-    /// nothing.
-    #[tactic(auto, unfolding(crate::specs::Timer::store))]
-    pub fn store(&mut self, off: u32, word: u32) -> Option<()>
-        ensures { Stores self.old off word self.new result }
-    {
-        let reg = TimerReg::at(off)?;
-        self.set_word(reg, word);
-        Some(())
-    }
-
     /// Returns the level of the software interrupt line.
     pub fn software(&self) -> bool
         ensures { result ≡ self.now.software }
@@ -133,9 +97,9 @@ impl Timer {
         self.time >= self.compare
     }
 
-    /// Returns the word of a register.
-    fn word(&self, reg: TimerReg) -> u32
-        ensures { result ≡ word_of self.now reg }
+    /// Loads a register: returns its word.
+    pub fn load(&self, reg: TimerReg) -> u32
+        ensures { result ≡ load_value self.now reg }
     {
         match reg {
             TimerReg::Msip => self.software as u32,
@@ -146,9 +110,9 @@ impl Timer {
         }
     }
 
-    /// Sets the word of a register. The software interrupt bit keeps bit 0.
-    fn set_word(&mut self, reg: TimerReg, word: u32)
-        ensures { self.new ≡ with_word self.old reg word }
+    /// Stores a word in a register. The software interrupt bit keeps bit 0.
+    pub fn store(&mut self, reg: TimerReg, word: u32)
+        ensures { self.new ≡ stored self.old reg word }
     {
         match reg {
             TimerReg::Msip => self.software = word % 2 == 1,

@@ -1,4 +1,5 @@
 pub mod Blank
 pub mod Put
 pub mod Table
+pub mod Value
 pub mod Zeros

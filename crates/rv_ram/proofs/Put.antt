@@ -1,8 +1,7 @@
 -- Writes of values to lists of bytes.
-use Rattle.std.proofs.Common.{◌≡◌, ℕ, ◌+◌, ◌-◌, ◌/◌, ◌%◌, ◌^◌, ◌<◌, ◌≤◌, List, ◌++◌, true, length, slice_set, arith, refl, ap, ◌∙◌}
+use Rattle.std.proofs.Common.{◌≡◌, ℕ, zero, suc, ◌+◌, ◌-◌, ◌/◌, ◌%◌, ◌^◌, ◌≤◌, List, ◌++◌, true, length, slice_set, arith, refl, ap, ◌∙◌}
 use Rattle.std.proofs.Math.ListN.{set}
 use Rattle.std.proofs.lemmas.Bool.{eqb-true}
-use Rattle.std.proofs.lemmas.Grind.{common_steps}
 use Rattle.std.proofs.lemmas.List.{set-append_left, set-append_right, length-set}
 use Rattle.rv_isa.specs.declared.op.Width.{Width}
 use Rattle.rv_isa.specs.declared.op.Width.TheVariants.{One, Two, Four}
@@ -11,55 +10,73 @@ use Rattle.rv_ram.specs.Bytes.{zeros, put}
 use Rattle.rv_ram.specs.Pages.{is_zero}
 use Rattle.rv_ram.proofs.Zeros.{set_zero}
 
--- a write of zeros changes nothing among zeros
-pub put_zeros : (n i v : ℕ) (w : Width) → is_zero w v ≡ true → put (zeros n) i w v ≡ zeros n
-put_zeros n i v One z = set_zero n i _ (eqb-true (v % 256) 0 z)
+-- ---- a write of zeros changes nothing among zeros
+
+one_more : (n i k v : ℕ) → v / 256 ^ k % 256 ≡ 0 → put (zeros n) i k v ≡ zeros n
+    → put (zeros n) i (suc k) v ≡ zeros n
+unfolding put
+one_more n i k v z e = ap (λ xs. slice_set xs (i + k) (v / 256 ^ k % 256)) e ∙ set_zero n (i + k) _ z
+
+none : (n i v : ℕ) → put (zeros n) i 0 v ≡ zeros n
+unfolding put
+none n i v = refl
+
+pub put_zeros : (n i v : ℕ) (w : Width) → is_zero w v ≡ true → put (zeros n) i (bytes_of w) v ≡ zeros n
+put_zeros n i v One z =
+    let e : v % 256 ≡ 0 = eqb-true (v % 256) 0 z in one_more n i 0 v (omega arith) (none n i v)
 put_zeros n i v Two z =
     let e : v % 65536 ≡ 0 = eqb-true (v % 65536) 0 z in
-    ap (λ xs. slice_set xs (i + 1) (v / 256 % 256)) (set_zero n i (v % 256) (omega arith))
-    ∙ set_zero n (i + 1) _ (omega arith)
+    one_more n i 1 v (omega arith) (one_more n i 0 v (omega arith) (none n i v))
 put_zeros n i v Four z =
     let e : v ≡ 0 = eqb-true v 0 z in
-    ap (λ xs. slice_set (slice_set (slice_set xs (i + 1) (v / 256 % 256)) (i + 2) (v / 65536 % 256)) (i + 3)
-    (v / 16777216)) (set_zero n i (v % 256) (omega arith))
-    ∙ (ap (λ xs. slice_set (slice_set xs (i + 2) (v / 65536 % 256)) (i + 3) (v / 16777216))
-    (set_zero n (i + 1) _ (omega arith))
-    ∙ (ap (λ xs. slice_set xs (i + 3) (v / 16777216)) (set_zero n (i + 2) _ (omega arith))
-    ∙ set_zero n (i + 3) _ (omega arith)))
+    one_more n i 3 v (omega arith) (one_more n i 2 v (omega arith)
+    (one_more n i 1 v (omega arith) (one_more n i 0 v (omega arith) (none n i v))))
 
-pub length_put : (bs : List ℕ) (off v : ℕ) (w : Width) → length (put bs off w v) ≡ length bs
-length_put bs off v One = grind (arith, common_steps)
-length_put bs off v Two = grind (arith, common_steps)
-length_put bs off v Four = grind (arith, common_steps)
+-- ---- writes by their bytes
+
+first : (bs : List ℕ) (i v : ℕ) → slice_set bs i (v % 256) ≡ slice_set bs (i + 0) (v / 1 % 256)
+first bs i v =
+    let e : i ≡ i + 0 = omega arith in
+    let b : v % 256 ≡ v / 1 % 256 = omega arith in
+    ap (λ j. slice_set bs j (v % 256)) e ∙ ap (slice_set bs (i + 0)) b
+
+pub put_byte : (bs : List ℕ) (i v : ℕ) → slice_set bs i (v % 256) ≡ put bs i 1 v
+unfolding put
+put_byte bs i v = first bs i v
+
+pub put_half : (bs : List ℕ) (i v : ℕ)
+    → slice_set (slice_set bs i (v % 256)) (i + 1) (v / 256 % 256) ≡ put bs i 2 v
+unfolding put
+put_half bs i v = ap (λ xs. slice_set xs (i + 1) (v / 256 % 256)) (first bs i v)
 
 -- a write of a word is one of its low half and one of its high half
-pub put_halves : (bs : List ℕ) (i v : ℕ) → v < 2 ^ 32 → put (put bs i Two v)
-    (i + 2) Two (v / 65536) ≡ put bs i Four v
-put_halves bs i v l =
+pub put_halves : (bs : List ℕ) (i v : ℕ) → put (put bs i 2 v) (i + 2) 2 (v / 65536) ≡ put bs i 4 v
+unfolding put
+put_halves bs i v =
+    let half = put bs i 2 v in
+    let j : i + 2 + 0 ≡ i + 2 = omega arith in
     let k : i + 2 + 1 ≡ i + 3 = omega arith in
-    let e : v / 65536 / 256 % 256 ≡ v / 16777216 = omega arith in
-    ap (λ j. set (set (put bs i Two v) (i + 2) (v / 65536 % 256)) j (v / 65536 / 256 % 256)) k
-    ∙ ap (λ b. set (set (put bs i Two v) (i + 2) (v / 65536 % 256)) (i + 3) b) e
+    let a : v / 65536 / 1 % 256 ≡ v / 65536 % 256 = omega arith in
+    let b : v / 65536 / 256 % 256 ≡ v / 16777216 % 256 = omega arith in
+    ap (λ x. set (set half x (v / 65536 / 1 % 256)) (i + 2 + 1) (v / 65536 / 256 % 256)) j
+    ∙ (ap (λ x. set (set half (i + 2) x) (i + 2 + 1) (v / 65536 / 256 % 256)) a
+    ∙ (ap (λ x. set (set half (i + 2) (v / 65536 % 256)) x (v / 65536 / 256 % 256)) k
+    ∙ ap (λ x. set (set half (i + 2) (v / 65536 % 256)) (i + 3) x) b))
+
+-- ---- what a write does to the bytes round it
+
+pub length_put : (bs : List ℕ) (i n v : ℕ) → length (put bs i n v) ≡ length bs
+unfolding put
+length_put bs i zero v = refl
+length_put bs i (suc n) v = length-set (put bs i n v) (i + n) _ ∙ length_put bs i n v
 
 -- a write to the first of two joined lists
-pub put_left : (xs ys : List ℕ) (o v : ℕ) (w : Width) → o + bytes_of w ≤ length xs
-    → put (xs ++ ys) o w v ≡ put xs o w v ++ ys
-put_left xs ys o v One l = set-append_left xs ys o _ (omega arith)
-put_left xs ys o v Two l =
-    ap (λ b. set b (o + 1) (v / 256 % 256)) (set-append_left xs ys o (v % 256) (omega arith))
-    ∙ set-append_left (set xs o (v % 256)) ys (o + 1) _ (omega (arith, length-set xs o (v % 256)))
-put_left xs ys o v Four l =
-    let l1 = length-set xs o (v % 256) in
-    let l2 = length-set (set xs o (v % 256)) (o + 1) (v / 256 % 256) in
-    let l3 = length-set (set (set xs o (v % 256)) (o + 1) (v / 256 % 256)) (o + 2) (v / 65536 % 256) in
-    ap (λ b. set (set (set b (o + 1) (v / 256 % 256)) (o + 2) (v / 65536 % 256)) (o + 3) (v / 16777216))
-    (set-append_left xs ys o (v % 256) (omega arith))
-    ∙ (ap (λ b. set (set b (o + 2) (v / 65536 % 256)) (o + 3) (v / 16777216))
-    (set-append_left (set xs o (v % 256)) ys (o + 1) (v / 256 % 256) (omega arith))
-    ∙ (ap (λ b. set b (o + 3) (v / 16777216)) (set-append_left
-    (set (set xs o (v % 256)) (o + 1) (v / 256 % 256)) ys (o + 2) (v / 65536 % 256) (omega arith))
-    ∙ set-append_left (set (set (set xs o (v % 256)) (o + 1) (v / 256 % 256)) (o + 2) (v / 65536 % 256)) ys
-    (o + 3) _ (omega arith)))
+pub put_left : (xs ys : List ℕ) (i n v : ℕ) → i + n ≤ length xs → put (xs ++ ys) i n v ≡ put xs i n v ++ ys
+unfolding put
+put_left xs ys i zero v l = refl
+put_left xs ys i (suc n) v l =
+    ap (λ bs. set bs (i + n) (v / 256 ^ n % 256)) (put_left xs ys i n v (omega arith))
+    ∙ set-append_left (put xs i n v) ys (i + n) _ (omega (arith, length_put xs i n v))
 
 set_right : (xs ys : List ℕ) (n k j x : ℕ) → length xs ≡ n → j ≡ n + k → set (xs ++ ys) j x ≡ xs ++ set ys k x
 set_right xs ys n k j x e q =
@@ -67,19 +84,9 @@ set_right xs ys n k j x e q =
     ∙ ap (λ i. xs ++ set ys i x) d
 
 -- a write to the second of two joined lists
-pub put_right : (xs ys : List ℕ) (n o v : ℕ) (w : Width) → length xs ≡ n → put (xs ++ ys)
-    (n + o) w v ≡ xs ++ put ys o w v
-put_right xs ys n o v One e = set_right xs ys n o (n + o) _ e refl
-put_right xs ys n o v Two e =
-    ap (λ b. set b (n + o + 1) (v / 256 % 256)) (set_right xs ys n o (n + o) (v % 256) e refl)
-    ∙ set_right xs _ n (o + 1) (n + o + 1) _ e (omega arith)
-put_right xs ys n o v Four e =
-    ap (λ b. set (set (set b (n + o + 1) (v / 256 % 256)) (n + o + 2) (v / 65536 % 256)) (n + o + 3)
-    (v / 16777216)) (set_right xs ys n o (n + o) (v % 256) e refl)
-    ∙ (ap (λ b. set (set b (n + o + 2) (v / 65536 % 256)) (n + o + 3) (v / 16777216))
-    (set_right xs (set ys o (v % 256)) n (o + 1) (n + o + 1) (v / 256 % 256) e (omega arith))
-    ∙ (ap (λ b. set b (n + o + 3) (v / 16777216)) (set_right xs
-    (set (set ys o (v % 256)) (o + 1) (v / 256 % 256)) n (o + 2) (n + o + 2) (v / 65536 % 256) e
-    (omega arith))
-    ∙ set_right xs (set (set (set ys o (v % 256)) (o + 1) (v / 256 % 256)) (o + 2) (v / 65536 % 256)) n
-    (o + 3) (n + o + 3) _ e (omega arith)))
+pub put_right : (xs ys : List ℕ) (k i n v : ℕ) → length xs ≡ k → put (xs ++ ys) (k + i) n v ≡ xs ++ put ys i n v
+unfolding put
+put_right xs ys k i zero v e = refl
+put_right xs ys k i (suc n) v e =
+    ap (λ bs. set bs (k + i + n) (v / 256 ^ n % 256)) (put_right xs ys k i n v e)
+    ∙ set_right xs (put ys i n v) k (i + n) (k + i + n) _ e (omega arith)

@@ -5,11 +5,12 @@ use Rattle.std.proofs.lemmas.List.{get_or_append_left, get_or-append_right, leng
 use Rattle.rv_isa.specs.declared.op.Width.{Width}
 use Rattle.rv_isa.specs.declared.op.Width.TheVariants.{One, Two, Four}
 use Rattle.rv_isa.specs.Width.{bytes_of}
-use Rattle.rv_ram.specs.Bytes.{zeros, put, word_at}
+use Rattle.rv_ram.specs.Bytes.{zeros, put, value_at}
 use Rattle.rv_ram.specs.Pages.{is_zero, none_made}
 use Rattle.rv_ram.specs.Table.{PageState, new_page, page_of, all_bytes, made_of, HasWholePages, IsTable, new_table}
 use Rattle.rv_ram.proofs.Zeros.{length_zeros, append_zeros, no_zeros, get_zeros}
 use Rattle.rv_ram.proofs.Put.{put_zeros, put_left, put_right}
+use Rattle.rv_ram.proofs.Value.{no_value, same_value, zero_value}
 
 -- a byte that is kept of a page is that of the page
 pub byte_of : (xs : List ℕ) (at : ℕ) → slice_index xs at ≡ slice_index (page_of xs).bytes at
@@ -17,10 +18,8 @@ byte_of [] at = sym (get_zeros 4096 at)
 byte_of (x ∷ xs) at = refl
 
 -- a word that is kept of a page is that of the page
-pub word_of_page : (xs : List ℕ) (at : ℕ) → word_at xs at ≡ word_at (page_of xs).bytes at
-word_of_page [] at =
-    let a = get_zeros 4096 at in let b = get_zeros 4096 (at + 1) in let c = get_zeros 4096 (at + 2) in let d =
-    get_zeros 4096 (at + 3) in omega (arith, a, b, c, d)
+pub word_of_page : (xs : List ℕ) (at : ℕ) → value_at xs at 4 ≡ value_at (page_of xs).bytes at 4
+word_of_page [] at = no_value at 4 ∙ sym (zero_value 4096 at 4)
 word_of_page (x ∷ xs) at = refl
 
 -- ---- a page that does not exist, of which no byte is kept
@@ -28,12 +27,12 @@ pub no_byte : (xs : List ℕ) (at : ℕ) → length xs ≡ 0 → 0 ≡ slice_ind
 no_byte [] at l = sym (get_zeros 4096 at)
 no_byte (x ∷ xs) at l = absurd (omega arith)
 
-pub no_word : (xs : List ℕ) (at : ℕ) → length xs ≡ 0 → 0 ≡ word_at (page_of xs).bytes at
-no_word [] at l = word_of_page [] at
+pub no_word : (xs : List ℕ) (at : ℕ) → length xs ≡ 0 → 0 ≡ value_at (page_of xs).bytes at 4
+no_word [] at l = sym (zero_value 4096 at 4)
 no_word (x ∷ xs) at l = absurd (omega arith)
 
 pub put_unmade : (xs : List ℕ) (i v : ℕ) (w : Width) → length xs ≡ 0 → is_zero w v ≡ true
-    → (page_of xs).bytes ≡ put (page_of xs).bytes i w v
+    → (page_of xs).bytes ≡ put (page_of xs).bytes i (bytes_of w) v
 put_unmade [] i v w l z = sym (put_zeros 4096 i v w z)
 put_unmade (x ∷ xs) i v w l z = absurd (omega arith)
 
@@ -93,14 +92,10 @@ byte_of_all ps off d w l =
 -- an aligned word is that of its page
 pub word_of_all : (ps : List PageState) (off : ℕ) (d : PageState) → HasWholePages ps
     → off + 4 ≤ length (all_bytes ps) → off % 4 ≡ 0
-    → word_at (get_or ps (off / 4096) d).bytes (off % 4096) ≡ word_at (all_bytes ps) off
+    → value_at (get_or ps (off / 4096) d).bytes (off % 4096) 4 ≡ value_at (all_bytes ps) off 4
 word_of_all ps off d w l a =
-    let r : off % 4096 + 4 ≤ 4096 = omega arith in
-    let b0 = byte_of_all ps off d w (omega arith) in
-    let b1 = byte_at ps off 1 d w (omega arith) (omega arith) in
-    let b2 = byte_at ps off 2 d w (omega arith) (omega arith) in
-    let b3 = byte_at ps off 3 d w (omega arith) (omega arith) in
-    omega (arith, b0, b1, b2, b3)
+    same_value (get_or ps (off / 4096) d).bytes (all_bytes ps) (off % 4096) off 4
+    (λ k less. byte_at ps off k d w (omega arith) (omega arith))
 
 -- an aligned write stays in its page
 pub in_page : (w : Width) (off : ℕ) → off % bytes_of w ≡ 0 → off % 4096 + bytes_of w ≤ 4096
@@ -109,30 +104,30 @@ in_page Two off a = omega arith
 in_page Four off a = omega arith
 
 -- a write to a page is a write to the memory
-all_bytes_with : (ps : List PageState) (i o v : ℕ) (w : Width) (q d : PageState) → HasWholePages ps
-    → i < length ps → o + bytes_of w ≤ 4096 → q.bytes ≡ put (get_or ps i d).bytes o w v
-    → all_bytes (set ps i q) ≡ put (all_bytes ps) (4096 * i + o) w v
-all_bytes_with [] i o v w q d h l m e = absurd (omega arith)
-all_bytes_with (p ∷ ps) zero o v w q d h l m e =
+all_bytes_with : (ps : List PageState) (i o n v : ℕ) (q d : PageState) → HasWholePages ps
+    → i < length ps → o + n ≤ 4096 → q.bytes ≡ put (get_or ps i d).bytes o n v
+    → all_bytes (set ps i q) ≡ put (all_bytes ps) (4096 * i + o) n v
+all_bytes_with [] i o n v q d h l m e = absurd (omega arith)
+all_bytes_with (p ∷ ps) zero o n v q d h l m e =
     let k : 4096 * 0 + o ≡ o = omega arith in
     ap (λ b. b ++ all_bytes ps) e
-    ∙ (sym (put_left p.bytes (all_bytes ps) o v w (omega (arith, h.0)))
-    ∙ ap (λ j. put (p.bytes ++ all_bytes ps) j w v) (sym k))
-all_bytes_with (p ∷ ps) (suc i) o v w q d h l m e =
+    ∙ (sym (put_left p.bytes (all_bytes ps) o n v (omega (arith, h.0)))
+    ∙ ap (λ j. put (p.bytes ++ all_bytes ps) j n v) (sym k))
+all_bytes_with (p ∷ ps) (suc i) o n v q d h l m e =
     let k : 4096 + (4096 * i + o) ≡ 4096 * suc i + o = omega arith in
-    ap (λ b. p.bytes ++ b) (all_bytes_with ps i o v w q d h.1 (omega arith) m e)
-    ∙ (sym (put_right p.bytes (all_bytes ps) 4096 (4096 * i + o) v w h.0)
-    ∙ ap (λ j. put (p.bytes ++ all_bytes ps) j w v) k)
+    ap (λ b. p.bytes ++ b) (all_bytes_with ps i o n v q d h.1 (omega arith) m e)
+    ∙ (sym (put_right p.bytes (all_bytes ps) 4096 (4096 * i + o) n v h.0)
+    ∙ ap (λ j. put (p.bytes ++ all_bytes ps) j n v) k)
 
 pub all_bytes_put : (ps : List PageState) (off v : ℕ) (w : Width) (q d : PageState) → HasWholePages ps
     → off + bytes_of w ≤ length (all_bytes ps) → off % bytes_of w ≡ 0
-    → q.bytes ≡ put (get_or ps (off / 4096) d).bytes (off % 4096) w v
-    → all_bytes (set ps (off / 4096) q) ≡ put (all_bytes ps) off w v
+    → q.bytes ≡ put (get_or ps (off / 4096) d).bytes (off % 4096) (bytes_of w) v
+    → all_bytes (set ps (off / 4096) q) ≡ put (all_bytes ps) off (bytes_of w) v
 all_bytes_put ps off v w q d h l a e =
     let len = length_all_bytes ps h in
     let r : 4096 * (off / 4096) + off % 4096 ≡ off = omega arith in
-    all_bytes_with ps (off / 4096) (off % 4096) v w q d h (below w l) (in_page w off a) e
-    ∙ ap (λ k. put (all_bytes ps) k w v) r
+    all_bytes_with ps (off / 4096) (off % 4096) (bytes_of w) v q d h (below w l) (in_page w off a) e
+    ∙ ap (λ k. put (all_bytes ps) k (bytes_of w) v) r
   where
     below : (w : Width) → off + bytes_of w ≤ length (all_bytes ps) → off / 4096 < length ps
     below One l = omega (arith, length_all_bytes ps h)

@@ -1,34 +1,17 @@
 -- To audit: public contracts cite this.
 -- A memory as the list of its bytes. RISC-V Unprivileged ISA 20191213, section 1.4: memory is addressed by
 -- bytes, and the bytes of a word stand low byte first.
-use Rattle.std.specs.Prelude.{◌≡◌, ℕ, ◌+◌, ◌*◌, ◌/◌, ◌%◌, ◌^◌, ◌≤◌, List, length, slice_index, slice_set, replicate}
-use Rattle.rv_isa.specs.declared.op.Width.{Width}
-use Rattle.rv_isa.specs.declared.op.Width.TheVariants.{One, Two, Four}
+use Rattle.std.specs.Prelude.{◌≡◌, ℕ, zero, suc, ◌+◌, ◌*◌, ◌/◌, ◌%◌, ◌^◌, ◌≤◌, List, length, slice_index, slice_set, replicate}
 
--- the value of the two bytes at an offset
-abbrev pub half_at : List ℕ → ℕ → ℕ
-half_at bs i = slice_index bs i + 256 * slice_index bs (i + 1)
+-- the value of n bytes at an offset
+unfoldable pub value_at : List ℕ → ℕ → ℕ → ℕ
+value_at bs i zero = 0
+value_at bs i (suc n) = value_at bs i n + slice_index bs (i + n) * 256 ^ n
 
--- the value of the four bytes at an offset
-abbrev pub word_at : List ℕ → ℕ → ℕ
-word_at bs i =
-    slice_index bs i + 256 * slice_index bs (i + 1)
-    + 65536 * slice_index bs (i + 2) + 16777216 * slice_index bs (i + 3)
-
--- the value of as many bytes as a width has, at an offset
-abbrev pub value_at : List ℕ → ℕ → Width → ℕ
-value_at bs i One = slice_index bs i
-value_at bs i Two = half_at bs i
-value_at bs i Four = word_at bs i
-
--- the bytes after a write of the low bytes of a value at an offset
-abbrev pub put : List ℕ → ℕ → Width → ℕ → List ℕ
-put bs i One v = slice_set bs i (v % 256)
-put bs i Two v = slice_set (slice_set bs i (v % 256)) (i + 1) (v / 256 % 256)
-put bs i Four v =
-    slice_set
-    (slice_set (slice_set (slice_set bs i (v % 256)) (i + 1) (v / 256 % 256)) (i + 2) (v / 65536 % 256))
-    (i + 3) (v / 16777216)
+-- the bytes after a write of the n low bytes of a value at an offset
+unfoldable pub put : List ℕ → ℕ → ℕ → ℕ → List ℕ
+put bs i zero v = bs
+put bs i (suc n) v = slice_set (put bs i n v) (i + n) (v / 256 ^ n % 256)
 
 -- n zeros. Proofs use lemmas about them, and see no list of 16 million numbers
 unfoldable pub zeros : ℕ → List ℕ

@@ -1,7 +1,7 @@
 //! A memory in one block.
 ghost use Rattle.std.specs.Prelude.{◌≡◌, ◌+◌, ◌*◌, ◌%◌, ◌^◌, ◌<◌, ◌≤◌, length, slice_index, IfOk, IsOk, OnOk, OnErr};
 ghost use Rattle.rv_isa.specs.Width.{bytes_of};
-ghost use Rattle.rv_ram.specs.Bytes.{word_at, put, zeros};
+ghost use Rattle.rv_ram.specs.Bytes.{value_at, put, zeros};
 
 use crate::values::{put_value, word_of};
 use crate::{ByteMemory, PAGE_BYTES};
@@ -61,7 +61,7 @@ impl ByteMemory for FlatMemory {
         requires in_range { off + bytes_of width ≤ length self.old }
         requires aligned { off % bytes_of width ≡ 0 }
         ensures succeeds { IsOk result }
-        ensures ok { OnOk result (self.new ≡ put self.old off width value) }
+        ensures ok { OnOk result (self.new ≡ put self.old off (bytes_of width) value) }
     {
         put_value(&mut self.bytes, off as usize, width, value);
         Ok(())

@@ -11,7 +11,7 @@ mod values;
 
 ghost use Rattle.std.specs.Prelude.{◌≡◌, ◌+◌, ◌*◌, ◌%◌, ◌^◌, ◌<◌, ◌≤◌, true, false, length, slice_index, OnOk, OnErr};
 ghost use Rattle.rv_isa.specs.Width.{bytes_of};
-ghost use Rattle.rv_ram.specs.Bytes.{word_at, put};
+ghost use Rattle.rv_ram.specs.Bytes.{value_at, put};
 ghost use Rattle.rv_ram.specs.Pages.{is_zero_page, wants_page};
 
 pub use flat::FlatMemory;
@@ -50,14 +50,14 @@ pub trait ByteMemory: Drop {
     fn read_word(&self, off: u32) -> u32
         requires in_range { off + 4 ≤ length (bytes self.now) }
         requires aligned { off % 4 ≡ 0 }
-        ensures { result ≡ word_at (bytes self.now) off };
+        ensures { result ≡ value_at (bytes self.now) off 4 };
 
     /// Writes the low bytes of a value, as many as `width` has, at an offset that is a multiple of their
     /// number.
     fn write(&mut self, off: u32, width: Width, value: u32) -> Result<(), NoMemory>
         requires in_range { off + bytes_of width ≤ length (bytes self.old) }
         requires aligned { off % bytes_of width ≡ 0 }
-        ensures ok { OnOk result (bytes self.new ≡ put (bytes self.old) off width value) }
+        ensures ok { OnOk result (bytes self.new ≡ put (bytes self.old) off (bytes_of width) value) }
         ensures err { OnErr result (bytes self.new ≡ bytes self.old) }
         ensures room { OnErr result (wants_page (bytes self.old) off width value ≡ true) };
 
@@ -66,7 +66,7 @@ pub trait ByteMemory: Drop {
     fn overwrite(&mut self, off: u32, width: Width, value: u32) -> bool
         requires in_range { off + bytes_of width ≤ length (bytes self.old) }
         requires aligned { off % bytes_of width ≡ 0 }
-        ensures written { result ≡ true → bytes self.new ≡ put (bytes self.old) off width value }
+        ensures written { result ≡ true → bytes self.new ≡ put (bytes self.old) off (bytes_of width) value }
         ensures refused { result ≡ false → bytes self.new ≡ bytes self.old }
         ensures blank { result ≡ false → is_zero_page (bytes self.old) off ≡ true };
 }

@@ -2,7 +2,7 @@
 ghost use Rattle.std.specs.Prelude.{◌≡◌, ◌+◌, ◌<◌, ◌≤◌, ◌||◌, not, true, false, length, slice_index, OnOk, OnErr};
 ghost use Rattle.std.specs.Vec.{vec_len};
 ghost use Rattle.rv_isa.specs.Width.{bytes_of};
-ghost use Rattle.rv_ram.specs.Bytes.{word_at, put, zeros};
+ghost use Rattle.rv_ram.specs.Bytes.{value_at, put, zeros};
 ghost use Rattle.rv_ram.specs.Pages.{is_zero};
 ghost use Rattle.rv_ram.specs.Table.{new_page};
 
@@ -58,7 +58,7 @@ impl Page {
     #[tactic(auto, using(crate::proofs::Table::word_of_page, crate::proofs::Table::no_word))]
     pub fn read_word(&self, at: usize) -> u32
         requires { at + 4 ≤ 4096 }
-        ensures { result ≡ word_at self.now.bytes at }
+        ensures { result ≡ value_at self.now.bytes at 4 }
     {
         if self.bytes.is_empty() {
             0
@@ -73,7 +73,7 @@ impl Page {
     pub fn write(&mut self, at: usize, width: Width, value: u32) -> Result<(), NoMemory>
         requires { at + bytes_of width ≤ 4096 }
         ensures whole { length self.new.bytes ≡ 4096 }
-        ensures ok { OnOk result (self.new.bytes ≡ put self.old.bytes at width value) }
+        ensures ok { OnOk result (self.new.bytes ≡ put self.old.bytes at (bytes_of width) value) }
         ensures made { OnOk result (self.new.made ≡ (self.old.made || not (is_zero width value))) }
         ensures err { OnErr result (self.new ≡ self.old) }
         ensures unmade { OnErr result (self.old.made ≡ false) }
@@ -97,7 +97,7 @@ impl Page {
     pub fn overwrite(&mut self, at: usize, width: Width, value: u32) -> bool
         requires { at + bytes_of width ≤ 4096 }
         ensures whole { length self.new.bytes ≡ 4096 }
-        ensures written { result ≡ true → self.new.bytes ≡ put self.old.bytes at width value }
+        ensures written { result ≡ true → self.new.bytes ≡ put self.old.bytes at (bytes_of width) value }
         ensures refused { result ≡ false → self.new ≡ self.old }
         ensures blank { result ≡ false → self.old.bytes ≡ zeros 4096 }
     {

@@ -1,7 +1,7 @@
 //! A memory whose pages are allocated as they are written.
 ghost use Rattle.std.specs.Prelude.{◌≡◌, ◌+◌, ◌*◌, ◌/◌, ◌%◌, ◌^◌, ◌<◌, ◌≤◌, true, false, length, slice_index, IfOk, IsOk, OnOk, OnErr};
 ghost use Rattle.rv_isa.specs.Width.{bytes_of};
-ghost use Rattle.rv_ram.specs.Bytes.{word_at, put, zeros};
+ghost use Rattle.rv_ram.specs.Bytes.{value_at, put, zeros};
 ghost use Rattle.rv_ram.specs.Pages.{none_made, wants_page, makes_page, made_after};
 ghost use Rattle.rv_ram.specs.Table.{new_table};
 
@@ -92,7 +92,7 @@ impl ByteMemory for PagedRam {
     fn write(&mut self, off: u32, width: Width, value: u32) -> Result<(), NoMemory>
         requires in_range { off + bytes_of width ≤ length self.old.bytes }
         requires aligned { off % bytes_of width ≡ 0 }
-        ensures ok { OnOk result (self.new.bytes ≡ put self.old.bytes off width value) }
+        ensures ok { OnOk result (self.new.bytes ≡ put self.old.bytes off (bytes_of width) value) }
         ensures err { OnErr result (self.new.bytes ≡ self.old.bytes) }
         ensures pages { OnOk result (self.new.made ≡ made_after self.old.made off width value) }
         ensures same_pages { OnErr result (self.new.made ≡ self.old.made) }

@@ -1,15 +1,16 @@
 //! Values in a slice of bytes, low byte first.
 ghost use Rattle.std.specs.Prelude.{◌≡◌, ◌+◌, ◌*◌, ◌≤◌, length};
 ghost use Rattle.rv_isa.specs.Width.{bytes_of};
-ghost use Rattle.rv_ram.specs.Bytes.{word_at, put};
+ghost use Rattle.rv_ram.specs.Bytes.{value_at, put};
 ghost use Rattle.rv_ram.specs.Pages.{is_zero};
 
 use rv_isa::Width;
 
 /// Returns the word at an index: four neighbouring bytes, which the compiler reads at once.
+#[tactic(auto, using(crate::proofs::Value::word_value))]
 pub fn word_of(bytes: &[u8], at: usize) -> u32
     requires { at + 4 ≤ length bytes.now }
-    ensures { result ≡ word_at bytes.now at }
+    ensures { result ≡ value_at bytes.now at 4 }
 {
     let b0 = bytes[at] as u32;
     let b1 = bytes[at + 1] as u32;
@@ -19,10 +20,10 @@ pub fn word_of(bytes: &[u8], at: usize) -> u32
 }
 
 /// Writes the low bytes of a value, as many as `width` has, at an index.
-#[tactic(auto, using(crate::proofs::Put::put_halves))]
+#[tactic(auto, using(crate::proofs::Put::put_byte, crate::proofs::Put::put_halves))]
 pub fn put_value(bytes: &mut [u8], at: usize, width: Width, value: u32)
     requires { at + bytes_of width ≤ length bytes.old }
-    ensures { bytes.new ≡ put bytes.old at width value }
+    ensures { bytes.new ≡ put bytes.old at (bytes_of width) value }
 {
     match width {
         Width::One => bytes[at] = (value % 256) as u8,
@@ -35,9 +36,10 @@ pub fn put_value(bytes: &mut [u8], at: usize, width: Width, value: u32)
 }
 
 /// Writes the two low bytes of a value at an index.
+#[tactic(auto, using(crate::proofs::Put::put_half))]
 fn put_half(bytes: &mut [u8], at: usize, value: u32)
     requires { at + 2 ≤ length bytes.old }
-    ensures { bytes.new ≡ put bytes.old at Width.Two value }
+    ensures { bytes.new ≡ put bytes.old at 2 value }
 {
     bytes[at] = (value % 256) as u8;
     bytes[at + 1] = (value / 256 % 256) as u8;

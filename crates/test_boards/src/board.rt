@@ -99,7 +99,7 @@ fn check_refused_store<M: ByteMemory, C: Decoded, N: ByteMemory, D: Decoded>(
     check_apply(rt, board, Event::Step, Err(NoMemory));
     check_same(rt, board, other);
     assert_eq!(rt; board.steps(), 1);
-    assert_eq!(rt; board.timer().load(0xbff8), Some(1));
+    assert_eq!(rt; board.timer().time(), 1);
     assert_eq!(rt; board.pc(), 0x8000_0004);
     assert_eq!(rt; board.ram(0x8000_1003), Some(0));
 }

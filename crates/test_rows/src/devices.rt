@@ -1,5 +1,5 @@
 //! What the devices of a board hold, as a line of text.
-use rv_base::{NoMemory, byte_digits, word_digits};
+use rv_base::{NoMemory, byte_digits, low_word, word_digits};
 use rv_board::Board;
 use rv_cache::Decoded;
 use rv_ram::ByteMemory;
@@ -9,11 +9,6 @@ use rv_ram::ByteMemory;
 const PENDING: u32 = 0x1000;
 
 const CLAIM: u32 = 0x20_0004;
-
-/// The offsets of the low words of the timer's mtime and mtimecmp.
-const MTIME: u32 = 0xbff8;
-
-const MTIMECMP: u32 = 0x4000;
 
 /// Appends a name and a number.
 fn append_number(name: &[u8], number: u32, text: &mut Vec<u8>) -> Result<(), NoMemory> {
@@ -34,12 +29,8 @@ pub fn append_devices<M: ByteMemory, C: Decoded>(
     append_number(b" lost", board.serial().overrun() as u32, text)?;
     append_number(b" pending", board.plic().peek(PENDING), text)?;
     append_number(b" claim", board.plic().peek(CLAIM), text)?;
-    append_number(b" time", board.timer().load(MTIME).unwrap_or(0), text)?;
-    append_number(
-        b" compared",
-        board.timer().load(MTIMECMP).unwrap_or(0),
-        text,
-    )?;
+    append_number(b" time", low_word(board.timer().time()), text)?;
+    append_number(b" compared", low_word(board.timer().compare()), text)?;
     text.extend_from_slice(b" sent=")?;
     for byte in board.console() {
         text.extend_from_slice(&byte_digits(*byte))?;
