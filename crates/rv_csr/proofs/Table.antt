@@ -1,10 +1,12 @@
 -- The table of the registers says what the cases by register say.
 use Rattle.std.proofs.Common.{◌≡◌, ℕ, ◌==◌, Bool, true, false, Option, Some, None, refl, ap}
 use Rattle.std.specs.Prelude.{if◌then◌else◌}
+use Rattle.std.specs.Option.{option_map, option_or}
 use Rattle.rv_isa.specs.declared.InterruptLines.{InterruptLines}
+use Rattle.rv_pmp.specs.Pmp as protection
 use Rattle.rv_pmp.specs.declared.mode.Mode.{Mode}
 use Rattle.rv_csr.specs.State.{CsrState}
-use Rattle.rv_csr.specs.Registers.{Row, table, row_in, is_zero, value_at, written_at, read, write, may_read, may_write}
+use Rattle.rv_csr.specs.Registers.{Row, table, row_in, is_zero, read, write, may_read, may_write}
 use Rattle.rv_csr.specs.RegisterCases.{register_at, value_of, with_value, with_value_at}
 use Rattle.rv_csr.specs.RegisterCases as cases
 use Rattle.rv_csr.specs.declared.register.Register.{Register}
@@ -47,20 +49,24 @@ same addr =
     tt)))))))))))))
 
 pub values : (state : CsrState) (lines : InterruptLines) (addr : ℕ)
-    → value_at state lines addr (row_in table addr) ≡ cases.value_at state lines addr (register_at addr)
+    → option_or (option_map (λ row. row.value state lines) (row_in table addr)) (protection.load state.pmp addr) ≡ cases.value_at state lines addr (register_at addr)
 values state lines addr = by (row_in table addr) (register_at addr) (same addr) where
   by : (found : Option Row) (register : Option Register) → Same found register
-      → value_at state lines addr found ≡ cases.value_at state lines addr register
+      → option_or (option_map (λ row. row.value state lines) found) (protection.load state.pmp addr)
+      ≡ cases.value_at state lines addr register
   by None None s = refl
   by (Some row) (Some register) s = ap Some (s.value state lines)
   by None (Some register) s = absurd s
   by (Some row) None s = absurd s
 
 pub writes : (state : CsrState) (addr word : ℕ)
-    → written_at state addr word (row_in table addr) ≡ with_value_at state addr word (register_at addr)
+    → option_or (option_map (λ row. row.written state word) (row_in table addr))
+    (option_map (λ pmp. record state { pmp = pmp }) (protection.store state.pmp addr word)) ≡ with_value_at state addr word (register_at addr)
 writes state addr word = by (row_in table addr) (register_at addr) (same addr) where
   by : (found : Option Row) (register : Option Register) → Same found register
-      → written_at state addr word found ≡ with_value_at state addr word register
+      → option_or (option_map (λ row. row.written state word) found)
+      (option_map (λ pmp. record state { pmp = pmp }) (protection.store state.pmp addr word))
+      ≡ with_value_at state addr word register
   by None None s = refl
   by (Some row) (Some register) s = ap Some (s.written state word)
   by None (Some register) s = absurd s

@@ -1,12 +1,12 @@
 -- The control registers by cases: the register at an address, its value, and the state after a write to it.
 -- Not to audit: private contracts alone cite this. proofs/ proves that it is what the table says.
-use Rattle.std.specs.Prelude.{ℕ, ◌%◌, ◌/◌, ◌^◌, ◌==◌, if◌then◌else◌, Option, Some, None}
+use Rattle.std.specs.Prelude.{ℕ, ◌+◌, ◌%◌, ◌/◌, ◌^◌, ◌==◌, if◌then◌else◌, Option, Some, None}
 use Rattle.std.specs.Option.{option_map}
 use Rattle.rv_base.specs.Halves.{with_low, with_high}
 use Rattle.rv_isa.specs.declared.InterruptLines.{InterruptLines}
 use Rattle.rv_pmp.specs.Pmp as protection
 use Rattle.rv_csr.specs.State.{CsrState}
-use Rattle.rv_csr.specs.Registers.{is_zero, status_word, with_status, lines_word, lines_of, isa, aligned, without_bit_1}
+use Rattle.rv_csr.specs.Registers.{is_zero, status_word, with_status, lines_word, lines_of, aligned}
 use Rattle.rv_csr.specs.declared.register.Register.{Register}
 use Rattle.rv_csr.specs.declared.register.Register.TheVariants.{Mstatus, Misa, Mie, Mtvec, Mscratch, Mepc, Mcause, Mtval, Mip, Mcycle, Mcycleh, Minstret, Minstreth, Zero}
 
@@ -32,7 +32,7 @@ register_at addr =
 -- the value of a register, while the interrupt lines have these levels
 abbrev pub value_of : CsrState → InterruptLines → Register → ℕ
 value_of state lines Mstatus = status_word state.status
-value_of state lines Misa = isa
+value_of state lines Misa = 0x40101100
 value_of state lines Mie = lines_word state.enables
 value_of state lines Mtvec = state.trap.vector
 value_of state lines Mscratch = state.trap.scratch
@@ -51,7 +51,7 @@ abbrev pub with_value : CsrState → Register → ℕ → CsrState
 with_value state Mstatus word = record state { status = with_status state.status word }
 with_value state Misa word = state
 with_value state Mie word = record state { enables = lines_of word }
-with_value state Mtvec word = record state { trap = record state.trap { vector = without_bit_1 word } }
+with_value state Mtvec word = record state { trap = record state.trap { vector = aligned word + word % 2 } }
 with_value state Mscratch word = record state { trap = record state.trap { scratch = word } }
 with_value state Mepc word = record state { trap = record state.trap { epc = aligned word } }
 with_value state Mcause word = record state { trap = record state.trap { cause = word } }

@@ -2,8 +2,8 @@
 -- which modes may do either.
 -- RISC-V Privileged Architecture 20211203, section 2.1 for the addresses and 3.1 for the registers.
 -- To audit: public contracts cite this.
-use Rattle.std.specs.Prelude.{◌≡◌, ℕ, ◌+◌, ◌*◌, ◌/◌, ◌%◌, ◌^◌, Bool, false, ◌==◌, ◌&&◌, ◌||◌, not, nat_le, if◌then◌else◌, List, [], ◌∷◌, Option, Some, None}
-use Rattle.std.specs.Option.{option_map}
+use Rattle.std.specs.Prelude.{◌≡◌, ℕ, ◌+◌, ◌*◌, ◌/◌, ◌%◌, ◌^◌, Bool, false, ◌==◌, ◌&&◌, ◌||◌, not, nat_le, if◌then◌else◌, List, [], ◌∷◌, find, unwrap_or, Option, Some, None}
+use Rattle.std.specs.Option.{option_map, option_map_or, option_or}
 use Rattle.rv_base.specs.Halves.{with_low, with_high}
 use Rattle.rv_isa.specs.Number.{bit, truth}
 use Rattle.rv_isa.specs.declared.InterruptLines.{InterruptLines}
@@ -60,7 +60,7 @@ status_word status =
 
 -- the mode of a field of MPP, which keeps the old mode if the field is no mode
 unfoldable pub mode_kept : Mode → ℕ → Mode
-mode_kept old field = if field == 0 then User else (if field == 3 then Machine else old)
+mode_kept old field = unwrap_or (find (λ mode. field == level mode) (User ∷ Machine ∷ [])) old
 
 -- mstatus after a write
 unfoldable pub with_status : mstatus.Mstatus → ℕ → mstatus.Mstatus
@@ -79,16 +79,9 @@ lines_word lines = truth lines.software * 2 ^ 3 + truth lines.timer * 2 ^ 7 + tr
 unfoldable pub lines_of : ℕ → InterruptLines
 lines_of word = record { software = flag word 3; timer = flag word 7; external = flag word 11 }
 
--- misa: RV32I with M and user mode
-abbrev pub isa : ℕ
-isa = 0x40101100
-
--- a word without its two lowest bits, and a word without bit 1
+-- a word without its two lowest bits
 abbrev pub aligned : ℕ → ℕ
 aligned word = word / 4 * 4
-
-abbrev pub without_bit_1 : ℕ → ℕ
-without_bit_1 word = word / 4 * 4 + word % 2
 
 -- ---- the table
 
@@ -114,13 +107,14 @@ to_trap write state word = record state { trap = write state.trap word }
 abbrev pub to_counter : (Counters → ℕ → Counters) → CsrState → ℕ → CsrState
 to_counter write state word = record state { counters = write state.counters word }
 
--- the registers, but for those of physical memory protection and those that read 0
+-- the registers, but for those of physical memory protection and those that read 0. misa says RV32I with M and
+-- user mode; mtvec has no bit 1
 unfoldable pub table : List Row
 table =
     row Mstatus 0x300 (λ s lines. status_word s.status) (λ s w. record s { status = with_status s.status w })
-    ∷ row Misa 0x301 (λ s lines. isa) ignored
+    ∷ row Misa 0x301 (λ s lines. 0x40101100) ignored
     ∷ row Mie 0x304 (λ s lines. lines_word s.enables) (λ s w. record s { enables = lines_of w })
-    ∷ row Mtvec 0x305 (λ s lines. s.trap.vector) (to_trap (λ t w. record t { vector = without_bit_1 w }))
+    ∷ row Mtvec 0x305 (λ s lines. s.trap.vector) (to_trap (λ t w. record t { vector = aligned w + w % 2 }))
     ∷ row Mscratch 0x340 (λ s lines. s.trap.scratch) (to_trap (λ t w. record t { scratch = w }))
     ∷ row Mepc 0x341 (λ s lines. s.trap.epc) (to_trap (λ t w. record t { epc = aligned w }))
     ∷ row Mcause 0x342 (λ s lines. s.trap.cause) (to_trap (λ t w. record t { cause = w }))
@@ -143,26 +137,20 @@ row_in (row ∷ rows) addr = if addr == row.number then Some row else row_in row
 
 -- ---- reads and writes
 
--- the value at an address, and the state after a write there, by its row: an address without one may be of
--- physical memory protection
-abbrev pub value_at : CsrState → InterruptLines → ℕ → Option Row → Option ℕ
-value_at state lines addr (Some row) = Some (row.value state lines)
-value_at state lines addr None = protection.load state.pmp addr
-
-abbrev pub written_at : CsrState → ℕ → ℕ → Option Row → Option CsrState
-written_at state addr word (Some row) = Some (row.written state word)
-written_at state addr word None =
-    option_map (λ pmp. record state { pmp = pmp }) (protection.store state.pmp addr word)
-
 -- the value that a mode reads at an address, while the interrupt lines have these levels; None if it may not
 unfoldable pub read : CsrState → ℕ → Mode → InterruptLines → Option ℕ
 read state addr mode lines =
-    if may_read addr mode then value_at state lines addr (row_in table addr) else None
+    if may_read addr mode
+    then option_or (option_map (λ row. row.value state lines) (row_in table addr)) (protection.load state.pmp addr)
+    else None
 
 -- the state after a mode's write at an address; None if it may not
 unfoldable pub write : CsrState → ℕ → Mode → ℕ → Option CsrState
 write state addr mode word =
-    if may_write addr mode then written_at state addr word (row_in table addr) else None
+    if may_write addr mode
+    then option_or (option_map (λ row. row.written state word) (row_in table addr))
+    (option_map (λ pmp. record state { pmp = pmp }) (protection.store state.pmp addr word))
+    else None
 
 -- the result of a write, and the state after it: unchanged if the mode may not write
 abbrev pub Writes : CsrState → ℕ → Mode → ℕ → CsrState → Option Unit → Type 0
@@ -171,30 +159,24 @@ Writes old addr mode word new None = (write old addr mode word ≡ None) × (new
 
 -- ---- the counters
 
--- whether the register that an instruction wrote, if any, is a half of mcycle, or of minstret
-abbrev pub wrote_cycles : Option ℕ → Bool
-wrote_cycles None = false
-wrote_cycles (Some addr) = (addr == 0xB00) || (addr == 0xB80)
+-- whether an instruction that wrote the register at an address, if any, wrote a half of a counter, whose low
+-- half is at another
+abbrev pub wrote_half : ℕ → Option ℕ → Bool
+wrote_half low wrote = option_map_or (λ addr. (addr == low) || (addr == low + 0x80)) wrote false
 
-abbrev pub wrote_retired : Option ℕ → Bool
-wrote_retired None = false
-wrote_retired (Some addr) = (addr == 0xB02) || (addr == 0xB82)
-
--- a counter after one more
-abbrev pub next_count : ℕ → ℕ
-next_count number = (number + 1) % 2 ^ 64
+-- a counter that has counted more
+abbrev pub counted_on : ℕ → ℕ → ℕ
+counted_on count more = (count + more) % 2 ^ 64
 
 -- the counters after a step: mcycle grows in each, minstret if an instruction retired; but a counter that the
 -- instruction wrote a half of keeps what was written
 unfoldable pub counted : Counters → Bool → Option ℕ → Counters
 counted counters retired wrote = record {
-  cycles = if wrote_cycles wrote then counters.cycles else next_count counters.cycles;
-  retired = if retired && not (wrote_retired wrote) then next_count counters.retired else counters.retired;
+  cycles = if wrote_half 0xB00 wrote then counters.cycles else counted_on counters.cycles 1;
+  retired = if retired && not (wrote_half 0xB02 wrote) then counted_on counters.retired 1 else counters.retired;
 }
 
 -- the counters after a number of steps whose instructions all retired, and wrote neither of them
 abbrev pub later : Counters → ℕ → Counters
-later counters steps = record {
-  cycles = (counters.cycles + steps) % 2 ^ 64;
-  retired = (counters.retired + steps) % 2 ^ 64;
-}
+later counters steps =
+    record { cycles = counted_on counters.cycles steps; retired = counted_on counters.retired steps }

@@ -1,7 +1,8 @@
 -- Interrupts, traps and the return from them. RISC-V Privileged Architecture 20211203, sections 3.1.6, 3.1.7,
 -- 3.1.9 and 3.3.2.
 -- To audit: public contracts cite this.
-use Rattle.std.specs.Prelude.{ℕ, ◌+◌, ◌-◌, ◌*◌, ◌%◌, ◌^◌, true, false, ◌==◌, ◌&&◌, not, nat_le, if◌then◌else◌, Option, Some, None}
+use Rattle.std.specs.Prelude.{ℕ, ◌+◌, ◌-◌, ◌*◌, ◌%◌, ◌^◌, Bool, true, false, ◌==◌, ◌&&◌, not, nat_le, if◌then◌else◌, List, [], ◌∷◌, find, Option, None}
+use Rattle.std.specs.Option.{option_map}
 use Rattle.rv_isa.specs.declared.InterruptLines.{InterruptLines}
 use Rattle.rv_pmp.specs.Mode.{is_machine}
 use Rattle.rv_pmp.specs.declared.mode.Mode.{Mode}
@@ -11,23 +12,17 @@ use Rattle.rv_csr.specs.State.{CsrState}
 
 -- ---- interrupts
 
--- the causes: the interrupt bit and a code
-abbrev pub software_interrupt : ℕ
-software_interrupt = 0x80000003
+-- the interrupts, the first one first (section 3.1.9): the cause of each, which is the interrupt bit with a
+-- code, and its line
+abbrev pub interrupts : List (ℕ × (InterruptLines → Bool))
+interrupts =
+    (0x8000000B, λ lines. lines.external) ∷ (0x80000003, λ lines. lines.software)
+    ∷ (0x80000007, λ lines. lines.timer) ∷ []
 
-abbrev pub timer_interrupt : ℕ
-timer_interrupt = 0x80000007
-
-abbrev pub external_interrupt : ℕ
-external_interrupt = 0x8000000B
-
--- the cause of the first interrupt, of external, software and timer, whose line is high and which is enabled
+-- the cause of the first interrupt whose line is high and which is enabled
 abbrev pub first_enabled : InterruptLines → InterruptLines → Option ℕ
 first_enabled lines enables =
-    if lines.external && enables.external then Some external_interrupt
-    else (if lines.software && enables.software then Some software_interrupt
-    else (if lines.timer && enables.timer then Some timer_interrupt
-    else None))
+    option_map (λ found. found.0) (find (λ interrupt. interrupt.1 lines && interrupt.1 enables) interrupts)
 
 -- the cause of the interrupt that is taken in a mode, if any: in machine mode none unless MIE is set
 unfoldable pub pending : CsrState → Mode → InterruptLines → Option ℕ

@@ -1,8 +1,13 @@
 //! The counters mcycle and minstret. Privileged Architecture 20211203, section 3.1.10.
 ghost use Rattle.std.specs.Prelude.{◌≡◌, ◌^◌, ◌<◌};
-ghost use Rattle.rv_csr.specs.Registers.{counted, later, wrote_cycles, wrote_retired};
+ghost use Rattle.rv_csr.specs.Registers.{counted, later};
 
-use crate::register;
+use crate::register::wrote_half;
+
+/// The address of mcycle.
+const MCYCLE: u16 = 0xB00;
+/// The address of minstret.
+const MINSTRET: u16 = 0xB02;
 
 /// The counters, each of 64 bits. Privileged Architecture 20211203, section 3.1.10.
 #[derive(Clone, Copy)]
@@ -20,10 +25,10 @@ impl Counters {
     pub(crate) fn count(&mut self, retired: bool, wrote: Option<u16>)
         ensures { self.new ≡ counted self.old retired wrote }
     {
-        if !register::wrote_cycles(wrote) {
+        if !wrote_half(MCYCLE, wrote) {
             self.cycles = self.cycles.wrapping_add(1);
         }
-        if retired && !register::wrote_retired(wrote) {
+        if retired && !wrote_half(MINSTRET, wrote) {
             self.retired = self.retired.wrapping_add(1);
         }
     }

@@ -199,7 +199,7 @@ impl Csrs {
     /// Returns the cause of the interrupt to be taken in a mode, if any, while the interrupt lines have the
     /// levels `lines`. Of several the external interrupt comes first, then the software interrupt, then that
     /// of the timer.
-    #[tactic(auto, unfolding(crate::specs::Traps::pending))]
+    #[tactic(auto, using(crate::proofs::Pending::by_cases), unfolding(crate::specs::Interruptible::pending_by_cases))]
     pub fn pending(&self, mode: Mode, lines: InterruptLines) -> Option<u32>
         ensures { result ≡ traps.pending self.now mode lines }
     {

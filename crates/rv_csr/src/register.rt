@@ -1,6 +1,6 @@
 //! The addresses of the control registers, and which modes may access them. Privileged Architecture 20211203,
 //! section 2.1 and table 2.5.
-ghost use Rattle.std.specs.Prelude.{◌≡◌};
+ghost use Rattle.std.specs.Prelude.{◌≡◌, ◌<◌};
 ghost use Rattle.rv_csr.specs.RegisterCases.{register_at};
 ghost use Rattle.rv_csr.specs.Registers as spec;
 
@@ -96,22 +96,10 @@ pub(crate) fn may_write(addr: u16, mode: Mode) -> bool
     may_read(addr, mode) && (addr >> 10) % 4 != 3
 }
 
-/// Whether the register that was written is a half of mcycle.
-pub(crate) fn wrote_cycles(wrote: Option<u16>) -> bool
-    ensures { result ≡ spec.wrote_cycles wrote }
+/// Whether the register that was written, if any, is a half of the counter whose low half is at `low`.
+pub(crate) fn wrote_half(low: u16, wrote: Option<u16>) -> bool
+    requires { low < 0x1000 }
+    ensures { result ≡ spec.wrote_half low wrote }
 {
-    match wrote {
-        Some(addr) => addr == 0xB00 || addr == 0xB80,
-        None => false,
-    }
-}
-
-/// Whether the register that was written is a half of minstret.
-pub(crate) fn wrote_retired(wrote: Option<u16>) -> bool
-    ensures { result ≡ spec.wrote_retired wrote }
-{
-    match wrote {
-        Some(addr) => addr == 0xB02 || addr == 0xB82,
-        None => false,
-    }
+    wrote.is_some_and(|addr| addr == low || addr == low + 0x80)
 }
