@@ -1,11 +1,13 @@
 -- Counts of edges, where those of a set of sources are changed.
-use Rattle.std.proofs.Common.{◌≡◌, ℕ, zero, suc, ◌+◌, ◌-◌, ◌<◌, ◌≤◌, Bool, true, false, List, [], ◌∷◌, inl, inr, refl, sym, ◌∙◌, ap, arith}
-use Rattle.std.specs.Prelude.{nat_lt, length, slice_index, slice_set, get_or, if◌then◌else◌}
+use Rattle.std.proofs.Common.{◌≡◌, ℕ, zero, suc, ◌+◌, ◌-◌, ◌<◌, ◌≤◌, Bool, true, false, List, [], ◌∷◌, inl, inr, refl, sym, ◌∙◌, ap, arith, add-zero}
+use Rattle.std.specs.Prelude.{nat_lt, length, slice_index, slice_set, get_or, map, if◌then◌else◌}
+use Rattle.std.specs.List.{range_with_len}
 use Rattle.std.specs.FinSet.{contains}
-use Rattle.std.proofs.lemmas.Bool.{cases_eq, and_parts, ltb-true, leb-true, lt-ltb}
+use Rattle.std.proofs.lemmas.Bool.{cases_eq, and_parts, ltb-true, leb-true, lt-ltb, le-leb}
 use Rattle.std.proofs.lemmas.List.{get_or-set_same, get_or-set_other, length-set, same_lists}
 use Rattle.rv_plic.specs.Sources.{Sources}
-use Rattle.rv_plic.specs.Edges.{Edges, most, some_wait, one_more, one_less, changed}
+use Rattle.rv_plic.specs.Edges.{Edges, is_by_edge, edges_of, most, some_wait, one_more, taken}
+use Rattle.rv_plic.specs.Changes.{one_less, changed}
 
 pub nothing_changed : (f : ℕ → ℕ) (s : Sources) (a : ℕ) (edges : Edges)
     → ((q : ℕ) → a ≤ q → contains s q ≡ false) → changed f s a edges ≡ edges
@@ -40,6 +42,26 @@ again_same n is =
     let high : n ≤ most = leb-true n most (and_parts (nat_lt 0 n) _ is).1 in
     let again : n - 1 + 1 ≡ n = omega (arith, low) in
     ap (λ b. if b then n - 1 + 1 else n - 1) (lt-ltb (n - 1) most (omega (arith, low, high))) ∙ again
+
+-- ---- taking an edge of each source of a set, as the definition says it
+taken-from : (s : Sources) (all edges : Edges) (a : ℕ)
+    → ((k : ℕ) → edges_of all (a + k) ≡ slice_index edges k)
+    → map (λ q. if contains s q then edges_of all q - 1 else edges_of all q) (range_with_len a (length edges))
+    ≡ changed one_less s a edges
+unfolding changed
+taken-from s all [] a each = refl
+taken-from s all (n ∷ ns) a each =
+    let here : edges_of all a ≡ n = ap (edges_of all) (sym (add-zero a)) ∙ each 0 in
+    λ i. (if contains s a then here i - 1 else here i)
+    ∷ taken-from s all ns (a + 1)
+    (λ k. let place : a + 1 + k ≡ a + suc k = omega arith in ap (edges_of all) place ∙ each (suc k)) i
+
+pub taken-changed : (s : Sources) (edges : Edges) → taken s edges ≡ changed one_less s 24 edges
+unfolding taken
+taken-changed s edges =
+    taken-from s edges edges 24
+    (λ k. ap (λ b. if b then slice_index edges (24 + k - 24) else 0) (le-leb 24 (24 + k) (omega arith))
+    ∙ ap (slice_index edges) (omega arith))
 
 pub taken_and_given : (s : Sources) (a : ℕ) (edges : Edges)
     → ((k : ℕ) → k < length edges → contains s (a + k) ≡ true → some_wait (slice_index edges k) ≡ true)
@@ -139,5 +161,9 @@ all_changed f number s old new past all =
     get_or_any [] k d in_list = absurd (omega arith)
     get_or_any (n ∷ ns) zero d in_list = refl
     get_or_any (n ∷ ns) (suc k) d in_list = get_or_any ns k d (omega arith)
+
+-- a change by one edge less is the taking of an edge
+pub less_taken : (s : Sources) (edges new : Edges) → new ≡ changed one_less s 24 edges → new ≡ taken s edges
+less_taken s edges new is = is ∙ sym (taken-changed s edges)
 
 pub ruleset changing = (none_changed, one_changed, one_left, all_changed)

@@ -1,7 +1,8 @@
 -- To audit: public contracts cite this.
 -- Sources 24 to 31 are triggered by edges (PLIC Specification 1.0, "Interrupt Gateways": a gateway may count
 -- the edges that come before the request of an earlier one is completed).
-use Rattle.std.specs.Prelude.{ℕ, Bool, ◌+◌, ◌-◌, ◌&&◌, nat_lt, nat_le, if◌then◌else◌, List, [], ◌∷◌, slice_index, slice_set, replicate}
+use Rattle.std.specs.Prelude.{ℕ, Bool, ◌+◌, ◌-◌, ◌&&◌, nat_lt, nat_le, if◌then◌else◌, List, length, map, slice_index, slice_set, replicate}
+use Rattle.std.specs.List.{range_with_len}
 use Rattle.std.specs.FinSet.{contains}
 use Rattle.rv_plic.specs.Sources.{Sources}
 
@@ -29,24 +30,17 @@ most = 4294967295
 abbrev pub some_wait : ℕ → Bool
 some_wait count = nat_lt 0 count && nat_le count most
 
--- a count with one edge more, unless it is full, and with one edge less, unless it is 0
+-- a count with one edge more, unless it is full
 abbrev pub one_more : ℕ → ℕ
 one_more count = if nat_lt count most then count + 1 else count
-
-abbrev pub one_less : ℕ → ℕ
-one_less count = count - 1
 
 -- the counts after the line of a source rises
 abbrev pub after_rise : Edges → ℕ → Edges
 after_rise edges source =
     if is_by_edge source then slice_set edges (source - 24) (one_more (edges_of edges source)) else edges
 
--- the counts, where those of the sources of a set are changed and the first count is that of `source`
-unfoldable pub changed : (ℕ → ℕ) → Sources → ℕ → Edges → Edges
-changed change sources source [] = []
-changed change sources source (count ∷ counts) =
-    (if contains sources source then change count else count) ∷ changed change sources (source + 1) counts
-
 -- the counts after one edge of each source of a set is taken
-abbrev pub taken : Sources → Edges → Edges
-taken sources edges = changed one_less sources 24 edges
+unfoldable pub taken : Sources → Edges → Edges
+taken sources edges =
+    map (λ s. if contains sources s then edges_of edges s - 1 else edges_of edges s)
+    (range_with_len 24 (length edges))

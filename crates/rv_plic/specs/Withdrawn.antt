@@ -1,7 +1,8 @@
 -- Not to audit: private contracts alone cite this. A public clause says that it undoes a forwarding.
 -- Requests that are taken back after they were forwarded.
 use Rattle.std.specs.FinSet.{difference}
-use Rattle.rv_plic.specs.Edges.{changed, one_more}
+use Rattle.rv_plic.specs.Changes.{changed}
+use Rattle.rv_plic.specs.Edges.{one_more}
 use Rattle.rv_plic.specs.Gateways.{GatewayState, requests}
 use Rattle.rv_plic.specs.Plic.{PlicState}
 use Rattle.rv_plic.specs.Sources.{Sources}

@@ -1,8 +1,8 @@
 //! Interrupt gateways, which turn the lines of sources into requests.
 ghost use Rattle.std.specs.Prelude.{◌≡◌, ◌-◌, ◌≤◌, true, false, slice_set};
 ghost use Rattle.std.specs.FinSet as set;
-ghost use Rattle.rv_plic.specs.Edges.{edges_of, changed};
-ghost use Rattle.rv_plic.specs.Changes.{count_after};
+ghost use Rattle.rv_plic.specs.Edges.{edges_of};
+ghost use Rattle.rv_plic.specs.Changes.{changed, count_after};
 ghost use Rattle.rv_plic.specs.Gateways.{all_low, with_line, requests, after_requests, after_completion};
 ghost use Rattle.rv_plic.specs.Withdrawn.{withdrawn_gateways};
 
@@ -107,6 +107,7 @@ impl Gateways {
 
     /// Forwards the request of each gateway that has one, where the sources of `pending` are pending already,
     /// and returns the sources of these requests.
+    #[tactic(auto, using(crate::proofs::Counts::less_taken))]
     pub fn forward(&mut self, pending: SourceSet) -> SourceSet
         ensures value { result ≡ requests self.old pending }
         ensures after { self.new ≡ after_requests self.old pending }
