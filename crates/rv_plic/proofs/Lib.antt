@@ -4,4 +4,5 @@ pub mod Best
 pub mod Counts
 pub mod Forwarding
 pub mod LineOrder
+pub mod Rows
 pub mod Words

@@ -5,6 +5,7 @@ pub mod Codes
 pub mod Edges
 pub mod Gateways
 pub mod Plic
+pub mod Registers
 pub mod Sources
 pub mod Withdrawn
 pub mod Words

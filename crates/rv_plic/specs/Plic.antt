@@ -1,14 +1,11 @@
 -- To audit: public contracts cite this.
 -- The interrupt controller (PLIC Specification 1.0) with 31 sources and one context.
-use Rattle.std.specs.Prelude.{ℕ, Bool, ◌/◌, ◌%◌, ◌==◌, ◌&&◌, ◌||◌, not, nat_lt, nat_le, if◌then◌else◌, List, slice_index, slice_set, replicate, Option, Some, None, unwrap_or}
+use Rattle.std.specs.Prelude.{ℕ, Bool, ◌*◌, ◌%◌, ◌==◌, ◌&&◌, ◌||◌, not, nat_lt, if◌then◌else◌, List, [], ◌∷◌, ◌++◌, map, slice_index, slice_set, replicate, Option, Some, None, unwrap_or}
 use Rattle.std.specs.List.{find, list_any}
-use Rattle.std.specs.Option.{option_map_or}
 use Rattle.std.specs.FinSet.{empty, contains, remove, union}
 use Rattle.rv_plic.specs.Sources.{sources, Sources, sources_of, word_of}
 use Rattle.rv_plic.specs.Gateways.{GatewayState, all_low, requests, after_requests, after_completion}
 use Rattle.rv_plic.specs.Gateways as gateway
-use Rattle.rv_plic.specs.declared.register.PlicReg.{PlicReg}
-use Rattle.rv_plic.specs.declared.register.PlicReg.TheVariants.{Priority, Pending, Enables, Threshold, Claim}
 
 -- the gateways, the pending and the enabled sources, the priority of each source by its number, and the
 -- threshold
@@ -22,13 +19,7 @@ pub record PlicState : Type 0 where
 -- the controller at reset
 abbrev pub reset : PlicState
 reset =
-    record {
-      gateways = all_low;
-      pending = empty;
-      enabled = empty;
-      priorities = replicate 32 0;
-      threshold = 0;
-    }
+    record { gateways = all_low; pending = empty; enabled = empty; priorities = replicate 32 0; threshold = 0 }
 
 -- ---- the lines and their requests
 -- the controller after the line of a source is set to a level
@@ -48,6 +39,11 @@ forwarded plic =
 -- the priority of a source
 abbrev pub priority_of : PlicState → ℕ → ℕ
 priority_of plic source = slice_index plic.priorities source
+
+-- the controller with another priority of a source
+abbrev pub with_priority : PlicState → ℕ → ℕ → PlicState
+with_priority plic source priority =
+    record plic { priorities = slice_set plic.priorities source priority }
 
 -- whether a source is pending and enabled
 abbrev pub is_waiting : PlicState → ℕ → Bool
@@ -87,50 +83,38 @@ completed plic word =
     if contains plic.enabled word then record plic { gateways = after_completion plic.gateways word }
     else plic
 
--- ---- the registers ("Memory Map"), at offsets that are multiples of 4
--- the register at an offset
-unfoldable pub register_at : ℕ → Option PlicReg
-register_at off =
-    if nat_le 4 off && nat_lt off 128 then Some (Priority (off / 4))
-    else (if off == 0x1000 then Some Pending
-    else (if off == 0x2000 then Some Enables
-    else (if off == 0x200000 then Some Threshold
-    else (if off == 0x200004 then Some Claim
-    else None))))
+-- ---- the registers ("Memory Map"), each of which is one word
+-- a register: its offset, its word, the controller after a load, and the controller after a store of a word
+pub record Row : Type 0 where
+  pub offset : ℕ
+  pub word : ℕ
+  pub loaded : PlicState
+  pub stored : ℕ → PlicState
 
--- the word of a register
-abbrev pub word_at : PlicState → PlicReg → ℕ
-word_at plic (Priority source) = priority_of plic source
-word_at plic Pending = word_of plic.pending
-word_at plic Enables = word_of plic.enabled
-word_at plic Threshold = plic.threshold
-word_at plic Claim = unwrap_or (best plic) 0
+abbrev pub row : ℕ → ℕ → PlicState → (ℕ → PlicState) → Row
+row offset word loaded stored = record { offset = offset; word = word; loaded = loaded; stored = stored }
 
--- the controller after a word is stored in a register: priorities and the threshold keep three bits, and
--- there is no source 0 to enable
-abbrev pub with_word : PlicState → PlicReg → ℕ → PlicState
-with_word plic (Priority source) word =
-    record plic { priorities = slice_set plic.priorities source (word % 8) }
-with_word plic Pending word = plic
-with_word plic Enables word = record plic { enabled = sources_of word }
-with_word plic Threshold word = record plic { threshold = word % 8 }
-with_word plic Claim word = completed plic word
+-- the registers of a controller: the priority of each source, the pending and the enabled sources, the
+-- threshold, and claim and completion. Priorities and the threshold have three bits
+unfoldable pub rows : PlicState → List Row
+rows plic =
+    map (λ s. row (4 * s) (priority_of plic s) plic (λ word. with_priority plic s (word % 8))) sources
+    ++ row 0x1000 (word_of plic.pending) plic (λ word. plic)
+    ∷ row 0x2000 (word_of plic.enabled) plic (λ word. record plic { enabled = sources_of word })
+    ∷ row 0x200000 plic.threshold plic (λ word. record plic { threshold = word % 8 })
+    ∷ row 0x200004 (unwrap_or (best plic) 0) (claimed plic (best plic)) (completed plic)
+    ∷ []
 
--- the controller after a load of a register, which changes it only by a claim
-abbrev pub after_reading : PlicState → PlicReg → PlicState
-after_reading plic (Priority source) = plic
-after_reading plic Pending = plic
-after_reading plic Enables = plic
-after_reading plic Threshold = plic
-after_reading plic Claim = claimed plic (best plic)
+-- the row of an offset. Where there is no register, a load returns 0 and a store changes nothing
+abbrev pub row_at : PlicState → ℕ → Row
+row_at plic off = unwrap_or (find (λ row. off == row.offset) (rows plic)) (row off 0 plic (λ word. plic))
 
--- the word that a load returns, the controller after a load, and the controller after a store. Where there is
--- no register, a load returns 0 and a store changes nothing
+-- the word that a load returns, the controller after a load, and the controller after a store
 unfoldable pub load_value : PlicState → ℕ → ℕ
-load_value plic off = option_map_or (word_at plic) (register_at off) 0
+load_value plic off = (row_at plic off).word
 
 unfoldable pub after_load : PlicState → ℕ → PlicState
-after_load plic off = option_map_or (after_reading plic) (register_at off) plic
+after_load plic off = (row_at plic off).loaded
 
 unfoldable pub stored : PlicState → ℕ → ℕ → PlicState
-stored plic off word = option_map_or (λ reg. with_word plic reg word) (register_at off) plic
+stored plic off word = (row_at plic off).stored word

@@ -5,7 +5,8 @@ ghost use Rattle.rv_plic.specs.Edges.{edges_of};
 ghost use Rattle.rv_plic.specs.AboveThreshold.{sources_above};
 ghost use Rattle.rv_plic.specs.Best.{IsBest, IsBestBelow};
 ghost use Rattle.rv_plic.specs.Gateways as spec;
-ghost use Rattle.rv_plic.specs.Plic.{PlicState, reset, with_line, forwarded, best, is_notified, claimed, completed, word_at, with_word, load_value, after_load, stored};
+ghost use Rattle.rv_plic.specs.Plic.{PlicState, reset, with_line, forwarded, best, is_notified, claimed, completed, load_value, after_load, stored};
+ghost use Rattle.rv_plic.specs.Registers.{word_at, with_word};
 
 use crate::Source;
 use crate::gateway::Gateways;
@@ -162,7 +163,7 @@ impl Plic {
 
     /// Loads the word at an offset. A load of the claim register claims the best source. Where there is no
     /// register, a load returns 0.
-    #[tactic(auto, unfolding(crate::specs::Plic::load_value, crate::specs::Plic::after_load))]
+    #[tactic(auto, using(crate::proofs::Rows::accesses))]
     pub fn load(&mut self, off: u32) -> u32
         requires aligned { off % 4 ≡ 0 }
         requires within { off < 0x4000000 }
@@ -177,7 +178,7 @@ impl Plic {
     }
 
     /// Returns the word that a load at an offset would return, and claims nothing.
-    #[tactic(auto, unfolding(crate::specs::Plic::load_value))]
+    #[tactic(auto, using(crate::proofs::Rows::accesses))]
     pub fn peek(&self, off: u32) -> u32
         requires aligned { off % 4 ≡ 0 }
         requires within { off < 0x4000000 }
@@ -190,7 +191,7 @@ impl Plic {
     }
 
     /// Stores a word at an offset. Where there is no register, nothing changes.
-    #[tactic(auto, unfolding(crate::specs::Plic::stored))]
+    #[tactic(auto, using(crate::proofs::Rows::accesses))]
     pub fn store(&mut self, off: u32, word: u32)
         requires aligned { off % 4 ≡ 0 }
         requires within { off < 0x4000000 }
