@@ -7,11 +7,12 @@ use Rattle.rv_commands.specs.declared.command.Command.{Command}
 use Rattle.rv_commands.specs.declared.command.Command.TheVariants.{Step, Go, SetBreak, ClearBreak}
 use Rattle.rv_monitor.specs.Commands.{Leaves, Took, answer, command_in, going_for, next_of}
 use Rattle.rv_monitor.specs.State.{Addresses, SessionState, TimedState, after, most_of, with_break, without_break}
-use Rattle.rv_monitor.specs.Stops.{IsCount, stop_after}
+use Rattle.rv_monitor.specs.Stops.{stop_after}
+use Rattle.rv_monitor.specs.TimedCalls.{IsCount}
 use Rattle.rv_monitor.specs.declared.command.Next.{Next}
 use Rattle.rv_monitor.specs.declared.command.Next.TheVariants.{More, Quit}
 use Rattle.rv_monitor.specs.declared.stop.Stop.{Stop}
-use Rattle.rv_monitor.proofs.Stopping.{taken_is}
+use Rattle.rv_monitor.proofs.SessionCalls.{took_timed}
 use Rattle.rv_base.specs.Lines.{lines}
 use Rattle.rv_cli.specs.Output.{Does, DoesThen, Obeys}
 
@@ -63,31 +64,34 @@ module _ (breakpoints : Addresses) (s : TimedState) (most : ℕ) where
       ))
       (λ found. found) (counted most (omega arith))
 
+took_count : (breakpoints : Addresses) (n : ℕ) (old new : SessionState) (t : Took breakpoints n old new)
+    → IsCount breakpoints old.timed (most_of old n) t.count
+took_count breakpoints n old new t = record {
+  within = t.within;
+  going = t.going;
+  least = λ less.
+      ap (λ u. is_some (stop_after breakpoints u.board t.count)) (sym (took_timed breakpoints n old new t))
+      ∙ t.least less;
+}
+
 took_one : (breakpoints : Addresses) (n : ℕ) (old a b : SessionState) → Took breakpoints n old a
     → Took breakpoints n old b → a ≡ b
 took_one breakpoints n old a b one two =
-    let count = one_count breakpoints old.timed (most_of old n) (a.timed.taken - old.timed.taken)
-    (b.timed.taken - old.timed.taken) one.stopped.count two.stopped.count in
-    let timed : a.timed ≡ b.timed =
-    one.stopped.state ∙ (ap (after old.timed) count ∙ sym two.stopped.state) in
-    one.others ∙ (ap (λ (t : TimedState). record old { timed = t }) timed ∙ sym two.others)
+    let count = one_count breakpoints old.timed (most_of old n) one.count two.count
+    (took_count breakpoints n old a one) (took_count breakpoints n old b two) in
+    one.state ∙ (ap (λ (k : ℕ). record old { timed = after old.timed k }) count ∙ sym two.state)
 
 took_some : (breakpoints : Addresses) (n : ℕ) (old : SessionState)
     → (new : SessionState) × Took breakpoints n old new
 took_some breakpoints n old =
-    let found = some_count breakpoints old.timed (most_of old n) in
-    let new : SessionState = record old { timed = after old.timed found.0 } in
-    let taken : new.timed.taken ≡ old.timed.taken + found.0 =
-    taken_is old.timed new.timed found.0 refl in
-    let count : found.0 ≡ new.timed.taken - old.timed.taken = omega arith in (
-      new,
+    let found = some_count breakpoints old.timed (most_of old n) in (
+      record old { timed = after old.timed found.0 },
       record {
-        stopped = record {
-          count = subst (IsCount breakpoints old.timed (most_of old n)) count found.1;
-          state = ap (after old.timed) count;
-          word = refl;
-        };
-        others = refl;
+        count = found.0;
+        within = found.1.within;
+        going = found.1.going;
+        least = found.1.least;
+        state = refl;
       },
     )
 

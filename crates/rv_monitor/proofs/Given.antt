@@ -14,7 +14,7 @@ use Rattle.rv_lists.specs.declared.input.TimedInput.{TimedInput}
 use Rattle.rv_lists.specs.Timed.{never_falls, inserted}
 use Rattle.rv_lists.proofs.Inserted.{rises}
 use Rattle.rv_monitor.specs.Events.{event_of, inputs_at, events_of}
-use Rattle.rv_monitor.specs.Stops.{HasStopped, IsRefused}
+use Rattle.rv_monitor.specs.TimedCalls.{HasStopped, IsRefused}
 use Rattle.rv_monitor.specs.declared.stop.Stop.{Stop}
 use Rattle.rv_monitor.specs.State.{Addresses, TimedState, IsInTime, rest, count_before, begun, after, with_due, given}
 use Rattle.rv_monitor.specs.Laws.{IsReached, GivenAsListed}

@@ -10,3 +10,4 @@ pub mod Pieces
 pub mod Traps
 pub mod Given
 pub mod Reached
+pub mod SessionCalls

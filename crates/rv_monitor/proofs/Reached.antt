@@ -9,7 +9,8 @@ use Rattle.rv_lists.specs.Timed.{never_falls}
 use Rattle.rv_monitor.specs.declared.stop.Stop.{Stop}
 use Rattle.rv_monitor.specs.declared.stop.Stop.TheVariants.{Halted, Breakpoint}
 use Rattle.rv_monitor.specs.State.{Addresses, TimedState, IsInTime, begun, after, with_due}
-use Rattle.rv_monitor.specs.Stops.{stop_after, HasStopped, IsRefused}
+use Rattle.rv_monitor.specs.Stops.{stop_after}
+use Rattle.rv_monitor.specs.TimedCalls.{HasStopped, IsRefused}
 use Rattle.rv_monitor.specs.Laws.{IsReached}
 use Rattle.rv_monitor.proofs.Sets.{no_member}
 use Rattle.rv_monitor.proofs.Times.{from_first}

@@ -12,7 +12,8 @@ use Rattle.rv_board.specs.declared.event.Event.TheVariants.{Step}
 use Rattle.rv_monitor.specs.declared.stop.Stop.{Stop}
 use Rattle.rv_monitor.specs.declared.stop.Stop.TheVariants.{Halted, Breakpoint, Limit}
 use Rattle.rv_monitor.specs.State.{Addresses, TimedState, IsInTime, rest, after, with_due}
-use Rattle.rv_monitor.specs.Stops.{stop_after, IsCount, HasStopped, IsRefused}
+use Rattle.rv_monitor.specs.Stops.{stop_after}
+use Rattle.rv_monitor.specs.TimedCalls.{IsCount, HasStopped, IsRefused}
 use Rattle.rv_monitor.specs.Events.{inputs_at}
 use Rattle.rv_monitor.specs.WithoutInputs.{without_inputs}
 use Rattle.rv_monitor.proofs.Times.{from, from_earlier}
@@ -35,9 +36,9 @@ unfolding stop_after
 stop_first a b e = rw e refl
 
 -- the number of steps that a call took
-took : (s new : TimedState) (n : ℕ) → new ≡ after s n → new.taken - s.taken ≡ n
+pub took_steps : (s new : TimedState) (n : ℕ) → new ≡ after s n → new.taken - s.taken ≡ n
 unfolding after
-took s new n e = let t : new.taken ≡ s.taken + n = ap (λ u. u.taken) e in omega arith
+took_steps s new n e = let t : new.taken ≡ s.taken + n = ap (λ u. u.taken) e in omega arith
 
 took_due : (s new : TimedState) (n : ℕ) → new ≡ with_due (after s n) → new.taken - s.taken ≡ n
 unfolding after with_due
@@ -68,11 +69,11 @@ module _ (a : Addresses) (most : ℕ) (s : TimedState) where
       below_more (λ i. stop_after a (after s i).board i ≡ None) n before
       (ap (λ u. stop_after a u.board n) (sym is) ∙ (stop_later a new.board n some ∙ sym none))
 
-  stopped : (n : ℕ) (new : TimedState) (stop : Stop) → GoesOn n → n ≤ most → new ≡ after s n
+  pub stopped : (n : ℕ) (new : TimedState) (stop : Stop) → GoesOn n → n ≤ most → new ≡ after s n
       → (n < most → is_some (stop_after a new.board n) ≡ true) →
       stop ≡ unwrap_or (stop_after a new.board n) Limit → HasStopped a most s new stop
   stopped n new stop before le is ends word =
-      let t = took s new n is in
+      let t = took_steps s new n is in
       record {
         count = rw t (record {
           within = le;

@@ -4,6 +4,7 @@ use Rattle.std.specs.Prelude.{◌≡◌, ℕ, List, ◌++◌, Option, Result, Ok
 use Rattle.rv_commands.specs.declared.command.Command.{Command}
 use Rattle.rv_monitor.specs.State.{SessionState}
 use Rattle.rv_monitor.specs.Commands.{Leaves, LeavesRefused, answer}
+use Rattle.rv_monitor.specs.Room.{LacksRoom}
 
 -- the command was executed and its answer appended to the text; or memory ran out and the text is as it was
 abbrev pub AppendsAnswer : {E : Type 0} → Option Command → ℕ → SessionState → SessionState → List ℕ → List ℕ
@@ -11,4 +12,4 @@ abbrev pub AppendsAnswer : {E : Type 0} → Option Command → ℕ → SessionSt
 AppendsAnswer command room old new before after (Ok u) =
     Leaves command old new × (after ≡ before ++ answer command old new)
 AppendsAnswer command room old new before after (Err e) =
-    LeavesRefused command room old new × (after ≡ before)
+    LeavesRefused command old new × LacksRoom command room old new × (after ≡ before)

@@ -3,6 +3,7 @@ pub mod Events
 pub mod State
 pub mod Breaks
 pub mod Stops
+pub mod TimedCalls
 pub mod Laws
 pub mod Commands
 pub mod Answers

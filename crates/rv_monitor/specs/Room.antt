@@ -1,10 +1,13 @@
 -- The largest number of bytes that the answer of a command may have (this project's own: docs/MONITOR.md).
--- Not to audit: it says only how much room a text needs so that a command has room for its answer.
-use Rattle.std.specs.Prelude.{ℕ, ◌+◌, ◌*◌, List, length, Option, Some, None}
+-- Not to audit: only the clause `room` cites this, which says when a command may be refused.
+use Rattle.std.specs.Prelude.{◌≡◌, ◌⊎◌, ℕ, ◌+◌, ◌*◌, ◌<◌, false, List, length, Option, Some, None}
+use Rattle.std.specs.FinSet as set
 use Rattle.std.specs.Int.{div_ceil}
 use Rattle.rv_commands.specs.declared.command.Command.{Command}
 use Rattle.rv_commands.specs.declared.command.Command.TheVariants.{Step, Go, SetBreak, ClearBreak, Registers, ControlRegister, Memory, Instruction, Traps, Edges, Quit, Nothing}
+use Rattle.rv_monitor.specs.Commands.{going_for}
 use Rattle.rv_monitor.specs.State.{SessionState}
+use Rattle.rv_monitor.specs.Stops.{WasRefused}
 
 -- `r`: 13 for each of 32 registers, and the 19 of the pc's line
 abbrev pub registers_room : ℕ
@@ -51,3 +54,15 @@ longest (Some Traps) s = traps_room (length s.timed.board.traps)
 longest (Some (Edges source)) s = edges_room
 longest (Some Quit) s = 0
 longest (Some Nothing) s = 0
+
+-- memory ran out where the text had room for this many bytes: those are fewer than the longest answer of the
+-- command has, since room for that is made before anything changes; or it was at a step, or at a new
+-- breakpoint where the breakpoints had no room
+abbrev pub LacksRoom : Option Command → ℕ → SessionState → SessionState → Type 0
+LacksRoom (Some (Step n)) room old new = (room < longest (Some (Step n)) old) ⊎ WasRefused set.empty n old new
+LacksRoom (Some (Go n)) room old new =
+    (room < longest (Some (Go n)) old) ⊎ WasRefused old.breakpoints (going_for old n) old new
+LacksRoom (Some (SetBreak addr)) room old new =
+    (room < longest (Some (SetBreak addr)) old)
+    ⊎ ((set.contains old.breakpoints addr ≡ false) × (old.room ≡ 0))
+LacksRoom command room old new = room < longest command old

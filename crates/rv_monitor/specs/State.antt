@@ -59,6 +59,10 @@ start board inputs program limit =
       room = 0;
     }
 
+-- a session before its first step over another board, with all that it has
+abbrev pub begun_again : SessionState → BoardState → SessionState
+begun_again s board = record s { timed = begun board s.timed.inputs }
+
 -- the largest number of steps that a call for n may take
 abbrev pub most_of : SessionState → ℕ → ℕ
 most_of s n = min n (s.limit - s.timed.taken)

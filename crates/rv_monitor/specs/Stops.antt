@@ -1,5 +1,5 @@
 -- To audit: public contracts cite this.
--- When a call ends, and the state that it leaves.
+-- When a call ends, and the session that it leaves.
 use Rattle.std.specs.Prelude.{◌≡◌, ℕ, ◌-◌, ◌<◌, ◌≤◌, ◌&&◌, Bool, true, false, if◌then◌else◌, nat_lt, Option, Some, None, unwrap_or, is_none, is_some, Result, Ok, Err}
 use Rattle.std.specs.FinSet as set
 use Rattle.rv_base.specs.declared.memory.NoMemory.{NoMemory}
@@ -10,7 +10,7 @@ use Rattle.rv_board.specs.Room.{wants_room}
 use Rattle.rv_board.specs.declared.event.Event.TheVariants.{Step}
 use Rattle.rv_monitor.specs.declared.stop.Stop.{Stop}
 use Rattle.rv_monitor.specs.declared.stop.Stop.TheVariants.{Halted, Breakpoint, Limit}
-use Rattle.rv_monitor.specs.State.{Addresses, TimedState, SessionState, after, with_due}
+use Rattle.rv_monitor.specs.State.{Addresses, TimedState, SessionState, most_of, after, with_due}
 
 -- the reason why a call ends on a board after `count` of its steps: the board has halted, or else, after the
 -- first step, its next instruction is at a breakpoint
@@ -19,31 +19,33 @@ stop_after breakpoints b count =
     if is_some (halted_of b) then Some Halted
     else (if nat_lt 0 count && set.contains breakpoints (pc_of b) then Some Breakpoint else None)
 
--- the number of steps that a call takes: the least after which it has a reason to end, or the most that it
--- may take
-pub record IsCount (breakpoints : Addresses) (s : TimedState) (most count : ℕ) : Type 0 where
-  pub within : count ≤ most
-  pub going : (i : ℕ) → i < count → stop_after breakpoints (after s i).board i ≡ None
-  pub least : count < most → is_some (stop_after breakpoints (after s count).board count) ≡ true
+-- a call for n steps took the least number of them after which it has a reason to end, or all that it may
+-- take, and nothing else changed
+pub record Took (breakpoints : Addresses) (n : ℕ) (old new : SessionState) : Type 0 where
+  pub count : ℕ
+  pub within : count ≤ most_of old n
+  pub going : (i : ℕ) → i < count → stop_after breakpoints (after old.timed i).board i ≡ None
+  pub least : count < most_of old n → is_some (stop_after breakpoints new.timed.board count) ≡ true
+  pub state : new ≡ record old { timed = after old.timed count }
 
 -- the number of steps from one state to a later one
 abbrev pub steps_between : TimedState → TimedState → ℕ
 steps_between old new = new.taken - old.taken
 
--- a call took that number of steps, and tells why it ended
-pub record HasStopped (breakpoints : Addresses) (most : ℕ) (old new : TimedState) (stop : Stop) : Type 0 where
-  pub count : IsCount breakpoints old most (steps_between old new)
-  pub state : new ≡ after old (steps_between old new)
-  pub word : stop ≡ unwrap_or (stop_after breakpoints new.board (steps_between old new)) Limit
+-- why a call ended, by the session before and after it
+abbrev pub stop_of : Addresses → SessionState → SessionState → Stop
+stop_of breakpoints old new =
+    unwrap_or (stop_after breakpoints new.timed.board (steps_between old.timed new.timed)) Limit
 
--- memory ran out at a step of a call: the steps before it were taken, and the inputs before it were given;
--- the step is one that writes, and room has to be made for it
-pub record IsRefused (breakpoints : Addresses) (most : ℕ) (old new : TimedState) : Type 0 where
-  pub within : steps_between old new < most
-  pub going : (i : ℕ) → i ≤ steps_between old new → stop_after breakpoints (after old i).board i ≡ None
-  pub state : new ≡ with_due (after old (steps_between old new))
-  pub next_writes : writes new.board Step ≡ true
-  pub room : wants_room new.board Step ≡ true
+-- memory ran out at a step of a call for n steps: the steps before it were taken, and the inputs before it
+-- were given, and nothing else changed; the step is one that writes, and room has to be made for it
+pub record WasRefused (breakpoints : Addresses) (n : ℕ) (old new : SessionState) : Type 0 where
+  pub count : ℕ
+  pub within : count < most_of old n
+  pub going : (i : ℕ) → i ≤ count → stop_after breakpoints (after old.timed i).board i ≡ None
+  pub state : new ≡ record old { timed = with_due (after old.timed count) }
+  pub next_writes : writes new.timed.board Step ≡ true
+  pub room : wants_room new.timed.board Step ≡ true
 
 -- ---- one step
 

@@ -7,6 +7,7 @@ ghost use Rattle.rv_commands.specs.Commands.{IsNamed};
 ghost use Rattle.rv_commands.specs.declared.command.Command.{Command};
 ghost use Rattle.rv_monitor.specs.Answers.{AppendsAnswer};
 ghost use Rattle.rv_monitor.specs.Commands.{Leaves, LeavesRefused, answer, next_of, word_of, command_in};
+ghost use Rattle.rv_monitor.specs.Room.{LacksRoom};
 
 use crate::session::Session;
 use crate::stop::Stop;
@@ -164,9 +165,10 @@ impl<M: ByteMemory, C: Decoded> Session<M, C> {
         ensures ok { OnOk result (Leaves (command_in line.now self.old) self.old self.new) }
         ensures text { OnOk result (text.new.items ≡ text.old.items
             ++ answer (command_in line.now self.old) self.old self.new) }
-        ensures err { OnErr result
-            (LeavesRefused (command_in line.now self.old) (vec_capacity text.old - vec_len text.old)
-            self.old self.new) }
+        ensures err { OnErr result (LeavesRefused (command_in line.now self.old) self.old self.new) }
+        ensures room { OnErr result
+            (LacksRoom (command_in line.now self.old) (vec_capacity text.old - vec_len text.old) self.old
+            self.new) }
         ensures unwritten { OnErr result (text.new.items ≡ text.old.items) }
     {
         let Some(command) = read_command(line, &ProgramSymbols(self.program())) else {

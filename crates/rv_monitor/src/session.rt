@@ -1,10 +1,10 @@
 //! Sessions: what a caller may ask of one.
-ghost use Rattle.std.specs.Prelude.{◌≡◌, ◌-◌, ◌≤◌, true, false, min, OnOk, OnErr, IfOk};
+ghost use Rattle.std.specs.Prelude.{◌≡◌, ◌≤◌, true, false, OnOk, OnErr, IfOk};
 ghost use Rattle.std.specs.FinSet as set;
 ghost use Rattle.rv_lists.specs.Timed.{never_falls};
 ghost use Rattle.rv_monitor.specs.Laws.{RunsJoin, CallsJoin, GivenAsListed};
-ghost use Rattle.rv_monitor.specs.State.{TimedState, IsInTime, begun, start, most_of, with_break, without_break, given};
-ghost use Rattle.rv_monitor.specs.Stops.{HasStopped, IsRefused, TakesStep};
+ghost use Rattle.rv_monitor.specs.State.{TimedState, IsInTime, start, begun_again, with_break, without_break, given};
+ghost use Rattle.rv_monitor.specs.Stops.{Took, WasRefused, stop_of, TakesStep};
 
 use crate::breakpoints::Breakpoints;
 use crate::stop::Stop;
@@ -147,10 +147,11 @@ impl<M: ByteMemory, C: Decoded> Session<M, C> {
     ///
     /// `NoMemory` if memory runs out at a step. The steps before it are taken, and the inputs before it are
     /// given. The next call goes on with that step, and gives no input again.
+    #[tactic(auto, using(crate::proofs::SessionCalls::took, crate::proofs::SessionCalls::word, crate::proofs::SessionCalls::was_refused))]
     pub fn step(&mut self, n: u64) -> Result<Stop, NoMemory>
-        ensures ok { IfOk result (HasStopped set.empty (most_of self.old n) self.old.timed self.new.timed) }
-        ensures err { OnErr result (IsRefused set.empty (most_of self.old n) self.old.timed self.new.timed) }
-        ensures others { self.new ≡ record self.old { timed = self.new.timed } }
+        ensures took { OnOk result (Took set.empty n self.old self.new) }
+        ensures stop { IfOk result (λ stop. stop ≡ stop_of set.empty self.old self.new) }
+        ensures err { OnErr result (WasRefused set.empty n self.old self.new) }
     {
         let most = n.min(self.limit - self.timed.taken());
         self.timed.advance(most, None)
@@ -162,12 +163,11 @@ impl<M: ByteMemory, C: Decoded> Session<M, C> {
     /// # Errors
     ///
     /// As those of [`step`](Session::step).
+    #[tactic(auto, using(crate::proofs::SessionCalls::took, crate::proofs::SessionCalls::word, crate::proofs::SessionCalls::was_refused))]
     pub fn go(&mut self, n: u64) -> Result<Stop, NoMemory>
-        ensures ok { IfOk result
-            (HasStopped self.old.breakpoints (most_of self.old n) self.old.timed self.new.timed) }
-        ensures err { OnErr result
-            (IsRefused self.old.breakpoints (most_of self.old n) self.old.timed self.new.timed) }
-        ensures others { self.new ≡ record self.old { timed = self.new.timed } }
+        ensures took { OnOk result (Took self.old.breakpoints n self.old self.new) }
+        ensures stop { IfOk result (λ stop. stop ≡ stop_of self.old.breakpoints self.old self.new) }
+        ensures err { OnErr result (WasRefused self.old.breakpoints n self.old self.new) }
     {
         let most = n.min(self.limit - self.timed.taken());
         self.timed.advance(most, self.breakpoints.if_any())
@@ -218,11 +218,11 @@ impl<M: ByteMemory, C: Decoded> Session<M, C> {
     /// # Errors
     ///
     /// `NoMemory` if memory runs out at one of these steps. Nothing changes then.
+    #[tactic(auto, using(crate::proofs::SessionCalls::took_again, crate::proofs::SessionCalls::word_again))]
     pub fn rewind(&mut self, board: Board<M, C>, n: u64) -> Result<Stop, NoMemory>
-        ensures ok { IfOk result
-            (HasStopped set.empty (min n self.old.limit) (begun board self.old.timed.inputs) self.new.timed) }
+        ensures took { OnOk result (Took set.empty n (begun_again self.old board) self.new) }
+        ensures stop { IfOk result (λ stop. stop ≡ stop_of set.empty (begun_again self.old board) self.new) }
         ensures err { OnErr result (self.new ≡ self.old) }
-        ensures others { self.new ≡ record self.old { timed = self.new.timed } }
     {
         let most = n.min(self.limit);
         self.timed.rewind(board, most)

@@ -16,14 +16,16 @@ use Rattle.rv_lists.specs.declared.input.TimedInput.{TimedInput}
 use Rattle.rv_program.specs.Program.{Assembly}
 use Rattle.rv_commands.specs.declared.command.Command.{Command}
 use Rattle.rv_commands.specs.declared.command.Command.TheVariants.{Step, Go, SetBreak, ClearBreak, Registers, ControlRegister, Memory, Instruction, Traps, Edges, Quit, Nothing}
-use Rattle.rv_monitor.specs.Commands.{WasRefused, HadNoRoom, Leaves, LeavesRefused, going_for}
+use Rattle.rv_monitor.specs.Commands.{Leaves, LeavesRefused, going_for}
 use Rattle.rv_monitor.specs.Events.{events_of, inputs_at}
 use Rattle.rv_monitor.specs.Laws.{IsReached}
-use Rattle.rv_monitor.specs.State.{Addresses, SessionState, TimedState, begun, after, with_due, given, most_of, with_break, without_break}
+use Rattle.rv_monitor.specs.State.{Addresses, SessionState, TimedState, begun, begun_again, after, with_due, given, most_of, with_break, without_break}
 use Rattle.rv_monitor.specs.State as monitor
-use Rattle.rv_monitor.specs.Stops.{HasStopped, IsRefused, TakesStep}
+use Rattle.rv_monitor.specs.Stops.{Took, WasRefused, stop_of, TakesStep}
+use Rattle.rv_monitor.specs.TimedCalls.{HasStopped, IsRefused}
 use Rattle.rv_monitor.specs.declared.stop.Stop.{Stop}
 use Rattle.rv_monitor.proofs.Given.{after_begun, due_begun, given_stands}
+use Rattle.rv_monitor.proofs.SessionCalls.{took_was, took_others, refused_was, refused_others, again_was, again_others}
 use Rattle.rv_monitor.proofs.Reached.{begun_stands, stopped_stands, refused_stands, step_stands, due_is_reached, rewound}
 use Rattle.rv_recording.specs.Recording.{RecordingState, IsRun, IsRecorded, gone_back, opened}
 
@@ -147,23 +149,29 @@ module _ (s new : SessionState) (p q : ℕ) (h : IsRecorded (record { session = 
   unchanged : new ≡ s → IsRecorded after_call
   unchanged e = same_timed (ap (λ u. u.program) e) (ap (λ u. u.limit) e) (ap (λ u. u.timed) e)
 
-  pub stopped : (a : Addresses) (most : ℕ) (stop : Stop) → HasStopped a most s.timed new.timed stop
+  stopped : (a : Addresses) (most : ℕ) (stop : Stop) → HasStopped a most s.timed new.timed stop
       → new ≡ record s { timed = new.timed } → IsRecorded after_call
   stopped a most stop st e =
       timed_stands e (stopped_stands first s.timed new.timed h.reached a most stop st)
       (inputs_kept a most s.timed new.timed _ st.state)
 
-  pub refused : (a : Addresses) (most : ℕ) → IsRefused a most s.timed new.timed
+  refused : (a : Addresses) (most : ℕ) → IsRefused a most s.timed new.timed
       → new ≡ record s { timed = new.timed } → IsRecorded after_call
   refused a most re e =
       timed_stands e (refused_stands first s.timed new.timed h.reached a most re)
       (refused_kept s.timed new.timed _ re.state)
 
-  pub called : (a : Addresses) (most : ℕ) (r : Result Stop NoMemory)
-      → IfOk r (HasStopped a most s.timed new.timed) → OnErr r (IsRefused a most s.timed new.timed)
-      → new ≡ record s { timed = new.timed } → IsRecorded after_call
-  called a most (Ok stop) ok err e = stopped a most stop ok e
-  called a most (Err refusal) ok err e = refused a most err e
+  took : (a : Addresses) (n : ℕ) → Took a n s new → IsRecorded after_call
+  took a n t =
+      stopped a (most_of s n) (stop_of a s new) (took_was a n s new t) (took_others a n s new t)
+
+  was_refused : (a : Addresses) (n : ℕ) → WasRefused a n s new → IsRecorded after_call
+  was_refused a n w = refused a (most_of s n) (refused_was a n s new w) (refused_others a n s new w)
+
+  pub called : (a : Addresses) (n : ℕ) (r : Result Stop NoMemory) → OnOk r (Took a n s new)
+      → OnErr r (WasRefused a n s new) → IsRecorded after_call
+  called a n (Ok stop) ok err = took a n ok
+  called a n (Err refusal) ok err = was_refused a n err
 
   pub one_step : (r : Result (Option Outcome) NoMemory) → TakesStep s new r → IsRecorded after_call
   one_step (Ok (Some outcome)) t =
@@ -181,8 +189,8 @@ module _ (s new : SessionState) (p q : ℕ) (h : IsRecorded (record { session = 
 
   pub left : (c : Option Command) → Leaves c s new → IsRecorded after_call
   left None e = unchanged e
-  left (Some (Step n)) t = stopped set.empty (most_of s n) _ t.stopped t.others
-  left (Some (Go n)) t = stopped s.breakpoints (most_of s (going_for s n)) _ t.stopped t.others
+  left (Some (Step n)) t = took set.empty n t
+  left (Some (Go n)) t = took s.breakpoints (going_for s n) t
   left (Some (SetBreak addr)) e =
       same_timed (ap (λ u. u.program) e) (ap (λ u. u.limit) e) (ap (λ u. u.timed) e)
   left (Some (ClearBreak addr)) e =
@@ -196,30 +204,29 @@ module _ (s new : SessionState) (p q : ℕ) (h : IsRecorded (record { session = 
   left (Some Quit) e = unchanged e
   left (Some Nothing) e = unchanged e
 
-  step_refused : (a : Addresses) (n asked room : ℕ) → HadNoRoom asked room s new ⊎ WasRefused a n s new
-      → IsRecorded after_call
-  step_refused a n asked room (inl f) = unchanged f.state
-  step_refused a n asked room (inr w) = refused a (most_of s n) w.refused w.others
+  step_refused : (a : Addresses) (n : ℕ) → (new ≡ s) ⊎ WasRefused a n s new → IsRecorded after_call
+  step_refused a n (inl e) = unchanged e
+  step_refused a n (inr w) = was_refused a n w
 
-  pub left_refused : (c : Option Command) (room : ℕ) → LeavesRefused c room s new → IsRecorded after_call
-  left_refused None room f = unchanged f.state
-  left_refused (Some (Step n)) room f = step_refused set.empty n 58 room f
-  left_refused (Some (Go n)) room f = step_refused s.breakpoints (going_for s n) 58 room f
-  left_refused (Some (SetBreak addr)) room f = unchanged f.state
-  left_refused (Some (ClearBreak addr)) room f = unchanged f.state
-  left_refused (Some Registers) room f = unchanged f.state
-  left_refused (Some (ControlRegister name csr)) room f = unchanged f.state
-  left_refused (Some (Memory addr count)) room f = unchanged f.state
-  left_refused (Some (Instruction addr)) room f = unchanged f.state
-  left_refused (Some Traps) room f = unchanged f.state
-  left_refused (Some (Edges source)) room f = unchanged f.state
-  left_refused (Some Quit) room f = absurd f
-  left_refused (Some Nothing) room f = absurd f
+  pub left_refused : (c : Option Command) → LeavesRefused c s new → IsRecorded after_call
+  left_refused None e = unchanged e
+  left_refused (Some (Step n)) f = step_refused set.empty n f
+  left_refused (Some (Go n)) f = step_refused s.breakpoints (going_for s n) f
+  left_refused (Some (SetBreak addr)) e = unchanged e
+  left_refused (Some (ClearBreak addr)) e = unchanged e
+  left_refused (Some Registers) e = unchanged e
+  left_refused (Some (ControlRegister name csr)) e = unchanged e
+  left_refused (Some (Memory addr count)) e = unchanged e
+  left_refused (Some (Instruction addr)) e = unchanged e
+  left_refused (Some Traps) e = unchanged e
+  left_refused (Some (Edges source)) e = unchanged e
+  left_refused (Some Quit) f = absurd f
+  left_refused (Some Nothing) f = absurd f
 
-  pub commanded : {A : Type 0} (c : Option Command) (room : ℕ) (r : Result A NoMemory)
-      → OnOk r (Leaves c s new) → OnErr r (LeavesRefused c room s new) → IsRecorded after_call
-  commanded c room (Ok a) ok err = left c ok
-  commanded c room (Err refusal) ok err = left_refused c room err
+  pub commanded : {A : Type 0} (c : Option Command) (r : Result A NoMemory) → OnOk r (Leaves c s new)
+      → OnErr r (LeavesRefused c s new) → IsRecorded after_call
+  commanded c (Ok a) ok err = left c ok
+  commanded c (Err refusal) ok err = left_refused c err
 
   -- ---- breakpoints
 
@@ -250,8 +257,16 @@ module _ (s new : SessionState) (p q : ℕ) (h : IsRecorded (record { session = 
     same_most : min n s.limit ≡ n
     same_most = omega arith
 
-    module _ (stop : Stop)
-        (st : HasStopped set.empty (min n s.limit) (begun board s.timed.inputs) new.timed stop) where
+    module _ (t : Took set.empty n (begun_again s board) new) where
+      abbrev stop : Stop
+      stop = stop_of set.empty (begun_again s board) new
+
+      st : HasStopped set.empty (min n s.limit) (begun board s.timed.inputs) new.timed stop
+      st = again_was n s new board t
+
+      e : new ≡ record s { timed = new.timed }
+      e = again_others n s new board t
+
       st_first : HasStopped set.empty n (begun first s.timed.inputs) new.timed stop
       st_first = subst (λ (b : BoardState). HasStopped set.empty n (begun b s.timed.inputs) new.timed stop) booted
           (subst (λ (m : ℕ). HasStopped set.empty m (begun board s.timed.inputs) new.timed stop) same_most st)
@@ -264,21 +279,19 @@ module _ (s new : SessionState) (p q : ℕ) (h : IsRecorded (record { session = 
           let k : new.timed.taken - 0 ≡ n = omega (arith, all_taken) in
           st_first.state ∙ ap (after (begun first s.timed.inputs)) k
 
-      pub back_stands : new ≡ record s { timed = new.timed } → IsRecorded after_call
-      back_stands e =
+      pub back_stands : IsRecorded after_call
+      back_stands =
           timed_stands e
           (stopped_stands first (begun first s.timed.inputs) new.timed
           (begun_stands first s.timed.inputs h.reached.rising) set.empty n stop st_first)
           (inputs_kept set.empty n (begun first s.timed.inputs) new.timed n back_is)
 
-      pub went_back : new ≡ record s { timed = new.timed }
-          → after_call ≡ gone_back (record { session = s; pages = p; slots = q }) n
-      went_back e =
+      pub went_back : after_call ≡ gone_back (record { session = s; pages = p; slots = q }) n
+      went_back =
           ap (λ (u : SessionState). record { session = u; pages = p; slots = q })
           (e ∙ ap (λ (t : TimedState). record s { timed = t }) back_is)
 
-    pub back_any : (r : Result Stop NoMemory)
-        → IfOk r (HasStopped set.empty (min n s.limit) (begun board s.timed.inputs) new.timed)
-        → OnErr r (new ≡ s) → new ≡ record s { timed = new.timed } → IsRecorded after_call
-    back_any (Ok stop) ok err e = back_stands stop ok e
-    back_any (Err refusal) ok err e = unchanged err
+    pub back_any : (r : Result Stop NoMemory) → OnOk r (Took set.empty n (begun_again s board) new)
+        → OnErr r (new ≡ s) → IsRecorded after_call
+    back_any (Ok stop) ok err = back_stands ok
+    back_any (Err refusal) ok err = unchanged err

@@ -7,8 +7,9 @@ ghost use Rattle.rv_lists.specs.Text.{list_text, HasSteps, ReadsAs};
 ghost use Rattle.rv_lists.specs.Timed.{never_falls};
 ghost use Rattle.rv_monitor.specs.Commands.{Leaves, LeavesRefused, answer, command_in, next_of};
 ghost use Rattle.rv_monitor.specs.Laws.{IsReached};
-ghost use Rattle.rv_monitor.specs.State.{given, most_of, with_break, without_break};
-ghost use Rattle.rv_monitor.specs.Stops.{HasStopped, IsRefused, TakesStep};
+ghost use Rattle.rv_monitor.specs.Room.{LacksRoom};
+ghost use Rattle.rv_monitor.specs.State.{given, with_break, without_break};
+ghost use Rattle.rv_monitor.specs.Stops.{Took, WasRefused, stop_of, TakesStep};
 ghost use Rattle.rv_recording.specs.Recording.{IsRun, first_board, gone_back, opened, with_timed};
 
 use rv_base::NoMemory;
@@ -154,11 +155,10 @@ impl Recording {
     ///
     /// As those of [`Session::step`].
     pub fn step(&mut self, n: u64) -> Result<Stop, NoMemory>
-        ensures ok { IfOk result (HasStopped set.empty (most_of self.old.session n)
-            self.old.session.timed self.new.session.timed) }
-        ensures err { OnErr result (IsRefused set.empty (most_of self.old.session n)
-            self.old.session.timed self.new.session.timed) }
-        ensures others { self.new ≡ with_timed self.old self.new.session.timed }
+        ensures took { OnOk result (Took set.empty n self.old.session self.new.session) }
+        ensures stop { IfOk result (λ stop. stop ≡ stop_of set.empty self.old.session self.new.session) }
+        ensures err { OnErr result (WasRefused set.empty n self.old.session self.new.session) }
+        ensures others { self.new ≡ record self.old { session = self.new.session } }
     {
         self.session.step(n)
     }
@@ -169,11 +169,12 @@ impl Recording {
     ///
     /// As those of [`Session::step`].
     pub fn go(&mut self, n: u64) -> Result<Stop, NoMemory>
-        ensures ok { IfOk result (HasStopped self.old.session.breakpoints (most_of self.old.session n)
-            self.old.session.timed self.new.session.timed) }
-        ensures err { OnErr result (IsRefused self.old.session.breakpoints (most_of self.old.session n)
-            self.old.session.timed self.new.session.timed) }
-        ensures others { self.new ≡ with_timed self.old self.new.session.timed }
+        ensures took { OnOk result (Took self.old.session.breakpoints n self.old.session self.new.session) }
+        ensures stop { IfOk result
+            (λ stop. stop ≡ stop_of self.old.session.breakpoints self.old.session self.new.session) }
+        ensures err { OnErr result
+            (WasRefused self.old.session.breakpoints n self.old.session self.new.session) }
+        ensures others { self.new ≡ record self.old { session = self.new.session } }
     {
         self.session.go(n)
     }
@@ -261,7 +262,9 @@ impl Recording {
             (Leaves (command_in line.now self.old.session) self.old.session self.new.session) }
         ensures text { OnOk result (text.new.items ≡ text.old.items
             ++ answer (command_in line.now self.old.session) self.old.session self.new.session) }
-        ensures err { OnErr result (LeavesRefused (command_in line.now self.old.session)
+        ensures err { OnErr result
+            (LeavesRefused (command_in line.now self.old.session) self.old.session self.new.session) }
+        ensures room { OnErr result (LacksRoom (command_in line.now self.old.session)
             (vec_capacity text.old - vec_len text.old) self.old.session self.new.session) }
         ensures unwritten { OnErr result (text.new.items ≡ text.old.items) }
         ensures others { self.new ≡ record self.old { session = self.new.session } }

@@ -4,4 +4,4 @@ use Rattle.rv_recording.proofs.recording.Recording.go.Goals as goal
 pub invariant_of-self : goal.invariant_of-self
 invariant_of-self c =
     called c.self.inside.session c.go.new.self c.self.inside.pages c.self.inside.slots c.self.invariant
-    c.self.inside.session.breakpoints _ c.go.result c.go.ensures.ok c.go.ensures.err c.go.ensures.others
+    c.self.inside.session.breakpoints _ c.go.result c.go.ensures.took c.go.ensures.err

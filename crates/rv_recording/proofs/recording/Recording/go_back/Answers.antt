@@ -12,8 +12,8 @@ invariant_of-self c =
     c.self.invariant c.in-Ok.board
     (c.in-Ok.ensures.ok.1 ∙ ap (λ (a : Assembly). start a.bytes c.self.inside.pages) c.program-program.ensures)
     c.min-count.result (omega (arith, c.min-count.ensures, c.taken.ensures.value))
-    (omega (arith, c.taken.ensures.value, c.taken.ensures.most)) c.rewind.result c.rewind.ensures.ok
-    c.rewind.ensures.err c.rewind.ensures.others
+    (omega (arith, c.taken.ensures.value, c.taken.ensures.most)) c.rewind.result c.rewind.ensures.took
+    c.rewind.ensures.err
 
 pub returns-clause-ok : goal.returns-clause-ok
 returns-clause-ok c = elim c.match-rewind.branch [
@@ -27,8 +27,7 @@ returns-clause-ok c = elim c.match-rewind.branch [
       c.self.invariant c.in-Ok.board
       (c.in-Ok.ensures.ok.1 ∙ ap (λ (a : Assembly). start a.bytes c.self.inside.pages) c.program-program.ensures)
       c.min-count.result (omega (arith, c.min-count.ensures, c.taken.ensures.value))
-      (omega (arith, c.taken.ensures.value, c.taken.ensures.most)) _ w.in-Ok-rewind.ensures.ok
-      c.rewind.ensures.others
+      (omega (arith, c.taken.ensures.value, c.taken.ensures.most)) w.in-Ok-rewind.ensures.took
       ∙ (ap (λ (r : RecordingState). gone_back r c.min-count.result) c.self.view_is
       ∙ ap (gone_back c.args.self.now) count))
   | in-Err w ↦ rw w.result-is tt

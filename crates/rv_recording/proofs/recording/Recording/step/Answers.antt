@@ -5,4 +5,4 @@ use Rattle.rv_recording.proofs.recording.Recording.step.Goals as goal
 pub invariant_of-self : goal.invariant_of-self
 invariant_of-self c =
     called c.self.inside.session c.step.new.self c.self.inside.pages c.self.inside.slots c.self.invariant
-    set.empty _ c.step.result c.step.ensures.ok c.step.ensures.err c.step.ensures.others
+    set.empty _ c.step.result c.step.ensures.took c.step.ensures.err
