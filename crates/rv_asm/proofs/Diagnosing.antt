@@ -1,6 +1,6 @@
 -- The diagnoses of a refused source.
 use Rattle.std.proofs.Common.{◌≡◌, ℕ, zero, suc, ◌+◌, ◌-◌, ◌<◌, ◌≤◌, Bool, true, false, cond, List, [], ◌∷◌, ◌++◌, map, drop, length, get_or, refl, sym, ap, ◌∙◌, arith, append-nil, add-one, length-drop}
-use Rattle.std.specs.Prelude.{Option, None, Some, is_some, set, Result, Ok, Err, IfOk, ◌==◌}
+use Rattle.std.specs.Prelude.{Option, None, Some, is_some, set, slice_get, Result, Ok, Err, IfOk, ◌==◌}
 use Rattle.std.specs.Option.{option_map, option_or, option_map_or}
 use Rattle.std.specs.Result.{result_err}
 use Rattle.std.proofs.lemmas.List.{map-append, length-set, get_or-set_same, get_or-set_other}
@@ -13,11 +13,13 @@ use Rattle.rv_program.specs.declared.fault.FaultKind.{FaultKind}
 use Rattle.rv_program.specs.declared.fault.AsmFault.{AsmFault}
 use Rattle.rv_asm.specs.declared.diagnosis.Diagnosis.{Diagnosis}
 use Rattle.rv_asm.specs.Layout.{line_at, blank, address, phase_two_fault, definitions}
-use Rattle.rv_asm.specs.Assembly.{joined, first, first_fault, phase_one_fault, phase_three_fault, all_said, assembled}
-use Rattle.rv_asm.specs.Assembly as assembly
+use Rattle.rv_asm.specs.Assembly.{faults_in, phase_one_fault, phase_three_fault, all_said, assembled}
+use Rattle.rv_asm.specs.Counted.{joined, first, first_fault}
 use Rattle.rv_asm.specs.Symbols.{Definitions}
 use Rattle.rv_asm.specs.Steps.{Known, start, known_before, stated, labelled, stated_bytes, laid_out}
-use Rattle.rv_asm.specs.Diagnosed.{all_faults, new_labels, cleared, kept, judged, unless_faulty, faults_of, fault_of, LiesIn, Diagnoses, first_of, fault_in}
+use Rattle.rv_asm.specs.Diagnosed.{new_labels, cleared, kept, judged, faults_of, fault_of, LiesIn, Diagnoses}
+use Rattle.rv_asm.specs.Counted.{all_faults, unless_faulty, first_of, fault_in, first_of_phases, assembled_by}
+use Rattle.rv_asm.proofs.Counting.{firsts, first_is, err_is, faults_are, phases_found, assembled_is}
 use Rattle.rv_asm.specs.Judged.{fault_on, known_after, IsFound, listed}
 use Rattle.rv_asm.proofs.Labels.{IsUpTo}
 use Rattle.rv_asm.proofs.Laying.{not_stated, up_to_before}
@@ -173,22 +175,6 @@ known_kept ls n h =
 
 -- ---- the first diagnosis
 
-first_append : (xs ys : List AsmFault) → first_of (xs ++ ys) ≡ option_or (first_of xs) (first_of ys)
-first_append [] ys = refl
-first_append (x ∷ xs) ys = refl
-
-first_listed : (k : ℕ) (fault : Option FaultKind) → first_of (listed_faults k fault)
-    ≡ option_map (λ kind. record { line = suc k; kind = kind }) fault
-first_listed k None = refl
-first_listed k (Some kind) = refl
-
-firsts : (fault : ℕ → Option FaultKind) (n : ℕ) → first_of (all_faults fault n) ≡ first_fault fault n
-unfolding joined first
-firsts fault zero = refl
-firsts fault (suc n) =
-    first_append (all_faults fault n) (listed_faults n (fault n))
-    ∙ rw (firsts fault n, first_listed n (fault n)) refl
-
 -- where no line is faulty all are kept
 kept_all : (ls : List Said) (n : ℕ) → first_fault (judged ls) n ≡ None → kept ls n ≡ ls
 unfolding kept
@@ -225,17 +211,41 @@ three_same : (one two three a b c : Option AsmFault) → one ≡ a → two ≡ b
     option_or one (option_or two three) ≡ option_or a (option_or b c)
 three_same one two three a b c e f g = rw (e, f, g) refl
 
-first_is : (source : List ℕ) → first_of (faults_of (lines source)) ≡ fault_in (assembled source)
-unfolding faults_of assembled
-first_is source =
+-- the faults of each phase
+abbrev in_phase_one : List (List ℕ) → List AsmFault
+in_phase_one texts = all_faults (phase_one_fault texts) (length texts)
+
+abbrev in_phase_two : List (List ℕ) → List AsmFault
+in_phase_two texts = all_faults (judged (all_said texts)) (length texts)
+
+abbrev in_phase_three : List (List ℕ) → List AsmFault
+in_phase_three texts = all_faults (phase_three_fault (all_said texts)) (length texts)
+
+all_are : (texts : List (List ℕ)) → faults_of texts
+    ≡ unless_faulty (in_phase_one texts) (unless_faulty (in_phase_two texts) (in_phase_three texts))
+unfolding faults_of
+all_are texts =
+    let n = length texts in
+    phases_found (faults_in (phase_one_fault texts) n) (faults_in (judged (all_said texts)) n)
+    (faults_in (phase_three_fault (all_said texts)) n)
+    ∙ rw (
+      faults_are (phase_one_fault texts) n,
+      faults_are (judged (all_said texts)) n,
+      faults_are (phase_three_fault (all_said texts)) n,
+    ) refl
+
+first_said : (source : List ℕ) → first_of (faults_of (lines source)) ≡ fault_in (assembled_by source)
+unfolding assembled_by
+first_said source =
     let texts : List (List ℕ) = lines source in
     let n = length texts in
     let ls : List Said = all_said texts in
-    phases (all_faults (phase_one_fault texts) n) (all_faults (judged ls) n) (all_faults (phase_three_fault ls) n)
-    ∙ three_same _ _ _ (first_fault (phase_one_fault texts) n) (first_fault (phase_two_fault ls) n)
+    ap first_of (all_are texts)
+    ∙ (phases (in_phase_one texts) (in_phase_two texts) (in_phase_three texts)
+    ∙ (three_same _ _ _ (first_fault (phase_one_fault texts) n) (first_fault (phase_two_fault ls) n)
     (first_fault (phase_three_fault ls) n) (firsts (phase_one_fault texts) n)
     (firsts (judged ls) n ∙ first_judged ls n) (firsts (phase_three_fault ls) n)
-    ∙ sym (fault_answered (assembly.fault_of texts) _)
+    ∙ sym (fault_answered (first_of_phases texts) _)))
 
 -- ---- phases two and three, line by line
 
@@ -283,11 +293,17 @@ module _ (texts rest : List (List ℕ)) (n : ℕ) (so : SoFar texts rest n) (tex
 
 pub record AreAll (source : List ℕ) (ds : List Diagnosis) : Type 0 where
   pub all : Diagnoses (lines source) (faults_of (lines source)) ds
-  pub first : first_of (map fault_of ds) ≡ fault_in (assembled source)
+  pub first : slice_get (map fault_of ds) 0 ≡ result_err (assembled source)
 
 together : (source : List ℕ) (ds : List Diagnosis) → Diagnoses (lines source) (faults_of (lines source)) ds →
     AreAll source ds
-together source ds all = record { all = all; first = ap first_of all.each ∙ first_is source }
+together source ds all = record {
+  all = all;
+  first =
+      first_is (map fault_of ds)
+      ∙ (ap first_of all.each
+      ∙ (first_said source ∙ (ap fault_in (sym (assembled_is source)) ∙ sym (err_is (assembled source)))));
+}
 
 some_by : (ds : List Diagnosis) (faults later : List AsmFault) → map fault_of ds ≡ faults → (ds ≡ [] → ⊥) →
     unless_faulty faults later ≡ faults
@@ -299,21 +315,6 @@ none_by : (ds : List Diagnosis) (faults later : List AsmFault) → map fault_of 
     unless_faulty faults later ≡ later
 none_by ds [] later e h = refl
 none_by ds (fault ∷ faults) later e h = absurd (let no : map fault_of [] ≡ fault ∷ faults = rw h at e in cc)
-
--- the faults of each phase
-abbrev in_phase_one : List (List ℕ) → List AsmFault
-in_phase_one texts = all_faults (phase_one_fault texts) (length texts)
-
-abbrev in_phase_two : List (List ℕ) → List AsmFault
-in_phase_two texts = all_faults (judged (all_said texts)) (length texts)
-
-abbrev in_phase_three : List (List ℕ) → List AsmFault
-in_phase_three texts = all_faults (phase_three_fault (all_said texts)) (length texts)
-
-all_are : (texts : List (List ℕ)) → faults_of texts
-    ≡ unless_faulty (in_phase_one texts) (unless_faulty (in_phase_two texts) (in_phase_three texts))
-unfolding faults_of
-all_are texts = refl
 
 module _ (source : List ℕ) (one : List Diagnosis)
     (first : Diagnoses (lines source) (in_phase_one (lines source)) one) where

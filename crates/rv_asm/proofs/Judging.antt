@@ -1,5 +1,5 @@
 -- Judging the lines of a refused source, one by one.
-use Rattle.std.proofs.Common.{◌≡◌, ℕ, ◌+◌, ◌≤◌, Bool, true, false, cond, List, [], ◌∷◌, ◌++◌, length, take, drop, ◌-◌, get_or, ℤ, pos, refl, sym, ap, ◌∙◌, arith, append-nil}
+use Rattle.std.proofs.Common.{◌≡◌, ℕ, ◌≤◌, Bool, true, false, cond, List, [], ◌∷◌, ◌++◌, length, take, drop, ◌-◌, get_or, ℤ, pos, refl, sym, ap, ◌∙◌, arith, append-nil}
 use Rattle.std.specs.Prelude.{Option, None, Some, is_some, Result, Ok, Err}
 use Rattle.std.specs.Option.{option_map}
 use Rattle.std.specs.Result.{result_err}
@@ -12,7 +12,6 @@ use Rattle.rv_source.specs.declared.line.Label.TheVariants as label
 use Rattle.rv_source.specs.declared.statement.Statement.{Statement}
 use Rattle.rv_tokens.specs.Faults.{Fails as LineFails}
 use Rattle.rv_tokens.specs.declared.fault.LineFault.{LineFault}
-use Rattle.rv_tokens.specs.declared.fault.LineFault.TheVariants as line
 use Rattle.rv_program.specs.declared.fault.FaultKind.{FaultKind}
 use Rattle.rv_program.specs.declared.fault.FaultKind.TheVariants.{DuplicateSymbol, OutOfMemory}
 use Rattle.rv_program.specs.declared.fault.AsmFault.{AsmFault}
@@ -23,7 +22,8 @@ use Rattle.rv_asm.specs.Layout.{relabels}
 use Rattle.rv_asm.specs.Listing.{◌>>=◌}
 use Rattle.rv_asm.specs.Kept.{KindFails}
 use Rattle.rv_asm.specs.Steps.{Known, Item, labelled, newly_labelled, stated, free, after_statement, stated_bytes, at_line, appended, image_of, run, AddsOptional}
-use Rattle.rv_asm.specs.Diagnosed.{new_labels, fault_in}
+use Rattle.rv_asm.specs.Diagnosed.{new_labels}
+use Rattle.rv_asm.specs.Counted.{fault_in}
 use Rattle.rv_asm.specs.Judged.{Keeps, IsUnreadBy, fault_stated, fault_on, known_after, IsFound, Judges}
 use Rattle.rv_asm.proofs.Reading.{unread_bind, fails_by, said_of, with_labels}
 use Rattle.rv_asm.proofs.Laying.{DefinesSame, same_more, more_labels, not_stated}

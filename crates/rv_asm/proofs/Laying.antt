@@ -16,7 +16,7 @@ use Rattle.rv_asm.specs.declared.locals.LocalLabel.{LocalLabel}
 use Rattle.rv_asm.specs.Symbols.{value_of}
 use Rattle.rv_asm.specs.Layout.{line_at, address, locals_in, relabels, statement_fault, phase_two_fault}
 use Rattle.rv_asm.specs.Listing.{◌>>=◌}
-use Rattle.rv_asm.specs.Assembly.{first, first_fault}
+use Rattle.rv_asm.specs.Counted.{first, first_fault}
 use Rattle.rv_asm.specs.Steps.{Known, run, values_of, labelled, newly_labelled, all_labelled, stated, free, after_statement, after_optional, after_line, at_line, unless, known_before, laid_out, extended, Item, Adds, AddsLine}
 use Rattle.rv_asm.proofs.Labels.{IsUpTo}
 

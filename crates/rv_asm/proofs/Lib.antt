@@ -13,6 +13,7 @@ pub mod Laying
 pub mod Listed
 pub mod Reading
 pub mod Takes
+pub mod Counting
 pub mod Whole
 pub mod Nearest
 pub mod Judging

@@ -19,8 +19,11 @@ use Rattle.rv_program.specs.Program.{Assembly}
 use Rattle.rv_program.specs.declared.fault.FaultKind.{FaultKind}
 use Rattle.rv_program.specs.declared.fault.AsmFault.{AsmFault}
 use Rattle.rv_asm.specs.Layout.{line_at, address, definitions, phase_two_fault}
-use Rattle.rv_asm.specs.Assembly.{joined, first, first_fault, phase_one_fault, phase_three_fault, all_said, bytes, line_bytes, assembled}
-use Rattle.rv_asm.specs.Lines.{Listed, up_to, labels_in, labels, listed, bytes_of, AreLinesOf}
+use Rattle.rv_asm.specs.Assembly.{phase_one_fault, phase_three_fault, all_said, line_bytes, assembled}
+use Rattle.rv_asm.specs.Counted.{joined, first, first_fault, joined_bytes, assembled_by}
+use Rattle.rv_asm.proofs.Counting.{joined_is, up_to_is, assembled_is}
+use Rattle.rv_asm.specs.Lines.{Listed, labels_in, listed, bytes_of, AreLinesOf}
+use Rattle.rv_asm.specs.Counted.{up_to, labels}
 use Rattle.rv_asm.specs.Steps.{Known, laid_out, after_line}
 use Rattle.rv_asm.specs.Looked.{LabelsRise, LiesWhole}
 use Rattle.rv_source.specs.Reading.{said as said_of}
@@ -58,7 +61,7 @@ pub record IsAccepted (source : List ℕ) (a : Assembly) : Type 0 where
   pub one : first_fault (phase_one_fault (lines source)) (length (lines source)) ≡ None
   pub two : first_fault (phase_two_fault (all_said (lines source))) (length (lines source)) ≡ None
   pub three : first_fault (phase_three_fault (all_said (lines source))) (length (lines source)) ≡ None
-  pub is : a.bytes ≡ bytes (all_said (lines source))
+  pub is : a.bytes ≡ joined_bytes (all_said (lines source))
 
 abbrev answer : Option AsmFault → Assembly → Result Assembly AsmFault
 answer fault program = option_map_or (λ fault. Err fault) fault (Ok program)
@@ -78,13 +81,13 @@ answered None None (Some f) p a h = absurd cc
 answered None None None p a h = record { first = refl; second = refl; third = refl; same = cc }
 
 pub accepted : (source : List ℕ) (a : Assembly) → assembled source ≡ Ok a → IsAccepted source a
-unfolding assembled
+unfolding assembled_by
 accepted source a h =
     let texts = lines source in
     let n = length texts in
     let r = answered (first_fault (phase_one_fault texts) n) (first_fault (phase_two_fault (all_said
     texts)) n)
-    (first_fault (phase_three_fault (all_said texts)) n) _ a h in
+    (first_fault (phase_three_fault (all_said texts)) n) _ a (sym (assembled_is source) ∙ h) in
     record {
       one = r.first;
       two = r.second;
@@ -269,7 +272,9 @@ module _ (source : List ℕ) (a : Assembly) (ok : IsAccepted source a) where
 
   pub listing_is : assembled source ≡ Ok a → listed source ≡ Ok listing
   unfolding listed
-  listing_is h = rw (h, same_length) refl
+  listing_is h =
+      rw (h, same_length, up_to_is (address said) n, joined_is (λ k. labels_in (address said k) (line_at said k).labels) n)
+      refl
 
   address_at : (k : ℕ) → k ≤ n → get_or listing.addresses k 0 ≡ address said k
   address_at k h = up_to_at (address said) n k h
@@ -304,7 +309,8 @@ module _ (source : List ℕ) (a : Assembly) (ok : IsAccepted source a) where
   are_lines = record {
     each = λ k h. is_ok (line_bytes said k) (none_at (phase_three_fault said) n k ok.three h) ∙
         ap (λ bs. Ok bs) (sym (part_is k h));
-    all = joined_same (λ k. bytes_of listing (suc k)) image_of n part_is ∙ sym image_is;
+    all = joined_is (λ k. bytes_of listing (suc k)) n
+        ∙ (joined_same (λ k. bytes_of listing (suc k)) image_of n part_is ∙ sym image_is);
   }
 
 -- ---- one more line

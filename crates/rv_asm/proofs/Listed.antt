@@ -14,7 +14,7 @@ use Rattle.rv_asm.specs.Symbols.{Definitions, operand_value}
 use Rattle.rv_base.specs.Limits.{ram_base, image_limit}
 use Rattle.rv_asm.specs.Layout.{line_at, address, names, fails, is_unknown, renames, size_at, relabels, statement_fault, phase_two_fault}
 use Rattle.rv_asm.specs.Listing.{◌>>=◌, Valuation, asked, is_instruction, size_of, statement_bytes}
-use Rattle.rv_asm.specs.Assembly.{first, joined, first_fault}
+use Rattle.rv_asm.specs.Counted.{first, joined, first_fault}
 use Rattle.rv_asm.specs.Constants.{IsKnown}
 use Rattle.rv_asm.specs.Steps.{Known, Item, values_of, labelled, appended, at_line, run, item_step, item_bytes, image_of, unless, known_before, stated_bytes, AddsOptional, Adds, AddsLine, bytes_by, listed, written, Writes}
 use Rattle.rv_asm.proofs.Runs.{run_append}

@@ -7,7 +7,7 @@ use Rattle.std.proofs.lemmas.Bool.Decides.{nat_tests}
 use Rattle.rv_tokens.specs.declared.token.Direction.{Direction}
 use Rattle.rv_tokens.specs.declared.token.Direction.TheVariants.{Backward, Forward}
 use Rattle.rv_asm.specs.declared.locals.LocalLabel.{LocalLabel}
-use Rattle.rv_asm.specs.Symbols.{nearest_before, nearest_after, nearest}
+use Rattle.rv_asm.specs.Counted.{nearest_before, nearest_after, nearest_address}
 use Rattle.rv_asm.specs.Kept.{of_number, address_at, AreOf, Rises, IsCut, AreListed}
 
 -- ---- definitions of other numbers don't matter
@@ -197,11 +197,11 @@ get_or_past (x ∷ xs) zero h = absurd (omega arith)
 get_or_past (x ∷ xs) (suc i) h = get_or_past xs i (omega arith)
 
 pub nearest_of : (ds : List LocalLabel) (n line : ℕ) (direction : Direction) →
-    nearest ds n line direction ≡ nearest (of_number n ds) n line direction
+    nearest_address ds n line direction ≡ nearest_address (of_number n ds) n line direction
 nearest_of ds n line Backward = before_of ds n line
 nearest_of ds n line Forward = after_of ds n line
 
-nearest_nil : (n line : ℕ) (direction : Direction) → nearest [] n line direction ≡ None
+nearest_nil : (n line : ℕ) (direction : Direction) → nearest_address [] n line direction ≡ None
 nearest_nil n line Backward = refl
 nearest_nil n line Forward = refl
 
@@ -210,8 +210,8 @@ module _ (lists : List (List LocalLabel)) (ds : List LocalLabel) (listed : AreLi
   list_is xs e h = e ∙ get_or_any lists n xs [] h ∙ listed.each n
 
   pub nearest_unlisted : (line : ℕ) (direction : Direction) → length lists ≤ n →
-      None ≡ nearest ds n line direction
+      None ≡ nearest_address ds n line direction
   nearest_unlisted line direction h =
       let e : of_number n ds ≡ [] = sym (listed.each n) ∙ get_or_past lists n h in
-      sym (nearest_of ds n line direction ∙ ap (λ es. nearest es n line direction) e
+      sym (nearest_of ds n line direction ∙ ap (λ es. nearest_address es n line direction) e
       ∙ nearest_nil n line direction)

@@ -16,7 +16,8 @@ use Rattle.rv_program.specs.declared.fault.FaultKind.TheVariants.{OutOfMemory}
 use Rattle.rv_program.specs.declared.fault.AsmFault.{AsmFault}
 use Rattle.rv_program.specs.Faults.{Fails, Gives, IsFaultAt, kind_of}
 use Rattle.rv_asm.specs.Layout.{line_at, blank, address}
-use Rattle.rv_asm.specs.Assembly.{first, first_fault, phase_one_fault, all_said}
+use Rattle.rv_asm.specs.Assembly.{phase_one_fault, all_said}
+use Rattle.rv_asm.specs.Counted.{first, first_fault}
 use Rattle.rv_asm.specs.Steps.{Known, Item, start, unless, known_before, laid_out, lines_laid_out, extended, AddsLine, Writes}
 use Rattle.rv_asm.specs.Taken.{so_far, Without, IsUnread}
 use Rattle.rv_asm.proofs.Labels.{IsUpTo}

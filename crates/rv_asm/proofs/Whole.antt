@@ -1,5 +1,5 @@
 -- The three phases together give the definition's result.
-use Rattle.std.proofs.Common.{◌≡◌, ℕ, ◌≤◌, List, length, refl, arith}
+use Rattle.std.proofs.Common.{◌≡◌, ℕ, ◌≤◌, List, length, refl, arith, ◌∙◌}
 use Rattle.std.specs.Prelude.{Option, None, Some, Result, Ok, Err}
 use Rattle.std.specs.Option.{option_map_or, option_or}
 use Rattle.std.specs.Result.{result_err}
@@ -11,7 +11,9 @@ use Rattle.rv_program.specs.declared.fault.AsmFault.{AsmFault}
 use Rattle.rv_asm.specs.Symbols.{Definitions}
 use Rattle.rv_asm.specs.Layout.{definitions, phase_two_fault}
 use Rattle.rv_asm.specs.Listing.{◌>>=◌}
-use Rattle.rv_asm.specs.Assembly.{Assembly, joined, first_fault, phase_one_fault, phase_three_fault, all_said, bytes, assembled}
+use Rattle.rv_asm.specs.Assembly.{Assembly, phase_one_fault, phase_three_fault, all_said, assembled}
+use Rattle.rv_asm.specs.Counted.{joined, first_fault, joined_bytes, assembled_by}
+use Rattle.rv_asm.proofs.Counting.{assembled_is}
 use Rattle.rv_asm.specs.Steps.{Known, unless, known_before, bytes_by, listed, written, laid_out, lines_laid_out}
 use Rattle.rv_asm.proofs.Listed.{size_listed, within_limit}
 
@@ -37,15 +39,15 @@ answered None ds out = refl
 -- over all n lines
 module _ (ls : List Said) (n : ℕ) (all : length ls ≡ n) where
   finished_by : answer (first_fault (phase_three_fault ls) n)
-      (record { bytes = bytes ls; symbols = (definitions ls).names })
+      (record { bytes = joined_bytes ls; symbols = (definitions ls).names })
       ≡ (written (known_before ls n).definitions ls n >>= program_of (known_before ls n).definitions)
   unfolding written
   finished_by =
-      rw (← all) (answered (first_fault (phase_three_fault ls) (length ls)) (definitions ls) (bytes ls))
+      rw (← all) (answered (first_fault (phase_three_fault ls) (length ls)) (definitions ls) (joined_bytes ls))
 
   whole_by : (one two : Option AsmFault)
       → answer (option_or one (option_or two (first_fault (phase_three_fault ls) n)))
-      (record { bytes = bytes ls; symbols = (definitions ls).names })
+      (record { bytes = joined_bytes ls; symbols = (definitions ls).names })
       ≡ (unless one (unless two (Ok (known_before ls n)))
       >>= λ known. written known.definitions ls n >>= program_of known.definitions)
   whole_by (Some one) two = refl
@@ -54,10 +56,11 @@ module _ (ls : List Said) (n : ℕ) (all : length ls ≡ n) where
 
 pub whole : (source : List ℕ) → assembled source
     ≡ (lines_laid_out (lines source) >>= finished (lines source))
-unfolding assembled lines_laid_out laid_out
+unfolding assembled_by lines_laid_out laid_out
 whole source =
     let texts = lines source in
-    whole_by (all_said texts) (length texts) (length-said texts)
+    assembled_is source
+    ∙ whole_by (all_said texts) (length texts) (length-said texts)
     (first_fault (phase_one_fault texts) (length texts))
     (first_fault (phase_two_fault (all_said texts)) (length texts))
 

@@ -1,8 +1,9 @@
 -- The image and the names of a source, or its fault.
 -- To audit: public contracts cite this.
 -- The language is this project's own: docs/ASSEMBLER.md.
-use Rattle.std.specs.Prelude.{ℕ, zero, suc, List, [], ◌++◌, map, length, get_or, Option, None, Result, Ok, Err}
-use Rattle.std.specs.Option.{option_map, option_map_or, option_or}
+use Rattle.std.specs.Prelude.{ℕ, suc, List, [], ◌++◌, map, length, get_or, slice_get, Option, Result, Ok, Err}
+use Rattle.std.specs.List.{flat_map, filter_map, range_with_len}
+use Rattle.std.specs.Option.{option_map, option_map_or}
 use Rattle.std.specs.Result.{result_err, result_unwrap_or}
 pub use Rattle.rv_program.specs.Program.{Assembly}
 use Rattle.rv_source.specs.Reading.{Said, said}
@@ -14,19 +15,7 @@ use Rattle.rv_asm.specs.Symbols.{operand_value}
 use Rattle.rv_asm.specs.Layout.{blank, line_at, address, values_on, definitions, phase_two_fault}
 use Rattle.rv_asm.specs.Listing.{statement_bytes}
 
--- ---- over the numbers below n, in their order
-
--- the first of f 0, f 1, .. that is Some
-unfoldable pub first : {A : Type 0} → (ℕ → Option A) → ℕ → Option A
-first f zero = None
-first f (suc n) = option_or (first f n) (f n)
-
--- f 0, f 1, .. joined
-unfoldable pub joined : {A : Type 0} → (ℕ → List A) → ℕ → List A
-joined f zero = []
-joined f (suc n) = joined f n ++ f n
-
--- ---- the phases
+-- ---- a line
 
 -- the fault of line k in phase one, if it has one
 abbrev pub phase_one_fault : List (List ℕ) → ℕ → Option FaultKind
@@ -47,21 +36,23 @@ line_bytes lines k =
 abbrev pub phase_three_fault : List Said → ℕ → Option FaultKind
 phase_three_fault lines k = result_err (line_bytes lines k)
 
+-- ---- all lines
+
 -- the bytes of all lines, if no line has a fault
 abbrev pub bytes : List Said → List ℕ
-bytes lines = joined (λ k. result_unwrap_or (line_bytes lines k) []) (length lines)
+bytes lines = flat_map (λ k. result_unwrap_or (line_bytes lines k) []) (range_with_len 0 (length lines))
 
--- the fault of the first faulty line among n lines; line numbers count from 1
-abbrev pub first_fault : (ℕ → Option FaultKind) → ℕ → Option AsmFault
-first_fault fault n = first (λ k. option_map (λ kind. record { line = suc k; kind = kind }) (fault k)) n
+-- the faults of those of n lines that have one, in order; line numbers count from 1
+abbrev pub faults_in : (ℕ → Option FaultKind) → ℕ → List AsmFault
+faults_in fault n =
+    filter_map (λ k. option_map (λ kind. record { line = suc k; kind = kind }) (fault k)) (range_with_len 0 n)
 
 -- the fault of the first faulty line in the first phase that has one
 abbrev pub fault_of : List (List ℕ) → Option AsmFault
 fault_of texts =
     let n = length texts in
-    option_or (first_fault (phase_one_fault texts) n)
-    (option_or (first_fault (phase_two_fault (all_said texts)) n)
-    (first_fault (phase_three_fault (all_said texts)) n))
+    slice_get (faults_in (phase_one_fault texts) n ++ faults_in (phase_two_fault (all_said texts)) n
+    ++ faults_in (phase_three_fault (all_said texts)) n) 0
 
 -- the image and the names of a source, or its fault
 unfoldable pub assembled : List ℕ → Result Assembly AsmFault

@@ -1,25 +1,21 @@
 -- The faults of all lines of a source, and what is said of them.
 -- To audit: public contracts cite this.
 -- Lines are counted from 0 here, but from 1 in a fault and in a diagnosis.
-use Rattle.std.specs.Prelude.{◌≡◌, ℕ, zero, suc, ◌+◌, ◌-◌, ◌≤◌, ◌<◌, List, [], ◌∷◌, map, length, get_or, set, ℤ, pos, Option, Some, None, is_some, if◌then◌else◌, Result, Ok, Err}
-use Rattle.std.specs.Option.{option_map_or}
-use Rattle.std.specs.List.{All}
+use Rattle.std.specs.Prelude.{◌≡◌, ℕ, zero, suc, ◌+◌, ◌-◌, ◌≤◌, ◌<◌, List, [], ◌∷◌, map, length, get_or, set, not, ℤ, pos, Option, None, is_some, if◌then◌else◌}
+use Rattle.std.specs.Option.{unwrap_or}
+use Rattle.std.specs.List.{All, find}
 use Rattle.rv_source.specs.Reading.{Said}
+use Rattle.rv_source.specs.Operands.{is_nothing}
 use Rattle.rv_source.specs.declared.line.Label.{Label}
 use Rattle.rv_source.specs.declared.line.Label.TheVariants as label
 use Rattle.rv_program.specs.declared.fault.FaultKind.{FaultKind}
 use Rattle.rv_program.specs.declared.fault.AsmFault.{AsmFault}
 use Rattle.rv_asm.specs.Symbols.{value_of}
 use Rattle.rv_asm.specs.Layout.{line_at, names, phase_two_fault}
-use Rattle.rv_asm.specs.Assembly.{joined, all_said, phase_one_fault, phase_three_fault}
+use Rattle.rv_asm.specs.Assembly.{all_said, faults_in, phase_one_fault, phase_three_fault}
 use Rattle.rv_asm.specs.declared.diagnosis.Diagnosis.{Diagnosis}
 
 -- ---- the faults of all lines
-
--- the faults of those of the first n lines that have one, in order
-abbrev pub all_faults : (ℕ → Option FaultKind) → ℕ → List AsmFault
-all_faults fault n =
-    joined (λ k. option_map_or (λ kind. record { line = suc k; kind = kind } ∷ []) (fault k) []) n
 
 -- the labels of a line but those that define a name a second time
 abbrev pub new_labels : List (List ℕ × ℤ) → List Label → List Label
@@ -45,17 +41,12 @@ kept lines (suc k) =
 abbrev pub judged : List Said → ℕ → Option FaultKind
 judged lines k = phase_two_fault (kept lines k) k
 
-abbrev pub unless_faulty : List AsmFault → List AsmFault → List AsmFault
-unless_faulty [] later = later
-unless_faulty (fault ∷ faults) later = fault ∷ faults
-
 -- the faults of a source in the first phase that has one
 unfoldable pub faults_of : List (List ℕ) → List AsmFault
 faults_of texts =
     let n = length texts in
-    unless_faulty (all_faults (phase_one_fault texts) n)
-    (unless_faulty (all_faults (judged (all_said texts)) n)
-    (all_faults (phase_three_fault (all_said texts)) n))
+    unwrap_or (find (λ faults. not (is_nothing faults)) (faults_in (phase_one_fault texts) n
+    ∷ faults_in (judged (all_said texts)) n ∷ faults_in (phase_three_fault (all_said texts)) n ∷ [])) []
 
 -- ---- a diagnosis
 
@@ -72,13 +63,3 @@ pub record LiesIn (texts : List (List ℕ)) (d : Diagnosis) : Type 0 where
 pub record Diagnoses (texts : List (List ℕ)) (faults : List AsmFault) (ds : List Diagnosis) : Type 0 where
   pub each : map fault_of ds ≡ faults
   pub places : All (LiesIn texts) ds
-
--- the first of some faults
-abbrev pub first_of : List AsmFault → Option AsmFault
-first_of [] = None
-first_of (fault ∷ faults) = Some fault
-
--- the fault of a result
-abbrev pub fault_in : {A : Type 0} → Result A AsmFault → Option AsmFault
-fault_in (Ok x) = None
-fault_in (Err fault) = Some fault

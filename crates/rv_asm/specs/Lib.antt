@@ -5,6 +5,7 @@ pub mod Listing
 pub mod Layout
 pub mod Assembly
 pub mod Constants
+pub mod Counted
 pub mod Steps
 pub mod Taken
 pub mod Lines

@@ -1,18 +1,18 @@
 -- The lines of an accepted source with their addresses and their bytes, and its labels.
 -- To audit: public contracts cite this.
 -- Here lines are counted from 1, but `address`, `line_at` and `line_bytes` count them from 0.
-use Rattle.std.specs.Prelude.{◌≡◌, ℕ, zero, suc, ◌-◌, ◌<◌, ◌≤◌, Bool, ◌&&◌, nat_lt, List, [], ◌∷◌, ◌++◌, length, get_or, slice_range, nat_le, Option, Some, None, if◌then◌else◌, Result, Ok}
+use Rattle.std.specs.Prelude.{◌≡◌, ℕ, suc, ◌-◌, ◌<◌, ◌≤◌, Bool, ◌&&◌, nat_lt, List, [], ◌∷◌, map, length, get_or, slice_range, nat_le, Option, Some, None, if◌then◌else◌, Result, Ok}
+use Rattle.std.specs.List.{flat_map, range_with_len}
 use Rattle.std.specs.Option.{option_map, option_or}
 use Rattle.rv_base.specs.Lines.{lines}
 use Rattle.rv_base.specs.Limits.{ram_base}
-use Rattle.rv_source.specs.Reading.{Said}
 use Rattle.rv_source.specs.declared.line.Label.{Label}
 use Rattle.rv_source.specs.declared.line.Label.TheVariants as label
 use Rattle.rv_program.specs.Program.{Assembly}
 use Rattle.rv_program.specs.declared.fault.AsmFault.{AsmFault}
 use Rattle.rv_asm.specs.Layout.{line_at, address}
 use Rattle.rv_asm.specs.Listing.{◌>>=◌}
-use Rattle.rv_asm.specs.Assembly.{all_said, assembled, joined, line_bytes}
+use Rattle.rv_asm.specs.Assembly.{all_said, assembled, line_bytes}
 
 -- the image and the names of a source; the address of each line, and last the one following them all; and the
 -- labels with their addresses, in order of definition
@@ -21,29 +21,21 @@ pub record Listed : Type 0 where
   pub addresses : List ℕ
   pub labels : List (List ℕ × ℕ)
 
--- f 0, f 1, .. and f n
-unfoldable pub up_to : (ℕ → ℕ) → ℕ → List ℕ
-up_to f zero = f zero ∷ []
-up_to f (suc n) = up_to f n ++ f (suc n) ∷ []
-
 -- the names among labels at an address; `.equ` and local labels define none
 abbrev pub labels_in : ℕ → List Label → List (List ℕ × ℕ)
 labels_in here [] = []
 labels_in here (label.Name name ∷ ls) = (name, here) ∷ labels_in here ls
 labels_in here (label.Local number ∷ ls) = labels_in here ls
 
--- the names that n lines define as labels, with their addresses
-abbrev pub labels : List Said → ℕ → List (List ℕ × ℕ)
-labels said n = joined (λ k. labels_in (address said k) (line_at said k).labels) n
-
 -- the listing of a source, or its fault
 unfoldable pub listed : List ℕ → Result Listed AsmFault
 listed source =
     let said = all_said (lines source) in
+    let n = length said in
     assembled source >>= λ assembly. Ok (record {
       assembly = assembly;
-      addresses = up_to (address said) (length said);
-      labels = labels said (length said);
+      addresses = map (address said) (range_with_len 0 (suc n));
+      labels = flat_map (λ k. labels_in (address said k) (line_at said k).labels) (range_with_len 0 n);
     })
 
 -- ---- what a listing says of a line
@@ -73,7 +65,7 @@ pub record HasByteAt (l : Listed) (a n : ℕ) : Type 0 where
 pub record AreLinesOf (source : List ℕ) (l : Listed) : Type 0 where
   pub each : (k : ℕ) → k < length (lines source) →
       line_bytes (all_said (lines source)) k ≡ Ok (bytes_of l (suc k))
-  pub all : joined (λ k. bytes_of l (suc k)) (length (lines source)) ≡ l.assembly.bytes
+  pub all : flat_map (λ k. bytes_of l (suc k)) (range_with_len 0 (length (lines source))) ≡ l.assembly.bytes
 
 -- ---- the labels
 

@@ -20,7 +20,8 @@ use Rattle.rv_asm.specs.declared.single.Single.{Single}
 use Rattle.rv_asm.specs.Symbols.{Definitions, value_of, atom_value, sum_value, operand_value, added}
 use Rattle.rv_asm.specs.Layout.{line_at, address, names, locals, names_in, locals_in, size_at, constants_at, statement_fault, phase_two_fault}
 use Rattle.rv_asm.specs.Listing.{◌>>=◌, Valuation, wanted, bytes, statement_bytes}
-use Rattle.rv_asm.specs.Assembly.{first_fault, phase_one_fault, all_said, joined}
+use Rattle.rv_asm.specs.Assembly.{phase_one_fault, all_said}
+use Rattle.rv_asm.specs.Counted.{first_fault, joined}
 use Rattle.rv_asm.specs.Constants.{always, KeptLine, stated_in}
 use Rattle.rv_asm.specs.Kept.{kinds, with_value}
 

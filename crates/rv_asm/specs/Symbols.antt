@@ -1,8 +1,9 @@
 -- The symbols of a source, and the values of expressions.
 -- To audit: public contracts cite this.
 -- The language is this project's own: docs/ASSEMBLER.md.
-use Rattle.std.specs.Prelude.{ℕ, ◌&&◌, List, [], ◌∷◌, ℤ, pos, ◌+ℤ◌, ◌-ℤ◌, Bool, Option, Some, None, option_and_then, ◌==◌, nat_le, nat_lt, if◌then◌else◌}
-use Rattle.std.specs.Option.{option_map, option_or}
+use Rattle.std.specs.Prelude.{ℕ, ◌&&◌, List, [], ◌∷◌, ℤ, pos, ◌+ℤ◌, ◌-ℤ◌, Bool, filter, Option, Some, None, option_and_then, ◌==◌, nat_le, nat_lt, if◌then◌else◌}
+use Rattle.std.specs.List.{find, last_or}
+use Rattle.std.specs.Option.{option_map}
 pub use Rattle.rv_program.specs.Program.{value_of}
 use Rattle.rv_source.specs.declared.expression.Atom.{Atom}
 use Rattle.rv_source.specs.declared.expression.Atom.TheVariants.{Number, Character, Symbol, Local, Here}
@@ -18,22 +19,10 @@ pub record Definitions : Type 0 where
   pub names : List (List ℕ × ℤ)
   pub locals : List LocalLabel
 
--- `nf`: the nearest definition of n on a line after this one
-abbrev pub nearest_after : List LocalLabel → ℕ → ℕ → Option ℕ
-nearest_after [] number line = None
-nearest_after (d ∷ ds) number line =
-    if (d.number == number) && nat_lt line d.line then Some d.address else nearest_after ds number line
-
--- `nb`: the nearest definition of n on this line or a line before it
-abbrev pub nearest_before : List LocalLabel → ℕ → ℕ → Option ℕ
-nearest_before [] number line = None
-nearest_before (d ∷ ds) number line =
-    option_or (nearest_before ds number line) (if (d.number == number) && nat_le d.line line
-    then Some d.address else None)
-
-abbrev pub nearest : List LocalLabel → ℕ → ℕ → Direction → Option ℕ
-nearest labels number line Backward = nearest_before labels number line
-nearest labels number line Forward = nearest_after labels number line
+-- the nearest definition of n: `nb` means the last on this line or a line before it, `nf` the first on a line after it
+abbrev pub nearest : List LocalLabel → ℕ → ℕ → Direction → Option LocalLabel
+nearest ds n line Backward = last_or None (filter (λ d. (d.number == n) && nat_le d.line line) ds)
+nearest ds n line Forward = find (λ d. (d.number == n) && nat_lt line d.line) ds
 
 -- the value of an atom on a line, in a statement at the address `here`
 abbrev pub atom_value : Definitions → ℕ → ℕ → Atom → Option ℤ
@@ -41,7 +30,7 @@ atom_value ds line here (Number n) = Some (pos n)
 atom_value ds line here (Character b) = Some (pos b)
 atom_value ds line here (Symbol name) = value_of ds.names name
 atom_value ds line here (Local number direction) =
-    option_map (λ a. pos a) (nearest ds.locals number line direction)
+    option_map (λ d. pos d.address) (nearest ds.locals number line direction)
 atom_value ds line here Here = Some (pos here)
 
 -- a value added to a sum, or subtracted from it

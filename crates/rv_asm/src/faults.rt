@@ -1,5 +1,5 @@
 //! What is wrong with a source that is refused, and where.
-ghost use Rattle.std.specs.Prelude.{◌≡◌, ◌+◌, ◌-◌, ◌≤◌, ◌<◌, ◌++◌, length, map, Some, IfOk, OnOk};
+ghost use Rattle.std.specs.Prelude.{◌≡◌, ◌+◌, ◌-◌, ◌≤◌, ◌<◌, ◌++◌, length, map, slice_get, Some, IfOk, OnOk};
 ghost use Rattle.std.specs.List.{All};
 ghost use Rattle.std.specs.Option.{option_map};
 ghost use Rattle.std.specs.Result.{result_err};
@@ -9,7 +9,8 @@ ghost use Rattle.rv_program.specs.Faults.{kind_of};
 ghost use Rattle.rv_asm.specs.Assembly.{all_said, assembled, phase_one_fault, phase_three_fault};
 ghost use Rattle.rv_asm.specs.Layout.{definitions};
 ghost use Rattle.rv_asm.specs.Steps.{start, known_before, image_of};
-ghost use Rattle.rv_asm.specs.Diagnosed.{all_faults, kept, judged, faults_of, fault_of, fault_in, first_of, Diagnoses};
+ghost use Rattle.rv_asm.specs.Diagnosed.{kept, judged, faults_of, fault_of, Diagnoses};
+ghost use Rattle.rv_asm.specs.Counted.{all_faults, fault_in};
 ghost use Rattle.rv_asm.specs.Judged.{IsUnreadBy, IsFound, Judges, Tries, listed};
 
 use crate::FaultKind;
@@ -279,7 +280,7 @@ fn diagnose_values(
 /// `NoMemory` may come in place of any result.
 pub fn diagnose(alloc: Global, source: &[u8]) -> Result<Vec<Diagnosis>, NoMemory>
     ensures all { IfOk result (λ ds. Diagnoses (lines source.now) (faults_of (lines source.now)) ds.items) }
-    ensures first { IfOk result (λ ds. first_of (map fault_of ds.items) ≡ fault_in (assembled source.now)) }
+    ensures first { IfOk result (λ ds. slice_get (map fault_of ds.items) 0 ≡ result_err (assembled source.now)) }
 {
     let unread = diagnose_reading(alloc, source)?;
     if !unread.as_slice().is_empty() {

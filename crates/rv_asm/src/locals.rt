@@ -43,7 +43,7 @@ impl Model for Repeated {
 
 impl Repeated {
     ghost use Rattle.std.specs.Prelude.{◌≡◌, [], ◌∷◌, ◌++◌, OnOk, OnErr};
-    ghost use Rattle.rv_asm.specs.Symbols.{nearest};
+    ghost use Rattle.rv_asm.specs.Counted.{nearest_address};
     ghost use Rattle.rv_asm.specs.Kept.{Rises, AreOf, address_at};
 
     fn new(alloc: Global) -> Self
@@ -74,7 +74,7 @@ impl Repeated {
     fn nearest(&self, number: u16, direction: Direction, line: usize) -> Option<u32>
         requires rises { Rises self.now }
         requires one { AreOf number self.now }
-        ensures { result ≡ nearest self.now number line direction }
+        ensures { result ≡ nearest_address self.now number line direction }
     {
         let count = count_up_to(&self.labels, line);
         match direction {
@@ -138,7 +138,7 @@ impl Locals {
     ghost use Rattle.std.specs.Prelude.{◌≡◌, ◌≤◌, [], ◌∷◌, ◌++◌, Ok};
     ghost use Rattle.std.specs.List.{All};
     ghost use Rattle.rv_asm.specs.Kept.{KindBecomes};
-    ghost use Rattle.rv_asm.specs.Symbols.{nearest};
+    ghost use Rattle.rv_asm.specs.Counted.{nearest_address};
 
     pub fn new(alloc: Global) -> Self
         ensures { result ≡ [] }
@@ -168,7 +168,7 @@ impl Locals {
 
     /// Returns the address that a reference on a line stands for, or None if there is no such definition.
     pub fn nearest(&self, number: u16, direction: Direction, line: usize) -> Option<u32>
-        ensures { result ≡ nearest self.now number line direction }
+        ensures { result ≡ nearest_address self.now number line direction }
     {
         let place = usize::from(number);
         if place >= self.by_number.len() {

@@ -72,6 +72,7 @@ pub struct Scope<'a> {
 
 impl<'a> Scope<'a> {
     /// Returns the value of an atom, or None if its symbol isn't defined.
+    #[tactic(auto, using(crate::proofs::Counting::nearest_is))]
     pub fn atom(&self, atom: &Atom) -> Option<i64>
         ensures value { result ≡ atom_value self.now.symbols.now self.now.line self.now.here atom.now }
         ensures word { IfSome result (λ v. is_word v ≡ true) }

@@ -2,8 +2,9 @@ use Rattle.std.proofs.Common.{◌≡◌, ◌∙◌, ◌∷◌, length, ap, sym, 
 use Rattle.std.specs.Prelude.{Ok}
 use Rattle.rv_base.specs.Lines.{lines}
 use Rattle.rv_asm.specs.Layout.{address}
-use Rattle.rv_asm.specs.Assembly.{all_said, joined}
-use Rattle.rv_asm.specs.Lines.{up_to}
+use Rattle.rv_asm.specs.Assembly.{all_said}
+use Rattle.rv_asm.specs.Counted.{joined}
+use Rattle.rv_asm.specs.Counted.{up_to}
 use Rattle.rv_asm.specs.Steps.{Known}
 use Rattle.rv_asm.proofs.Reading.{begun, laid_out-zero, up_to_laid_out, read_more}
 use Rattle.rv_asm.proofs.Lined.{layout_more, addresses_pushed, labels_more}

@@ -3,7 +3,7 @@ use Rattle.std.specs.Prelude.{Ok}
 use Rattle.rv_base.specs.Lines.{lines}
 use Rattle.rv_asm.specs.Layout.{address}
 use Rattle.rv_asm.specs.Assembly.{all_said}
-use Rattle.rv_asm.specs.Lines.{labels, up_to}
+use Rattle.rv_asm.specs.Counted.{labels, up_to}
 use Rattle.rv_asm.specs.Steps.{laid_out}
 use Rattle.rv_asm.proofs.Reading.{SoFar}
 use Rattle.rv_asm.proofs.listing.find_places.Given as goal

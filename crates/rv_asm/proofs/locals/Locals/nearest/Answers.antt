@@ -1,6 +1,6 @@
 use Rattle.std.proofs.Common.{rules, ◌≡◌, ◌∙◌, ◌≤◌, ◌<◌, sym, ap, length, get_or, List}
 use Rattle.rv_asm.specs.declared.locals.LocalLabel.{LocalLabel}
-use Rattle.rv_asm.specs.Symbols.{nearest}
+use Rattle.rv_asm.specs.Counted.{nearest_address}
 use Rattle.rv_asm.specs.Kept.{of_number}
 use Rattle.rv_asm.proofs.Nearest.{nearest_of, nearest_unlisted, list_is, are_of, rises_of}
 use Rattle.rv_asm.proofs.locals.Locals.nearest.Goals as goal
@@ -36,6 +36,6 @@ returns c =
     let f = list_is c.self.inside.by_number.items c.self.inside.labels.items c.self.invariant c.args.number
     c.index.result.now is within in
     let e = c.nearest.ensures ∙ ap (λ (es : List LocalLabel).
-    nearest es c.args.number c.args.line c.args.direction) f
+    nearest_address es c.args.number c.args.line c.args.direction) f
     ∙ sym (nearest_of c.self.inside.labels.items c.args.number c.args.line c.args.direction) in
     rw c.self.view_is at e

@@ -1,7 +1,7 @@
 use Rattle.std.proofs.Common.{◌≡◌, ◌∙◌, ℕ, zero, suc, ◌-◌, List, sym, refl, arith}
 use Rattle.std.specs.Prelude.{None}
 use Rattle.rv_asm.specs.declared.locals.LocalLabel.{LocalLabel}
-use Rattle.rv_asm.specs.Symbols.{nearest_before}
+use Rattle.rv_asm.specs.Counted.{nearest_before}
 use Rattle.rv_asm.specs.Kept.{IsCut, address_at}
 use Rattle.rv_asm.proofs.Nearest.{cut_before, cut_after, last_of}
 use Rattle.rv_asm.proofs.locals.Repeated.nearest.Goals as goal

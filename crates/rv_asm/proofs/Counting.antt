@@ -1,0 +1,188 @@
+-- What is said of all lines by lists of their numbers is the same by recursion on a number; and so is the nearest
+-- local label.
+use Rattle.std.proofs.Common.{◌≡◌, ℕ, zero, suc, ◌+◌, Bool, true, false, cond, List, [], ◌∷◌, ◌++◌, length, refl, sym, ap, ◌∙◌, arith, append-nil, add-zero}
+use Rattle.std.specs.Prelude.{map, filter, not, Option, Some, None, slice_get, ◌&&◌, ◌==◌, nat_le, nat_lt, pos, Result, Ok, Err}
+use Rattle.std.specs.Option.{option_map, option_map_or, option_or, unwrap_or}
+use Rattle.std.specs.Result.{result_err, result_unwrap_or}
+use Rattle.std.specs.List.{flat_map, filter_map, cons_option, range_with_len, find, last_or}
+use Rattle.std.proofs.lemmas.Grind.{flat_map-append}
+use Rattle.std.proofs.lemmas.List.{map-append}
+use Rattle.std.proofs.lemmas.List.Elements.{filter_map-append}
+use Rattle.rv_base.specs.Lines.{lines}
+use Rattle.rv_source.specs.Operands.{is_nothing}
+use Rattle.rv_tokens.specs.declared.token.Direction.{Direction}
+use Rattle.rv_tokens.specs.declared.token.Direction.TheVariants.{Backward, Forward}
+use Rattle.rv_program.specs.declared.fault.FaultKind.{FaultKind}
+use Rattle.rv_program.specs.declared.fault.AsmFault.{AsmFault}
+use Rattle.rv_asm.specs.declared.locals.LocalLabel.{LocalLabel}
+use Rattle.rv_asm.specs.Symbols.{nearest}
+use Rattle.rv_asm.specs.Layout.{phase_two_fault}
+use Rattle.rv_asm.specs.Assembly.{all_said, assembled, fault_of, faults_in, line_bytes, phase_one_fault, phase_three_fault}
+use Rattle.rv_asm.specs.Counted.{first, joined, up_to, first_fault, first_of_phases, assembled_by, all_faults, unless_faulty, first_of, fault_in, nearest_after, nearest_before, nearest_address}
+
+-- ---- numbers
+
+range_more : (a n : ℕ) → range_with_len a (suc n) ≡ range_with_len a n ++ (a + n) ∷ []
+range_more a zero = rw add-zero refl
+range_more a (suc n) =
+    let e : (a + 1) + n ≡ a + suc n = omega arith in
+    ap (λ xs. a ∷ xs) (range_more (a + 1) n ∙ ap (λ k. range_with_len (a + 1) n ++ k ∷ []) e)
+
+pub joined_is : {A : Type 0} (f : ℕ → List A) (n : ℕ) → flat_map f (range_with_len 0 n) ≡ joined f n
+unfolding joined
+joined_is f zero = refl
+joined_is f (suc n) =
+    let e : 0 + n ≡ n = omega arith in
+    ap (flat_map f) (range_more 0 n)
+    ∙ (flat_map-append f (range_with_len 0 n) ((0 + n) ∷ [])
+    ∙ rw (joined_is f n, e, append-nil) refl)
+
+pub up_to_is : (f : ℕ → ℕ) (n : ℕ) → map f (range_with_len 0 (suc n)) ≡ up_to f n
+unfolding up_to
+up_to_is f zero = refl
+up_to_is f (suc n) =
+    let e : 0 + suc n ≡ suc n = omega arith in
+    ap (map f) (range_more 0 (suc n))
+    ∙ (map-append f (range_with_len 0 (suc n)) ((0 + suc n) ∷ [])
+    ∙ (ap (λ xs. xs ++ f (0 + suc n) ∷ []) (up_to_is f n) ∙ ap (λ k. up_to f n ++ f k ∷ []) e))
+
+-- ---- faults
+
+one_fault : (k : ℕ) (o : Option FaultKind) →
+    ◌≡◌ {A = List AsmFault} (cons_option (option_map (λ kind. record { line = suc k; kind = kind }) o) [])
+    (option_map_or (λ kind. record { line = suc k; kind = kind } ∷ []) o [])
+one_fault k None = refl
+one_fault k (Some kind) = refl
+
+abbrev fault_at : (ℕ → Option FaultKind) → ℕ → Option AsmFault
+fault_at fault k = option_map (λ kind. record { line = suc k; kind = kind }) (fault k)
+
+pub faults_are : (fault : ℕ → Option FaultKind) (n : ℕ) → faults_in fault n ≡ all_faults fault n
+unfolding joined
+faults_are fault zero = refl
+faults_are fault (suc n) =
+    let e : 0 + n ≡ n = omega arith in
+    ap (filter_map (fault_at fault)) (range_more 0 n)
+    ∙ (filter_map-append (fault_at fault) (range_with_len 0 n) ((0 + n) ∷ [])
+    ∙ rw (faults_are fault n, e, one_fault n (fault n)) refl)
+
+first_append : (xs ys : List AsmFault) → first_of (xs ++ ys) ≡ option_or (first_of xs) (first_of ys)
+first_append [] ys = refl
+first_append (x ∷ xs) ys = refl
+
+first_listed : (k : ℕ) (fault : Option FaultKind)
+    → first_of (option_map_or (λ kind. record { line = suc k; kind = kind } ∷ []) fault [])
+    ≡ option_map (λ kind. record { line = suc k; kind = kind }) fault
+first_listed k None = refl
+first_listed k (Some kind) = refl
+
+pub firsts : (fault : ℕ → Option FaultKind) (n : ℕ) → first_of (all_faults fault n) ≡ first_fault fault n
+unfolding joined first
+firsts fault zero = refl
+firsts fault (suc n) =
+    first_append (all_faults fault n) (option_map_or (λ kind. record { line = suc n; kind = kind } ∷ []) (fault n) [])
+    ∙ rw (firsts fault n, first_listed n (fault n)) refl
+
+pub first_is : (faults : List AsmFault) → slice_get faults 0 ≡ first_of faults
+first_is [] = refl
+first_is (fault ∷ faults) = refl
+
+pub err_is : {A : Type 0} (r : Result A AsmFault) → result_err r ≡ fault_in r
+err_is (Ok x) = refl
+err_is (Err fault) = refl
+
+first_three : (one two three : List AsmFault) → slice_get (one ++ two ++ three) 0
+    ≡ option_or (first_of one) (option_or (first_of two) (first_of three))
+first_three [] two three = first_is (two ++ three) ∙ first_append two three
+first_three (fault ∷ one) two three = refl
+
+first_same : (fault : ℕ → Option FaultKind) (n : ℕ) → first_of (faults_in fault n) ≡ first_fault fault n
+first_same fault n = ap first_of (faults_are fault n) ∙ firsts fault n
+
+phases_are : (texts : List (List ℕ)) → fault_of texts ≡ first_of_phases texts
+phases_are texts =
+    let n = length texts in
+    first_three (faults_in (phase_one_fault texts) n) (faults_in (phase_two_fault (all_said texts)) n)
+    (faults_in (phase_three_fault (all_said texts)) n)
+    ∙ rw (
+      first_same (phase_one_fault texts) n,
+      first_same (phase_two_fault (all_said texts)) n,
+      first_same (phase_three_fault (all_said texts)) n,
+    ) refl
+
+pub assembled_is : (source : List ℕ) → assembled source ≡ assembled_by source
+unfolding assembled assembled_by
+assembled_is source =
+    let texts = lines source in
+    rw (phases_are texts, joined_is (λ k. result_unwrap_or (line_bytes (all_said texts) k) []) (length (all_said texts))) refl
+
+pub phases_found : (one two three : List AsmFault)
+    → unwrap_or (find (λ faults. not (is_nothing faults)) (one ∷ two ∷ three ∷ [])) []
+    ≡ unless_faulty one (unless_faulty two three)
+phases_found (x ∷ one) two three = refl
+phases_found [] (x ∷ two) three = refl
+phases_found [] [] (x ∷ three) = refl
+phases_found [] [] [] = refl
+
+-- ---- local labels
+
+abbrev address_of : LocalLabel → ℕ
+address_of d = d.address
+
+found : (p : LocalLabel → Bool) (d : LocalLabel) (ds : List LocalLabel) (b : Bool) → p d ≡ b
+    → option_map address_of (find p (d ∷ ds)) ≡ cond b (Some d.address) (option_map address_of (find p ds))
+found p d ds true e = rw e refl
+found p d ds false e = rw e refl
+
+after_is : (ds : List LocalLabel) (n line : ℕ)
+    → option_map address_of (find (λ d. (d.number == n) && nat_lt line d.line) ds) ≡ nearest_after ds n line
+after_is [] n line = refl
+after_is (d ∷ ds) n line =
+    found (λ d. (d.number == n) && nat_lt line d.line) d ds _ refl
+    ∙ ap (cond ((d.number == n) && nat_lt line d.line) (Some d.address)) (after_is ds n line)
+
+or_more : (x : Option ℕ) (a : ℕ) (y : Option ℕ) → option_or x (Some a) ≡ option_or (option_or x (Some a)) y
+or_more None a y = refl
+or_more (Some b) a y = refl
+
+last_of : (o : Option LocalLabel) (ds : List LocalLabel)
+    → option_map address_of (last_or o ds) ≡ option_or (option_map address_of (last_or None ds)) (option_map address_of o)
+last_of None [] = refl
+last_of (Some d) [] = refl
+last_of o (d ∷ ds) =
+    last_of (Some d) ds
+    ∙ (or_more (option_map address_of (last_or None ds)) d.address (option_map address_of o)
+    ∙ ap (λ x. option_or x (option_map address_of o)) (sym (last_of (Some d) ds)))
+
+or_none : (o : Option ℕ) → o ≡ option_or o None
+or_none None = refl
+or_none (Some a) = refl
+
+kept_last : (d : LocalLabel) (ds : List LocalLabel) (b : Bool)
+    → option_map address_of (last_or None (cond b (d ∷ ds) ds))
+    ≡ option_or (option_map address_of (last_or None ds)) (cond b (Some d.address) None)
+kept_last d ds true = last_of (Some d) ds
+kept_last d ds false = or_none (option_map address_of (last_or None ds))
+
+before_is : (ds : List LocalLabel) (n line : ℕ)
+    → option_map address_of (last_or None (filter (λ d. (d.number == n) && nat_le d.line line) ds))
+    ≡ nearest_before ds n line
+before_is [] n line = refl
+before_is (d ∷ ds) n line =
+    kept_last d (filter (λ d. (d.number == n) && nat_le d.line line) ds) ((d.number == n) && nat_le d.line line)
+    ∙ ap (λ o. option_or o (cond ((d.number == n) && nat_le d.line line) (Some d.address) None)) (before_is ds n line)
+
+address_is : (ds : List LocalLabel) (n line : ℕ) (direction : Direction)
+    → option_map address_of (nearest ds n line direction) ≡ nearest_address ds n line direction
+address_is ds n line Backward = before_is ds n line
+address_is ds n line Forward = after_is ds n line
+
+mapped : (o : Option LocalLabel) → option_map (λ d. pos d.address) o ≡ option_map (λ a. pos a) (option_map address_of o)
+mapped None = refl
+mapped (Some d) = refl
+
+pub nearest_is : (ds : List LocalLabel) (n line : ℕ) (direction : Direction)
+    → option_map (λ d. pos d.address) (nearest ds n line direction)
+    ≡ option_map (λ a. pos a) (nearest_address ds n line direction)
+nearest_is ds n line direction =
+    mapped (nearest ds n line direction) ∙ ap (option_map (λ a. pos a)) (address_is ds n line direction)

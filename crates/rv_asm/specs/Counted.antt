@@ -1,0 +1,101 @@
+-- What is said of all lines, by recursion on the number of a line; and the nearest local label by recursion on the
+-- definitions.
+-- The language is this project's own: docs/ASSEMBLER.md.
+-- Not to audit: private contracts alone cite this.
+use Rattle.std.specs.Prelude.{ℕ, zero, suc, ◌&&◌, ◌==◌, nat_le, nat_lt, List, [], ◌∷◌, ◌++◌, length, Option, Some, None, if◌then◌else◌, Result, Ok, Err}
+use Rattle.std.specs.Option.{option_map, option_map_or, option_or}
+use Rattle.std.specs.Result.{result_unwrap_or}
+use Rattle.rv_base.specs.Lines.{lines}
+use Rattle.rv_source.specs.Reading.{Said}
+use Rattle.rv_tokens.specs.declared.token.Direction.{Direction}
+use Rattle.rv_tokens.specs.declared.token.Direction.TheVariants.{Backward, Forward}
+use Rattle.rv_program.specs.Program.{Assembly}
+use Rattle.rv_program.specs.declared.fault.FaultKind.{FaultKind}
+use Rattle.rv_program.specs.declared.fault.AsmFault.{AsmFault}
+use Rattle.rv_asm.specs.declared.locals.LocalLabel.{LocalLabel}
+use Rattle.rv_asm.specs.Layout.{line_at, address, definitions, phase_two_fault}
+use Rattle.rv_asm.specs.Assembly.{all_said, line_bytes, phase_one_fault, phase_three_fault}
+use Rattle.rv_asm.specs.Lines.{labels_in}
+
+-- ---- over the numbers below n, in their order
+
+-- the first of f 0, f 1, .. that is Some
+unfoldable pub first : {A : Type 0} → (ℕ → Option A) → ℕ → Option A
+first f zero = None
+first f (suc n) = option_or (first f n) (f n)
+
+-- f 0, f 1, .. joined
+unfoldable pub joined : {A : Type 0} → (ℕ → List A) → ℕ → List A
+joined f zero = []
+joined f (suc n) = joined f n ++ f n
+
+-- f 0, f 1, .. and f n
+unfoldable pub up_to : (ℕ → ℕ) → ℕ → List ℕ
+up_to f zero = f zero ∷ []
+up_to f (suc n) = up_to f n ++ f (suc n) ∷ []
+
+-- ---- the image, or its fault
+
+-- the fault of the first faulty line among n lines
+abbrev pub first_fault : (ℕ → Option FaultKind) → ℕ → Option AsmFault
+first_fault fault n = first (λ k. option_map (λ kind. record { line = suc k; kind = kind }) (fault k)) n
+
+abbrev pub joined_bytes : List Said → List ℕ
+joined_bytes lines = joined (λ k. result_unwrap_or (line_bytes lines k) []) (length lines)
+
+abbrev pub first_of_phases : List (List ℕ) → Option AsmFault
+first_of_phases texts =
+    let n = length texts in
+    option_or (first_fault (phase_one_fault texts) n)
+    (option_or (first_fault (phase_two_fault (all_said texts)) n)
+    (first_fault (phase_three_fault (all_said texts)) n))
+
+unfoldable pub assembled_by : List ℕ → Result Assembly AsmFault
+assembled_by source =
+    let texts = lines source in
+    option_map_or (λ fault. Err fault) (first_of_phases texts)
+    (Ok (record { bytes = joined_bytes (all_said texts); symbols = (definitions (all_said texts)).names }))
+
+-- the names that n lines define as labels, with their addresses
+abbrev pub labels : List Said → ℕ → List (List ℕ × ℕ)
+labels said n = joined (λ k. labels_in (address said k) (line_at said k).labels) n
+
+-- ---- all faults
+
+-- the faults of those of the first n lines that have one, in order
+abbrev pub all_faults : (ℕ → Option FaultKind) → ℕ → List AsmFault
+all_faults fault n =
+    joined (λ k. option_map_or (λ kind. record { line = suc k; kind = kind } ∷ []) (fault k) []) n
+
+abbrev pub unless_faulty : List AsmFault → List AsmFault → List AsmFault
+unless_faulty [] later = later
+unless_faulty (fault ∷ faults) later = fault ∷ faults
+
+-- the first of some faults
+abbrev pub first_of : List AsmFault → Option AsmFault
+first_of [] = None
+first_of (fault ∷ faults) = Some fault
+
+-- the fault of a result
+abbrev pub fault_in : {A : Type 0} → Result A AsmFault → Option AsmFault
+fault_in (Ok x) = None
+fault_in (Err fault) = Some fault
+
+-- ---- local labels
+
+-- the address of the nearest definition of n on a line after this one
+abbrev pub nearest_after : List LocalLabel → ℕ → ℕ → Option ℕ
+nearest_after [] number line = None
+nearest_after (d ∷ ds) number line =
+    if (d.number == number) && nat_lt line d.line then Some d.address else nearest_after ds number line
+
+-- that of the nearest definition of n on this line or a line before it
+abbrev pub nearest_before : List LocalLabel → ℕ → ℕ → Option ℕ
+nearest_before [] number line = None
+nearest_before (d ∷ ds) number line =
+    option_or (nearest_before ds number line)
+    (if (d.number == number) && nat_le d.line line then Some d.address else None)
+
+abbrev pub nearest_address : List LocalLabel → ℕ → ℕ → Direction → Option ℕ
+nearest_address labels number line Backward = nearest_before labels number line
+nearest_address labels number line Forward = nearest_after labels number line
