@@ -18,7 +18,7 @@ use Rattle.rv_asm.specs.declared.locals.LocalLabel.{LocalLabel}
 use Rattle.rv_asm.specs.Symbols.{nearest}
 use Rattle.rv_asm.specs.Layout.{phase_two_fault}
 use Rattle.rv_asm.specs.Assembly.{all_said, assembled, fault_of, faults_in, line_bytes, phase_one_fault, phase_three_fault}
-use Rattle.rv_asm.specs.Counted.{first, joined, up_to, first_fault, first_of_phases, assembled_by, all_faults, unless_faulty, first_of, fault_in, nearest_after, nearest_before, nearest_address}
+use Rattle.rv_asm.specs.Counted.{first, joined, up_to, first_fault, first_of_phases, assembled_by, all_faults, unless_faulty, first_of, fault_in, nearest_after, nearest_before, nearest_address, label_before}
 
 -- ---- numbers
 
@@ -141,35 +141,49 @@ after_is (d ∷ ds) n line =
     found (λ d. (d.number == n) && nat_lt line d.line) d ds _ refl
     ∙ ap (cond ((d.number == n) && nat_lt line d.line) (Some d.address)) (after_is ds n line)
 
-or_more : (x : Option ℕ) (a : ℕ) (y : Option ℕ) → option_or x (Some a) ≡ option_or (option_or x (Some a)) y
+or_more : {A : Type 0} (x : Option A) (a : A) (y : Option A)
+    → option_or x (Some a) ≡ option_or (option_or x (Some a)) y
 or_more None a y = refl
 or_more (Some b) a y = refl
 
-last_of : (o : Option LocalLabel) (ds : List LocalLabel)
-    → option_map address_of (last_or o ds) ≡ option_or (option_map address_of (last_or None ds)) (option_map address_of o)
-last_of None [] = refl
-last_of (Some d) [] = refl
-last_of o (d ∷ ds) =
-    last_of (Some d) ds
-    ∙ (or_more (option_map address_of (last_or None ds)) d.address (option_map address_of o)
-    ∙ ap (λ x. option_or x (option_map address_of o)) (sym (last_of (Some d) ds)))
+last_more : {A : Type 0} (o : Option A) (xs : List A) → last_or o xs ≡ option_or (last_or None xs) o
+last_more None [] = refl
+last_more (Some x) [] = refl
+last_more o (x ∷ xs) =
+    last_more (Some x) xs
+    ∙ (or_more (last_or None xs) x o ∙ ap (λ y. option_or y o) (sym (last_more (Some x) xs)))
 
-or_none : (o : Option ℕ) → o ≡ option_or o None
+or_none : {A : Type 0} (o : Option A) → o ≡ option_or o None
 or_none None = refl
 or_none (Some a) = refl
 
-kept_last : (d : LocalLabel) (ds : List LocalLabel) (b : Bool)
-    → option_map address_of (last_or None (cond b (d ∷ ds) ds))
-    ≡ option_or (option_map address_of (last_or None ds)) (cond b (Some d.address) None)
-kept_last d ds true = last_of (Some d) ds
-kept_last d ds false = or_none (option_map address_of (last_or None ds))
+kept_last : {A : Type 0} (x : A) (xs : List A) (b : Bool)
+    → last_or None (cond b (x ∷ xs) xs) ≡ option_or (last_or None xs) (cond b (Some x) None)
+kept_last x xs true = last_more (Some x) xs
+kept_last x xs false = or_none (last_or None xs)
+
+pub label_is : (ls : List (List ℕ × ℕ)) (a : ℕ) → last_or None (filter (λ l. nat_le l.1 a) ls) ≡ label_before ls a
+label_is [] a = refl
+label_is (l ∷ ls) a =
+    kept_last l (filter (λ l. nat_le l.1 a) ls) (nat_le l.1 a)
+    ∙ ap (λ o. option_or o (cond (nat_le l.1 a) (Some l) None)) (label_is ls a)
+
+address_or : (x : Option LocalLabel) (d : LocalLabel) (b : Bool)
+    → option_map address_of (option_or x (cond b (Some d) None))
+    ≡ option_or (option_map address_of x) (cond b (Some d.address) None)
+address_or None d true = refl
+address_or None d false = refl
+address_or (Some e) d b = refl
 
 before_is : (ds : List LocalLabel) (n line : ℕ)
     → option_map address_of (last_or None (filter (λ d. (d.number == n) && nat_le d.line line) ds))
     ≡ nearest_before ds n line
 before_is [] n line = refl
 before_is (d ∷ ds) n line =
-    kept_last d (filter (λ d. (d.number == n) && nat_le d.line line) ds) ((d.number == n) && nat_le d.line line)
+    let rest = filter (λ d. (d.number == n) && nat_le d.line line) ds in
+    let test = (d.number == n) && nat_le d.line line in
+    ap (option_map address_of) (kept_last d rest test)
+    ∙ address_or (last_or None rest) d test
     ∙ ap (λ o. option_or o (cond ((d.number == n) && nat_le d.line line) (Some d.address) None)) (before_is ds n line)
 
 address_is : (ds : List LocalLabel) (n line : ℕ) (direction : Direction)

@@ -4,6 +4,7 @@ pub mod Distances
 pub mod Nops
 pub mod Writing
 pub mod Padded
+pub mod DataBytes
 pub mod Sizes
 pub mod Extents
 pub mod Placing

@@ -12,7 +12,8 @@ use Rattle.rv_program.specs.declared.fault.FaultKind.TheVariants.{DuplicateSymbo
 use Rattle.rv_program.specs.declared.fault.AsmFault.{AsmFault}
 use Rattle.rv_asm.specs.Symbols.{Definitions, operand_value}
 use Rattle.rv_base.specs.Limits.{ram_base, image_limit}
-use Rattle.rv_asm.specs.Layout.{line_at, address, names, fails, is_unknown, renames, size_at, relabels, statement_fault, phase_two_fault}
+use Rattle.rv_asm.specs.Layout.{line_at, address, names, is_unknown, renames, size_at, relabels, statement_fault, phase_two_fault}
+use Rattle.rv_asm.specs.Kept.{fails}
 use Rattle.rv_asm.specs.Listing.{◌>>=◌, Valuation, asked, is_instruction, size_of, statement_bytes}
 use Rattle.rv_asm.specs.Counted.{first, joined, first_fault}
 use Rattle.rv_asm.specs.Constants.{IsKnown}

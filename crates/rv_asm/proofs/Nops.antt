@@ -7,7 +7,8 @@ use Rattle.rv_isa.specs.declared.kind.Kind.{Kind}
 use Rattle.rv_isa.specs.declared.kind.Kind.TheVariants.{OpImm}
 use Rattle.rv_isa.specs.declared.op.ImmOp.TheVariants.{Addi}
 use Rattle.rv_program.specs.declared.fault.FaultKind.{FaultKind}
-use Rattle.rv_asm.specs.Listing.{bytes, nops}
+use Rattle.rv_asm.specs.Listing.{bytes}
+use Rattle.rv_asm.specs.Kept.{nops}
 
 nops_suc : (n : ℕ) → bytes (nops (suc n)) ≡ bytes (nops n) ++ to_le_bytes w32 (word (OpImm Addi 0 0 (pos 0)))
 nops_suc zero = append-nil (to_le_bytes w32 (word (OpImm Addi 0 0 (pos 0))))

@@ -16,8 +16,11 @@ use Rattle.rv_source.specs.declared.statement.Statement.{Statement}
 use Rattle.rv_source.specs.declared.statement.Statement.TheVariants as s
 use Rattle.rv_program.specs.declared.fault.FaultKind.{FaultKind}
 use Rattle.rv_asm.specs.Values.{fits, part_value, far, hi, lo, loading}
-use Rattle.rv_asm.specs.Listing.{Valuation, ◌>>=◌, wanted, near, pair, filled as fill, bytes, values_of, data_bytes, value_bytes, sums_bytes, fill_of, statement_bytes, size_of, constant_in}
+use Rattle.rv_asm.specs.Listing.{Valuation, ◌>>=◌, wanted, near, pair, filled as fill, bytes, value_bytes, fill_of, statement_bytes, size_of, constant_in}
+use Rattle.rv_asm.specs.Kept.{sums_by}
+use Rattle.rv_asm.specs.Kept.{values_of, data_bytes}
 use Rattle.rv_asm.specs.Constants.{IsTaken, IsKnown, always}
+use Rattle.rv_asm.proofs.DataBytes.{sums_are}
 use Rattle.rv_asm.proofs.Padded.{length_bytes, padded, power_is_regular, multiple_is_regular}
 
 -- the length of a result, or n if it is a fault
@@ -54,13 +57,13 @@ module _ (width : Width) where
 
   module _ (value : Valuation) where
     data_by : (e : Operand) (es : List Operand) (o : Option ℤ) → value e ≡ o →
-        count_or (bytes_of width * length es) (sums_bytes value width es) ≡ bytes_of width * length es
-        → count_or (bytes_of width * suc (length es)) (sums_bytes value width (e ∷ es))
+        count_or (bytes_of width * length es) (sums_by value width es) ≡ bytes_of width * length es
+        → count_or (bytes_of width * suc (length es)) (sums_by value width (e ∷ es))
         ≡ bytes_of width * suc (length es)
     data_by e es None known h = rw (known, values_of) refl
     data_by e es (Some v) known h = rw (known, values_of) (more_data (length es) v (values_of value es) h)
 
-    data_counted : (es : List Operand) → count_or (bytes_of width * length es) (sums_bytes value width es)
+    data_counted : (es : List Operand) → count_or (bytes_of width * length es) (sums_by value width es)
         ≡ bytes_of width * length es
     data_counted [] = omega arith
     data_counted (e ∷ es) = data_by e es (value e) refl (data_counted es)
@@ -105,7 +108,7 @@ module _ (late : Valuation) (here : ℕ) (c : ℤ) where
   sized (s.WithValue kind e) t = near_wanted here kind (part_of e) (late e)
   sized (s.Far scratch kind e) t = pair_wanted here scratch kind (late e)
   sized (s.Li rd e) t = length_bytes (loading rd (modulo c (2 ^ 32)))
-  sized (s.Data width values) t = data_counted width late values
+  sized (s.Data width values) t = rw (← sums_are late width values) (data_counted width late values)
   sized (s.Bytes bs) t = refl
   sized (s.Space size fill) t = filled (modulo c (2 ^ 32)) (fill_of late fill)
   sized (s.Align power) t = padded here (2 ^ modulo c (2 ^ 32)) (power_is_regular c t)

@@ -15,7 +15,10 @@ use Rattle.rv_program.specs.declared.fault.FaultKind.{FaultKind}
 use Rattle.rv_program.specs.declared.fault.FaultKind.TheVariants.{Undefined, OutOfRange}
 use Rattle.rv_asm.specs.Values.{fits}
 use Rattle.rv_asm.proofs.Reading.{said_of, with_labels}
-use Rattle.rv_asm.specs.Listing.{Valuation, ◌>>=◌, statement_bytes, values_of, data_bytes, value_bytes, sums_bytes}
+use Rattle.rv_asm.specs.Listing.{Valuation, ◌>>=◌, statement_bytes, value_bytes, sums_bytes}
+use Rattle.rv_asm.proofs.DataBytes.{sums_are}
+use Rattle.rv_asm.specs.Kept.{sums_by}
+use Rattle.rv_asm.specs.Kept.{values_of, data_bytes}
 use Rattle.rv_asm.specs.Constants.{IsTaken, KeptLine, always, stated_in}
 use Rattle.rv_asm.specs.Kept.{KindBecomes, are_known}
 use Rattle.rv_asm.specs.Steps.{line_text_bytes, appended, waiting_bytes}
@@ -121,7 +124,7 @@ module _ (value : Valuation) (width : Width) where
   known_first x xs v known = rw (known, values_of) refl
 
   unknown_first : (x : Operand) (xs : List Operand) → value x ≡ None →
-      sums_bytes value width (x ∷ xs) ≡ Err Undefined
+      sums_by value width (x ∷ xs) ≡ Err Undefined
   unknown_first x xs none = rw (none, values_of) refl
 
   -- the operands from the first on, of which there is one
@@ -130,8 +133,9 @@ module _ (value : Valuation) (width : Width) where
     from_first f = ap f (begun all x some is)
 
     pub none_first : value x ≡ None → appended out (sums_bytes value width all) ≡ Err Undefined
-    none_first none = from_first (λ ys. appended out (sums_bytes value width ys))
-        ∙ ap (λ r. appended out r) (unknown_first x (after_first all) none)
+    none_first none =
+        rw (← sums_are value width all) (from_first (λ ys. appended out (sums_by value width ys))
+        ∙ ap (λ r. appended out r) (unknown_first x (after_first all) none))
 
     module _ (v : ℤ) (known : value x ≡ Some v) where
       pub fitting_first : {A : Type 0} (mid new : List ℕ) (r : Result A FaultKind) → fits width v ≡ true
@@ -139,30 +143,34 @@ module _ (value : Valuation) (width : Width) where
           → KindBecomes new r (appended mid (sums_bytes value width (after_first all)))
           → KindBecomes new r (appended out (sums_bytes value width all))
       fitting_first mid new r h written done =
-          let same : appended out (sums_bytes value width all)
-          ≡ appended mid (sums_bytes value width (after_first all)) =
-          from_first (λ ys. appended out (sums_bytes value width ys))
+          let same : appended out (sums_by value width all)
+          ≡ appended mid (sums_by value width (after_first all)) =
+          from_first (λ ys. appended out (sums_by value width ys))
           ∙ ap (λ r. appended out (r >>= λ vs. data_bytes width vs)) (known_first x (after_first all) v known)
           ∙ fitting out v (values_of value (after_first all)) h
-          ∙ ap (λ bs. appended bs (sums_bytes value width (after_first all))) (sym written)
+          ∙ ap (λ bs. appended bs (sums_by value width (after_first all))) (sym written)
           in
-          rw same done
+          let is : appended out (sums_bytes value width all)
+          ≡ appended mid (sums_bytes value width (after_first all)) =
+          rw (← sums_are value width all, ← sums_are value width (after_first all)) same
+          in
+          rw is done
 
       past_first : (b : Bool) → fits width v ≡ false → are_known value (after_first all) ≡ b →
-          appended out (sums_bytes value width all) ≡ appended out (cond b (Err OutOfRange) (Err Undefined))
+          appended out (sums_by value width all) ≡ appended out (cond b (Err OutOfRange) (Err Undefined))
       past_first b h e =
-          from_first (λ ys. appended out (sums_bytes value width ys))
+          from_first (λ ys. appended out (sums_by value width ys))
           ∙ ap (λ r. appended out (r >>= λ vs. data_bytes width vs)) (known_first x (after_first all) v known)
           ∙ ap (λ r. appended out r) (unfitting v (values_of value (after_first all)) h ∙ past (after_first all)
           ∙ ap (λ b. cond b (Err OutOfRange) (Err Undefined)) e)
 
       pub past_known : fits width v ≡ false → are_known value (after_first all) ≡ true →
           appended out (sums_bytes value width all) ≡ Err OutOfRange
-      past_known h e = past_first true h e
+      past_known h e = rw (← sums_are value width all) (past_first true h e)
 
       pub past_unknown : fits width v ≡ false → are_known value (after_first all) ≡ false →
           appended out (sums_bytes value width all) ≡ Err Undefined
-      past_unknown h e = past_first false h e
+      past_unknown h e = rw (← sums_are value width all) (past_first false h e)
 
   -- the bytes of a single value
   fitting_alone : (bs : List ℕ) (b : Bool)
@@ -178,4 +186,4 @@ module _ (value : Valuation) (width : Width) where
 
   pub only_value : (here : ℕ) (x : Operand) →
       sums_bytes value width (x ∷ []) ≡ waiting_bytes here (w.Data width) (value x)
-  only_value here x = alone (value x)
+  only_value here x = rw (← sums_are value width (x ∷ [])) (alone (value x))

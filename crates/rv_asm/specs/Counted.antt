@@ -99,3 +99,10 @@ nearest_before (d ∷ ds) number line =
 abbrev pub nearest_address : List LocalLabel → ℕ → ℕ → Direction → Option ℕ
 nearest_address labels number line Backward = nearest_before labels number line
 nearest_address labels number line Forward = nearest_after labels number line
+
+-- ---- labels
+
+-- the last label at an address or before it
+abbrev pub label_before : List (List ℕ × ℕ) → ℕ → Option (List ℕ × ℕ)
+label_before [] a = None
+label_before (l ∷ ls) a = option_or (label_before ls a) (if nat_le l.1 a then Some l else None)

@@ -1,14 +1,17 @@
 -- Results whose faults have no line yet, what instructions wait for, and the lists of local labels.
 -- The language is this project's own: docs/ASSEMBLER.md.
 -- Not to audit: private contracts alone cite this.
-use Rattle.std.specs.Prelude.{◌≡◌, ℕ, List, [], ◌∷◌, ◌++◌, ℤ, pos, ◌+ℤ◌, ◌≤ℤ◌, ◌==◌, if◌then◌else◌, ◌≤◌, ◌<◌, get_or, slice_get, length, Bool, Option, Some, None, is_some, Result, Ok, Err}
-use Rattle.std.specs.Option.{option_map}
+use Rattle.std.specs.Prelude.{◌≡◌, ℕ, List, [], ◌∷◌, ◌++◌, ℤ, pos, ◌+ℤ◌, ◌≤ℤ◌, ◌==◌, if◌then◌else◌, ◌≤◌, ◌<◌, get_or, slice_get, length, replicate, Bool, false, not, Option, Some, None, is_some, Result, Ok, Err}
+use Rattle.std.specs.Option.{option_map, option_map_or, ok_or}
 use Rattle.std.specs.List.{AllByRecursion, list_all}
 use Rattle.rv_source.specs.declared.operand.Operand.{Operand}
 use Rattle.rv_program.specs.declared.fault.FaultKind.{FaultKind}
-use Rattle.rv_program.specs.declared.fault.FaultKind.TheVariants.{OutOfMemory}
+use Rattle.rv_program.specs.declared.fault.FaultKind.TheVariants.{OutOfMemory, Undefined, OutOfRange}
 use Rattle.rv_asm.specs.declared.locals.LocalLabel.{LocalLabel}
 use Rattle.rv_isa.specs.declared.kind.Kind.{Kind}
+use Rattle.rv_isa.specs.declared.kind.Kind.TheVariants.{OpImm}
+use Rattle.rv_isa.specs.declared.op.ImmOp.TheVariants.{Addi}
+use Rattle.rv_isa.specs.declared.op.Width.{Width}
 use Rattle.rv_asm.specs.declared.fixup.Waiting.{Waiting}
 use Rattle.rv_asm.specs.declared.fixup.Waiting.TheVariants as w
 use Rattle.rv_asm.specs.declared.instructions.Instructions.{Instructions}
@@ -16,7 +19,7 @@ use Rattle.rv_asm.specs.declared.instructions.Instructions.TheVariants.{One, Two
 use Rattle.rv_asm.specs.declared.symbols.Scope.{Scope}
 use Rattle.rv_asm.specs.Symbols.{operand_value}
 use Rattle.rv_asm.specs.Values.{fits}
-use Rattle.rv_asm.specs.Listing.{Valuation, near, pair, value_bytes}
+use Rattle.rv_asm.specs.Listing.{Valuation, ◌>>=◌, near, pair, value_bytes}
 
 -- ---- results whose fault has no line yet
 
@@ -51,6 +54,28 @@ with_value here (w.Data width) v = if fits width v then Some (value_bytes width 
 -- whether each operand has a value
 abbrev pub are_known : Valuation → List Operand → Bool
 are_known value xs = list_all (λ x. is_some (value x)) xs
+
+-- the values of operands; an undefined one is reported before one that is out of range
+abbrev pub values_of : Valuation → List Operand → Result (List ℤ) FaultKind
+values_of value [] = Ok []
+values_of value (x ∷ xs) = ok_or (value x) Undefined >>= λ v. values_of value xs >>= λ vs. Ok (v ∷ vs)
+
+abbrev pub data_bytes : Width → List ℤ → Result (List ℕ) FaultKind
+data_bytes width [] = Ok []
+data_bytes width (v ∷ vs) =
+    if fits width v then (data_bytes width vs >>= λ bs. Ok (value_bytes width v ++ bs)) else Err OutOfRange
+
+-- `sums_bytes`, value by value
+abbrev pub sums_by : Valuation → Width → List Operand → Result (List ℕ) FaultKind
+sums_by value width xs = values_of value xs >>= λ vs. data_bytes width vs
+
+-- n instructions `nop`
+abbrev pub nops : ℕ → List Kind
+nops n = replicate n (OpImm Addi 0 0 (pos 0))
+
+-- whether a value isn't known, or fails a test
+abbrev pub fails : (ℤ → Bool) → Option ℤ → Bool
+fails test v = not (option_map_or test v false)
 
 -- ---- lists of local labels
 

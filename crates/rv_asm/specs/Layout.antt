@@ -94,13 +94,10 @@ abbrev pub renames : List (List ℕ × ℤ) → Statement → Bool
 renames known (s.Constant name x) = is_some (value_of known name)
 renames known statement = false
 
--- whether a value isn't known, or fails a test
-abbrev pub fails : (ℤ → Bool) → Option ℤ → Bool
-fails test v = not (option_map_or test v false)
-
 -- whether the value that must be known isn't known, or fails its test
 abbrev pub is_unknown : Valuation → Statement → Bool
-is_unknown early statement = option_map_or (λ a. fails a.1 (early a.0)) (asked statement) false
+is_unknown early statement =
+    option_map_or (λ a. not (option_map_or a.1 (early a.0) false)) (asked statement) false
 
 -- the fault in phase two of a statement at an address, by the names and the values known on its line
 abbrev pub statement_fault : List (List ℕ × ℤ) → Valuation → ℕ → Statement → Option FaultKind

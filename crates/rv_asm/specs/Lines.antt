@@ -1,9 +1,9 @@
 -- The lines of an accepted source with their addresses and their bytes, and its labels.
 -- To audit: public contracts cite this.
 -- Here lines are counted from 1, but `address`, `line_at` and `line_bytes` count them from 0.
-use Rattle.std.specs.Prelude.{◌≡◌, ℕ, suc, ◌-◌, ◌<◌, ◌≤◌, Bool, ◌&&◌, nat_lt, List, [], ◌∷◌, map, length, get_or, slice_range, nat_le, Option, Some, None, if◌then◌else◌, Result, Ok}
-use Rattle.std.specs.List.{flat_map, range_with_len}
-use Rattle.std.specs.Option.{option_map, option_or}
+use Rattle.std.specs.Prelude.{◌≡◌, ℕ, suc, ◌-◌, ◌<◌, ◌≤◌, Bool, ◌&&◌, nat_lt, List, [], ◌∷◌, map, filter, length, get_or, slice_range, nat_le, Option, Some, None, if◌then◌else◌, Result, Ok}
+use Rattle.std.specs.List.{flat_map, range_with_len, last_or}
+use Rattle.std.specs.Option.{option_map}
 use Rattle.rv_base.specs.Lines.{lines}
 use Rattle.rv_base.specs.Limits.{ram_base}
 use Rattle.rv_source.specs.declared.line.Label.{Label}
@@ -69,11 +69,6 @@ pub record AreLinesOf (source : List ℕ) (l : Listed) : Type 0 where
 
 -- ---- the labels
 
--- the last label at an address or before it
-abbrev pub label_before : List (List ℕ × ℕ) → ℕ → Option (List ℕ × ℕ)
-label_before [] a = None
-label_before (l ∷ ls) a = option_or (label_before ls a) (if nat_le l.1 a then Some l else None)
-
--- its name, with the distance from it
+-- the last label at an address or before it, by its name, and the distance from it
 abbrev pub nearest_label : List (List ℕ × ℕ) → ℕ → Option (List ℕ × ℕ)
-nearest_label ls a = option_map (λ l. (l.0, a - l.1)) (label_before ls a)
+nearest_label ls a = option_map (λ l. (l.0, a - l.1)) (last_or None (filter (λ l. nat_le l.1 a) ls))

@@ -1,8 +1,9 @@
 -- The size of a statement, and its bytes once the values of its expressions are known.
 -- To audit: public contracts cite this.
 -- The language is this project's own: docs/ASSEMBLER.md.
-use Rattle.std.specs.Prelude.{ℕ, ◌-◌, ◌*◌, ◌/◌, ◌%◌, ◌^◌, Bool, true, false, ◌&&◌, ◌==◌, length, List, [], ◌∷◌, ◌++◌, replicate, min, ℤ, pos, Option, Some, None, option_and_then, Result, Ok, Err, if◌then◌else◌}
+use Rattle.std.specs.Prelude.{ℕ, ◌-◌, ◌*◌, ◌/◌, ◌%◌, ◌^◌, Bool, true, false, ◌&&◌, ◌==◌, length, List, [], ◌∷◌, ◌++◌, replicate, min, ℤ, pos, Option, Some, None, is_none, option_and_then, Result, Ok, Err, if◌then◌else◌}
 use Rattle.std.specs.Option.{ok_or, option_map, unwrap_or}
+use Rattle.std.specs.List.{filter_map, flat_map, list_all, list_any}
 use Rattle.std.specs.Int.{to_le_bytes, w8, w16, w32}
 use Rattle.rv_base.specs.Limits.{image_limit}
 use Rattle.rv_isa.specs.Number.{modulo}
@@ -52,8 +53,7 @@ filled here kind v = None
 -- the word of each instruction in four bytes, lowest first
 -- RISC-V Unprivileged ISA 20191213, sections 1.5 and 2.2
 abbrev pub bytes : List Kind → List ℕ
-bytes [] = []
-bytes (k ∷ ks) = to_le_bytes w32 (word k) ++ bytes ks
+bytes = flat_map (λ k. to_le_bytes w32 (word k))
 
 -- the bytes of one instruction that takes a part of a value
 abbrev pub near : ℕ → Kind → Part → ℤ → Option (List ℕ)
@@ -74,32 +74,21 @@ value_bytes One v = to_le_bytes w8 (modulo v (2 ^ 8))
 value_bytes Two v = to_le_bytes w16 (modulo v (2 ^ 16))
 value_bytes Four v = to_le_bytes w32 (modulo v (2 ^ 32))
 
--- the values of operands; an undefined one is reported before one that is out of range
-abbrev pub values_of : Valuation → List Operand → Result (List ℤ) FaultKind
-values_of value [] = Ok []
-values_of value (x ∷ xs) = ok_or (value x) Undefined >>= λ v. values_of value xs >>= λ vs. Ok (v ∷ vs)
-
-abbrev pub data_bytes : Width → List ℤ → Result (List ℕ) FaultKind
-data_bytes width [] = Ok []
-data_bytes width (v ∷ vs) =
-    if fits width v then (data_bytes width vs >>= λ bs. Ok (value_bytes width v ++ bs)) else Err OutOfRange
-
--- the bytes of operands, each in the same width
+-- the bytes of operands, each in the same width; an undefined value is reported before one that is out of range
 abbrev pub sums_bytes : Valuation → Width → List Operand → Result (List ℕ) FaultKind
-sums_bytes value width xs = values_of value xs >>= λ vs. data_bytes width vs
+sums_bytes value width xs =
+    let vs = filter_map value xs in
+    if list_any (λ x. is_none (value x)) xs then Err Undefined
+    else (if list_all (fits width) vs then Ok (flat_map (value_bytes width) vs) else Err OutOfRange)
 
 -- the byte that fills a space: 0 if none is given
 abbrev pub fill_of : Valuation → Option Operand → Result ℕ FaultKind
 fill_of value None = Ok 0
 fill_of value (Some x) = wanted (λ v. if fits One v then Some (modulo v (2 ^ 8)) else None) (value x)
 
--- n instructions `nop`
-abbrev pub nops : ℕ → List Kind
-nops n = replicate n (OpImm Addi 0 0 (pos 0))
-
 -- n bytes of padding: zeros up to a multiple of 4 or the end of the padding, then `nop` instructions
 abbrev pub padding : ℕ → ℕ → List ℕ
-padding here n = let zeros = min n (gap here 4) in replicate zeros 0 ++ bytes (nops ((n - zeros) / 4))
+padding here n = let zeros = min n (gap here 4) in replicate zeros 0 ++ bytes (replicate ((n - zeros) / 4) (OpImm Addi 0 0 (pos 0)))
 
 -- ---- statements
 

@@ -1,7 +1,9 @@
 use Rattle.std.proofs.Common.{◌≡◌, ◌∙◌, ◌-◌, [], ap, sym, refl, get_or}
 use Rattle.std.specs.Prelude.{Some, None}
-use Rattle.rv_asm.specs.Lines.{Listed, label_before}
+use Rattle.rv_asm.specs.Lines.{Listed}
+use Rattle.rv_asm.specs.Counted.{label_before}
 use Rattle.rv_asm.specs.Looked.{LabelsCutAt}
+use Rattle.rv_asm.proofs.Counting.{label_is}
 use Rattle.rv_asm.proofs.Listings.{label_cut, last_some}
 use Rattle.rv_asm.proofs.listing.Listing.label_before.Goals as goal
 
@@ -13,7 +15,7 @@ returns-then-count-eq0 c =
     rw (c.deref.ensures.value, e) at c.count_labels-count.ensures in
     let f = label_cut c.args.self.now.labels c.args.address c.count_labels-count.result ([], 0) cut in
     let g : label_before c.args.self.now.labels c.args.address ≡ None = rw c.if-count-eq0.true at f in
-    rw g refl
+    rw (label_is c.args.self.now.labels c.args.address, g) refl
 
 pub returns : goal.returns
 returns c =
@@ -27,4 +29,4 @@ returns c =
     let is : z ≡ get_or c.args.self.now.labels (c.count_labels-count.result - 1) z =
     rw e at c.index-label.ensures in
     let g : label_before c.args.self.now.labels c.args.address ≡ Some z = f ∙ ap (λ x. Some x) (sym is) in
-    rw g (rw (← c.label.view_is, c.new.ensures, c.deref-2.ensures.value) refl)
+    rw (label_is c.args.self.now.labels c.args.address, g) (rw (← c.label.view_is, c.new.ensures, c.deref-2.ensures.value) refl)
