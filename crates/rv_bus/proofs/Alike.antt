@@ -1,10 +1,9 @@
 -- Loads, stores and fetches read and write only their own bytes of the memory. Each law compares a bus with
 -- the same bus over another memory of the same size.
-use Rattle.std.proofs.Common.{◌≡◌, ◌≢◌, ℕ, zero, suc, ◌+◌, ◌-◌, ◌≤◌, ◌<◌, List, slice_index, slice_set, length, Option, Some, None, Bool, true, false, nat_le, nat_lt, ◌&&◌, if◌then◌else◌, arith, inl, inr, refl, sym, ap, subst, ◌∙◌}
-use Rattle.std.proofs.lemmas.Bool.{leb-true, ltb-false, cases_eq, cases_lt}
-use Rattle.std.proofs.lemmas.Bool.Decides.{nat_tests}
+use Rattle.std.proofs.Common.{◌≡◌, ◌≢◌, ℕ, zero, suc, ◌+◌, ◌-◌, ◌≤◌, ◌<◌, List, [], ◌∷◌, slice_get, slice_index, slice_set, length, Option, Some, None, Bool, true, false, nat_le, if◌then◌else◌, arith, inl, inr, refl, sym, ap, subst, ◌∙◌}
+use Rattle.std.proofs.lemmas.Bool.{le-leb, leb-true, cases_eq, cases_lt}
 use Rattle.std.proofs.lemmas.Grind.{get_or-set_at}
-use Rattle.std.proofs.lemmas.List.{set_past, get_or_past, get_or-set_other}
+use Rattle.std.proofs.lemmas.List.{set_past, get_or-set_other}
 use Rattle.rv_base.specs.Limits.{ram_base}
 use Rattle.rv_isa.specs.declared.op.Width.{Width}
 use Rattle.rv_isa.specs.declared.op.Width.TheVariants.{Four}
@@ -31,6 +30,24 @@ SameBytes one other off count = (i : ℕ) → i < count → slice_index other (o
 pub same_number : (one other : List ℕ) (off n : ℕ) → SameBytes one other off n
     → value_at other off n ≡ value_at one off n
 same_number one other off n same = same_value other one off off n same
+
+same_get : (one other : List ℕ) (k : ℕ) → length other ≡ length one
+    → slice_index other k ≡ slice_index one k → slice_get other k ≡ slice_get one k
+same_get [] [] k size same = refl
+same_get [] (y ∷ other) k size same = absurd (omega arith)
+same_get (x ∷ one) [] k size same = absurd (omega arith)
+same_get (x ∷ one) (y ∷ other) zero size same = ap Some same
+same_get (x ∷ one) (y ∷ other) (suc k) size same = same_get one other k (omega arith) same
+
+same_index : (one other : List ℕ) (k : ℕ) → slice_get other k ≡ slice_get one k
+    → slice_index other k ≡ slice_index one k
+same_index [] [] k same = refl
+same_index [] (y ∷ other) zero same = absurd cc
+same_index [] (y ∷ other) (suc k) same = same_index [] other k same
+same_index (x ∷ one) [] zero same = absurd cc
+same_index (x ∷ one) [] (suc k) same = same_index one [] k same
+same_index (x ∷ one) (y ∷ other) zero same = cc
+same_index (x ∷ one) (y ∷ other) (suc k) same = same_index one other k same
 
 -- ---- loads and fetches
 
@@ -156,34 +173,20 @@ same_store b ram a v w size =
 pub same_byte : (one other : List ℕ) (a : ℕ) → length other ≡ length one
     → (ram_base ≤ a → slice_index other (a - ram_base) ≡ slice_index one (a - ram_base))
     → ram_byte other a ≡ ram_byte one a
-same_byte one other a size same =
-    ap (λ n. if nat_le ram_base a && nat_lt (a - ram_base) n then Some (slice_index other (a - ram_base))
-    else None) size
-    ∙ by_tests (nat_le ram_base a) (nat_lt (a - ram_base) (length one)) (λ t. same (leb-true ram_base a t))
+same_byte one other a size same = by_test (nat_le ram_base a) (λ t. same (leb-true ram_base a t))
   where
-    by_tests : (x y : Bool) → (x ≡ true → slice_index other (a - ram_base) ≡ slice_index one (a - ram_base))
-        → (if x && y then Some (slice_index other (a - ram_base)) else None)
-        ≡ (if x && y then Some (slice_index one (a - ram_base)) else None)
-    by_tests true true e = ap Some (e refl)
-    by_tests true false e = refl
-    by_tests false y e = refl
+    by_test : (x : Bool) → (x ≡ true → slice_index other (a - ram_base) ≡ slice_index one (a - ram_base))
+        → (if x then slice_get other (a - ram_base) else None) ≡ (if x then slice_get one (a - ram_base) else None)
+    by_test true e = same_get one other (a - ram_base) size (e refl)
+    by_test false e = refl
 
 pub byte_same : (one other : List ℕ) (k : ℕ) → length other ≡ length one
     → ram_byte other (ram_base + k) ≡ ram_byte one (ram_base + k) → slice_index other k ≡ slice_index one k
-byte_same one other k size same = by_tests (nat_lt k (length one)) refl
+byte_same one other k size same =
+    same_index one other k (sym (at_byte other) ∙ (same ∙ at_byte one))
   where
-    at_byte : (bs : List ℕ) → nat_lt k (length bs) ≡ true
-        → ram_byte bs (ram_base + k) ≡ Some (slice_index bs k)
-    at_byte bs t =
-        let le : nat_le ram_base (ram_base + k) ≡ true = grind (arith, nat_tests) in
+    at_byte : (bs : List ℕ) → ram_byte bs (ram_base + k) ≡ slice_get bs k
+    at_byte bs =
+        let le : nat_le ram_base (ram_base + k) ≡ true = le-leb ram_base (ram_base + k) (omega arith) in
         let off : ram_base + k - ram_base ≡ k = omega arith in
-        rw (le, off, t) refl
-
-    by_tests : (x : Bool) → nat_lt k (length one) ≡ x → slice_index other k ≡ slice_index one k
-    by_tests true t =
-        let is : Some (slice_index other k) ≡ Some (slice_index one k) =
-        sym (at_byte other (ap (nat_lt k) size ∙ t)) ∙ (same ∙ at_byte one t) in
-        cc
-    by_tests false t =
-        let high : length one ≤ k = ltb-false k (length one) t in
-        get_or_past other k 0 (omega arith) ∙ sym (get_or_past one k 0 high)
+        rw (le, off) refl

@@ -1,6 +1,6 @@
 -- To audit: public contracts cite this.
 -- Loads, stores, fetches and the passing of time on the bus.
-use Rattle.std.specs.Prelude.{ℕ, Bool, true, false, ◌-◌, ◌%◌, ◌^◌, nat_lt, nat_le, ◌&&◌, if◌then◌else◌, List, length, slice_index, Option, Some, None}
+use Rattle.std.specs.Prelude.{ℕ, Bool, true, false, ◌-◌, ◌%◌, ◌^◌, nat_le, if◌then◌else◌, List, length, slice_get, Option, Some, None}
 use Rattle.rv_base.specs.Limits.{ram_base}
 use Rattle.rv_isa.specs.declared.op.Width.{Width}
 use Rattle.rv_isa.specs.declared.op.Width.TheVariants.{Four}
@@ -82,9 +82,7 @@ fetch ram a = fetch_at ram (location_of (length ram) a Four)
 
 -- the byte of the memory at an address, if there is one
 abbrev pub ram_byte : List ℕ → ℕ → Option ℕ
-ram_byte ram a =
-    if nat_le ram_base a && nat_lt (a - ram_base) (length ram) then Some (slice_index ram (a - ram_base))
-    else None
+ram_byte ram a = if nat_le ram_base a then slice_get ram (a - ram_base) else None
 
 -- the bus after a tick: time passes, and the gateways forward their requests
 abbrev pub ticked : BusState → BusState

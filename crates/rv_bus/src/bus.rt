@@ -2,10 +2,10 @@
 ghost use Rattle.std.specs.Prelude.{◌≡◌, ◌≢◌, ◌+◌, ◌*◌, ◌/◌, ◌%◌, ◌^◌, ◌<◌, ◌≤◌, ℕ, true, false, length, IfErr};
 ghost use Rattle.rv_isa.specs.Width.{bytes_of};
 ghost use Rattle.rv_base.specs.Limits.{ram_base};
-ghost use Rattle.rv_ram.specs.Bytes.{put, value_at, HasPages};
+ghost use Rattle.rv_ram.specs.Bytes.{put, value_at};
+ghost use Rattle.rv_ram.specs.Table.{HasPages};
 ghost use Rattle.rv_ram.specs.Pages.{is_zero_page};
 ghost use Rattle.rv_mmio.specs.Serial as serial;
-ghost use Rattle.rv_mmio.specs.Timer.{later};
 ghost use Rattle.rv_bus.specs.State.{BusState, reset};
 ghost use Rattle.rv_bus.specs.Access.{location, load, after_load, fetch, low_bits, ram_byte, ticked, lines_of, with_line, received};
 ghost use Rattle.rv_bus.specs.Within.{IsWithin};
@@ -281,7 +281,8 @@ impl<M: ByteMemory> Bus<M> {
 
     /// Advances the time by a number of ticks. The interrupt controller stays as it is.
     pub fn advance(&mut self, ticks: u64)
-        ensures advanced { self.new ≡ record self.old { timer = later self.old.timer ticks } }
+        ensures advanced { self.new
+            ≡ record self.old { timer = record self.old.timer { time = (self.old.timer.time + ticks) % 2 ^ 64 } } }
         ensures time { self.old.timer.time < 2 ^ 64 }
     {
         let time = self.timer.time().wrapping_add(ticks);

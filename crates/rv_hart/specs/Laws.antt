@@ -10,7 +10,7 @@ use Rattle.rv_csr.specs.Traps.{entered}
 use Rattle.rv_hart.specs.State.{Machine}
 use Rattle.rv_hart.specs.Step.{step, tries}
 use Rattle.rv_hart.specs.declared.trap.Outcome.{Outcome}
-use Rattle.rv_hart.specs.declared.trap.Outcome.TheVariants.{Retired, Trapped, Halted}
+use Rattle.rv_hart.specs.declared.trap.Outcome.TheVariants.{Trapped}
 
 -- ---- user mode
 
@@ -22,10 +22,9 @@ SameButCounters old new = new ≡ record old { counters = new.counters }
 -- a step from user mode leaves user mode and the control registers as they were, or it ends in a trap, and
 -- leaves machine mode and what the entry of that trap makes of the control registers
 abbrev pub ChangesByTrap : Machine → Machine → Outcome → Type 0
-ChangesByTrap old new Retired = (new.mode ≡ mode.User) × SameButCounters old.csrs new.csrs
-ChangesByTrap old new Halted = (new.mode ≡ mode.User) × SameButCounters old.csrs new.csrs
 ChangesByTrap old new (Trapped cause epc tval) =
     (new.mode ≡ mode.Machine) × SameButCounters (entered old.csrs cause epc tval mode.User) new.csrs
+ChangesByTrap old new outcome = (new.mode ≡ mode.User) × SameButCounters old.csrs new.csrs
 
 -- in user mode the mode and the control registers change by traps alone
 abbrev pub UserChangesByTraps : Type 0

@@ -20,10 +20,6 @@ reset = record { software = false; time = 0; compare = 2 ^ 64 - 1 }
 abbrev pub ticked : TimerState → TimerState
 ticked timer = record timer { time = (timer.time + 1) % 2 ^ 64 }
 
--- the timer after a number of ticks
-abbrev pub later : TimerState → ℕ → TimerState
-later timer ticks = record timer { time = (timer.time + ticks) % 2 ^ 64 }
-
 -- whether the timer's line is high
 abbrev pub is_due : TimerState → Bool
 is_due timer = nat_le timer.compare timer.time

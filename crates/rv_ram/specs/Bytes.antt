@@ -1,7 +1,7 @@
 -- To audit: public contracts cite this.
 -- A memory as the list of its bytes. RISC-V Unprivileged ISA 20191213, section 1.4: memory is addressed by
 -- bytes, and the bytes of a word stand low byte first.
-use Rattle.std.specs.Prelude.{◌≡◌, ℕ, zero, suc, ◌+◌, ◌*◌, ◌/◌, ◌%◌, ◌^◌, ◌≤◌, List, length, slice_index, slice_set, replicate}
+use Rattle.std.specs.Prelude.{ℕ, zero, suc, ◌+◌, ◌*◌, ◌/◌, ◌%◌, ◌^◌, List, slice_index, slice_set, replicate}
 
 -- the value of n bytes at an offset
 unfoldable pub value_at : List ℕ → ℕ → ℕ → ℕ
@@ -16,9 +16,3 @@ put bs i (suc n) v = slice_set (put bs i n v) (i + n) (v / 256 ^ n % 256)
 -- n zeros. Proofs use lemmas about them, and see no list of 16 million numbers
 unfoldable pub zeros : ℕ → List ℕ
 zeros n = replicate n 0
-
--- whether a memory has 1 to 4096 pages of 4096 bytes
-pub record HasPages (bs : List ℕ) : Type 0 where
-  pub least : 4096 ≤ length bs
-  pub most : length bs ≤ 2 ^ 24
-  pub whole : length bs % 4096 ≡ 0

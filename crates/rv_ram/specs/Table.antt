@@ -1,7 +1,13 @@
--- Not to audit: private contracts alone cite this.
--- A memory as the table of its pages.
-use Rattle.std.specs.Prelude.{◌≡◌, ℕ, ◌≤◌, List, [], ◌∷◌, ◌++◌, length, Bool, true, false, replicate}
+-- Not to audit: private contracts and invariants alone cite this.
+-- A memory as its pages, or as the table of them.
+use Rattle.std.specs.Prelude.{◌≡◌, ℕ, ◌%◌, ◌^◌, ◌≤◌, List, [], ◌∷◌, ◌++◌, length, Bool, true, false, replicate}
 use Rattle.rv_ram.specs.Bytes.{zeros}
+
+-- whether a memory has 1 to 4096 pages of 4096 bytes
+pub record HasPages (bs : List ℕ) : Type 0 where
+  pub least : 4096 ≤ length bs
+  pub most : length bs ≤ 2 ^ 24
+  pub whole : length bs % 4096 ≡ 0
 
 -- a page: its bytes, and whether it exists
 pub record PageState : Type 0 where
