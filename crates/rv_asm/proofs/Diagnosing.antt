@@ -22,7 +22,7 @@ use Rattle.rv_asm.specs.Counted.{all_faults, unless_faulty, first_of, fault_in, 
 use Rattle.rv_asm.proofs.Counting.{firsts, first_is, err_is, faults_are, phases_found, assembled_is}
 use Rattle.rv_asm.specs.Judged.{fault_on, known_after, IsFound, listed}
 use Rattle.rv_asm.proofs.Labels.{IsUpTo}
-use Rattle.rv_asm.proofs.Laying.{not_stated, up_to_before}
+use Rattle.rv_asm.proofs.Laying.{phase_two_is, not_stated, up_to_before}
 use Rattle.rv_asm.proofs.Listed.{none_last, none_before}
 use Rattle.rv_asm.proofs.Reading.{IsAt, dropped, SoFar, is_before, read_line_at, known_is}
 use Rattle.rv_asm.proofs.Whole.{length-said}
@@ -134,8 +134,8 @@ later_line ls (suc n) k h =
     ∙ later_line ls n k (omega (arith, h))
 
 fault_is : (xs : List Said) (n : ℕ) → phase_two_fault xs n ≡ fault_on n (known_before xs n) (line_at xs n)
-unfolding phase_two_fault fault_on
-fault_is xs n = refl
+unfolding fault_on
+fault_is xs n = phase_two_is xs n
 
 pub judged_is : (ls : List Said) (n : ℕ) → judged ls n ≡ fault_on n (known_before (kept ls n) n) (line_at ls n)
 judged_is ls n =

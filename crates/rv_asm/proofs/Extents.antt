@@ -6,7 +6,8 @@ use Rattle.rv_source.specs.declared.statement.Statement.{Statement}
 use Rattle.rv_program.specs.declared.fault.FaultKind.{FaultKind}
 use Rattle.rv_program.specs.declared.fault.FaultKind.TheVariants.{DuplicateSymbol, NotConstant, Misplaced, TooLarge}
 use Rattle.rv_asm.specs.Symbols.{Definitions, operand_value}
-use Rattle.rv_asm.specs.Layout.{is_unknown, renames}
+use Rattle.rv_asm.specs.Layout.{is_unknown}
+use Rattle.rv_asm.specs.Counted.{renames}
 use Rattle.rv_asm.specs.Listing.{size_of, is_instruction}
 use Rattle.rv_asm.specs.Constants.{IsKnown, always}
 use Rattle.rv_asm.specs.Steps.{image_end, free}

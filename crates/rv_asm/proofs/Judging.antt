@@ -18,7 +18,7 @@ use Rattle.rv_program.specs.declared.fault.AsmFault.{AsmFault}
 use Rattle.rv_program.specs.Faults.{Fails, FailsBy, number_of}
 use Rattle.rv_asm.specs.declared.diagnosis.Diagnosis.{Diagnosis}
 use Rattle.rv_asm.specs.Symbols.{Definitions, value_of}
-use Rattle.rv_asm.specs.Layout.{relabels}
+use Rattle.rv_asm.specs.Counted.{relabels}
 use Rattle.rv_asm.specs.Listing.{◌>>=◌}
 use Rattle.rv_asm.specs.Kept.{KindFails}
 use Rattle.rv_asm.specs.Steps.{Known, Item, labelled, newly_labelled, stated, free, after_statement, stated_bytes, at_line, appended, image_of, run, AddsOptional}
@@ -26,7 +26,7 @@ use Rattle.rv_asm.specs.Diagnosed.{new_labels}
 use Rattle.rv_asm.specs.Counted.{fault_in}
 use Rattle.rv_asm.specs.Judged.{Keeps, IsUnreadBy, fault_stated, fault_on, known_after, IsFound, Judges}
 use Rattle.rv_asm.proofs.Reading.{unread_bind, fails_by, said_of, with_labels}
-use Rattle.rv_asm.proofs.Laying.{DefinesSame, same_more, more_labels, not_stated}
+use Rattle.rv_asm.proofs.Laying.{DefinesSame, same_front, same_more, more_labels, not_stated}
 
 -- ---- faults other than out of memory
 
@@ -55,16 +55,6 @@ real_fault kind fault r h n = h
 
 -- ---- the labels of a line
 
-front_by : (b : Bool) (v w : ℤ) (x y : Option ℤ) → is_some x ≡ is_some y →
-    is_some (cond b (Some v) x) ≡ is_some (cond b (Some w) y)
-front_by true v w x y h = refl
-front_by false v w x y h = h
-
-same_front : (xs ys : List (List ℕ × ℤ)) (name : List ℕ) → DefinesSame xs ys →
-    DefinesSame ((name, pos 0) ∷ xs) ((name, pos 0) ∷ ys)
-same_front xs ys name h other =
-    front_by (bytes_eq other name) (pos 0) (pos 0) (value_of xs other) (value_of ys other) (h other)
-
 -- lists that define the same names leave out the same labels
 record AreSame (xs ys : List (List ℕ × ℤ)) (ls : List Label) : Type 0 where
   new : new_labels xs ls ≡ new_labels ys ls
@@ -84,7 +74,7 @@ are_same xs ys (label.Local number ∷ ls) h =
     record { new = ap (λ ls. label.Local number ∷ ls) r.new; twice = r.twice }
 are_same xs ys (label.Name name ∷ ls) h =
     named_by xs ys name ls (is_some (value_of ys name)) (h name) refl (are_same xs ys ls h)
-    (are_same ((name, pos 0) ∷ xs) ((name, pos 0) ∷ ys) ls (same_front xs ys name h))
+    (are_same ((name, pos 0) ∷ xs) ((name, pos 0) ∷ ys) ls (same_front xs ys name (pos 0) (pos 0) h))
 
 -- the first label is defined
 record IsNew (k : ℕ) (old next : Known) (l : Label) (ls : List Label) : Type 0 where

@@ -1,6 +1,6 @@
 -- Laying out the lines, one by one.
 use Rattle.std.proofs.Common.{◌≡◌, ℕ, zero, suc, ◌≤◌, Bool, true, false, cond, List, [], ◌∷◌, ◌++◌, ℤ, pos, refl, sym, ◌∙◌, ap, arith, append-nil, append_assoc, add-zero}
-use Rattle.std.specs.Prelude.{Option, None, Some, is_some, Result, Ok, Err, OnOk, option_and_then}
+use Rattle.std.specs.Prelude.{Option, None, Some, is_some, Result, Ok, Err, OnOk, option_and_then, ◌||◌}
 use Rattle.std.specs.Option.{option_map, option_or}
 use Rattle.std.specs.List.{All}
 use Rattle.std.specs.Str.{bytes_eq}
@@ -9,13 +9,15 @@ use Rattle.rv_source.specs.Reading.{Said}
 use Rattle.rv_source.specs.declared.line.Label.{Label}
 use Rattle.rv_source.specs.declared.line.Label.TheVariants as label
 use Rattle.rv_source.specs.declared.statement.Statement.{Statement}
+use Rattle.rv_source.specs.declared.statement.Statement.TheVariants as s
 use Rattle.rv_program.specs.declared.fault.FaultKind.{FaultKind}
 use Rattle.rv_program.specs.declared.fault.FaultKind.TheVariants.{DuplicateSymbol}
 use Rattle.rv_program.specs.declared.fault.AsmFault.{AsmFault}
 use Rattle.rv_asm.specs.declared.locals.LocalLabel.{LocalLabel}
 use Rattle.rv_asm.specs.Symbols.{value_of}
-use Rattle.rv_asm.specs.Layout.{line_at, address, locals_in, relabels, statement_fault, phase_two_fault}
-use Rattle.rv_asm.specs.Listing.{◌>>=◌}
+use Rattle.rv_asm.specs.Layout.{line_at, address, names, names_in, locals_in, values_on, redefines, statement_fault, phase_two_fault}
+use Rattle.rv_asm.specs.Counted.{relabels, renames, fault_stated_by, phase_two_by}
+use Rattle.rv_asm.specs.Listing.{◌>>=◌, Valuation, constant_in}
 use Rattle.rv_asm.specs.Counted.{first, first_fault}
 use Rattle.rv_asm.specs.Steps.{Known, run, values_of, labelled, newly_labelled, all_labelled, stated, free, after_statement, after_optional, after_line, at_line, unless, known_before, laid_out, extended, Item, Adds, AddsLine}
 use Rattle.rv_asm.proofs.Labels.{IsUpTo}
@@ -114,7 +116,7 @@ meant k fault s = unless (option_map (λ kind. record { line = suc k; kind = kin
 
 abbrev fault_of : ℕ → Known → Option Statement → Option FaultKind
 fault_of k known statement = option_and_then
-    (statement_fault known.definitions.names (values_of k known) known.address) statement
+    (fault_stated_by known.definitions.names (values_of k known) known.address) statement
 
 stated_by : (k : ℕ) (known after : Known) (fault : Option FaultKind)
     → at_line k ((elim fault as (λ _. Result (Unit {0}) FaultKind) [ Some kind ↦ Err kind | None ↦ Ok tt ])
@@ -151,12 +153,59 @@ line_is k known line =
     line_by k known (labelled k known line.labels) line.labels line.statement
     (relabels known.definitions.names line.labels) (labels_are k known line.labels)
 
+-- ---- the fault of a line in phase two, by its labels and its statement
+
+front_by : (b : Bool) (v w : ℤ) (x y : Option ℤ) → is_some x ≡ is_some y →
+    is_some (cond b (Some v) x) ≡ is_some (cond b (Some w) y)
+front_by true v w x y h = refl
+front_by false v w x y h = h
+
+pub same_front : (xs ys : List (List ℕ × ℤ)) (name : List ℕ) (v w : ℤ) → DefinesSame xs ys →
+    DefinesSame ((name, v) ∷ xs) ((name, w) ∷ ys)
+same_front xs ys name v w h other =
+    front_by (bytes_eq other name) v w (value_of xs other) (value_of ys other) (h other)
+
+redefine : (xs ys : List (List ℕ × ℤ)) (here : ℕ) (ls : List Label) → DefinesSame xs ys →
+    redefines xs (names_in here ls) ≡ relabels ys ls
+redefine xs ys here [] h = refl
+redefine xs ys here (label.Name name ∷ ls) h =
+    let first = h name in
+    let more = redefine ((name, pos here) ∷ xs) ((name, pos 0) ∷ ys) here ls
+    (same_front xs ys name (pos here) (pos 0) h) in
+    rw (first, more) refl
+redefine xs ys here (label.Local number ∷ ls) h = redefine xs ys here ls h
+
+either_false : (b : Bool) → (b || false) ≡ b
+either_false true = refl
+either_false false = refl
+
+renamed : (known : List (List ℕ × ℤ)) (early : Valuation) (statement : Statement) →
+    redefines known (constant_in early statement) ≡ renames known statement
+renamed known early (s.Constant name x) = either_false (is_some (value_of known name))
+renamed known early statement = refl
+
+stated_same : (known : List (List ℕ × ℤ)) (early : Valuation) (here : ℕ) (statement : Option Statement) →
+    option_and_then (statement_fault known early here) statement
+    ≡ option_and_then (fault_stated_by known early here) statement
+stated_same known early here None = refl
+stated_same known early here (Some statement) = rw (renamed known early statement) refl
+
+pub phase_two_is : (lines : List Said) (n : ℕ) → phase_two_fault lines n ≡ phase_two_by lines n
+unfolding phase_two_fault
+phase_two_is lines n =
+    let line = line_at lines n in
+    let here = address lines n in
+    rw (
+      redefine (names lines n) (names lines n) here line.labels (λ name. refl),
+      stated_same (names lines n ++ names_in here line.labels) (values_on lines n) here line.statement,
+    ) refl
+
 extended_by : (lines : List Said) (n : ℕ) (fault : Option AsmFault) →
     first_fault (phase_two_fault lines) n ≡ fault →
     extended n (line_at lines n) (laid_out lines n) ≡ laid_out lines (suc n)
-unfolding laid_out first address phase_two_fault
+unfolding laid_out first address
 extended_by lines n (Some fault) e = rw e refl
-extended_by lines n None e = rw e (line_is n (known_before lines n) (line_at lines n))
+extended_by lines n None e = rw (e, phase_two_is lines n) (line_is n (known_before lines n) (line_at lines n))
 
 pub extended_line : (lines : List Said) (n : ℕ) → extended n (line_at lines n) (laid_out lines n)
     ≡ laid_out lines (suc n)

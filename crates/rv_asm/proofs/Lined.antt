@@ -22,7 +22,8 @@ use Rattle.rv_asm.specs.Layout.{line_at, address, definitions, phase_two_fault}
 use Rattle.rv_asm.specs.Assembly.{phase_one_fault, phase_three_fault, all_said, line_bytes, assembled}
 use Rattle.rv_asm.specs.Counted.{joined, first, first_fault, joined_bytes, assembled_by}
 use Rattle.rv_asm.proofs.Counting.{joined_is, up_to_is, assembled_is}
-use Rattle.rv_asm.specs.Lines.{Listed, labels_in, listed, bytes_of, AreLinesOf}
+use Rattle.rv_asm.specs.Lines.{Listed, listed, bytes_of, AreLinesOf}
+use Rattle.rv_asm.specs.Layout.{labels_in}
 use Rattle.rv_asm.specs.Counted.{up_to, labels}
 use Rattle.rv_asm.specs.Steps.{Known, laid_out, after_line}
 use Rattle.rv_asm.specs.Looked.{LabelsRise, LiesWhole}

@@ -12,12 +12,14 @@ use Rattle.rv_program.specs.declared.fault.FaultKind.TheVariants.{DuplicateSymbo
 use Rattle.rv_program.specs.declared.fault.AsmFault.{AsmFault}
 use Rattle.rv_asm.specs.Symbols.{Definitions, operand_value}
 use Rattle.rv_base.specs.Limits.{ram_base, image_limit}
-use Rattle.rv_asm.specs.Layout.{line_at, address, names, is_unknown, renames, size_at, relabels, statement_fault, phase_two_fault}
+use Rattle.rv_asm.specs.Layout.{line_at, address, names, is_unknown, size_at, phase_two_fault}
+use Rattle.rv_asm.specs.Counted.{renames, relabels, fault_stated_by}
 use Rattle.rv_asm.specs.Kept.{fails}
 use Rattle.rv_asm.specs.Listing.{◌>>=◌, Valuation, asked, is_instruction, size_of, statement_bytes}
 use Rattle.rv_asm.specs.Counted.{first, joined, first_fault}
 use Rattle.rv_asm.specs.Constants.{IsKnown}
 use Rattle.rv_asm.specs.Steps.{Known, Item, values_of, labelled, appended, at_line, run, item_step, item_bytes, image_of, unless, known_before, stated_bytes, AddsOptional, Adds, AddsLine, bytes_by, listed, written, Writes}
+use Rattle.rv_asm.proofs.Laying.{phase_two_is}
 use Rattle.rv_asm.proofs.Runs.{run_append}
 use Rattle.rv_asm.proofs.Sizes.{statement_size}
 
@@ -147,7 +149,7 @@ below : (m n : ℕ) → nat_lt m n ≡ false → n ≤ m
 below m n h = grind (arith, nat_tests)
 
 module _ (known : List (List ℕ × ℤ)) (early : Valuation) (here : ℕ) (statement : Statement)
-    (none : statement_fault known early here statement ≡ None) where
+    (none : fault_stated_by known early here statement ≡ None) where
   is_free : IsFree (is_unknown early statement)
       (nat_lt (ram_base + image_limit) (here + size_of early here statement))
   is_free = free_by (renames known statement) (is_unknown early statement)
@@ -170,7 +172,7 @@ sized_answer (Err kind) n h e = absurd cc
 
 module _ (names : List (List ℕ × ℤ)) (ds : Definitions) (k : ℕ) (known : Known) where
   size_line : (statement : Option Statement)
-      → option_and_then (statement_fault names (values_of k known) known.address) statement ≡ None
+      → option_and_then (fault_stated_by names (values_of k known) known.address) statement ≡ None
       → result_err (stated_bytes ds k known statement) ≡ None
       → length (listed (stated_bytes ds k known statement)) ≡ size_at (values_of k known) known.address
       statement
@@ -181,7 +183,7 @@ module _ (names : List (List ℕ × ℤ)) (ds : Definitions) (k : ℕ) (known : 
       (is_known names (values_of k known) known.address s free) is) e
 
   within_line : (statement : Option Statement)
-      → option_and_then (statement_fault names (values_of k known) known.address) statement ≡ None
+      → option_and_then (fault_stated_by names (values_of k known) known.address) statement ≡ None
       → known.address ≤ ram_base + image_limit
       → known.address + size_at (values_of k known) known.address statement ≤ ram_base + image_limit
   within_line None free h = omega (arith, h)
@@ -196,10 +198,10 @@ module _ (lines : List Said) where
   here n = labelled n (known_before lines n) (line_at lines n).labels
 
   statement_free : (n : ℕ) → phase_two_fault lines n ≡ None
-      → option_and_then (statement_fault (here n).definitions.names (values_of n (here n)) (address lines n))
+      → option_and_then (fault_stated_by (here n).definitions.names (values_of n (here n)) (address lines n))
       (line_at lines n).statement ≡ None
-  unfolding phase_two_fault
-  statement_free n h = without_labels (relabels (names lines n) (line_at lines n).labels) _ h
+  statement_free n h =
+      without_labels (relabels (names lines n) (line_at lines n).labels) _ (sym (phase_two_is lines n) ∙ h)
 
   pub within_limit : (n : ℕ) → first_fault (phase_two_fault lines) n ≡ None →
       address lines n ≤ ram_base + image_limit

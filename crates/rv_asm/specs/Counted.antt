@@ -2,20 +2,27 @@
 -- definitions.
 -- The language is this project's own: docs/ASSEMBLER.md.
 -- Not to audit: private contracts alone cite this.
-use Rattle.std.specs.Prelude.{ℕ, zero, suc, ◌&&◌, ◌==◌, nat_le, nat_lt, List, [], ◌∷◌, ◌++◌, length, Option, Some, None, if◌then◌else◌, Result, Ok, Err}
+use Rattle.std.specs.Prelude.{ℕ, zero, suc, ◌+◌, ◌%◌, Bool, false, not, ◌||◌, ◌&&◌, ◌==◌, nat_le, nat_lt, ℤ, pos, is_some, option_and_then, List, [], ◌∷◌, ◌++◌, length, Option, Some, None, if◌then◌else◌, Result, Ok, Err}
 use Rattle.std.specs.Option.{option_map, option_map_or, option_or}
 use Rattle.std.specs.Result.{result_unwrap_or}
 use Rattle.rv_base.specs.Lines.{lines}
 use Rattle.rv_source.specs.Reading.{Said}
 use Rattle.rv_tokens.specs.declared.token.Direction.{Direction}
 use Rattle.rv_tokens.specs.declared.token.Direction.TheVariants.{Backward, Forward}
+use Rattle.rv_base.specs.Limits.{ram_base, image_limit}
+use Rattle.rv_source.specs.declared.line.Label.{Label}
+use Rattle.rv_source.specs.declared.line.Label.TheVariants as label
+use Rattle.rv_source.specs.declared.statement.Statement.{Statement}
+use Rattle.rv_source.specs.declared.statement.Statement.TheVariants as s
+use Rattle.rv_program.specs.declared.fault.FaultKind.TheVariants.{DuplicateSymbol, NotConstant, Misplaced, TooLarge}
+use Rattle.rv_asm.specs.Symbols.{value_of}
+use Rattle.rv_asm.specs.Listing.{Valuation, is_instruction, size_of}
 use Rattle.rv_program.specs.Program.{Assembly}
 use Rattle.rv_program.specs.declared.fault.FaultKind.{FaultKind}
 use Rattle.rv_program.specs.declared.fault.AsmFault.{AsmFault}
 use Rattle.rv_asm.specs.declared.locals.LocalLabel.{LocalLabel}
-use Rattle.rv_asm.specs.Layout.{line_at, address, definitions, phase_two_fault}
+use Rattle.rv_asm.specs.Layout.{line_at, address, names, names_in, values_on, definitions, labels_in, is_unknown, phase_two_fault}
 use Rattle.rv_asm.specs.Assembly.{all_said, line_bytes, phase_one_fault, phase_three_fault}
-use Rattle.rv_asm.specs.Lines.{labels_in}
 
 -- ---- over the numbers below n, in their order
 
@@ -59,6 +66,37 @@ assembled_by source =
 -- the names that n lines define as labels, with their addresses
 abbrev pub labels : List Said → ℕ → List (List ℕ × ℕ)
 labels said n = joined (λ k. labels_in (address said k) (line_at said k).labels) n
+
+-- ---- phase two
+
+-- whether the labels of a line define a name that is already defined
+abbrev pub relabels : List (List ℕ × ℤ) → List Label → Bool
+relabels known [] = false
+relabels known (label.Name name ∷ ls) = is_some (value_of known name) || relabels ((name, pos 0) ∷ known) ls
+relabels known (label.Local number ∷ ls) = relabels known ls
+
+-- whether `.equ` defines a name that is already defined
+abbrev pub renames : List (List ℕ × ℤ) → Statement → Bool
+renames known (s.Constant name x) = is_some (value_of known name)
+renames known statement = false
+
+-- `statement_fault` of Layout, by `renames`
+abbrev pub fault_stated_by : List (List ℕ × ℤ) → Valuation → ℕ → Statement → Option FaultKind
+fault_stated_by known early here statement =
+    if renames known statement then Some DuplicateSymbol
+    else (if is_unknown early statement then Some NotConstant
+    else (if is_instruction statement && not (here % 4 == 0) then Some Misplaced
+    else (if nat_lt (ram_base + image_limit) (here + size_of early here statement) then Some TooLarge
+    else None)))
+
+-- `phase_two_fault`, by `relabels` and `renames`
+abbrev pub phase_two_by : List Said → ℕ → Option FaultKind
+phase_two_by lines k =
+    let line = line_at lines k in
+    let here = address lines k in
+    if relabels (names lines k) line.labels then Some DuplicateSymbol
+    else option_and_then
+    (fault_stated_by (names lines k ++ names_in here line.labels) (values_on lines k) here) line.statement
 
 -- ---- all faults
 

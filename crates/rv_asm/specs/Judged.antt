@@ -12,7 +12,7 @@ use Rattle.rv_program.specs.declared.fault.FaultKind.{FaultKind}
 use Rattle.rv_program.specs.declared.fault.FaultKind.TheVariants.{DuplicateSymbol, OutOfMemory}
 use Rattle.rv_asm.specs.declared.diagnosis.Diagnosis.{Diagnosis}
 use Rattle.rv_asm.specs.Symbols.{Definitions}
-use Rattle.rv_asm.specs.Layout.{relabels, statement_fault}
+use Rattle.rv_asm.specs.Counted.{relabels, fault_stated_by}
 use Rattle.rv_asm.specs.Steps.{Known, values_of, labelled, stated, stated_bytes, after_line}
 use Rattle.rv_asm.specs.Diagnosed.{new_labels}
 
@@ -29,7 +29,7 @@ IsUnreadBy r (Some fault) = LineFails fault r
 -- the fault in phase two of a statement of line k, by what is known at it
 abbrev pub fault_stated : ℕ → Known → Option Statement → Option FaultKind
 fault_stated k known statement = option_and_then
-    (statement_fault known.definitions.names (values_of k known) known.address) statement
+    (fault_stated_by known.definitions.names (values_of k known) known.address) statement
 
 -- the fault of line k in phase two, by what is known before it
 unfoldable pub fault_on : ℕ → Known → Said → Option FaultKind

@@ -2,7 +2,7 @@
 -- To audit: public contracts cite this.
 -- Lines are counted from 0.
 -- The language is this project's own: docs/ASSEMBLER.md.
-use Rattle.std.specs.Prelude.{ℕ, zero, suc, ◌+◌, ◌%◌, Bool, false, not, ◌||◌, ◌&&◌, List, [], ◌∷◌, ◌++◌, length, get_or, ℤ, pos, nat_lt, ◌==◌, Option, Some, None, option_and_then, is_some, if◌then◌else◌}
+use Rattle.std.specs.Prelude.{ℕ, zero, suc, ◌+◌, ◌%◌, Bool, false, not, ◌||◌, ◌&&◌, List, [], ◌∷◌, ◌++◌, map, length, get_or, ℤ, pos, nat_lt, ◌==◌, Option, Some, None, option_and_then, is_some, if◌then◌else◌}
 use Rattle.std.specs.Option.{option_map_or}
 use Rattle.rv_base.specs.Limits.{ram_base, image_limit}
 use Rattle.rv_source.specs.Reading.{Said}
@@ -18,10 +18,15 @@ use Rattle.rv_asm.specs.Listing.{Valuation, asked, size_of, is_instruction, cons
 
 -- ---- the labels of a line at an address
 
+-- its names
+abbrev pub labels_in : ℕ → List Label → List (List ℕ × ℕ)
+labels_in here [] = []
+labels_in here (label.Name name ∷ ls) = (name, here) ∷ labels_in here ls
+labels_in here (label.Local number ∷ ls) = labels_in here ls
+
+-- the same as definitions
 abbrev pub names_in : ℕ → List Label → List (List ℕ × ℤ)
-names_in here [] = []
-names_in here (label.Name name ∷ ls) = (name, pos here) ∷ names_in here ls
-names_in here (label.Local number ∷ ls) = names_in here ls
+names_in here ls = map (λ l. (l.0, pos l.1)) (labels_in here ls)
 
 abbrev pub locals_in : ℕ → ℕ → List Label → List LocalLabel
 locals_in k here [] = []
@@ -83,16 +88,10 @@ definitions lines = record { names = names lines (length lines); locals = locals
 
 -- ---- phase two
 
--- whether the labels of a line define a name that is already defined
-abbrev pub relabels : List (List ℕ × ℤ) → List Label → Bool
-relabels known [] = false
-relabels known (label.Name name ∷ ls) = is_some (value_of known name) || relabels ((name, pos 0) ∷ known) ls
-relabels known (label.Local number ∷ ls) = relabels known ls
-
--- whether `.equ` defines a name that is already defined
-abbrev pub renames : List (List ℕ × ℤ) → Statement → Bool
-renames known (s.Constant name x) = is_some (value_of known name)
-renames known statement = false
+-- whether names define one that is already defined
+abbrev pub redefines : List (List ℕ × ℤ) → List (List ℕ × ℤ) → Bool
+redefines known [] = false
+redefines known (d ∷ ds) = is_some (value_of known d.0) || redefines (d ∷ known) ds
 
 -- whether the value that must be known isn't known, or fails its test
 abbrev pub is_unknown : Valuation → Statement → Bool
@@ -102,7 +101,7 @@ is_unknown early statement =
 -- the fault in phase two of a statement at an address, by the names and the values known on its line
 abbrev pub statement_fault : List (List ℕ × ℤ) → Valuation → ℕ → Statement → Option FaultKind
 statement_fault known early here statement =
-    if renames known statement then Some DuplicateSymbol
+    if redefines known (constant_in early statement) then Some DuplicateSymbol
     else (if is_unknown early statement then Some NotConstant
     else (if is_instruction statement && not (here % 4 == 0) then Some Misplaced
     else (if nat_lt (ram_base + image_limit) (here + size_of early here statement) then Some TooLarge
@@ -113,6 +112,6 @@ unfoldable pub phase_two_fault : List Said → ℕ → Option FaultKind
 phase_two_fault lines k =
     let line = line_at lines k in
     let here = address lines k in
-    if relabels (names lines k) line.labels then Some DuplicateSymbol
+    if redefines (names lines k) (names_in here line.labels) then Some DuplicateSymbol
     else option_and_then
     (statement_fault (names lines k ++ names_in here line.labels) (values_on lines k) here) line.statement

@@ -10,7 +10,7 @@ use Rattle.rv_source.specs.declared.line.Label.{Label}
 use Rattle.rv_source.specs.declared.line.Label.TheVariants as label
 use Rattle.rv_program.specs.Program.{Assembly}
 use Rattle.rv_program.specs.declared.fault.AsmFault.{AsmFault}
-use Rattle.rv_asm.specs.Layout.{line_at, address}
+use Rattle.rv_asm.specs.Layout.{line_at, address, labels_in}
 use Rattle.rv_asm.specs.Listing.{◌>>=◌}
 use Rattle.rv_asm.specs.Assembly.{all_said, assembled, line_bytes}
 
@@ -20,12 +20,6 @@ pub record Listed : Type 0 where
   pub assembly : Assembly
   pub addresses : List ℕ
   pub labels : List (List ℕ × ℕ)
-
--- the names among labels at an address; `.equ` and local labels define none
-abbrev pub labels_in : ℕ → List Label → List (List ℕ × ℕ)
-labels_in here [] = []
-labels_in here (label.Name name ∷ ls) = (name, here) ∷ labels_in here ls
-labels_in here (label.Local number ∷ ls) = labels_in here ls
 
 -- the listing of a source, or its fault
 unfoldable pub listed : List ℕ → Result Listed AsmFault

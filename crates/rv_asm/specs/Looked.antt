@@ -5,7 +5,8 @@ use Rattle.std.specs.Prelude.{◌≡◌, ℕ, ◌+◌, ◌-◌, ◌≤◌, ◌<�
 use Rattle.std.specs.List.Sorted.{IsNonDecreasing, IsNonDecreasingBy}
 use Rattle.rv_base.specs.Limits.{ram_base}
 use Rattle.rv_source.specs.Reading.{Said, said}
-use Rattle.rv_asm.specs.Lines.{Listed, labels_in}
+use Rattle.rv_asm.specs.Lines.{Listed}
+use Rattle.rv_asm.specs.Layout.{labels_in}
 use Rattle.rv_asm.specs.Steps.{Known, after_line}
 
 -- line k is read and laid out, and its labels are appended

@@ -18,7 +18,8 @@ use Rattle.rv_asm.specs.declared.kept.Kept.{Kept}
 use Rattle.rv_asm.specs.declared.kept.Kept.TheVariants as kept
 use Rattle.rv_asm.specs.declared.single.Single.{Single}
 use Rattle.rv_asm.specs.Symbols.{Definitions, value_of, atom_value, sum_value, operand_value, added}
-use Rattle.rv_asm.specs.Layout.{line_at, address, names, locals, names_in, locals_in, size_at, constants_at, statement_fault, phase_two_fault}
+use Rattle.rv_asm.specs.Layout.{line_at, address, names, locals, names_in, locals_in, size_at, constants_at, phase_two_fault}
+use Rattle.rv_asm.specs.Counted.{fault_stated_by}
 use Rattle.rv_asm.specs.Listing.{◌>>=◌, Valuation, wanted, bytes, statement_bytes}
 use Rattle.rv_asm.specs.Assembly.{phase_one_fault, all_said}
 use Rattle.rv_asm.specs.Counted.{first_fault, joined}
@@ -143,7 +144,7 @@ stated k known statement = record {
 -- nothing, or the fault of a statement of line k in phase two
 unfoldable pub free : Definitions → ℕ → ℕ → Statement → Result (Unit {0}) FaultKind
 free ds k here statement =
-    elim (statement_fault ds.names (operand_value ds k here) here statement) as
+    elim (fault_stated_by ds.names (operand_value ds k here) here statement) as
     (λ _. Result (Unit {0}) FaultKind) [
       | Some kind ↦ Err kind
       | None ↦ Ok tt

@@ -3,7 +3,8 @@ ghost use Rattle.std.specs.Prelude.{◌≡◌, ◌==◌, ◌&&◌, ◌%◌, ◌�
 ghost use Rattle.rv_isa.specs.Width.{bytes_of};
 ghost use Rattle.rv_source.specs.declared.statement.Statement.{Statement};
 ghost use Rattle.rv_asm.specs.Values.{is_between};
-ghost use Rattle.rv_asm.specs.Layout.{is_unknown, renames};
+ghost use Rattle.rv_asm.specs.Layout.{is_unknown};
+ghost use Rattle.rv_asm.specs.Counted.{renames};
 ghost use Rattle.rv_asm.specs.Kept.{fails};
 ghost use Rattle.rv_asm.specs.Listing.{is_instruction, is_multiple, size_of};
 ghost use Rattle.rv_asm.specs.Kept.{KindGives, values_in};

@@ -44,7 +44,7 @@ impl Known {
     ghost use Rattle.std.specs.List.{All};
     ghost use Rattle.rv_source.specs.Reading.{said};
     ghost use Rattle.rv_asm.specs.Kept.{KindBecomes};
-    ghost use Rattle.rv_asm.specs.Layout.{relabels};
+    ghost use Rattle.rv_asm.specs.Counted.{relabels};
     ghost use Rattle.rv_asm.specs.Steps.{start, values_of, labelled, newly_labelled, all_labelled, after_statement, after_line, Adds, AddsLine};
     ghost use Rattle.rv_asm.specs.Constants.{IsKnown, statement_in};
     ghost use Rattle.rv_asm.specs.Diagnosed.{new_labels};

@@ -7,7 +7,8 @@ ghost use Rattle.rv_base.specs.Lines.{lines};
 ghost use Rattle.rv_program.specs.Faults.{Gives};
 ghost use Rattle.rv_asm.specs.Layout.{address};
 ghost use Rattle.rv_asm.specs.Assembly.{all_said};
-ghost use Rattle.rv_asm.specs.Lines.{labels_in, listed, AreLinesOf};
+ghost use Rattle.rv_asm.specs.Lines.{listed, AreLinesOf};
+ghost use Rattle.rv_asm.specs.Layout.{labels_in};
 ghost use Rattle.rv_asm.specs.Counted.{labels, up_to};
 ghost use Rattle.rv_asm.specs.Looked.{Lists, LabelsRise, IsCutAt, LabelsCutAt};
 

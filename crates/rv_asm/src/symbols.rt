@@ -1,7 +1,7 @@
 //! The symbols of a source, and the values of expressions.
 ghost use Rattle.std.specs.Prelude.{◌≡◌, ◌^◌, ◌++◌, true, false, [], Ok, IfSome};
 ghost use Rattle.rv_asm.specs.Symbols.{atom_value, sum_value, added};
-ghost use Rattle.rv_asm.specs.Layout.{renames};
+ghost use Rattle.rv_asm.specs.Counted.{renames};
 ghost use Rattle.rv_asm.specs.Listing.{constant_in};
 ghost use Rattle.rv_asm.specs.Constants.{IsTaken, always};
 ghost use Rattle.rv_asm.specs.Kept.{KindBecomes, IsNear, values_in};

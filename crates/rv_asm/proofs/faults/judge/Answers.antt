@@ -1,7 +1,7 @@
 use Rattle.std.proofs.Common.{◌≡◌, ◌∙◌, ap, sym, refl, true, false}
 use Rattle.std.specs.Prelude.{is_some, Some, None, Ok}
 use Rattle.rv_source.specs.Reading.{Said, said}
-use Rattle.rv_asm.specs.Layout.{relabels}
+use Rattle.rv_asm.specs.Counted.{relabels}
 use Rattle.rv_asm.specs.Steps.{labelled}
 use Rattle.rv_asm.specs.Diagnosed.{new_labels}
 use Rattle.rv_asm.proofs.Reading.{read_statement}

@@ -1,6 +1,6 @@
 use Rattle.std.proofs.Common.{◌∙◌, ap, sym}
 use Rattle.std.specs.Prelude.{is_some}
-use Rattle.rv_asm.specs.Layout.{relabels}
+use Rattle.rv_asm.specs.Counted.{relabels}
 use Rattle.rv_asm.specs.Steps.{labelled}
 use Rattle.rv_asm.specs.Diagnosed.{new_labels}
 use Rattle.rv_asm.proofs.Judging.{first_rest, rest_of, is_duplicate, same_duplicate, defined_all, defined_twice, left_out_all}
