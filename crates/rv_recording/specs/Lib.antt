@@ -1,2 +1,4 @@
 pub mod Recording
 pub mod Until
+pub mod Out
+pub mod OutSteps

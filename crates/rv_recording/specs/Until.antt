@@ -12,7 +12,7 @@ use Rattle.rv_board.specs.State.{BoardState, reg_of, pc_of, console_of, halted_o
 use Rattle.rv_board.specs.Move.{step_outcome, writes}
 use Rattle.rv_board.specs.declared.event.Event.TheVariants.{Step}
 use Rattle.rv_monitor.specs.State.{Addresses, SessionState, TimedState, after, with_due}
-use Rattle.rv_monitor.specs.Stops.{may_step}
+use Rattle.rv_monitor.specs.Stops.{may_step, steps_between}
 use Rattle.rv_monitor.specs.Views.{word_of}
 use Rattle.rv_recording.specs.Recording.{RecordingState, with_timed}
 use Rattle.rv_recording.specs.declared.until.Watched.{Watched}
@@ -65,56 +65,60 @@ holds (Compares watched relation word) did b = compares (value_of b watched) rel
 
 -- ---- the steps of a run
 
--- why a run ends after a step, if it does
-unfoldable pub end_after : Condition → Outcome → Addresses → BoardState → Option End
-end_after condition did breakpoints b =
+-- why a run ends after a step, if it does, by whether it has come to what it goes on for
+abbrev pub end_after : Bool → Addresses → BoardState → Option End
+end_after reached breakpoints b =
     if is_some (halted_of b) then Some Halted
-    else (if holds condition did b then Some Reached
+    else (if reached then Some Reached
     else (if set.contains breakpoints (pc_of b) then Some Breakpoint else None))
 
--- why a run ends after the next step of a state, if it does
-abbrev pub end_of_step : Condition → Addresses → TimedState → Option End
+-- why a run until a condition holds ends after the next step of a state, if it does
+unfoldable pub end_of_step : Condition → Addresses → TimedState → Option End
 end_of_step condition breakpoints s =
-    end_after condition (step_outcome (with_due s).board) breakpoints (after s 1).board
+    end_after (holds condition (step_outcome (with_due s).board) (after s 1).board) breakpoints (after s 1).board
 
--- why a run ends after the step number i from a session on, counted from 0, if it does
+-- why it ends after the step number i from a session on, counted from 0, if it does
 abbrev pub end_at : Condition → SessionState → ℕ → Option End
 end_at condition s i = end_of_step condition s.breakpoints (after s.timed i)
 
--- a call for one step of a run took it, and tells why the run ends with it, if it does; or there was none to
--- be taken; or memory ran out at it
-abbrev pub TakesOne : Condition → RecordingState → RecordingState → Result (Option End) NoMemory → Type 0
-TakesOne condition old new (Ok end) =
-    ((new ≡ with_timed old (after old.session.timed 1))
-    × (end ≡ end_of_step condition old.session.breakpoints old.session.timed))
-    ⊎ ((may_step old.session ≡ false) × (new ≡ old) × (end ≡ Some Stuck))
-TakesOne condition old new (Err refused) =
+-- a call for one step of a run took it, and tells why the run ends with it, if it does, which is `end`; or there
+-- was none to be taken; or memory ran out at it
+abbrev pub TakesOne : Option End → RecordingState → RecordingState → Result (Option End) NoMemory → Type 0
+TakesOne end old new (Ok told) =
+    ((new ≡ with_timed old (after old.session.timed 1)) × (told ≡ end))
+    ⊎ ((may_step old.session ≡ false) × (new ≡ old) × (told ≡ Some Stuck))
+TakesOne end old new (Err refused) =
     (new ≡ with_timed old (with_due old.session.timed)) × (writes new.session.timed.board Step ≡ true)
 
--- the first n steps don't end the run
-abbrev pub GoesOn : Condition → SessionState → ℕ → Type 0
-GoesOn condition s n = (i : ℕ) → i < n → end_at condition s i ≡ None
+-- the first n steps don't end a run, by why it ends after each step
+abbrev pub GoesOn : (ℕ → Option End) → ℕ → Type 0
+GoesOn ends n = (i : ℕ) → i < n → ends i ≡ None
 
 -- a run of n steps ended so: its last step was the first that ends it; or it took all that it may take; or
 -- there was none to be taken
-abbrev pub EndsAs : Condition → SessionState → SessionState → (most n : ℕ) → End → Type 0
-EndsAs condition old new most n end =
-    ((0 < n) × GoesOn condition old (n - 1) × (end_at condition old (n - 1) ≡ Some end))
-    ⊎ (((end ≡ Limit) × (n ≡ most) × GoesOn condition old n)
-    ⊎ ((end ≡ Stuck) × (may_step new ≡ false) × GoesOn condition old n))
+abbrev pub EndsAs : (ℕ → Option End) → SessionState → (most n : ℕ) → End → Type 0
+EndsAs ends new most n end =
+    ((0 < n) × GoesOn ends (n - 1) × (ends (n - 1) ≡ Some end))
+    ⊎ (((end ≡ Limit) × (n ≡ most) × GoesOn ends n)
+    ⊎ ((end ≡ Stuck) × (may_step new ≡ false) × GoesOn ends n))
 
 -- a run of at most `most` steps, and why it ended
-pub record HasRunUntil (condition : Condition) (most : ℕ) (old new : RecordingState) (end : End) : Type 0 where
-  pub within : new.session.timed.taken - old.session.timed.taken ≤ most
-  pub state : new ≡ with_timed old
-      (after old.session.timed (new.session.timed.taken - old.session.timed.taken))
-  pub ended : EndsAs condition old.session new.session most
-      (new.session.timed.taken - old.session.timed.taken) end
+pub record HasRun (ends : ℕ → Option End) (most : ℕ) (old new : RecordingState) (end : End) : Type 0 where
+  pub within : steps_between old.session.timed new.session.timed ≤ most
+  pub state : new ≡ with_timed old (after old.session.timed (steps_between old.session.timed new.session.timed))
+  pub ended : EndsAs ends new.session most (steps_between old.session.timed new.session.timed) end
 
 -- memory ran out at a step of a run: those before it were taken, and the inputs before it were given
-pub record IsRefusedUntil (condition : Condition) (most : ℕ) (old new : RecordingState) : Type 0 where
-  pub within : new.session.timed.taken - old.session.timed.taken < most
-  pub going : GoesOn condition old.session (new.session.timed.taken - old.session.timed.taken)
+pub record IsRefusedIn (ends : ℕ → Option End) (most : ℕ) (old new : RecordingState) : Type 0 where
+  pub within : steps_between old.session.timed new.session.timed < most
+  pub going : GoesOn ends (steps_between old.session.timed new.session.timed)
   pub state : new ≡ with_timed old
-      (with_due (after old.session.timed (new.session.timed.taken - old.session.timed.taken)))
+      (with_due (after old.session.timed (steps_between old.session.timed new.session.timed)))
   pub next_writes : writes new.session.timed.board Step ≡ true
+
+-- the run until a condition holds
+abbrev pub HasRunUntil : Condition → ℕ → RecordingState → RecordingState → End → Type 0
+HasRunUntil condition most old new end = HasRun (end_at condition old.session) most old new end
+
+abbrev pub IsRefusedUntil : Condition → ℕ → RecordingState → RecordingState → Type 0
+IsRefusedUntil condition most old new = IsRefusedIn (end_at condition old.session) most old new

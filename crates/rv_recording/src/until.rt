@@ -1,6 +1,6 @@
 //! Runs until a condition holds.
 ghost use Rattle.std.specs.Prelude.{◌≡◌, IfOk, OnErr};
-ghost use Rattle.rv_recording.specs.Until.{HasRunUntil, IsRefusedUntil, TakesOne, differs, end_after, holds, relates, value_of};
+ghost use Rattle.rv_recording.specs.Until.{HasRunUntil, IsRefusedUntil, TakesOne, differs, end_after, end_of_step, holds, relates, value_of};
 
 use crate::Recording;
 use rv_base::NoMemory;
@@ -44,11 +44,11 @@ pub enum Condition {
     Trap,
     /// The console has more bytes than these.
     Console(usize),
-    /// The pc is at one of so many bytes from an address on.
+    /// The pc is at one of `size` bytes from an address on.
     At {
-        /// The first of them.
+        /// The address of the first byte.
         address: u32,
-        /// Their number.
+        /// The number of bytes.
         size: u32,
     },
     /// What is watched has another value than before.
@@ -85,7 +85,7 @@ pub enum End {
 }
 
 impl Relation {
-    /// Returns whether two words compare so.
+    /// Returns whether the relation holds between two words.
     pub fn holds(self, left: u32, right: u32) -> bool
         ensures { result ≡ relates self left right }
     {
@@ -149,20 +149,15 @@ impl Condition {
     }
 }
 
-/// Returns why a run ends after a step that did that, if it does.
-#[tactic(auto, unfolding(crate::specs::Until::end_after))]
-fn end_after(
-    condition: Condition,
-    outcome: Outcome,
-    session: &Session<PagedRam, DecodeCache>,
-) -> Option<End>
-    ensures { result ≡ end_after condition outcome session.now.breakpoints session.now.timed.board }
+/// Returns why a run ends after a step, if it does, by whether it has come to what it goes on for.
+pub(crate) fn end_after(reached: bool, session: &Session<PagedRam, DecodeCache>) -> Option<End>
+    ensures { result ≡ end_after reached session.now.breakpoints session.now.timed.board }
 {
     let board = session.board();
     if board.halted().is_some() {
         return Some(End::Halted);
     }
-    if condition.holds(outcome, board) {
+    if reached {
         return Some(End::Reached);
     }
     if session.has_break(board.pc()) {
@@ -173,11 +168,15 @@ fn end_after(
 
 impl Recording {
     /// Takes a step, and returns why a run until a condition ends with it, if it does.
+    #[tactic(auto, unfolding(crate::specs::Until::end_of_step))]
     fn step_until(&mut self, condition: Condition) -> Result<Option<End>, NoMemory>
-        ensures { TakesOne condition self.old self.new result }
+        ensures { TakesOne (end_of_step condition self.old.session.breakpoints self.old.session.timed) self.old self.new result }
     {
         match self.take_step() {
-            Ok(Some(outcome)) => Ok(end_after(condition, outcome, self.session())),
+            Ok(Some(outcome)) => {
+                let session = self.session();
+                Ok(end_after(condition.holds(outcome, session.board()), session))
+            }
             Ok(None) => Ok(Some(End::Stuck)),
             Err(NoMemory) => Err(NoMemory),
         }

@@ -1,31 +1,38 @@
 use Rattle.std.proofs.Common.{◌≡◌, subst, arith}
 use Rattle.rv_monitor.specs.State.{SessionState, IsInTime}
-use Rattle.rv_recording.proofs.Running.{Going, begins, goes_on, ends, limit, refused}
+use Rattle.rv_recording.specs.Until.{end_at}
+use Rattle.rv_recording.proofs.Running.{Going, begins, goes_on, ended, limit, refused, end_is}
 use Rattle.rv_recording.proofs.recording.Recording.run_until.Goals as goal
 
 pub loop-done-init : goal.loop-done-init
 loop-done-init c =
-    begins c.args.condition c.args.self.now
+    begins (end_at c.args.condition c.args.self.now.session) c.args.self.now
     (subst (λ (s : SessionState). IsInTime s.timed) c.session.ensures.value c.board-board.ensures.in_time)
 
 pub loop-done-preserved : goal.loop-done-preserved
 loop-done-preserved c =
-    goes_on c.args.condition c.args.self.now c.loop-done.self c.step_until.new.self c.loop-done.done
+    goes_on (end_at c.args.condition c.args.self.now.session) c.args.self.now c.loop-done.self
+    c.step_until.new.self c.loop-done.done _
+    (end_is c.args.condition c.args.self.now c.loop-done.self c.loop-done.done c.loop-done.invariant)
     c.loop-done.invariant (rw c.in-Ok-None.field-0-is at c.in-Ok-None.ensures)
 
 pub returns-in-Ok-Some-clause-ok : goal.returns-in-Ok-Some-clause-ok
 returns-in-Ok-Some-clause-ok c =
-    ends c.args.condition c.args.self.now c.loop-done.self c.step_until.new.self c.args.most c.loop-done.done
-    c.in-Ok-Some.end (omega arith) c.loop-done.invariant
-    (rw c.in-Ok-Some.field-0-is at c.in-Ok-Some.ensures)
+    ended (end_at c.args.condition c.args.self.now.session) c.args.self.now c.loop-done.self
+    c.step_until.new.self c.args.most c.loop-done.done _ c.in-Ok-Some.end
+    (end_is c.args.condition c.args.self.now c.loop-done.self c.loop-done.done c.loop-done.invariant)
+    (omega arith) c.loop-done.invariant (rw c.in-Ok-Some.field-0-is at c.in-Ok-Some.ensures)
 
 pub returns-in-Err-clause-err : goal.returns-in-Err-clause-err
 returns-in-Err-clause-err c =
-    refused c.args.condition c.args.self.now c.loop-done.self c.step_until.new.self c.args.most
-    c.loop-done.done _ (omega arith) c.loop-done.invariant c.in-Err.ensures
+    refused (end_at c.args.condition c.args.self.now.session) c.args.self.now c.loop-done.self
+    c.step_until.new.self c.args.most c.loop-done.done
+    (end_at c.args.condition c.args.self.now.session c.loop-done.done) _ (omega arith) c.loop-done.invariant
+    c.in-Err.ensures
 
 pub returns-clause-ok : goal.returns-clause-ok
 returns-clause-ok c =
     let all : c.loop-done.done ≡ c.args.most = omega arith in
-    limit c.args.condition c.args.self.now c.loop-done.self c.args.most
-    (subst (Going c.args.condition c.args.self.now c.loop-done.self) all c.loop-done.invariant)
+    limit (end_at c.args.condition c.args.self.now.session) c.args.self.now c.loop-done.self c.args.most
+    (subst (Going (end_at c.args.condition c.args.self.now.session) c.args.self.now c.loop-done.self) all
+    c.loop-done.invariant)

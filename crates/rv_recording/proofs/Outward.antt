@@ -1,0 +1,108 @@
+-- Runs out of calls, step by step.
+use Rattle.std.proofs.Common.{◌≡◌, ◌∙◌, ℕ, suc, ◌+◌, ◌<◌, ◌==◌, refl, sym, ap, subst, arith, inl, inr}
+use Rattle.std.proofs.Math.Numerals.{add-one}
+use Rattle.std.specs.Prelude.{◌⊎◌, Option, Some, None, Result, Ok, Err}
+use Rattle.rv_base.specs.declared.memory.NoMemory.{NoMemory}
+use Rattle.rv_monitor.specs.State.{IsInTime, after}
+use Rattle.rv_monitor.specs.Stops.{steps_between}
+use Rattle.rv_recording.specs.Recording.{RecordingState}
+use Rattle.rv_recording.specs.Until.{TakesOne, HasRun, IsRefusedIn, end_after}
+use Rattle.rv_recording.specs.Out.{HasRunOut, IsRefusedOut, open_at, open_of_step, out_at}
+use Rattle.rv_recording.specs.OutSteps.{StepsOut}
+use Rattle.rv_recording.specs.declared.until.End.{End}
+use Rattle.rv_recording.specs.declared.until.End.TheVariants.{Limit, Stuck}
+use Rattle.rv_recording.proofs.Running.{Going, begins, goes_on, ended, limit, refused, taken_is, due_is, due_at, one_more}
+
+-- n steps were taken, none of which ends the run, and so many calls are open
+pub record GoingOut (first : ℕ) (old now : RecordingState) (calls n : ℕ) : Type 0 where
+  pub going : Going (out_at first old.session) old now n
+  pub number : calls ≡ open_at first old.session.timed n
+
+pub begins_out : (first : ℕ) (old : RecordingState) → IsInTime old.session.timed → GoingOut first old old first 0
+unfolding open_at
+begins_out first old in_time = record { going = begins (out_at first old.session) old in_time; number = refl }
+
+none_is : (end : End) → None ≡ Some end → ⊥
+none_is end h = cc
+
+-- a step by its end alone
+takes : (calls left : ℕ) (old new : RecordingState) (r : Result (Option End) NoMemory)
+    → StepsOut calls left old new r
+    → TakesOne (end_after (left == 0) old.session.breakpoints (after old.session.timed 1).board) old new r
+takes calls left old new (Ok end) (inl t) = inl (t.0, t.2)
+takes calls left old new (Ok end) (inr t) = inr (t.0, t.1, t.3)
+takes calls left old new (Err why) t = (t.0, t.1)
+
+module _ (first : ℕ) (old : RecordingState) where
+  abbrev ends : ℕ → Option End
+  ends = out_at first old.session
+
+  -- the number of open calls after one step more
+  open_suc : (now : RecordingState) (calls left n : ℕ) → GoingOut first old now calls n
+      → left ≡ open_of_step calls now.session.timed → left ≡ open_at first old.session.timed (suc n)
+  unfolding open_at
+  open_suc now calls left n g e =
+      e ∙ (ap (λ (k : ℕ). open_of_step k now.session.timed) g.number
+      ∙ ap (λ (r : RecordingState). open_of_step (open_at first old.session.timed n) r.session.timed) g.going.state)
+
+  open_more : (now : RecordingState) (calls left n : ℕ) → GoingOut first old now calls n
+      → left ≡ open_of_step calls now.session.timed → left ≡ open_at first old.session.timed (n + 1)
+  open_more now calls left n g e =
+      open_suc now calls left n g e ∙ ap (open_at first old.session.timed) (sym (add-one n))
+
+  -- why the run ends with that step
+  out_is : (now : RecordingState) (calls left n : ℕ) → GoingOut first old now calls n
+      → left ≡ open_of_step calls now.session.timed
+      → end_after (left == 0) now.session.breakpoints (after now.session.timed 1).board ≡ ends n
+  out_is now calls left n g e =
+      ap (λ (k : ℕ). end_after (k == 0) now.session.breakpoints (after now.session.timed 1).board)
+      (open_suc now calls left n g e)
+      ∙ ap (λ (r : RecordingState). end_after (open_at first old.session.timed (suc n) == 0)
+      r.session.breakpoints (after r.session.timed 1).board) g.going.state
+
+  pub goes_out : (now new : RecordingState) (calls left n : ℕ) → GoingOut first old now calls n
+      → StepsOut calls left now new (Ok None) → GoingOut first old new left (n + 1)
+  goes_out now new calls left n g (inl t) = record {
+    going = goes_on ends old now new n _ (out_is now calls left n g t.1) g.going (inl (t.0, t.2));
+    number = open_more now calls left n g t.1;
+  }
+  goes_out now new calls left n g (inr t) = absurd (none_is Stuck t.3)
+
+  pub ends_out : (now new : RecordingState) (calls left most n : ℕ) (end : End) → n < most
+      → GoingOut first old now calls n → StepsOut calls left now new (Ok (Some end))
+      → HasRunOut first most old new end
+  ends_out now new calls left most n end k g (inl t) =
+      ended ends old now new most n _ end (out_is now calls left n g t.1) k g.going (inl (t.0, t.2))
+  ends_out now new calls left most n end k g (inr t) =
+      ended ends old now new most n (ends n) end refl k g.going (inr (t.0, t.1, t.3))
+
+  pub open_ended : (now new : RecordingState) (calls left n : ℕ) (end : Option End)
+      → GoingOut first old now calls n → StepsOut calls left now new (Ok end)
+      → left ≡ open_at first old.session.timed (steps_between old.session.timed new.session.timed)
+  open_ended now new calls left n end g (inl t) =
+      open_more now calls left n g t.1
+      ∙ ap (open_at first old.session.timed)
+      (taken_is old new (n + 1) (one_more ends old now new n g.going t.0))
+  open_ended now new calls left n end g (inr t) =
+      t.2 ∙ (g.number ∙ ap (open_at first old.session.timed) (taken_is old new n (t.1 ∙ g.going.state)))
+
+  pub refused_out : (now new : RecordingState) (calls left most n : ℕ) (why : NoMemory) → n < most
+      → GoingOut first old now calls n → StepsOut calls left now new (Err why) → IsRefusedOut first most old new
+  refused_out now new calls left most n why k g t =
+      refused ends old now new most n (ends n) why k g.going (t.0, t.1)
+
+  pub open_refused : (now new : RecordingState) (calls left n : ℕ) (why : NoMemory) → GoingOut first old now calls n
+      → StepsOut calls left now new (Err why)
+      → left ≡ open_at first old.session.timed (steps_between old.session.timed new.session.timed)
+  open_refused now new calls left n why g t =
+      t.2 ∙ (g.number ∙ ap (open_at first old.session.timed)
+      (due_is old new n (due_at ends old now new n g.going t.0)))
+
+  pub limit_out : (now : RecordingState) (calls most : ℕ) → GoingOut first old now calls most
+      → HasRunOut first most old now Limit
+  limit_out now calls most g = limit ends old now most g.going
+
+  pub open_limit : (now : RecordingState) (calls most : ℕ) → GoingOut first old now calls most
+      → calls ≡ open_at first old.session.timed (steps_between old.session.timed now.session.timed)
+  open_limit now calls most g =
+      g.number ∙ ap (open_at first old.session.timed) (taken_is old now most g.going.state)

@@ -1,0 +1,115 @@
+//! Runs out of calls.
+ghost use Rattle.std.specs.Prelude.{◌≡◌, ◌-◌, IfOk, OnErr};
+ghost use Rattle.std.specs.Option.{option_and_then};
+ghost use Rattle.rv_isa.specs.Meaning.{means};
+ghost use Rattle.rv_board.specs.State.{pc_of};
+ghost use Rattle.rv_monitor.specs.Stops.{steps_between};
+ghost use Rattle.rv_monitor.specs.Views.{word_of};
+ghost use Rattle.rv_recording.specs.Out.{HasRunOut, IsRefusedOut, entered, open_after, open_at, open_by, open_of_step};
+ghost use Rattle.rv_recording.specs.Until.{end_after};
+ghost use Rattle.rv_recording.specs.OutSteps.{StepsOut};
+
+use crate::Recording;
+use crate::until::{End, end_after};
+use rv_base::NoMemory;
+use rv_board::BootedBoard;
+use rv_hart::Outcome;
+use rv_isa::{Instr, Kind, decode};
+use rv_monitor::word_at;
+
+/// Returns the number of open calls with one more.
+fn entered(calls: u64) -> u64
+    ensures { result ≡ entered calls }
+{
+    calls.saturating_add(1)
+}
+
+/// Returns the instruction at the pc, if there is one.
+fn next_instr(board: &BootedBoard) -> Option<Instr>
+    ensures { result ≡ option_and_then means (word_of board.now (pc_of board.now)) }
+{
+    decode(word_at(board, board.pc())?)
+}
+
+/// Returns the number of open calls after an instruction, if there is one.
+#[tactic(auto, unfolding(crate::specs::Out::open_by))]
+fn open_by(calls: u64, instr: Option<Instr>) -> u64
+    ensures { result ≡ open_by calls instr }
+{
+    let Some(instr) = instr else {
+        return calls;
+    };
+    match instr.kind() {
+        Kind::Jal { rd, .. } => {
+            if rd.number() == 1 {
+                return entered(calls);
+            }
+            calls
+        }
+        Kind::Jalr { rd, base, .. } => {
+            if rd.number() == 1 {
+                return entered(calls);
+            }
+            if rd.number() == 0 && base.number() == 1 {
+                return calls.saturating_sub(1);
+            }
+            calls
+        }
+        Kind::Mret => calls.saturating_sub(1),
+        _ => calls,
+    }
+}
+
+/// Returns the number of open calls after a step that did that.
+#[tactic(auto, unfolding(crate::specs::Out::open_after))]
+fn open_after(calls: u64, instr: Option<Instr>, outcome: Outcome) -> u64
+    ensures { result ≡ open_after calls instr outcome }
+{
+    match outcome {
+        Outcome::Trapped { .. } => entered(calls),
+        _ => open_by(calls, instr),
+    }
+}
+
+impl Recording {
+    /// Takes a step of a run out of calls, and returns why the run ends with it, if it does.
+    #[tactic(auto, unfolding(crate::specs::Out::open_of_step))]
+    fn step_out(&mut self, calls: &mut u64) -> Result<Option<End>, NoMemory>
+        ensures { StepsOut calls.old calls.new self.old self.new result }
+    {
+        let instr = next_instr(self.session().board());
+        match self.take_step() {
+            Ok(Some(outcome)) => {
+                *calls = open_after(*calls, instr, outcome);
+                Ok(end_after(*calls == 0, self.session()))
+            }
+            Ok(None) => Ok(Some(End::Stuck)),
+            Err(NoMemory) => Err(NoMemory),
+        }
+    }
+
+    /// Takes steps until one after which no call is open, the board has halted or the next instruction is at a
+    /// breakpoint, at most `most`, and returns which it was. `calls` is the number of calls and handlers that
+    /// are open; 1 stands for the present function.
+    ///
+    /// # Errors
+    ///
+    /// `NoMemory` if memory runs out at a step. The steps before it are taken.
+    pub fn run_out(&mut self, calls: &mut u64, most: u64) -> Result<End, NoMemory>
+        ensures ok { IfOk result (HasRunOut calls.old most self.old self.new) }
+        ensures err { OnErr result (IsRefusedOut calls.old most self.old self.new) }
+        ensures calls { calls.new ≡ open_at calls.old self.old.session.timed
+            (steps_between self.old.session.timed self.new.session.timed) }
+    {
+        // It tells that the inputs of all steps so far were given.
+        let _board = self.session().board();
+        for done in 0..most {
+            match self.step_out(calls) {
+                Ok(None) => {}
+                Ok(Some(end)) => return Ok(end),
+                Err(NoMemory) => return Err(NoMemory),
+            }
+        }
+        Ok(End::Limit)
+    }
+}
