@@ -1,7 +1,8 @@
 -- Reading the digits of an address, one by one.
 use Rattle.std.proofs.Common.{◌≡◌, ℕ, suc, ◌+◌, ◌*◌, ◌^◌, ◌<◌, ◌≤◌, Bool, true, false, cond, List, [], ◌∷◌, length, drop, fold, get_or, refl, sym, ap, ◌∙◌, arith, add-one}
 use Rattle.std.specs.List.{list_all}
-use Rattle.std.specs.Prelude.{None, Some, nat_le, ◌&&◌, is_some, unwrap_or}
+use Rattle.std.specs.Option.{option_map_or}
+use Rattle.std.specs.Prelude.{Option, None, Some, nat_le, nat_lt, ◌&&◌, unwrap_or}
 use Rattle.std.proofs.lemmas.Bool.Decides.{nat_tests}
 use Rattle.std.proofs.lemmas.Grind.{pow_more}
 use Rattle.std.proofs.lemmas.List.{drop_all}
@@ -9,14 +10,19 @@ use Rattle.std.proofs.lemmas.List.Folds.{list_all_at}
 use Rattle.std.proofs.Math.Nat.{pow-le-pow_right}
 use Rattle.std.proofs.Math.Seq.{drop-cons}
 use Rattle.rv_base.specs.Numbers.{hex_digit}
-use Rattle.rv_commands.specs.Addresses.{hex_value, hexadecimal}
+use Rattle.rv_tokens.specs.Literals.{value, number_in}
+use Rattle.rv_tokens.specs.Literals as literal
+use Rattle.rv_commands.specs.Addresses.{hexadecimal}
 
--- whether a byte is a digit, and the value with one more digit
+-- whether a byte is a digit, the value with one more digit, and the value of all
 abbrev is_digit : ℕ → Bool
-is_digit b = is_some (hex_digit b)
+is_digit b = literal.is_digit 16 b
 
 abbrev step : ℕ → ℕ → ℕ
 step v b = 16 * v + unwrap_or (hex_digit b) 0
+
+abbrev hex_value : List ℕ → ℕ
+hex_value digits = value 16 digits
 
 -- the first i bytes are digits, of the value sum
 pub record SoFar (digits : List ℕ) (i sum : ℕ) : Type 0 where
@@ -36,22 +42,33 @@ few_by n false b p q h = absurd cc
 few : (n : ℕ) → is_count n ≡ true → (0 < n) × (n ≤ 8)
 few n h = few_by n (nat_le 1 n) (nat_le n 8) refl refl h
 
-none_at : {A : Type 0} (a d : Bool) (x : A) → d ≡ false → None ≡ cond (a && d) (Some x) None
-none_at true d x h = rw h refl
-none_at false d x h = refl
+none_at : {A : Type 0} (most some all low : Bool) (x : A) → all ≡ false
+    → None ≡ cond most (cond (some && (all && low)) (Some x) None) None
+none_at true true all low x h = rw h refl
+none_at true false all low x h = refl
+none_at false some all low x h = refl
+
+refused_at : {A : Type 0} (most some all : Bool) (x : A) → (some && most) ≡ false
+    → None ≡ cond most (cond (some && all) (Some x) None) None
+refused_at true true all x h = absurd cc
+refused_at true false all x h = refl
+refused_at false some all x h = refl
 
 pub hexadecimal-refused : (ds : List ℕ) → is_count (length ds) ≡ false → None ≡ hexadecimal ds
-unfolding hexadecimal
-hexadecimal-refused ds h = rw h refl
+unfolding hexadecimal number_in
+hexadecimal-refused ds h = refused_at (nat_le (length ds) 8) (nat_le 1 (length ds)) _ (value 16 ds) h
 
 hexadecimal-bad : (ds : List ℕ) → list_all is_digit ds ≡ false → None ≡ hexadecimal ds
-unfolding hexadecimal
-hexadecimal-bad ds h = none_at (is_count (length ds)) (list_all is_digit ds) (hex_value ds) h
+unfolding hexadecimal number_in
+hexadecimal-bad ds h =
+    none_at (nat_le (length ds) 8) (nat_le 1 (length ds)) (list_all is_digit ds) _ (value 16 ds) h
 
 -- a byte isn't a digit
 pub not_a_digit : (ds : List ℕ) (i : ℕ) → i < length ds → hex_digit (get_or ds i 0) ≡ None
     → None ≡ hexadecimal ds
-not_a_digit ds i h e = hexadecimal-bad ds (list_all_at is_digit ds i 0 h (rw e refl))
+not_a_digit ds i h e =
+    hexadecimal-bad ds
+    (list_all_at is_digit ds i 0 h (ap (λ (o : Option ℕ). option_map_or (λ d. nat_lt d 16) o false) e))
 
 -- the value with one more digit fits into 32 bits
 pub fits : (ds : List ℕ) (i sum d : ℕ) → is_count (length ds) ≡ true → i < length ds → SoFar ds i sum → d < 16
@@ -66,8 +83,14 @@ sum_next : (sum x d : ℕ) (xs : List ℕ) → hex_digit x ≡ Some d
     → fold step sum (x ∷ xs) ≡ fold step (16 * sum + d) xs
 sum_next sum x d xs e = ap (λ o. fold step (16 * sum + unwrap_or o 0) xs) e
 
-all_next : (x d : ℕ) (xs : List ℕ) → hex_digit x ≡ Some d → list_all is_digit (x ∷ xs) ≡ list_all is_digit xs
-all_next x d xs e = ap (λ o. is_some o && list_all is_digit xs) e
+below_base : (d : ℕ) → d < 16 → nat_lt d 16 ≡ true
+below_base d h = grind (arith, nat_tests)
+
+all_next : (x d : ℕ) (xs : List ℕ) → hex_digit x ≡ Some d → d < 16
+    → list_all is_digit (x ∷ xs) ≡ list_all is_digit xs
+all_next x d xs e h =
+    ap (λ (o : Option ℕ). option_map_or (λ n. nat_lt n 16) o false && list_all is_digit xs) e
+    ∙ ap (λ b. b && list_all is_digit xs) (below_base d h)
 
 pub next_so_far : (ds : List ℕ) (i sum d : ℕ) → i < length ds → SoFar ds i sum
     → hex_digit (get_or ds i 0) ≡ Some d → d < 16 → SoFar ds (i + 1) (16 * sum + d)
@@ -82,16 +105,30 @@ next_so_far ds i sum d h so digit small =
           ∙ (ap (fold step sum) (sym e) ∙ so.sum_is));
       all_are =
           ap (list_all is_digit) rest
-          ∙ (sym (all_next (get_or ds i 0) d (drop (suc i) ds) digit)
+          ∙ (sym (all_next (get_or ds i 0) d (drop (suc i) ds) digit small)
           ∙ (ap (list_all is_digit) (sym e) ∙ so.all_are));
     }
 
 -- all bytes are digits
-pub whole : (ds : List ℕ) (i sum : ℕ) → is_count (length ds) ≡ true → length ds ≤ i → SoFar ds i sum
-    → Some sum ≡ hexadecimal ds
-unfolding hexadecimal
-whole ds i sum count end so =
+at_most : (n : ℕ) → n < 4294967296 → nat_le n 4294967295 ≡ true
+at_most n h = grind (arith, nat_tests)
+
+below_all : (n i sum : ℕ) → n ≤ 8 → i ≤ n → sum < 16 ^ i → sum < 4294967296
+below_all n i sum few le below =
+    omega (arith, below, pow-le-pow_right {n = 16} (omega arith) {i = i} {j = 8} (omega arith))
+
+counts : (n : ℕ) → (0 < n) × (n ≤ 8) → (nat_le 1 n ≡ true) × (nat_le n 8 ≡ true)
+counts n h = let some = h.0 in let most = h.1 in (grind (arith, nat_tests), grind (arith, nat_tests))
+
+pub whole : (ds : List ℕ) (i sum : ℕ) → is_count (length ds) ≡ true → length ds ≤ i → i ≤ length ds
+    → SoFar ds i sum → Some sum ≡ hexadecimal ds
+unfolding hexadecimal number_in
+whole ds i sum count end within so =
     let e : drop i ds ≡ [] = drop_all i ds end in
     let all : list_all is_digit ds ≡ true = sym (rw e at so.all_are) in
     let is : sum ≡ hex_value ds = rw e at so.sum_is in
-    rw (count, all, is) refl
+    let few : (0 < length ds) × (length ds ≤ 8) = few (length ds) count in
+    let tests = counts (length ds) few in
+    let low : nat_le (hex_value ds) 4294967295 ≡ true =
+    ap (λ n. nat_le n 4294967295) (sym is) ∙ at_most sum (below_all (length ds) i sum few.1 within so.below) in
+    rw (tests.0, tests.1, all, low, is) refl

@@ -1,22 +1,15 @@
 -- To audit: public contracts cite this.
 -- The addresses of commands.
 -- The language is this project's own: docs/MONITOR.md.
-use Rattle.std.specs.Prelude.{ℕ, ◌+◌, ◌*◌, ◌^◌, ◌&&◌, ℤ, List, length, drop, fold, if◌then◌else◌, nat_eq, nat_le, Option, Some, None, codes, is_some, unwrap_or}
+use Rattle.std.specs.Prelude.{ℕ, ◌^◌, ℤ, List, length, drop, if◌then◌else◌, nat_eq, nat_le, Option, None, codes}
 use Rattle.std.specs.Option.{option_map}
-use Rattle.std.specs.List.{list_all, starts_with}
+use Rattle.std.specs.List.{starts_with}
 use Rattle.rv_isa.specs.Number.{modulo}
-use Rattle.rv_base.specs.Numbers.{hex_digit}
-
--- the value of hexadecimal digits, the highest first
-abbrev pub hex_value : List ℕ → ℕ
-hex_value digits = fold (λ v b. 16 * v + unwrap_or (hex_digit b) 0) 0 digits
+use Rattle.rv_tokens.specs.Literals.{number_in}
 
 -- one to eight hexadecimal digits
 unfoldable pub hexadecimal : List ℕ → Option ℕ
-hexadecimal digits =
-    if (nat_le 1 (length digits) && nat_le (length digits) 8) && list_all (λ b. is_some (hex_digit b)) digits
-    then Some (hex_value digits)
-    else None
+hexadecimal digits = if nat_le (length digits) 8 then number_in 16 digits else None
 
 -- ADDR: `0x` and one to eight hexadecimal digits, or a symbol, modulo 2 ^ 32; symbols gives the value of each
 -- name that has one

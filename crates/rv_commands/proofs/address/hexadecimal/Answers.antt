@@ -19,7 +19,7 @@ returns-in_err-value c =
 pub returns : goal.returns
 returns c =
     whole _ c.loop-digit.digit-index _ (sym c.is_digit_count.ensures ∙ c.if-not-is_digit_count.false)
-    (omega arith) c.loop-digit.invariant
+    (omega arith) (omega arith) c.loop-digit.invariant
 
 pub overflow_add-sum : goal.overflow_add-sum
 overflow_add-sum c =
@@ -28,3 +28,10 @@ overflow_add-sum c =
     (fits c.args.digits.now c.loop-digit.digit-index c.loop-digit.sum c.from.result
     (sym c.is_digit_count.ensures
     ∙ c.if-not-is_digit_count.false) c.loop-digit-test.true c.loop-digit.invariant (omega arith))
+
+pub overflow_mul-sum : goal.overflow_mul-sum
+overflow_mul-sum c =
+    let below = fits c.args.digits.now c.loop-digit.digit-index c.loop-digit.sum 0
+    (sym c.is_digit_count.ensures
+    ∙ c.if-not-is_digit_count.false) c.loop-digit-test.true c.loop-digit.invariant (omega arith) in
+    Fits-of_lt {w = w32} (omega (arith, below))
