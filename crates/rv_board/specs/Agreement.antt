@@ -1,10 +1,10 @@
 -- When two boards are the same for user code.
 -- To audit: public contracts cite this.
-use Rattle.std.specs.Prelude.{◌≡◌, ℕ, Bool, true, false, ◌||◌, List, length, Option, Some, None}
+use Rattle.std.specs.Prelude.{◌≡◌, ℕ, Bool, true, ◌&&◌, ◌||◌, not, is_none, List, length}
 use Rattle.rv_pmp.specs.Pmp.{PmpState, grants}
 use Rattle.rv_pmp.specs.declared.access.Access.TheVariants.{Read, Write, Execute}
-use Rattle.rv_pmp.specs.declared.mode.Mode.{Mode}
-use Rattle.rv_pmp.specs.declared.mode.Mode.TheVariants.{User, Machine}
+use Rattle.rv_pmp.specs.Mode.{is_machine}
+use Rattle.rv_pmp.specs.declared.mode.Mode.TheVariants.{User}
 use Rattle.rv_board.specs.State.{BoardState, mode_of, halted_of, byte_of}
 
 -- the bytes of the memory, and the registers of protection
@@ -33,10 +33,5 @@ pub record AgreeForUser (one other : BoardState) : Type 0 where
   pub rest : other ≡ with_memory one (memory_of other)
 
 -- whether user code runs: the mode is user mode, and the board isn't halted
-abbrev pub runs_user_by : Mode → Option ℕ → Bool
-runs_user_by User None = true
-runs_user_by User (Some code) = false
-runs_user_by Machine halt = false
-
 unfoldable pub runs_user : BoardState → Bool
-runs_user b = runs_user_by (mode_of b) (halted_of b)
+runs_user b = not (is_machine (mode_of b)) && is_none (halted_of b)

@@ -1,9 +1,6 @@
 -- The state of a board.
 -- To audit: public contracts cite this.
-use Rattle.std.specs.Prelude.{ℕ, List, slice_index, Option}
-use Rattle.rv_plic.specs.Plic.{PlicState}
-use Rattle.rv_mmio.specs.Timer.{TimerState}
-use Rattle.rv_mmio.specs.Serial.{SerialState}
+use Rattle.std.specs.Prelude.{ℕ, List, Option}
 use Rattle.rv_pmp.specs.declared.mode.Mode.{Mode}
 use Rattle.rv_pmp.specs.declared.mode.Mode.TheVariants.{Machine}
 use Rattle.rv_csr.specs.Registers.{read}
@@ -19,9 +16,6 @@ pub record BoardState : Type 0 where
 
 -- ---- what can be read of a board
 
-abbrev pub reg_of : BoardState → ℕ → ℕ
-reg_of b r = slice_index b.machine.registers r
-
 abbrev pub pc_of : BoardState → ℕ
 pc_of b = b.machine.pc
 
@@ -35,20 +29,5 @@ csr_of b addr = read b.machine.csrs addr Machine (lines_of b.machine.bus)
 abbrev pub byte_of : BoardState → ℕ → Option ℕ
 byte_of b a = ram_byte b.machine.bus.ram a
 
-abbrev pub plic_of : BoardState → PlicState
-plic_of b = b.machine.bus.plic
-
-abbrev pub timer_of : BoardState → TimerState
-timer_of b = b.machine.bus.timer
-
-abbrev pub serial_of : BoardState → SerialState
-serial_of b = b.machine.bus.serial
-
-abbrev pub console_of : BoardState → List ℕ
-console_of b = b.machine.bus.serial.sent
-
 abbrev pub halted_of : BoardState → Option ℕ
 halted_of b = b.machine.bus.halt
-
-abbrev pub steps_of : BoardState → ℕ
-steps_of b = b.steps

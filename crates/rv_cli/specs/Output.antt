@@ -6,7 +6,7 @@ use Rattle.std.specs.List.{ends_with}
 use Rattle.rv_asm.specs.Assembly.{Assembly, assembled}
 use Rattle.rv_program.specs.declared.fault.AsmFault.{AsmFault}
 use Rattle.rv_board.specs.Boot as boot
-use Rattle.rv_board.specs.State.{BoardState, console_of, halted_of, pc_of, steps_of}
+use Rattle.rv_board.specs.State.{BoardState, halted_of, pc_of}
 use Rattle.rv_board.specs.declared.event.BootFault.{BootFault}
 use Rattle.rv_board.specs.declared.event.BootFault.TheVariants as boot_fault
 use Rattle.rv_commands.specs.declared.command.Command.{Command}
@@ -37,8 +37,8 @@ with_line_end text =
 
 -- the console and the status line
 abbrev pub printed : BoardState → List ℕ
-printed b = with_line_end (console_of b)
-    ++ ended (status_text (halted_of b) (pc_of b) (steps_of b))
+printed b = with_line_end b.machine.bus.serial.sent
+    ++ ended (status_text (halted_of b) (pc_of b) b.steps)
 
 -- how a run ends, by the code of the board's halt
 abbrev pub ending_of : Option ℕ → Ending

@@ -1,14 +1,27 @@
 -- Pieces of text, one after another, after a head.
-use Rattle.std.proofs.Common.{◌≡◌, ℕ, ◌+◌, List, ◌++◌, sym, ◌∙◌, ap, add-one, append-nil, append_assoc}
+use Rattle.std.proofs.Common.{◌≡◌, ℕ, zero, suc, ◌+◌, List, ◌++◌, sym, ◌∙◌, ap, add-one, append-nil, append_assoc, arith}
+use Rattle.std.specs.List.{flat_map, range_with_len}
 use Rattle.rv_monitor.specs.Views.{pieces}
 
 pub no_piece_after : (head : List ℕ) (piece : ℕ → List ℕ) → head ++ pieces piece 0 ≡ head
 unfolding pieces
 no_piece_after head piece = append-nil head
 
+more_from : (piece : ℕ → List ℕ) (a n : ℕ)
+    → flat_map piece (range_with_len a (suc n)) ≡ flat_map piece (range_with_len a n) ++ piece (a + n)
+more_from piece a zero = let none : a + 0 ≡ a = omega arith in append-nil (piece a) ∙ ap piece (sym none)
+more_from piece a (suc n) =
+    let here : a + 1 + n ≡ a + suc n = omega arith in
+    ap (λ text. piece a ++ text) (more_from piece (a + 1) n)
+    ∙ (sym (append_assoc (piece a) (flat_map piece (range_with_len (a + 1) n)) (piece (a + 1 + n)))
+    ∙ ap (λ i. (piece a ++ flat_map piece (range_with_len (a + 1) n)) ++ piece i) here)
+
 one_more_piece : (piece : ℕ → List ℕ) (n : ℕ) → pieces piece (n + 1) ≡ pieces piece n ++ piece n
 unfolding pieces
-one_more_piece piece n = ap (pieces piece) (add-one n)
+one_more_piece piece n =
+    let from_none : 0 + n ≡ n = omega arith in
+    ap (λ count. flat_map piece (range_with_len 0 count)) (add-one n)
+    ∙ (more_from piece 0 n ∙ ap (λ i. flat_map piece (range_with_len 0 n) ++ piece i) from_none)
 
 pub one_more_after : (head : List ℕ) (piece : ℕ → List ℕ) (n : ℕ) →
     head ++ pieces piece (n + 1) ≡ head ++ pieces piece n ++ piece n

@@ -50,14 +50,14 @@ LeavesRefused _ old new = new ≡ old
 -- ---- the answer of a command
 
 -- the word of a stop
-abbrev pub word_of : Stop → List ℕ
-word_of Halted = codes "halted"
-word_of Breakpoint = codes "break"
-word_of Limit = codes "limit"
+abbrev pub stop_word : Stop → List ℕ
+stop_word Halted = codes "halted"
+stop_word Breakpoint = codes "break"
+stop_word Limit = codes "limit"
 
 -- `s` and `c`: why the steps ended, and how the board stands
 abbrev pub steps_text : Addresses → SessionState → SessionState → List ℕ
-steps_text breakpoints old new = stop_text new.timed.board (word_of (stop_of breakpoints old new))
+steps_text breakpoints old new = stop_text new.timed.board (stop_word (stop_of breakpoints old new))
 
 -- `d`: the address, if it was a breakpoint
 abbrev pub cleared_text : Addresses → ℕ → List ℕ

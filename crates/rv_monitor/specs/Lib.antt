@@ -14,3 +14,4 @@ pub mod Room
 pub mod Views
 pub mod Growth
 pub mod Took
+pub mod Labels

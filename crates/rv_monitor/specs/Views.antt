@@ -1,16 +1,16 @@
 -- To audit: public contracts cite this.
 -- The text that each command prints of a board (this project's own: docs/MONITOR.md).
-use Rattle.std.specs.Prelude.{ℕ, zero, suc, ◌+◌, ◌-◌, ◌*◌, ◌%◌, ◌^◌, ◌==◌, List, [], ◌∷◌, ◌++◌, if◌then◌else◌, min, Option, Some, None, unwrap_or, codes}
-use Rattle.std.specs.List.{flat_map}
+use Rattle.std.specs.Prelude.{ℕ, ◌+◌, ◌-◌, ◌*◌, ◌%◌, ◌^◌, ◌==◌, List, [], ◌∷◌, ◌++◌, if◌then◌else◌, min, slice_index, Option, Some, None, unwrap_or, codes}
+use Rattle.std.specs.List.{flat_map, range_with_len}
+use Rattle.std.specs.Option.{option_map_or}
 use Rattle.std.specs.Fmt.{decimal}
 use Rattle.std.specs.Int.{div_ceil}
 use Rattle.rv_isa.specs.Meaning.{means}
 use Rattle.rv_isa.specs.Text.{text}
-use Rattle.rv_isa.specs.declared.kind.Kind.{Kind}
 use Rattle.rv_pmp.specs.declared.mode.Mode.{Mode}
 use Rattle.rv_pmp.specs.declared.mode.Mode.TheVariants.{User, Machine}
 use Rattle.rv_plic.specs.Edges.{edges_of}
-use Rattle.rv_board.specs.State.{BoardState, reg_of, pc_of, mode_of, csr_of, byte_of, steps_of, plic_of}
+use Rattle.rv_board.specs.State.{BoardState, pc_of, mode_of, csr_of, byte_of}
 use Rattle.rv_board.specs.declared.event.TrapRecord.{TrapRecord}
 use Rattle.rv_base.specs.Digits.{hex}
 use Rattle.rv_monitor.specs.Numbers.{two_decimals}
@@ -23,8 +23,7 @@ line text = text ++ 10 ∷ []
 
 -- the pieces of the numbers below n, one after another
 unfoldable pub pieces : (ℕ → List ℕ) → ℕ → List ℕ
-pieces piece zero = []
-pieces piece (suc n) = pieces piece n ++ piece n
+pieces piece n = flat_map piece (range_with_len 0 n)
 
 -- ---- registers
 
@@ -37,13 +36,11 @@ mode_letter Machine = codes "M"
 unfoldable pub place_text : BoardState → List ℕ
 place_text b = codes "pc=" ++ hex 8 (pc_of b) ++ codes " mode=" ++ mode_letter (mode_of b)
 
--- a register, as `x07=00000555`
-unfoldable pub register_text : BoardState → ℕ → List ℕ
-register_text b r = codes "x" ++ two_decimals r ++ codes "=" ++ hex 8 (reg_of b r)
-
--- a register in its line: a line end follows the last of four, and a space the others
+-- a register, as `x07=00000555`; a line end follows the last of four, and a space the others
 unfoldable pub register_in_line : BoardState → ℕ → List ℕ
-register_in_line b r = register_text b r ++ (if r % 4 == 3 then codes "\n" else codes " ")
+register_in_line b r =
+    (codes "x" ++ two_decimals r ++ codes "=" ++ hex 8 (slice_index b.machine.registers r))
+    ++ (if r % 4 == 3 then codes "\n" else codes " ")
 
 -- `r`: x0 to x31, four in a line; then a line of the pc and the mode
 unfoldable pub registers_text : BoardState → List ℕ
@@ -61,8 +58,7 @@ byte_at_offset b addr offset = byte_of b ((addr + offset) % 2 ^ 32)
 
 -- a byte, or `--` where there is no memory
 abbrev pub byte_text : Option ℕ → List ℕ
-byte_text None = codes "--"
-byte_text (Some byte) = hex 2 byte
+byte_text byte = option_map_or (hex 2) byte (codes "--")
 
 -- a byte in its line: a space and the byte
 unfoldable pub byte_in_line : BoardState → ℕ → ℕ → List ℕ
@@ -90,15 +86,11 @@ unfoldable pub word_of : BoardState → ℕ → Option ℕ
 word_of b addr =
     word_from (byte_at_offset b addr 0) (byte_at_offset b addr 1) (byte_at_offset b addr 2) (byte_at_offset b addr 3)
 
--- an instruction's text, or `illegal` where no instruction has the word
-abbrev pub meaning_text : Option Kind → List ℕ
-meaning_text None = codes "illegal"
-meaning_text (Some kind) = text kind
-
--- a word and its instruction, or `--------` where there is no word
+-- a word and its instruction, or `illegal` where no instruction has the word; `--------` where there is no
+-- word
 abbrev pub word_text : Option ℕ → List ℕ
 word_text None = codes "--------"
-word_text (Some word) = hex 8 word ++ codes " " ++ meaning_text (means word)
+word_text (Some word) = hex 8 word ++ codes " " ++ option_map_or text (means word) (codes "illegal")
 
 -- `i`: the instruction at an address
 unfoldable pub instruction_text : BoardState → ℕ → List ℕ
@@ -106,15 +98,11 @@ instruction_text b addr = line (hex 8 addr ++ codes ": " ++ word_text (word_of b
 
 -- ---- traps
 
--- a label and a word
-unfoldable pub labelled : List ℕ → ℕ → List ℕ
-labelled label word = label ++ hex 8 word
-
 -- the line of a trap
 unfoldable pub trap_text : TrapRecord → List ℕ
 trap_text t =
-    line (labelled (codes "trap cause=") t.cause ++ labelled (codes " epc=") t.epc
-    ++ labelled (codes " tval=") t.tval)
+    line ((codes "trap cause=" ++ hex 8 t.cause) ++ (codes " epc=" ++ hex 8 t.epc)
+    ++ (codes " tval=" ++ hex 8 t.tval))
 
 -- `t`: the traps that the board keeps, oldest first
 abbrev pub traps_text : BoardState → List ℕ
@@ -126,11 +114,11 @@ traps_text b = flat_map trap_text b.traps
 unfoldable pub edges_text : BoardState → ℕ → List ℕ
 edges_text b source =
     line (codes "source " ++ decimal source ++ codes " edges="
-    ++ decimal (edges_of (plic_of b).gateways.edges source))
+    ++ decimal (edges_of b.machine.bus.plic.gateways.edges source))
 
 -- ---- stops
 
 -- `s` and `c`: why the steps ended, and how the board stands
 unfoldable pub stop_text : BoardState → List ℕ → List ℕ
 stop_text b word =
-    line (codes "stop " ++ word ++ codes " " ++ place_text b ++ codes " steps=" ++ decimal (steps_of b))
+    line (codes "stop " ++ word ++ codes " " ++ place_text b ++ codes " steps=" ++ decimal b.steps)

@@ -6,7 +6,7 @@ ghost use Rattle.rv_program.specs.Program.{value_of};
 ghost use Rattle.rv_commands.specs.Commands.{IsNamed};
 ghost use Rattle.rv_commands.specs.declared.command.Command.{Command};
 ghost use Rattle.rv_monitor.specs.Answers.{AppendsAnswer};
-ghost use Rattle.rv_monitor.specs.Commands.{Leaves, LeavesRefused, answer, next_of, word_of, command_in};
+ghost use Rattle.rv_monitor.specs.Commands.{Leaves, LeavesRefused, answer, next_of, stop_word, command_in};
 ghost use Rattle.rv_monitor.specs.Room.{LacksRoom};
 
 use crate::session::Session;
@@ -38,7 +38,7 @@ const BREAK_BYTES: usize = 15;
 
 /// Returns the word of a stop.
 fn stop_word(stop: Stop) -> &'static str
-    ensures word { result.now ≡ word_of stop }
+    ensures word { result.now ≡ stop_word stop }
     ensures short { length result.now ≤ WORD_BYTES }
 {
     match stop {

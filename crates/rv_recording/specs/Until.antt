@@ -1,14 +1,14 @@
 -- To audit: public contracts cite this.
 -- A run until a condition holds: it takes a step before it asks, and ends after the first step at which the
 -- condition holds.
-use Rattle.std.specs.Prelude.{◌≡◌, ◌⊎◌, ℕ, ◌+◌, ◌-◌, ◌<◌, ◌≤◌, ◌==◌, ◌&&◌, not, nat_le, nat_lt, Bool, true, false, if◌then◌else◌, Option, Some, None, is_some, Result, Ok, Err, length}
+use Rattle.std.specs.Prelude.{◌≡◌, ◌⊎◌, ℕ, ◌+◌, ◌-◌, ◌<◌, ◌≤◌, ◌==◌, ◌&&◌, not, nat_le, nat_lt, Bool, true, false, if◌then◌else◌, slice_index, Option, Some, None, is_some, Result, Ok, Err, length}
 use Rattle.std.specs.FinSet as set
 use Rattle.rv_base.specs.declared.memory.NoMemory.{NoMemory}
 use Rattle.rv_isa.specs.Alu.{is_taken}
 use Rattle.rv_isa.specs.declared.op.Cond.TheVariants.{Eq, Ne, Lt, Ge}
 use Rattle.rv_hart.specs.declared.trap.Outcome.{Outcome}
 use Rattle.rv_hart.specs.declared.trap.Outcome.TheVariants.{Trapped}
-use Rattle.rv_board.specs.State.{BoardState, reg_of, pc_of, console_of, halted_of}
+use Rattle.rv_board.specs.State.{BoardState, pc_of, halted_of}
 use Rattle.rv_board.specs.Move.{step_outcome, writes}
 use Rattle.rv_board.specs.declared.event.Event.TheVariants.{Step}
 use Rattle.rv_monitor.specs.State.{Addresses, SessionState, TimedState, after, with_due}
@@ -28,7 +28,7 @@ use Rattle.rv_recording.specs.declared.until.End.TheVariants.{Halted, Reached, B
 
 -- the value of what is watched, if it has one
 abbrev pub value_of : BoardState → Watched → Option ℕ
-value_of b (Register r) = Some (reg_of b r)
+value_of b (Register r) = Some (slice_index b.machine.registers r)
 value_of b (Word addr) = word_of b addr
 
 -- whether two words compare so, as signed numbers
@@ -58,7 +58,7 @@ has_trapped _ = false
 -- whether a condition holds after a step that did that, on the board that it left
 unfoldable pub holds : Condition → Outcome → BoardState → Bool
 holds Trap did b = has_trapped did
-holds (Console sent) did b = nat_lt sent (length (console_of b))
+holds (Console sent) did b = nat_lt sent (length b.machine.bus.serial.sent)
 holds (At addr size) did b = nat_le addr (pc_of b) && nat_lt (pc_of b - addr) size
 holds (Changed watched old) did b = differs (value_of b watched) old
 holds (Compares watched relation word) did b = compares (value_of b watched) relation word
