@@ -12,9 +12,9 @@ use Rattle.clap.specs.Values.{read_as}
 use Rattle.clap.specs.Walk.{Held, Row, Rule, Text, Walk, default_rows, first_of, has_row, more_values, nothing_held, reacted, reading_by, row_text, rows_after, used, walked, with_default}
 use Rattle.clap.specs.declared.builder.value_parser.Reading.TheVariants.{WithoutMinus}
 use Rattle.clap.specs.declared.parser.matches.ValueSource.TheVariants.{DefaultValue}
-use Rattle.rv_words.specs.Board.{board_app}
+use Rattle.rv_words.specs.Board.{OptionName, board_app, commands, input, name_of, pages, range_of, slots, steps}
 use Rattle.rv_words.specs.Read.{number_of}
-use Rattle.rv_words.specs.Rules.{Part, OptionName, ReadByRules, all_words, apart, are_new, commands, given_by, input, is_allowed, is_new, is_plain, is_readable, joined, name_of, number_in, pages, slots, source, steps, value_in}
+use Rattle.rv_words.specs.Rules.{Part, ReadByRules, Says, all_words, are_new, given_by, is_allowed, is_new, is_plain, is_readable, named, number_in, source, value_in}
 use Rattle.rv_words.proofs.Rules.{absent, any_more, arguments, between, both, has_rows, has_source, holding, holding_rows, holding_source, joined_walked, name_walked, no_flag, not_source, or_false, or_true, parts_are_taken, position_of, row_added, row_for, rows_in, rule_for, rule_of, shape, source_rows, source_rule_built, source_used, source_walked, value_walked}
 
 -- ---- the rows at the end of the walk
@@ -54,31 +54,31 @@ rows_walked (source text ∷ more) before h false readable rows was fresh =
     (sym (any_more (λ other. bytes_eq (given_by other) (codes "source")) before (source text)
     ∙ or_true (has_source before))) f.1
     ∙ ap (map row_for) (append_assoc before (source text ∷ []) more))
-rows_walked (apart o value ∷ more) before h g readable rows was fresh =
+rows_walked (named o false value ∷ more) before h g readable rows was fresh =
     let r = both (is_plain value) (list_all is_readable more) readable in
-    let f = both (is_new before (apart o value)) (are_new (before ++ apart o value ∷ []) more) fresh in
+    let f = both (is_new before (named o false value)) (are_new (before ++ named o false value ∷ []) more) fresh in
     let none : has_row (name_of o) (map row_for before) ≡ false =
     has_rows (name_of o) before
     ∙ fresh_by (list_any (λ other. bytes_eq (given_by other) (name_of o)) before) f.0 in
     ap (λ w. rows_at_end w (value ∷ all_words more)) (name_walked o h (position_of g))
     ∙ (ap (λ w. rows_at_end w (all_words more))
     (value_walked o value h (position_of g) (no_flag value r.0))
-    ∙ (rows_walked more (before ++ apart o value ∷ []) (holding o value h) g r.1
+    ∙ (rows_walked more (before ++ named o false value ∷ []) (holding o value h) g r.1
     (holding_rows o value h ∙ (ap (used (rule_of o) (value ∷ [])) rows
-    ∙ row_added o value (apart o value) more before refl none))
-    (was ∙ sym (source_kept o (apart o value) before refl)) f.1
-    ∙ ap (map row_for) (append_assoc before (apart o value ∷ []) more)))
-rows_walked (joined o value ∷ more) before h g readable rows was fresh =
-    let f = both (is_new before (joined o value)) (are_new (before ++ joined o value ∷ []) more) fresh in
+    ∙ row_added o value (named o false value) more before refl none))
+    (was ∙ sym (source_kept o (named o false value) before refl)) f.1
+    ∙ ap (map row_for) (append_assoc before (named o false value ∷ []) more)))
+rows_walked (named o true value ∷ more) before h g readable rows was fresh =
+    let f = both (is_new before (named o true value)) (are_new (before ++ named o true value ∷ []) more) fresh in
     let none : has_row (name_of o) (map row_for before) ≡ false =
     has_rows (name_of o) before
     ∙ fresh_by (list_any (λ other. bytes_eq (given_by other) (name_of o)) before) f.0 in
     ap (λ w. rows_at_end w (all_words more)) (joined_walked o value h (position_of g))
-    ∙ (rows_walked more (before ++ joined o value ∷ [])
+    ∙ (rows_walked more (before ++ named o true value ∷ [])
     (reacted shape.rules (rule_of o) (value ∷ []) h) g readable
-    (ap (used (rule_of o) (value ∷ [])) rows ∙ row_added o value (joined o value) more before refl none)
-    (was ∙ sym (source_kept o (joined o value) before refl)) f.1
-    ∙ ap (map row_for) (append_assoc before (joined o value ∷ []) more))
+    (ap (used (rule_of o) (value ∷ [])) rows ∙ row_added o value (named o true value) more before refl none)
+    (was ∙ sym (source_kept o (named o true value) before refl)) f.1
+    ∙ ap (map row_for) (append_assoc before (named o true value ∷ []) more))
 
 -- ---- the row of an argument
 
@@ -241,8 +241,8 @@ option_reading slots is = refl
 part_reading : (part : Part) → is_text_id (given_by part) ≡ false
     → reading_by (rule_for part) ≡ WithoutMinus
 part_reading (source text) is = absurd cc
-part_reading (apart o value) is = option_reading o is
-part_reading (joined o value) is = option_reading o is
+part_reading (named o false value) is = option_reading o is
+part_reading (named o true value) is = option_reading o is
 
 -- the command's arguments, with help
 rules : List Rule
@@ -281,10 +281,10 @@ fold_parts rows (a ∷ front) back = fold_parts (with_default rows a) front back
 -- the row of an argument at the end
 row_at_end : (place : ℕ) (a : Rule) (id : Text) → a.id ≡ id → IsAt place a → (rows : List Row)
     → found id (fold with_default rows shape.rules) ≡ by_default a a.defaults (found id rows)
-row_at_end place a id named at rows =
+row_at_end place a id same at rows =
     let end : Text → Type 0 = λ i.
     found i (fold with_default rows shape.rules) ≡ by_default a a.defaults (found i rows) in
-    subst end named
+    subst end same
     (ap (λ rs. found a.id (fold with_default rows rs)) (rules_are ∙ at.parts)
     ∙ (ap (found a.id) (fold_parts rows (take place rules) (a ∷ drop (place + 1) rules))
     ∙ one_default (take place rules) (drop (place + 1) rules) a rows at.same at.before at.after))
@@ -316,8 +316,8 @@ slots_at = record { parts = refl; same = refl; before = refl; after = refl }
 part_at_end : (place : ℕ) (a : Rule) (id : Text) → a.id ≡ id → IsAt place a → (parts : List Part)
     → found id (fold with_default (map row_for parts) shape.rules)
     ≡ by_default a a.defaults (option_map row_for (part_for id parts))
-part_at_end place a id named at parts =
-    row_at_end place a id named at (map row_for parts) ∙ ap (by_default a a.defaults) (found_part id parts)
+part_at_end place a id same at parts =
+    row_at_end place a id same at (map row_for parts) ∙ ap (by_default a a.defaults) (found_part id parts)
 
 -- ---- the texts and the numbers
 
@@ -399,6 +399,31 @@ rows_read program parts readable fresh =
     ∙ ap (λ rows. fold with_default rows shape.rules)
     (rows_walked parts [] nothing_held false readable refl refl fresh)
 
+module _ (parts : List Part) (rows : List Row) (is : rows ≡ fold with_default (map row_for parts) shape.rules)
+  where
+    option_says : (o : OptionName) → Says (range_of o) (name_of o) parts rows
+    option_says input =
+        ap (first_of (codes "input")) is
+        ∙ (ap first_text (part_at_end 1 (rule_of input) (codes "input") (option_id input) input_at parts)
+        ∙ input_text (part_for (codes "input") parts))
+    option_says commands =
+        ap (first_of (codes "commands")) is
+        ∙ (ap first_text (part_at_end 2 (rule_of commands) (codes "commands") (option_id commands)
+        commands_at parts)
+        ∙ commands_text (part_for (codes "commands") parts))
+    option_says steps =
+        ap (number_of (codes "steps")) is
+        ∙ (ap number_text (part_at_end 3 (rule_of steps) (codes "steps") (option_id steps) steps_at parts)
+        ∙ steps_number parts (part_for (codes "steps") parts) refl)
+    option_says pages =
+        ap (number_of (codes "pages")) is
+        ∙ (ap number_text (part_at_end 4 (rule_of pages) (codes "pages") (option_id pages) pages_at parts)
+        ∙ pages_number parts (part_for (codes "pages") parts) refl)
+    option_says slots =
+        ap (number_of (codes "slots")) is
+        ∙ (ap number_text (part_at_end 5 (rule_of slots) (codes "slots") (option_id slots) slots_at parts)
+        ∙ slots_number parts (part_for (codes "slots") parts) refl)
+
 pub read_by_rules : ReadByRules
 read_by_rules program parts readable taken =
     let fresh = (both (list_all is_allowed parts) (are_new [] parts)
@@ -408,20 +433,5 @@ read_by_rules program parts readable taken =
       source = ap (first_of (codes "source")) rows
           ∙ (ap first_text (part_at_end 0 source_rule_built (codes "source") source_id source_at parts)
           ∙ source_text (part_for (codes "source") parts));
-      input = ap (first_of (codes "input")) rows
-          ∙ (ap first_text (part_at_end 1 (rule_of input) (codes "input") (option_id input) input_at parts)
-          ∙ input_text (part_for (codes "input") parts));
-      commands = ap (first_of (codes "commands")) rows
-          ∙ (ap first_text (part_at_end 2 (rule_of commands) (codes "commands") (option_id commands)
-          commands_at parts)
-          ∙ commands_text (part_for (codes "commands") parts));
-      steps = ap (number_of (codes "steps")) rows
-          ∙ (ap number_text (part_at_end 3 (rule_of steps) (codes "steps") (option_id steps) steps_at parts)
-          ∙ steps_number parts (part_for (codes "steps") parts) refl);
-      pages = ap (number_of (codes "pages")) rows
-          ∙ (ap number_text (part_at_end 4 (rule_of pages) (codes "pages") (option_id pages) pages_at parts)
-          ∙ pages_number parts (part_for (codes "pages") parts) refl);
-      slots = ap (number_of (codes "slots")) rows
-          ∙ (ap number_text (part_at_end 5 (rule_of slots) (codes "slots") (option_id slots) slots_at parts)
-          ∙ slots_number parts (part_for (codes "slots") parts) refl);
+      options = option_says parts _ rows;
     }

@@ -10,9 +10,10 @@ use Rattle.clap.specs.Takes.{built_takes, default_passes, entered_passes, is_val
 use Rattle.clap.specs.Walk.{Held, Row, Rule, Text, Walk, at_row, finished, has_row, idle, is_pending, more_values, nothing_held, option, pushed, reacted, reading_by, settled, used, walk, walk_from, walked, with_values, without}
 use Rattle.clap.specs.declared.builder.value_parser.Reading.{Reading}
 use Rattle.clap.specs.declared.parser.matches.ValueSource.TheVariants.{CommandLine}
-use Rattle.rv_words.specs.Board.{board_app, source_rule, input_rule, commands_rule, steps_rule, pages_rule, slots_rule}
+use Rattle.rv_words.specs.Board.{OptionName, board_app, commands, input, name_of, pages, slots, source_rule, steps}
+use Rattle.rv_words.specs.Chain.{input_rule, commands_rule, steps_rule, pages_rule, slots_rule}
 use Rattle.rv_words.proofs.BoardParse.{board_simple}
-use Rattle.rv_words.specs.Rules.{Part, OptionName, TakenByRules, all_words, apart, are_new, commands, given_by, input, is_allowed, is_plain, is_readable, joined, may_be, name_of, pages, slots, source, steps, value_in}
+use Rattle.rv_words.specs.Rules.{Part, TakenByRules, all_words, are_new, given_by, is_allowed, is_plain, is_readable, may_be, named, source, value_in}
 
 -- ---- tests
 
@@ -227,9 +228,9 @@ uses_pass (source text ∷ more) rows true = false
 uses_pass (source text ∷ more) rows false =
     use_of source_rule_built text rows
     && uses_pass more (used source_rule_built (text ∷ []) rows) true
-uses_pass (apart o value ∷ more) rows given =
+uses_pass (named o false value ∷ more) rows given =
     use_of (rule_of o) value rows && uses_pass more (used (rule_of o) (value ∷ []) rows) given
-uses_pass (joined o value ∷ more) rows given =
+uses_pass (named o true value ∷ more) rows given =
     use_of (rule_of o) value rows && uses_pass more (used (rule_of o) (value ∷ []) rows) given
 
 pub both : (a b : Bool) → (a && b) ≡ true → (a ≡ true) × (b ≡ true)
@@ -264,7 +265,7 @@ walk_parts (source text ∷ more) h false readable =
     ∙ (ap (λ t. t && uses_pass more (rows_in (holding_source text h)) true) (source_settled text h)
     ∙ ap (λ rows. use_of source_rule_built text (rows_in h) && uses_pass more rows true)
     (source_rows text h))))
-walk_parts (apart o value ∷ more) h given readable =
+walk_parts (named o false value ∷ more) h given readable =
     let b = both (is_plain value) (list_all is_readable more) readable in
     let plain = no_flag value b.0 in
     one_more (between h (position_of given)) (waiting_for o h (position_of given)) (codes "--" ++ name_of o)
@@ -280,7 +281,7 @@ walk_parts (apart o value ∷ more) h given readable =
     ∙ (ap (λ t. t && uses_pass more (rows_in (holding o value h)) given) (holding_settled o value h)
     ∙ ap (λ rows. use_of (rule_of o) value (rows_in h) && uses_pass more rows given)
     (holding_rows o value h)))))
-walk_parts (joined o value ∷ more) h given readable =
+walk_parts (named o true value ∷ more) h given readable =
     let word = codes "--" ++ (name_of o ++ (codes "=" ++ value)) in
     let after = reacted shape.rules (rule_of o) (value ∷ []) h in
     let one_use = use_of (rule_of o) value (rows_in h) in
@@ -296,8 +297,8 @@ walk_parts (joined o value ∷ more) h given readable =
 
 abbrev pub rule_for : Part → Rule
 rule_for (source text) = source_rule_built
-rule_for (apart o value) = rule_of o
-rule_for (joined o value) = rule_of o
+rule_for (named o false value) = rule_of o
+rule_for (named o true value) = rule_of o
 
 abbrev pub row_as : Text → Reading → Text → Row
 row_as id how value = record {
@@ -443,22 +444,22 @@ uses_are (source text ∷ more) before =
     (sym (any_more (λ other. bytes_eq (given_by other) (codes "source")) before (source text)
     ∙ or_true (has_source before)))
     ∙ uses_are more (before ++ source text ∷ []))
-uses_are (apart o value ∷ more) before =
-    option_step o value (apart o value) more before refl (list_all is_allowed more)
-    (are_new (before ++ apart o value ∷ []) more) (has_source before)
+uses_are (named o false value ∷ more) before =
+    option_step o value (named o false value) more before refl (list_all is_allowed more)
+    (are_new (before ++ named o false value ∷ []) more) (has_source before)
     (list_any (λ other. bytes_eq (given_by other) (name_of o)) before) (has_rows (name_of o) before)
-    (ap (uses_pass more (map row_for (before ++ apart o value ∷ [])))
-    (sym (any_more (λ other. bytes_eq (given_by other) (codes "source")) before (apart o value)
+    (ap (uses_pass more (map row_for (before ++ named o false value ∷ [])))
+    (sym (any_more (λ other. bytes_eq (given_by other) (codes "source")) before (named o false value)
     ∙ (ap (λ t. has_source before || t) (not_source o) ∙ or_false (has_source before))))
-    ∙ uses_are more (before ++ apart o value ∷ []))
-uses_are (joined o value ∷ more) before =
-    option_step o value (joined o value) more before refl (list_all is_allowed more)
-    (are_new (before ++ joined o value ∷ []) more) (has_source before)
+    ∙ uses_are more (before ++ named o false value ∷ []))
+uses_are (named o true value ∷ more) before =
+    option_step o value (named o true value) more before refl (list_all is_allowed more)
+    (are_new (before ++ named o true value ∷ []) more) (has_source before)
     (list_any (λ other. bytes_eq (given_by other) (name_of o)) before) (has_rows (name_of o) before)
-    (ap (uses_pass more (map row_for (before ++ joined o value ∷ [])))
-    (sym (any_more (λ other. bytes_eq (given_by other) (codes "source")) before (joined o value)
+    (ap (uses_pass more (map row_for (before ++ named o true value ∷ [])))
+    (sym (any_more (λ other. bytes_eq (given_by other) (codes "source")) before (named o true value)
     ∙ (ap (λ t. has_source before || t) (not_source o) ∙ or_false (has_source before))))
-    ∙ uses_are more (before ++ joined o value ∷ []))
+    ∙ uses_are more (before ++ named o true value ∷ []))
 
 -- ---- the whole
 

@@ -1,7 +1,7 @@
 -- The command `rvboard [SOURCE] [--input F] [--commands F] [--steps N] [--pages P] [--slots S]`, as the rules
 -- that `clap` parses words by.
 -- To audit: public contracts cite this.
-use Rattle.std.specs.Prelude.{ℕ, pos, List, [], ◌∷◌, Some, codes, map}
+use Rattle.std.specs.Prelude.{ℕ, pos, List, [], ◌∷◌, Option, Some, None, codes, fold, map}
 use Rattle.std.specs.Borrow.{Bor}
 use Rattle.clap.specs.Words.{App, Rule, Text, new_app, new_rule, with_rule}
 use Rattle.clap.specs.declared.builder.action.ArgAction.TheVariants.{Set}
@@ -11,53 +11,54 @@ use Rattle.clap.specs.declared.builder.value_parser.ValueParser.TheVariants.{Sig
 abbrev pub texts_of : List (Bor Text) → List Text
 texts_of words = map (λ w. w.now) words
 
+-- ---- the options
+
+pub data OptionName : Type 0 where
+  input : OptionName
+  commands : OptionName
+  steps : OptionName
+  pages : OptionName
+  slots : OptionName
+
+-- decimal numbers, with the one that stands for an option that isn't given
+pub record Range : Type 0 where
+  pub least : ℕ
+  pub most : ℕ
+  pub default : Text
+
+-- a row an option: its name, and the numbers that it takes, if it doesn't take the path of a file
+abbrev pub row_of : OptionName → Text × Option Range
+row_of input = (codes "input", None)
+row_of commands = (codes "commands", None)
+row_of steps = (codes "steps", Some (record { least = 0; most = 1000000000; default = codes "1000000" }))
+row_of pages = (codes "pages", Some (record { least = 1; most = 4096; default = codes "256" }))
+row_of slots = (codes "slots", Some (record { least = 64; most = 4096; default = codes "1024" }))
+
+abbrev pub name_of : OptionName → Text
+name_of o = (row_of o).0
+
+abbrev pub range_of : OptionName → Option Range
+range_of o = (row_of o).1
+
+-- ---- their rules
+
 -- the positional argument SOURCE, whose default is `-`
 abbrev pub source_rule : Rule
-source_rule = record (new_rule (codes "source")) {
-  action = Some Set;
-  value_names = 1;
-  defaults = codes "-" ∷ [];
-}
+source_rule =
+    record (new_rule (codes "source")) { action = Some Set; value_names = 1; defaults = codes "-" ∷ [] }
 
 -- an option that takes the path of a file, with no default
 abbrev pub file_rule : Text → Rule
-file_rule name = record (new_rule name) {
-  long = Some name;
-  action = Some Set;
-  value_names = 1;
-}
+file_rule name = record (new_rule name) { long = Some name; action = Some Set; value_names = 1 }
 
--- `--input F`
-abbrev pub input_rule : Rule
-input_rule = file_rule (codes "input")
-
--- `--commands F`
-abbrev pub commands_rule : Rule
-commands_rule = file_rule (codes "commands")
-
--- an option that takes a decimal number from `low` to `high`, with a default
-abbrev pub number_rule : Text → Text → ℕ → ℕ → Rule
-number_rule name default low high = record (new_rule name) {
-  long = Some name;
-  action = Some Set;
-  value_names = 1;
-  defaults = default ∷ [];
-  parser = Some (Signed (pos low) (pos high));
-}
-
--- `--steps N`
-abbrev pub steps_rule : Rule
-steps_rule = number_rule (codes "steps") (codes "1000000") 0 1000000000
-
--- `--pages P`
-abbrev pub pages_rule : Rule
-pages_rule = number_rule (codes "pages") (codes "256") 1 4096
-
--- `--slots S`
-abbrev pub slots_rule : Rule
-slots_rule = number_rule (codes "slots") (codes "1024") 64 4096
+-- an option that takes that, or a number
+abbrev pub rule_by : Text → Option Range → Rule
+rule_by name None = file_rule name
+rule_by name (Some r) =
+    record (file_rule name) { defaults = r.default ∷ []; parser = Some (Signed (pos r.least) (pos r.most)) }
 
 -- the command: its name and its arguments in their order
 unfoldable pub board_app : App
-board_app = with_rule (with_rule (with_rule (with_rule (with_rule (with_rule (new_app (codes "rvboard"))
-    source_rule) input_rule) commands_rule) steps_rule) pages_rule) slots_rule
+board_app =
+    fold (λ app o. with_rule app (rule_by (name_of o) (range_of o)))
+    (with_rule (new_app (codes "rvboard")) source_rule) (input ∷ commands ∷ steps ∷ pages ∷ slots ∷ [])

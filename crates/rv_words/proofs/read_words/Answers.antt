@@ -68,12 +68,7 @@ returns-clause-read c =
       source = search rules;
       input = search rules;
       commands = search rules;
-      steps = search rules;
-      pages = search rules;
-      slots = search rules;
-      most_steps = search rules;
-      least_pages = search rules;
-      most_pages = search rules;
-      least_slots = search rules;
-      most_slots = search rules;
+      steps = (search rules, (omega arith, search rules));
+      pages = (search rules, (search rules, search rules));
+      slots = (search rules, (search rules, search rules));
     }
