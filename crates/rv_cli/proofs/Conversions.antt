@@ -1,25 +1,19 @@
 -- The faults of a run are those that its texts mean.
-use Rattle.std.proofs.Common.{◌≡◌, Option, Some, Ok, Err, refl}
-use Rattle.std.specs.Prelude.{◌≢◌}
-use Rattle.rv_asm.specs.Assembly.{Assembly, assembled}
-use Rattle.rv_program.specs.Faults.{FailsBy, Fails}
-use Rattle.rv_program.specs.declared.fault.AsmFault.{AsmFault}
-use Rattle.rv_program.specs.declared.fault.FaultKind.{FaultKind}
-use Rattle.rv_program.specs.declared.fault.FaultKind.TheVariants as kind
-use Rattle.rv_board.specs.declared.event.BootFault.{BootFault}
+use Rattle.std.proofs.Common.{◌≡◌, ℕ, List, Ok, Err, refl, sym, subst}
 use Rattle.rv_board.specs.declared.event.BootFault.TheVariants as boot
-use Rattle.rv_lists.specs.Timed.{IsRead}
-use Rattle.rv_lists.specs.declared.fault.TimelineFault.{TimelineFault}
-use Rattle.rv_lists.specs.declared.fault.TimelineFault.TheVariants as list
+use Rattle.rv_monitor.specs.State.{SessionState}
+use Rattle.rv_opening.specs.declared.fault.OpenFault.{OpenFault}
+use Rattle.rv_opening.specs.declared.fault.OpenFault.TheVariants as open_fault
 use Rattle.rv_texts.specs.Readers.{Texts}
 use Rattle.rv_texts.specs.declared.fault.ReadFault.{ReadFault}
 use Rattle.rv_texts.specs.declared.fault.ReadFault.TheVariants as read
 use Rattle.rv_texts.specs.declared.fault.TextName.TheVariants as text
 use Rattle.rv_words.specs.declared.Options.{Options}
-use Rattle.rv_cli.specs.Conversions.{board_fault, list_fault, source_fault, source_fault_by, unread_fault}
-use Rattle.rv_cli.specs.Meanings.{HasNoBoard, RefusedBy}
-use Rattle.rv_cli.specs.Output.{IsOutput, IsOutputByAssembly}
-use Rattle.rv_cli.specs.declared.fault.CliFault.TheVariants.{ReadInput, ReadSource, Source}
+use Rattle.rv_cli.specs.Conversions.{unopened_fault, unread_fault}
+use Rattle.rv_cli.specs.Meanings.{IsRunOf, RefusedBy}
+use Rattle.rv_cli.specs.Output.{IsOutput, OpensFor, ends, refused}
+use Rattle.rv_cli.specs.declared.fault.CliFault.TheVariants.{ReadInput, ReadSource}
+use Rattle.rv_cli.specs.declared.fault.Ending.{Ending}
 
 -- ---- texts that were not read
 
@@ -35,47 +29,26 @@ is_input (read.Unreadable text.Input) e = refl
 is_input (read.Unreadable text.Commands) e = cc
 is_input read.OutOfMemory e = cc
 
--- ---- a source that is not assembled
+-- ---- texts that open no session
 
-is_refused : (texts : Texts) (options : Options) (why : AsmFault) → assembled texts.source ≡ Err why →
-    IsOutput texts options (Err (Source why))
-unfolding IsOutput
-is_refused texts options why e = rw e refl
+pub opening_refused : (texts : Texts) (options : Options) (why : OpenFault) → OpensFor texts options (Err why)
+    → RefusedBy (IsOutput texts options) (unopened_fault why)
+opening_refused texts options (open_fault.Source why) h = refused (open_fault.Source why) (λ e. cc) h
+opening_refused texts options (open_fault.Input n) h = refused (open_fault.Input n) (λ e. cc) h
+opening_refused texts options (open_fault.Board boot.BadPages) h =
+    refused (open_fault.Board boot.BadPages) (λ e. cc) h
+opening_refused texts options (open_fault.Board boot.BadSlots) h =
+    refused (open_fault.Board boot.BadSlots) (λ e. cc) h
+opening_refused texts options (open_fault.Board boot.ImageTooLarge) h =
+    refused (open_fault.Board boot.ImageTooLarge) (λ e. cc) h
+opening_refused texts options (open_fault.Board boot.OutOfMemory) h = tt
+opening_refused texts options open_fault.OutOfMemory h = tt
 
-source_refused_by : (kind : FaultKind) (texts : Texts) (options : Options) (why : AsmFault) →
-    FailsBy kind why (assembled texts.source)
-    → RefusedBy (IsOutput texts options) (source_fault_by kind why)
-source_refused_by kind.OutOfMemory texts options why h = tt
-source_refused_by kind.BadByte texts options why h = is_refused texts options why h
-source_refused_by kind.LineTooLong texts options why h = is_refused texts options why h
-source_refused_by kind.Syntax texts options why h = is_refused texts options why h
-source_refused_by kind.UnknownWord texts options why h = is_refused texts options why h
-source_refused_by kind.BadOperands texts options why h = is_refused texts options why h
-source_refused_by kind.DuplicateSymbol texts options why h = is_refused texts options why h
-source_refused_by kind.NotConstant texts options why h = is_refused texts options why h
-source_refused_by kind.Misplaced texts options why h = is_refused texts options why h
-source_refused_by kind.TooLarge texts options why h = is_refused texts options why h
-source_refused_by kind.Undefined texts options why h = is_refused texts options why h
-source_refused_by kind.OutOfRange texts options why h = is_refused texts options why h
+-- ---- texts that open a session
 
-pub source_refused : (texts : Texts) (options : Options) (why : AsmFault) → Fails why (assembled texts.source)
-    → RefusedBy (IsOutput texts options) (source_fault why)
-source_refused texts options why h = source_refused_by why.kind texts options why h
-
--- ---- a timed list that can't be read
-
-pub list_refused : (texts : Texts) (options : Options) (assembly : Assembly) (why : TimelineFault) →
-    IsRead texts.inputs (Err why)
-    → RefusedBy (IsOutputByAssembly (Ok assembly) texts options) (list_fault why)
-list_refused texts options assembly (list.BadLine n) h =
-    record { list = Err (list.BadLine n); read = h; is = refl }
-list_refused texts options assembly list.OutOfMemory h = tt
-
--- ---- a board that does not start
-
-pub has_no_board : (why : Option BootFault) (fault : BootFault) →
-    (fault ≢ boot.OutOfMemory → why ≡ Some fault) → HasNoBoard why (board_fault fault)
-has_no_board why boot.BadPages h = rw (h (λ e. cc)) (λ texts options assembly inputs. refl)
-has_no_board why boot.BadSlots h = rw (h (λ e. cc)) (λ texts options assembly inputs. refl)
-has_no_board why boot.ImageTooLarge h = rw (h (λ e. cc)) (λ texts options assembly inputs. refl)
-has_no_board why boot.OutOfMemory h = λ texts options assembly inputs. tt
+pub run_ends : (texts : Texts) (options : Options) (first : SessionState) (result : List ℕ × Ending)
+    → OpensFor texts options (Ok first) → IsRunOf texts.commands first result
+    → IsOutput texts options (Ok result)
+run_ends texts options first result opens run =
+    subst (λ (r : List ℕ × Ending). IsOutput texts options (Ok r)) (sym run.is)
+    (ends first run.last run.answers opens run.done)

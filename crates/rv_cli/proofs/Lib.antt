@@ -2,6 +2,5 @@ pub mod Conversions
 pub mod Digits
 pub mod Obeyed
 pub mod Refusals
-pub mod OneList
 pub mod OneRun
 pub mod OneOutput

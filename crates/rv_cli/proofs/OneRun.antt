@@ -14,7 +14,7 @@ use Rattle.rv_monitor.specs.declared.command.Next.TheVariants.{More, Quit}
 use Rattle.rv_monitor.specs.declared.stop.Stop.{Stop}
 use Rattle.rv_monitor.proofs.SessionCalls.{took_timed}
 use Rattle.rv_base.specs.Lines.{lines}
-use Rattle.rv_cli.specs.Output.{Does, DoesThen, Obeys}
+use Rattle.rv_cli.specs.Output.{Does, Obeys, goes_on, none, quits}
 
 -- ---- steps
 
@@ -115,16 +115,38 @@ leaves_some (Some other) old = (old, refl)
 
 -- ---- commands, one after another
 
+-- what obeys a line and those that follow it: no command follows a line that quits
+record IsDone (line : List ℕ) (more : List (List ℕ)) (old new : SessionState) (text : List ℕ) : Type 0 where
+  next : SessionState
+  following : List ℕ
+  left : Leaves (command_in line old) old next
+  rest : Obeys more next new following
+  is : text ≡ answer (command_in line old) old next ++ following
+
+abbrev IsBegun : Next → List ℕ → List (List ℕ) → SessionState → SessionState → List ℕ → Type 0
+IsBegun More line more old new text = IsDone line more old new text
+IsBegun Quit line more old new text = (new ≡ old) × (text ≡ [])
+
+abbrev Begins : List (List ℕ) → SessionState → SessionState → List ℕ → Type 0
+Begins [] old new text = (new ≡ old) × (text ≡ [])
+Begins (line ∷ more) old new text = IsBegun (next_of (command_in line old)) line more old new text
+
+begun : (ls : List (List ℕ)) (old new : SessionState) (text : List ℕ) → Obeys ls old new text
+    → Begins ls old new text
+begun _ _ _ _ (none s) = (refl, refl)
+begun _ _ _ _ (quits line more s quit) = rw quit (refl, refl)
+begun _ _ _ _ (goes_on line more old next new following more_follow leaves rest) =
+    rw more_follow
+    (record { next = next; following = following; left = leaves; rest = rest; is = refl })
+
 abbrev AreSame : SessionState → SessionState → List ℕ → List ℕ → Type 0
 AreSame a b t u = (a ≡ b) × (t ≡ u)
 
-does_one : (word : Next) (command : Option Command) (more : List (List ℕ)) (old a b : SessionState)
-    (t u : List ℕ)
+begun_one : (word : Next) (line : List ℕ) (more : List (List ℕ)) (old a b : SessionState) (t u : List ℕ)
     → ((next : SessionState) (f g : List ℕ) → Obeys more next a f → Obeys more next b g → AreSame a b f g)
-    → DoesThen word command (λ next f. Obeys more next a f) old a t
-    → DoesThen word command (λ next f. Obeys more next b f) old b u
-    → AreSame a b t u
-does_one More command more old a b t u rest one two =
+    → IsBegun word line more old a t → IsBegun word line more old b u → AreSame a b t u
+begun_one More line more old a b t u rest one two =
+    let command = command_in line old in
     let same = leaves_one command old one.next two.next one.left two.left in
     let follow = rest two.next one.following two.following
     (subst (λ next. Obeys more next a one.following) same one.rest) two.rest in (
@@ -132,17 +154,18 @@ does_one More command more old a b t u rest one two =
       one.is ∙ (ap (λ next. answer command old next ++ one.following) same
           ∙ (ap (λ f. answer command old two.next ++ f) follow.1 ∙ sym two.is)),
     )
-does_one Quit command more old a b t u rest one two =
-    let same = leaves_one command old a b one.left two.left in
-    (same, one.is ∙ (ap (answer command old) same ∙ sym two.is))
+begun_one Quit line more old a b t u rest one two = (one.0 ∙ sym two.0, one.1 ∙ sym two.1)
 
 obeys_one : (ls : List (List ℕ)) (old a b : SessionState) (t u : List ℕ) → Obeys ls old a t
     → Obeys ls old b u → AreSame a b t u
-unfolding Obeys
-obeys_one [] old a b t u one two = (one.0 ∙ sym two.0, one.1 ∙ sym two.1)
+obeys_one [] old a b t u one two =
+    let first = begun [] old a t one in
+    let second = begun [] old b u two in
+    (first.0 ∙ sym second.0, first.1 ∙ sym second.1)
 obeys_one (line ∷ more) old a b t u one two =
-    does_one (next_of (command_in line old)) (command_in line old) more old a b t u
-    (λ next f g first second. obeys_one more next a b f g first second) one two
+    begun_one (next_of (command_in line old)) line more old a b t u
+    (λ next f g first second. obeys_one more next a b f g first second)
+    (begun (line ∷ more) old a t one) (begun (line ∷ more) old b u two)
 
 -- a session and a text that a list of commands leads to
 record Obeyed (ls : List (List ℕ)) (old : SessionState) : Type 0 where
@@ -150,36 +173,24 @@ record Obeyed (ls : List (List ℕ)) (old : SessionState) : Type 0 where
   text : List ℕ
   done : Obeys ls old new text
 
-does_some : (word : Next) (command : Option Command) (more : List (List ℕ)) (old : SessionState)
-    → ((next : SessionState) → Obeyed more next)
-    → (new : SessionState) × ((text : List ℕ) × DoesThen word command (λ next f. Obeys more next new f) old
-    new text)
-does_some More command more old rest =
-    let first = leaves_some command old in
-    let follow = rest first.0 in (
-      follow.new,
-      (
-        answer command old first.0 ++ follow.text,
-        record {
-          next = first.0;
-          following = follow.text;
-          left = first.1;
-          rest = follow.done;
-          is = refl;
-        },
-      ),
-    )
-does_some Quit command more old rest =
-    let first = leaves_some command old in
-    (first.0, (answer command old first.0, record { left = first.1; is = refl }))
+some_begun : (word : Next) (line : List ℕ) (more : List (List ℕ)) (old : SessionState)
+    → next_of (command_in line old) ≡ word → ((next : SessionState) → Obeyed more next)
+    → Obeyed (line ∷ more) old
+some_begun More line more old is rest =
+    let first = leaves_some (command_in line old) old in
+    let follow = rest first.0 in
+    record {
+      new = follow.new;
+      text = answer (command_in line old) old first.0 ++ follow.text;
+      done = goes_on line more old first.0 follow.new follow.text is first.1 follow.done;
+    }
+some_begun Quit line more old is rest =
+    record { new = old; text = []; done = quits line more old is }
 
 obeys_some : (ls : List (List ℕ)) (old : SessionState) → Obeyed ls old
-unfolding Obeys
-obeys_some [] old = record { new = old; text = []; done = (refl, refl) }
+obeys_some [] old = record { new = old; text = []; done = none old }
 obeys_some (line ∷ more) old =
-    let does = does_some (next_of (command_in line old)) (command_in line old) more old
-    (λ next. obeys_some more next) in
-    record { new = does.0; text = does.1.0; done = does.1.1 }
+    some_begun (next_of (command_in line old)) line more old refl (λ next. obeys_some more next)
 
 -- ---- what a run does
 

@@ -1,8 +1,9 @@
 -- The reasons why a run has no ending, by those why its texts were not read and by what the texts mean.
 use Rattle.std.proofs.Common.{Option, Some, None}
-use Rattle.std.specs.Prelude.{ℕ, List}
+use Rattle.std.specs.Prelude.{ℕ, IfSome, List}
 use Rattle.rv_words.specs.declared.Options.{Options}
-use Rattle.rv_texts.specs.Readers.{AllGave, AreInOrder, Gave, GaveIf, IsInOrder, IsInOrderIf, Readers, Side, Texts}
+use Rattle.rv_texts.specs.Readers.{AllGave, GaveIf, Readers, Texts}
+use Rattle.rv_texts.specs.Texts.{Gave, IsInOrder, Side}
 use Rattle.rv_texts.specs.Unread.{Unread}
 use Rattle.rv_texts.specs.declared.fault.ReadFault.{ReadFault}
 use Rattle.rv_texts.specs.declared.fault.ReadFault.TheVariants as read
@@ -16,23 +17,21 @@ use Rattle.rv_cli.specs.Run.{Refused}
 
 -- a reader that gave its text is in order
 in_order : (reader : Side) (text : List ℕ) → Gave reader text → IsInOrder reader
-in_order reader text g = record {
-  part = record { bytes = text; gave = g.whole.gave; within = g.whole.within };
-  sound = g.sound;
-}
+in_order reader text g = record { bytes = text; gave = g.gave; within = g.within; is = g.sound }
 
-in_order_if : (reader : Option Side) (text : Option (List ℕ)) → GaveIf reader text → IsInOrderIf reader
-in_order_if None text g = tt
+in_order_if : (reader : Option Side) (text : Option (List ℕ)) → GaveIf reader text → IfSome reader IsInOrder
+in_order_if None None g = tt
+in_order_if None (Some text) g = absurd g
 in_order_if (Some reader) (Some text) g = in_order reader text g
 in_order_if (Some reader) None g = absurd g
 
 -- readers that gave their texts are in order
-are_in_order : (r : Readers) (texts : Texts) → AllGave r texts → AreInOrder r
-are_in_order r texts g = record {
-  source = in_order r.source texts.source g.source;
-  inputs = in_order r.inputs texts.inputs g.inputs;
-  commands = in_order_if r.commands texts.commands g.commands;
-}
+are_in_order : (r : Readers) (texts : Texts) → AllGave r texts → Unread r read.OutOfMemory
+are_in_order r texts g = (
+  in_order r.source texts.source g.source,
+  in_order r.inputs texts.inputs g.inputs,
+  in_order_if r.commands texts.commands g.commands,
+)
 
 -- the texts were not read
 pub refused_unread : (r : Readers) (out : Side) (options : Options) (why : ReadFault) → Unread r why →

@@ -30,31 +30,26 @@ source_line_of fault = codes "source line " ++ decimal fault.line
 abbrev pub input_line_of : ℕ → List ℕ
 input_line_of n = codes "input line " ++ decimal n ++ codes ": refused"
 
+-- a row a fault: its line without the line end, and the exit status
+abbrev pub row_of : CliFault → List ℕ × ℕ
+row_of (Source fault) = (source_line_of fault, 3)
+row_of (Input n) = (input_line_of n, 3)
+row_of BadPages = (codes "bad pages", 3)
+row_of BadSlots = (codes "bad slots", 3)
+row_of ImageTooLarge = (codes "image too large", 3)
+row_of ReadSource = (codes "cannot read source", 4)
+row_of ReadInput = (codes "cannot read input", 4)
+row_of ReadCommands = (codes "cannot read commands", 4)
+row_of OutOfMemory = (codes "out of memory", 4)
+row_of Write = (codes "cannot write", 4)
+
 -- the line of a fault
 abbrev pub line_of : CliFault → List ℕ
-line_of ReadSource = ended (codes "cannot read source")
-line_of ReadInput = ended (codes "cannot read input")
-line_of ReadCommands = ended (codes "cannot read commands")
-line_of (Source fault) = ended (source_line_of fault)
-line_of (Input n) = ended (input_line_of n)
-line_of BadPages = ended (codes "bad pages")
-line_of BadSlots = ended (codes "bad slots")
-line_of ImageTooLarge = ended (codes "image too large")
-line_of OutOfMemory = ended (codes "out of memory")
-line_of Write = ended (codes "cannot write")
+line_of fault = ended (row_of fault).0
 
 -- the exit status of a run
 abbrev pub status_of : Result Ending CliFault → ℕ
 status_of (Ok (Halted zero)) = 0
 status_of (Ok (Halted (suc code))) = 1
 status_of (Ok Running) = 2
-status_of (Err (Source fault)) = 3
-status_of (Err (Input n)) = 3
-status_of (Err BadPages) = 3
-status_of (Err BadSlots) = 3
-status_of (Err ImageTooLarge) = 3
-status_of (Err ReadSource) = 4
-status_of (Err ReadInput) = 4
-status_of (Err ReadCommands) = 4
-status_of (Err OutOfMemory) = 4
-status_of (Err Write) = 4
+status_of (Err fault) = (row_of fault).1

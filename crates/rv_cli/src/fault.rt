@@ -6,8 +6,8 @@ ghost use Rattle.rv_cli.specs.Numbered.{has_number};
 
 use rv_base::NoMemory;
 use rv_board::BootFault;
-use rv_lists::TimelineFault;
-use rv_program::{AsmFault, FaultKind};
+use rv_opening::OpenFault;
+use rv_program::AsmFault;
 use rv_texts::{OutFailed, ReadFault, TextName};
 use std::{fmt, io};
 use thiserror::Error;
@@ -87,49 +87,22 @@ impl From<ReadFault> for CliFault {
     }
 }
 
-/// The fault of a source that is not assembled.
-impl From<AsmFault> for CliFault {
+/// The fault of texts that open no session.
+impl From<OpenFault> for CliFault {
     ghost use Rattle.std.specs.Prelude.{◌≡◌};
-    ghost use Rattle.rv_cli.specs.Conversions.{source_fault};
+    ghost use Rattle.rv_cli.specs.Conversions.{unopened_fault};
 
-    ghost from_gives = { λ why fault. fault ≡ source_fault why };
+    ghost from_gives = { λ why fault. fault ≡ unopened_fault why };
 
-    fn from(why: AsmFault) -> Self {
-        match why.kind {
-            FaultKind::OutOfMemory => CliFault::OutOfMemory,
-            _ => CliFault::Source(why),
-        }
-    }
-}
-
-/// The fault of a timed list that can't be read.
-impl From<TimelineFault> for CliFault {
-    ghost use Rattle.std.specs.Prelude.{◌≡◌};
-    ghost use Rattle.rv_cli.specs.Conversions.{list_fault};
-
-    ghost from_gives = { λ why fault. fault ≡ list_fault why };
-
-    fn from(why: TimelineFault) -> Self {
+    fn from(why: OpenFault) -> Self {
         match why {
-            TimelineFault::BadLine(number) => CliFault::Input(number),
-            TimelineFault::OutOfMemory => CliFault::OutOfMemory,
-        }
-    }
-}
-
-/// The fault of a board that does not start.
-impl From<BootFault> for CliFault {
-    ghost use Rattle.std.specs.Prelude.{◌≡◌};
-    ghost use Rattle.rv_cli.specs.Conversions.{board_fault};
-
-    ghost from_gives = { λ why fault. fault ≡ board_fault why };
-
-    fn from(why: BootFault) -> Self {
-        match why {
-            BootFault::BadPages => CliFault::BadPages,
-            BootFault::BadSlots => CliFault::BadSlots,
-            BootFault::ImageTooLarge => CliFault::ImageTooLarge,
-            BootFault::OutOfMemory => CliFault::OutOfMemory,
+            OpenFault::Source(fault) => CliFault::Source(fault),
+            OpenFault::Input(line) => CliFault::Input(line),
+            OpenFault::Board(BootFault::BadPages) => CliFault::BadPages,
+            OpenFault::Board(BootFault::BadSlots) => CliFault::BadSlots,
+            OpenFault::Board(BootFault::ImageTooLarge) => CliFault::ImageTooLarge,
+            OpenFault::Board(BootFault::OutOfMemory) | OpenFault::OutOfMemory =>
+                CliFault::OutOfMemory,
         }
     }
 }

@@ -1,23 +1,20 @@
 //! A run, from its texts to the text that is printed.
-ghost use Rattle.std.specs.Prelude.{◌≡◌, ◌≢◌, IfErr, IfOk, None, Ok, false, is_some, length};
-ghost use Rattle.rv_board.specs.Boot.{boot_fault, start};
-ghost use Rattle.rv_monitor.specs.State as monitor;
-ghost use Rattle.rv_cli.specs.Output.{IsOutput, IsOutputByAssembly, IsOutputByList, IsRunOf};
-ghost use Rattle.rv_cli.specs.Meanings.{HasNoBoard, RefusedBy};
+ghost use Rattle.std.specs.Prelude.{◌≡◌, ◌≢◌, IfErr, IfOk, Ok, false, is_some};
+ghost use Rattle.rv_cli.specs.Output.{IsOutput, OpensFor};
+ghost use Rattle.rv_cli.specs.Meanings.{IsRunOf, RefusedBy};
 ghost use Rattle.rv_cli.specs.Run.{Ended, Refused};
-ghost use Rattle.rv_texts.specs.Readers.{IsSoundIf, readers, side, side_if};
+ghost use Rattle.rv_texts.specs.Readers.{IsSoundIf, readers};
+ghost use Rattle.rv_texts.specs.Texts.{side, side_if};
 ghost use Rattle.rv_cli.specs.declared.fault.CliFault.TheVariants.{ReadInput, ReadSource, Write};
 
 use crate::fault::{CliFault, Ending};
 use crate::print::{ending, print_board};
 use crate::session::run_session;
-use rv_asm::{Program, assemble};
 use rv_base::NoMemory;
-use rv_board::BootedBoard;
-use rv_cache::Decoded;
-use rv_lists::Timeline;
+use rv_cache::{DecodeCache, Decoded};
 use rv_monitor::Session;
-use rv_ram::ByteMemory;
+use rv_opening::{OpenFault, open_session};
+use rv_ram::{ByteMemory, PagedRam};
 use rv_texts::{TextIn, TextOut, Texts, read_texts, write_whole};
 use rv_words::Options;
 use std::alloc::Global;
@@ -35,7 +32,7 @@ fn print_session<M: ByteMemory, C: Decoded>(
     session: &mut Session<M, C>,
     texts: &Texts,
 ) -> Result<Printed, NoMemory>
-    ensures { IfOk result (λ p. IsRunOf texts.now.commands session.old (Ok (p.text.items, p.ending))) }
+    ensures { IfOk result (λ p. IsRunOf texts.now.commands session.old (p.text.items, p.ending)) }
 {
     let mut text = run_session(alloc, session, texts)?;
     print_board(session.board(), &mut text)?;
@@ -43,78 +40,28 @@ fn print_session<M: ByteMemory, C: Decoded>(
     Ok(Printed { text, ending })
 }
 
-/// Boots the program's image on a board with the memory and the cache of the options.
-fn boot_board(alloc: Global, program: &Program, options: Options) -> Result<BootedBoard, CliFault>
-    ensures ok { IfOk result (λ b.
-        (boot_fault (length program.now.bytes) options.pages options.slots ≡ None)
-        × (b ≡ start program.now.bytes options.pages)) }
-    ensures err { IfErr result
-        (HasNoBoard (boot_fault (length program.now.bytes) options.pages options.slots)) }
+/// Opens the session of the texts, on a board of the options and with their limit.
+fn open(
+    alloc: Global,
+    texts: &Texts,
+    options: Options,
+) -> Result<Session<PagedRam, DecodeCache>, OpenFault>
+    ensures { OpensFor texts.now options result }
 {
     let pages = u32::from(options.pages);
     let slots = u32::from(options.slots);
-    let board = BootedBoard::boot(alloc, program, pages, slots)?;
-    Ok(board)
-}
-
-/// Runs a board with its timed inputs, and returns the text to be printed.
-fn run_board(
-    alloc: Global,
-    board: BootedBoard,
-    program: Program,
-    timeline: Timeline,
-    texts: &Texts,
-    limit: u64,
-) -> Result<Printed, NoMemory>
-    ensures { IfOk result (λ p.
-        IsRunOf texts.now.commands (monitor.start board timeline program limit)
-        (Ok (p.text.items, p.ending))) }
-{
-    let mut session = Session::new(alloc, board, timeline, program, limit);
-    print_session(alloc, &mut session, texts)
-}
-
-/// Boots the program's image, and runs it with its timed inputs.
-fn boot_and_run(
-    alloc: Global,
-    program: Program,
-    timeline: Timeline,
-    texts: &Texts,
-    options: Options,
-) -> Result<Printed, CliFault>
-    ensures ok { IfOk result (λ p.
-        IsOutputByList (Ok timeline) texts.now options program (Ok (p.text.items, p.ending))) }
-    ensures err { IfErr result (RefusedBy (IsOutputByList (Ok timeline) texts.now options program)) }
-{
-    let board = boot_board(alloc, &program, options)?;
     let limit = u64::from(options.steps);
-    let printed = run_board(alloc, board, program, timeline, texts, limit)?;
-    Ok(printed)
+    open_session(alloc, texts.source(), texts.inputs(), pages, slots, limit)
 }
 
-/// Reads the timed list, and runs the program with its inputs.
-fn run_program(
-    alloc: Global,
-    program: Program,
-    texts: &Texts,
-    options: Options,
-) -> Result<Printed, CliFault>
-    ensures ok { IfOk result (λ p.
-        IsOutputByAssembly (Ok program) texts.now options (Ok (p.text.items, p.ending))) }
-    ensures err { IfErr result (RefusedBy (IsOutputByAssembly (Ok program) texts.now options)) }
-{
-    let timeline = Timeline::read(alloc, texts.inputs())?;
-    boot_and_run(alloc, program, timeline, texts, options)
-}
-
-/// Assembles the source, and runs its program.
-#[tactic(auto, unfolding(crate::specs::Output::IsOutput))]
-fn assemble_and_run(alloc: Global, texts: &Texts, options: Options) -> Result<Printed, CliFault>
+/// Opens the session of the texts, and runs it.
+fn open_and_run(alloc: Global, texts: &Texts, options: Options) -> Result<Printed, CliFault>
     ensures ok { IfOk result (λ p. IsOutput texts.now options (Ok (p.text.items, p.ending))) }
     ensures err { IfErr result (RefusedBy (IsOutput texts.now options)) }
 {
-    let program = assemble(alloc, texts.source())?;
-    run_program(alloc, program, texts, options)
+    let mut session = open(alloc, texts, options)?;
+    let printed = print_session(alloc, &mut session, texts)?;
+    Ok(printed)
 }
 
 /// Runs a source with a timed list and commands, and writes the text that the run prints.
@@ -143,15 +90,15 @@ pub fn run_text<S: TextIn, I: TextIn, C: TextIn, W: TextOut>(
     requires commands { IsSoundIf C.has_failed commands.old }
     requires out { W.has_failed out.old ≡ false }
     ensures ended { IfOk result (Ended (readers
-        (side (S.left source.old) (S.left source.new) (S.has_failed source.new))
-        (side (I.left inputs.old) (I.left inputs.new) (I.has_failed inputs.new))
+        (side S.left S.has_failed source.old source.new)
+        (side I.left I.has_failed inputs.old inputs.new)
         (side_if C.left C.has_failed commands.old commands.new))
-        (side (W.taken out.old) (W.taken out.new) (W.has_failed out.new)) options) }
+        (side W.taken W.has_failed out.old out.new) options) }
     ensures refused { IfErr result (Refused (readers
-        (side (S.left source.old) (S.left source.new) (S.has_failed source.new))
-        (side (I.left inputs.old) (I.left inputs.new) (I.has_failed inputs.new))
+        (side S.left S.has_failed source.old source.new)
+        (side I.left I.has_failed inputs.old inputs.new)
         (side_if C.left C.has_failed commands.old commands.new))
-        (side (W.taken out.old) (W.taken out.new) (W.has_failed out.new)) options) }
+        (side W.taken W.has_failed out.old out.new) options) }
     ensures there { is_some commands.new ≡ is_some commands.old }
     ensures unwritten { IfErr result (λ fault. fault ≢ Write → out.new ≡ out.old) }
 
@@ -161,7 +108,7 @@ pub fn run_text<S: TextIn, I: TextIn, C: TextIn, W: TextOut>(
     ensures after_inputs { IfErr result (λ fault. fault ≡ ReadInput → commands.new ≡ commands.old) }
 {
     let texts = read_texts(alloc, source, inputs, commands)?;
-    let printed = assemble_and_run(alloc, &texts, options)?;
+    let printed = open_and_run(alloc, &texts, options)?;
     write_whole(out, printed.text.as_slice())?;
     Ok(printed.ending)
 }

@@ -2,8 +2,7 @@
 -- Not to audit: private contracts alone cite this.
 use Rattle.std.specs.Prelude.{◌≡◌, ◌⊎◌, ◌<◌, ◌≤◌, ◌-◌, ℕ, true, false, [], List, length, take, drop}
 use Rattle.std.specs.Io.KnownBytes.{Appends}
-use Rattle.rv_texts.specs.Readers.{IsInOrder, Side}
-use Rattle.rv_texts.specs.Texts.{IsUnreadable}
+use Rattle.rv_texts.specs.Texts.{IsInOrder, IsUnreadable, Side}
 use Rattle.rv_texts.specs.declared.fault.ReadFault.{ReadFault}
 use Rattle.rv_texts.specs.declared.fault.ReadFault.TheVariants.{OutOfMemory, Unreadable}
 use Rattle.rv_texts.specs.declared.fault.TextName.{TextName}
@@ -11,8 +10,7 @@ use Rattle.rv_texts.specs.declared.fault.TextName.{TextName}
 -- the text is unreadable, or memory ran out while the reader was in order
 abbrev pub FailsToRead : TextName → Side → ReadFault → Type 0
 FailsToRead name reader fault =
-    ((fault ≡ Unreadable name) × IsUnreadable reader.failed reader.old reader.new)
-    ⊎ ((fault ≡ OutOfMemory) × IsInOrder reader)
+    ((fault ≡ Unreadable name) × IsUnreadable reader) ⊎ ((fault ≡ OutOfMemory) × IsInOrder reader)
 
 -- after the first `done` bytes more were written, up to the n-th
 pub record WroteUpTo (writer : Side) (bytes : List ℕ) (done n : ℕ) : Type 0 where

@@ -1,43 +1,64 @@
 -- The bytes that a reader gave and a writer took.
 -- To audit: public contracts cite this.
-use Rattle.std.specs.Prelude.{◌≡◌, ◌⊎◌, ◌+◌, ◌<◌, ◌≤◌, ℕ, Bool, true, List, Option, length, take}
+use Rattle.std.specs.Prelude.{◌≡◌, ◌⊎◌, ◌+◌, ◌<◌, ◌≤◌, ℕ, Bool, true, false, List, Option, Some, None, length, take}
 use Rattle.std.specs.Io.KnownBytes.{Appends, Consumes, IsAtEnd}
 use Rattle.rv_base.specs.Limits.{text_limit}
 
--- the reader gave the text and has nothing left
-pub record GaveWhole (old new : Option (List ℕ)) (text : List ℕ) : Type 0 where
-  pub gave : Consumes old new text
-  pub ended : IsAtEnd new
-  pub within : length text ≤ text_limit
+-- a reader or a writer over a call: its known bytes before and after the call, and whether it has failed
+-- after it
+pub record Side : Type 0 where
+  pub old : Option (List ℕ)
+  pub new : Option (List ℕ)
+  pub failed : Bool
 
--- the reader gave no more bytes than a text may have
-pub record GavePart (old new : Option (List ℕ)) : Type 0 where
+-- the side of a type whose values tell their bytes and whether they have failed
+abbrev pub side : {A : Type 0} → (A → Option (List ℕ)) → (A → Bool) → A → A → Side
+side bytes has_failed old new = record { old = bytes old; new = bytes new; failed = has_failed new }
+
+-- that side, if there is one
+abbrev pub side_if : {A : Type 0} → (A → Option (List ℕ)) → (A → Bool) → Option A → Option A → Option Side
+side_if bytes has_failed (Some old) (Some new) = Some (side bytes has_failed old new)
+side_if bytes has_failed _ _ = None
+
+-- ---- a reader
+
+-- the reader gave the text to its end and did not fail
+pub record Gave (reader : Side) (text : List ℕ) : Type 0 where
+  pub gave : Consumes reader.old reader.new text
+  pub ended : IsAtEnd reader.new
+  pub within : length text ≤ text_limit
+  pub sound : reader.failed ≡ false
+
+-- the reader gave no more bytes than a text may have, and then failed or did not
+pub record GavePart (reader : Side) (failed : Bool) : Type 0 where
   pub bytes : List ℕ
-  pub gave : Consumes old new bytes
+  pub gave : Consumes reader.old reader.new bytes
   pub within : length bytes ≤ text_limit
+  pub is : reader.failed ≡ failed
+
+-- the reader is in order, and gave no more than a text
+abbrev pub IsInOrder : Side → Type 0
+IsInOrder reader = GavePart reader false
 
 -- the largest number of bytes that a call of a reader asks for
 abbrev pub most_a_call : ℕ
 most_a_call = 8192
 
 -- the reader gave more bytes than a text may have, and was not called again
-pub record GaveTooMuch (old new : Option (List ℕ)) : Type 0 where
+pub record GaveTooMuch (reader : Side) : Type 0 where
   pub bytes : List ℕ
-  pub gave : Consumes old new bytes
+  pub gave : Consumes reader.old reader.new bytes
   pub more : text_limit < length bytes
   pub left : length bytes ≤ text_limit + most_a_call
 
--- the reader failed, after it gave no more bytes than a text may have
-pub record HasFailed (failed : Bool) (old new : Option (List ℕ)) : Type 0 where
-  pub is : failed ≡ true
-  pub part : GavePart old new
-
 -- the reader failed or gave too much
-abbrev pub IsUnreadable : Bool → Option (List ℕ) → Option (List ℕ) → Type 0
-IsUnreadable failed old new = HasFailed failed old new ⊎ GaveTooMuch old new
+abbrev pub IsUnreadable : Side → Type 0
+IsUnreadable reader = GavePart reader true ⊎ GaveTooMuch reader
+
+-- ---- a writer
 
 -- the writer took a beginning of the text
-pub record WroteBeginning (old new : Option (List ℕ)) (text : List ℕ) : Type 0 where
+pub record WroteBeginning (writer : Side) (text : List ℕ) : Type 0 where
   pub count : ℕ
   pub some : count ≤ length text
-  pub took : Appends old new (take count text)
+  pub took : Appends writer.old writer.new (take count text)

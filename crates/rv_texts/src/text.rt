@@ -2,8 +2,7 @@
 ghost use Rattle.std.specs.Prelude.{◌≡◌, ◌≤◌, ◌<◌, ◌==◌, ◌&&◌, ◌||◌, ℕ, Bool, List, Option, IfErr, IfOk, OnErr, OnOk, false, length, nat_lt, true};
 ghost use Rattle.std.specs.Io.KnownBytes.{Appends, ReadConsumes, WriteAppends};
 ghost use Rattle.rv_texts.specs.Calls.{FailsToRead, WroteNone, WroteUpTo};
-ghost use Rattle.rv_texts.specs.Readers.{Gave, side};
-ghost use Rattle.rv_texts.specs.Texts.{WroteBeginning};
+ghost use Rattle.rv_texts.specs.Texts.{Gave, WroteBeginning, side};
 
 use crate::fault::{ReadFault, TextName};
 use rv_base::TEXT_LIMIT;
@@ -52,9 +51,9 @@ pub(crate) fn read_text<R: TextIn>(
 ) -> Result<Vec<u8>, ReadFault>
     requires { R.has_failed reader.old ≡ false }
     ensures ok { IfOk result (λ text. Gave
-        (side (R.left reader.old) (R.left reader.new) (R.has_failed reader.new)) text.items) }
+        (side R.left R.has_failed reader.old reader.new) text.items) }
     ensures err { IfErr result (FailsToRead name
-        (side (R.left reader.old) (R.left reader.new) (R.has_failed reader.new))) }
+        (side R.left R.has_failed reader.old reader.new)) }
 {
     let mut text = Vec::new(alloc);
     let mut buffer = [0u8; 8192];
@@ -110,9 +109,9 @@ fn write_more<W: TextOut>(out: &mut W, bytes: &[u8], done: usize) -> Result<usiz
     requires some { done < length bytes.now }
     requires sound { W.has_failed out.old ≡ false }
     ensures ok { IfOk result (WroteUpTo
-        (side (W.taken out.old) (W.taken out.new) (W.has_failed out.new)) bytes.now done) }
+        (side W.taken W.has_failed out.old out.new) bytes.now done) }
     ensures err { OnErr result (WroteNone
-        (side (W.taken out.old) (W.taken out.new) (W.has_failed out.new))) }
+        (side W.taken W.has_failed out.old out.new)) }
 {
     match out.write(&bytes[done..])? {
         0 => Err(OutFailed),
@@ -129,7 +128,8 @@ pub fn write_whole<W: TextOut>(out: &mut W, bytes: &[u8]) -> Result<(), OutFaile
     requires { W.has_failed out.old ≡ false }
     ensures ok { OnOk result (Appends (W.taken out.old) (W.taken out.new) bytes.now) }
     ensures sound { OnOk result (W.has_failed out.new ≡ false) }
-    ensures err { OnErr result (WroteBeginning (W.taken out.old) (W.taken out.new) bytes.now) }
+    ensures err { OnErr result (WroteBeginning
+        (side W.taken W.has_failed out.old out.new) bytes.now) }
     ensures failed { OnErr result (W.has_failed out.new ≡ true) }
 {
     let mut done = 0;

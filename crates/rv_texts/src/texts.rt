@@ -1,8 +1,9 @@
 //! The texts of a run, read from their readers.
-ghost use Rattle.std.specs.Prelude.{◌≡◌, ◌⊎◌, IfErr, IfOk, false, is_some};
+ghost use Rattle.std.specs.Prelude.{◌≡◌, ◌⊎◌, IfErr, IfOk, IfSome, IsSomeAnd, false, is_some};
 ghost use Rattle.std.specs.Option.{option_map};
 ghost use Rattle.rv_texts.specs.Unread.{Unread};
-ghost use Rattle.rv_texts.specs.Readers.{AllGave, GaveIf, IsInOrderIf, IsUnreadableIf, readers, side, side_if, IsSoundIf};
+ghost use Rattle.rv_texts.specs.Readers.{AllGave, GaveIf, IsSoundIf, readers};
+ghost use Rattle.rv_texts.specs.Texts.{IsInOrder, IsUnreadable, side, side_if};
 ghost use Rattle.rv_texts.specs.declared.fault.ReadFault.TheVariants.{OutOfMemory, Unreadable};
 ghost use Rattle.rv_texts.specs.declared.fault.TextName.TheVariants.{Commands, Input, Source};
 
@@ -73,8 +74,10 @@ fn read_commands<C: TextIn>(
     ensures ok { IfOk result (λ text.
         GaveIf (side_if C.left C.has_failed commands.old commands.new) (option_map (λ t. t.items) text)) }
     ensures err { IfErr result (λ fault.
-        ((fault ≡ Unreadable Commands) × IsUnreadableIf (side_if C.left C.has_failed commands.old commands.new))
-        ⊎ ((fault ≡ OutOfMemory) × IsInOrderIf (side_if C.left C.has_failed commands.old commands.new))) }
+        ((fault ≡ Unreadable Commands)
+        × IsSomeAnd (side_if C.left C.has_failed commands.old commands.new) IsUnreadable)
+        ⊎ ((fault ≡ OutOfMemory)
+        × IfSome (side_if C.left C.has_failed commands.old commands.new) IsInOrder)) }
     ensures there { is_some commands.new ≡ is_some commands.old }
 {
     let Some(reader) = commands else {
@@ -101,12 +104,12 @@ pub fn read_texts<S: TextIn, I: TextIn, C: TextIn>(
     requires inputs { I.has_failed inputs.old ≡ false }
     requires commands { IsSoundIf C.has_failed commands.old }
     ensures ok { IfOk result (AllGave (readers
-        (side (S.left source.old) (S.left source.new) (S.has_failed source.new))
-        (side (I.left inputs.old) (I.left inputs.new) (I.has_failed inputs.new))
+        (side S.left S.has_failed source.old source.new)
+        (side I.left I.has_failed inputs.old inputs.new)
         (side_if C.left C.has_failed commands.old commands.new))) }
     ensures err { IfErr result (Unread (readers
-        (side (S.left source.old) (S.left source.new) (S.has_failed source.new))
-        (side (I.left inputs.old) (I.left inputs.new) (I.has_failed inputs.new))
+        (side S.left S.has_failed source.old source.new)
+        (side I.left I.has_failed inputs.old inputs.new)
         (side_if C.left C.has_failed commands.old commands.new))) }
     ensures there { is_some commands.new ≡ is_some commands.old }
 

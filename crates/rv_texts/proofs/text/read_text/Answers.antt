@@ -7,13 +7,11 @@ returns-in_default-clause-err g c =
     inl (
       search rules,
       inl (record {
+        bytes = c.loop-count.text.items;
+        gave = Consumes-kept _ _ _ c.loop-count.text.items c.loop-count.invariant.gave
+            c.in_default.ensures.bytes;
+        within = omega (arith, c.loop-count.invariant.within);
         is = c.in_default.ensures.err;
-        part = record {
-          bytes = c.loop-count.text.items;
-          gave = Consumes-kept _ _ _ c.loop-count.text.items c.loop-count.invariant.gave
-              c.in_default.ensures.bytes;
-          within = omega (arith, c.loop-count.invariant.within);
-        };
       }),
     )
 
@@ -51,19 +49,17 @@ returns-then-is_err-clause-err g c =
     inr (
       refl,
       record {
-        part = record {
-          bytes = c.loop-count.text.items ++ more;
-          gave = Consumes-trans _ _ _ c.loop-count.text.items more c.loop-count.invariant.gave
-              c.in-Ok.ensures.bytes.0;
-          within = omega (
-            arith,
-            length-append c.loop-count.text.items more,
-            length-take c.in-Ok.count c.read.new.buffer,
-            c.if-len-count.false,
-            c.len.ensures,
-            c.loop-count.invariant.within,
-          );
-        };
-        sound = search rules;
+        bytes = c.loop-count.text.items ++ more;
+        gave = Consumes-trans _ _ _ c.loop-count.text.items more c.loop-count.invariant.gave
+            c.in-Ok.ensures.bytes.0;
+        within = omega (
+          arith,
+          length-append c.loop-count.text.items more,
+          length-take c.in-Ok.count c.read.new.buffer,
+          c.if-len-count.false,
+          c.len.ensures,
+          c.loop-count.invariant.within,
+        );
+        is = search rules;
       },
     )

@@ -1,0 +1,26 @@
+-- Why nothing is opened, by the errors of its parts.
+-- To audit: public contracts cite this.
+use Rattle.rv_program.specs.declared.fault.AsmFault.{AsmFault}
+use Rattle.rv_program.specs.declared.fault.FaultKind.{FaultKind}
+use Rattle.rv_program.specs.declared.fault.FaultKind.TheVariants as kind
+use Rattle.rv_board.specs.declared.event.BootFault.{BootFault}
+use Rattle.rv_board.specs.declared.event.BootFault.TheVariants as boot
+use Rattle.rv_lists.specs.declared.fault.TimelineFault.{TimelineFault}
+use Rattle.rv_lists.specs.declared.fault.TimelineFault.TheVariants as list
+use Rattle.rv_opening.specs.declared.fault.OpenFault.{OpenFault}
+use Rattle.rv_opening.specs.declared.fault.OpenFault.TheVariants.{Source, Input, Board, OutOfMemory}
+
+-- the fault of a source that is not assembled, by the kind of the assembler's fault
+abbrev pub source_fault : FaultKind → AsmFault → OpenFault
+source_fault kind.OutOfMemory why = OutOfMemory
+source_fault other why = Source why
+
+-- the fault of a timed list that can't be read
+abbrev pub list_fault : TimelineFault → OpenFault
+list_fault (list.BadLine n) = Input n
+list_fault list.OutOfMemory = OutOfMemory
+
+-- the fault of a board that does not start
+abbrev pub board_fault : BootFault → OpenFault
+board_fault boot.OutOfMemory = OutOfMemory
+board_fault other = Board other
