@@ -27,9 +27,6 @@ const THRESHOLD: u32 = 0x20_0000;
 
 const CLAIM: u32 = 0x20_0004;
 
-/// The offsets of the timer's registers: msip, and both halves of mtimecmp and mtime.
-const TIMER_OFFSETS: [u32; 5] = [0, 0x4000, 0x4004, 0xbff8, 0xbffc];
-
 fn same_registers<M: ByteMemory, C: Decoded, N: ByteMemory, D: Decoded>(
     one: &Board<M, C>,
     other: &Board<N, D>,
@@ -105,12 +102,9 @@ fn same_plic(one: &Plic, other: &Plic) -> bool {
 }
 
 fn same_timer(one: &Timer, other: &Timer) -> bool {
-    for off in TIMER_OFFSETS {
-        if one.load(off) != other.load(off) {
-            return false;
-        }
-    }
-    true
+    one.time() == other.time()
+        && one.compare() == other.compare()
+        && one.software() == other.software()
 }
 
 fn same_serial(one: &Serial, other: &Serial) -> bool {
