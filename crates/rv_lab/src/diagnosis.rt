@@ -1,7 +1,7 @@
 //! Why a source, a timed list or a board is refused.
 use crate::answer::Answer;
-use crate::lab::OpenFault;
 use rv_board::BootFault;
+use rv_opening::OpenFault;
 
 /// Appends why there is no lab: of a source each faulty line of its first phase that has one, as compilers
 /// print them.

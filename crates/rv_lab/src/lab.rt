@@ -3,10 +3,10 @@ use crate::answer::Answer;
 use crate::command::{Command, CommandLine, read_command};
 use crate::plan::Plan;
 use crate::registers::Registers;
-use rv_asm::{AsmFault, FaultKind, Listing, Program, assemble, list};
+use rv_asm::{Listing, Program, list};
 use rv_base::{NoMemory, cut_lines, low_word};
-use rv_board::{BootFault, BootedBoard};
-use rv_lists::{Timeline, TimelineFault};
+use rv_board::BootedBoard;
+use rv_opening::OpenFault;
 use rv_recording::Recording;
 use std::alloc::Global;
 
@@ -17,46 +17,6 @@ pub struct Sizes {
     pub pages: u16,
     /// The slots of the cache of decoded instructions: a power of two from 64 to 4096.
     pub slots: u16,
-}
-
-/// Why a lab isn't opened.
-#[derive(Clone, Copy)]
-pub enum OpenFault {
-    /// The source has this fault.
-    Source(AsmFault),
-    /// This line of the timed list, counted from 1, is refused.
-    Input(usize),
-    /// The board doesn't boot.
-    Board(BootFault),
-    /// Memory ran out.
-    OutOfMemory,
-}
-
-impl From<AsmFault> for OpenFault {
-    fn from(fault: AsmFault) -> Self {
-        match fault.kind {
-            FaultKind::OutOfMemory => OpenFault::OutOfMemory,
-            _ => OpenFault::Source(fault),
-        }
-    }
-}
-
-impl From<TimelineFault> for OpenFault {
-    fn from(fault: TimelineFault) -> Self {
-        match fault {
-            TimelineFault::BadLine(line) => OpenFault::Input(line),
-            TimelineFault::OutOfMemory => OpenFault::OutOfMemory,
-        }
-    }
-}
-
-impl From<BootFault> for OpenFault {
-    fn from(fault: BootFault) -> Self {
-        match fault {
-            BootFault::OutOfMemory => OpenFault::OutOfMemory,
-            _ => OpenFault::Board(fault),
-        }
-    }
 }
 
 /// What follows a command.
@@ -119,20 +79,6 @@ impl Drop for Lab {
     }
 }
 
-/// Opens a recording of a source's image on a board that gets the inputs of a timed list.
-pub(crate) fn open_recording(
-    alloc: Global,
-    source: &[u8],
-    inputs: &[u8],
-    pages: u32,
-    slots: u32,
-) -> Result<Recording, OpenFault> {
-    let program = assemble(alloc, source)?;
-    let timeline = Timeline::read(alloc, inputs)?;
-    let recording = Recording::open(alloc, program, timeline, pages, slots)?;
-    Ok(recording)
-}
-
 impl Lab {
     /// Assembles a source, and boots its image on a board that gets the inputs of a timed list.
     ///
@@ -148,7 +94,7 @@ impl Lab {
     ) -> Result<Lab, OpenFault> {
         let listing = list(alloc, source)?;
         let (pages, slots) = (u32::from(sizes.pages), u32::from(sizes.slots));
-        let recording = open_recording(alloc, source, inputs, pages, slots)?;
+        let recording = Recording::open(alloc, source, inputs, pages, slots)?;
         let Ok(source) = Vec::from_slice(alloc, source) else {
             return Err(OpenFault::OutOfMemory);
         };

@@ -29,4 +29,5 @@ mod why;
 pub use answer::Answer;
 pub use diagnosis::append_diagnosis;
 pub use inputs::saved_name;
-pub use lab::{Lab, Next, OpenFault, Sizes};
+pub use lab::{Lab, Next, Sizes};
+pub use rv_opening::OpenFault;

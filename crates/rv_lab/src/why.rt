@@ -2,7 +2,7 @@
 use crate::answer::Answer;
 use crate::causes::append_cause;
 use crate::control::{MSTATUS, MTVEC, has_bit};
-use crate::lab::{Lab, open_recording};
+use crate::lab::Lab;
 use crate::memory::{append_instruction, instruction_at};
 use crate::protection::{append_region, entry_at, read_region};
 use crate::registers::register_name;
@@ -186,7 +186,7 @@ impl Lab {
     fn recorded_again(&self) -> Result<Recording, NoMemory> {
         let inputs = self.recording.inputs_text(self.alloc)?;
         let (pages, slots) = (self.recording.pages(), self.recording.slots());
-        match open_recording(self.alloc, &self.source, &inputs, pages, slots) {
+        match Recording::open(self.alloc, &self.source, &inputs, pages, slots) {
             Ok(run) => Ok(run),
             Err(_) => Err(NoMemory),
         }

@@ -27,7 +27,8 @@ use Rattle.rv_monitor.specs.declared.stop.Stop.{Stop}
 use Rattle.rv_monitor.proofs.Given.{after_begun, due_begun, given_stands}
 use Rattle.rv_monitor.proofs.SessionCalls.{took_was, took_others, refused_was, refused_others, again_was, again_others}
 use Rattle.rv_monitor.proofs.Reached.{begun_stands, stopped_stands, refused_stands, step_stands, due_is_reached, rewound}
-use Rattle.rv_recording.specs.Recording.{RecordingState, IsRun, IsRecorded, gone_back, opened}
+use Rattle.rv_opening.specs.Opening.{IsOpened}
+use Rattle.rv_recording.specs.Recording.{RecordingState, IsRun, IsRecorded, gone_back}
 
 le : (m n : ℕ) → m ≤ n → nat_le m n ≡ true
 le m n h = grind (arith, nat_tests)
@@ -62,24 +63,26 @@ is_run first s r = run_by first s r.rising r.state
 
 -- ---- the recording before its first step
 
-pub opened_stands : (program : Assembly) (inputs : List TimedInput) (pages slots : ℕ)
-    → boot_fault (length program.bytes) pages slots ≡ None → never_falls inputs ≡ true → HasSteps inputs
-    → IsRecorded (opened program inputs pages slots)
-opened_stands program inputs pages slots b h small = record {
-  boots = b;
-  reached = begun_stands (start program.bytes pages) inputs h;
-  steps = small;
-  limit = refl;
-}
-
-pub opened_is : (s : SessionState) (board : BoardState) (program : Assembly) (inputs : List TimedInput)
-    (p q : ℕ) → s ≡ monitor.start board inputs program 9999999999 → board ≡ start program.bytes p
-    → boot_fault (length program.bytes) p q ≡ None → never_falls inputs ≡ true → HasSteps inputs
-    → IsRecorded (record { session = s; pages = p; slots = q })
-opened_is s board program inputs p q is booted b h small =
-    subst (λ (u : SessionState). IsRecorded (record { session = u; pages = p; slots = q }))
+begun_is : (s : SessionState) (board : BoardState) (program : Assembly) (inputs : List TimedInput)
+    (pages slots : ℕ) → boot_fault (length program.bytes) pages slots ≡ None → never_falls inputs ≡ true
+    → HasSteps inputs → s ≡ monitor.start board inputs program 9999999999 → board ≡ start program.bytes pages
+    → IsRecorded (record { session = s; pages = pages; slots = slots })
+begun_is s board program inputs pages slots boots rising small is booted =
+    subst (λ (u : SessionState). IsRecorded (record { session = u; pages = pages; slots = slots }))
     (sym (is ∙ ap (λ (c : BoardState). monitor.start c inputs program 9999999999) booted))
-    (opened_stands program inputs p q b h small)
+    (record {
+      boots = boots;
+      reached = begun_stands (start program.bytes pages) inputs rising;
+      steps = small;
+      limit = refl;
+    })
+
+pub opened_is : (source inputs : List ℕ) (pages slots : ℕ) (s : SessionState)
+    → IsOpened source inputs pages slots 9999999999 s → never_falls s.timed.inputs ≡ true
+    → HasSteps s.timed.inputs → IsRecorded (record { session = s; pages = pages; slots = slots })
+opened_is source inputs pages slots s opens rising small =
+    begun_is s (start s.program.bytes pages) s.program s.timed.inputs pages slots opens.boots rising small
+    opens.state refl
 
 -- ---- what calls leave
 

@@ -1,16 +1,13 @@
 -- To audit: public contracts cite this.
 -- A session that can be run again: its board is the run of the recorded events from reset on.
-use Rattle.std.specs.Prelude.{◌≡◌, ◌⊎◌, ℕ, ◌++◌, List, length, None}
+use Rattle.std.specs.Prelude.{◌≡◌, ◌⊎◌, ℕ, ◌++◌, length, None}
 use Rattle.rv_board.specs.Boot.{boot_fault, start}
 use Rattle.rv_board.specs.Move.{run}
 use Rattle.rv_board.specs.State.{BoardState}
 use Rattle.rv_lists.specs.Text.{HasSteps}
-use Rattle.rv_lists.specs.declared.input.TimedInput.{TimedInput}
 use Rattle.rv_monitor.specs.Events.{events_of, inputs_at}
 use Rattle.rv_monitor.specs.Laws.{IsReached}
 use Rattle.rv_monitor.specs.State.{SessionState, TimedState, begun, after}
-use Rattle.rv_monitor.specs.State as monitor
-use Rattle.rv_program.specs.Program.{Assembly}
 
 -- a session, and the pages and slots of its board
 pub record RecordingState : Type 0 where
@@ -21,15 +18,6 @@ pub record RecordingState : Type 0 where
 -- the most steps of a recording: the largest step of a timed list
 abbrev pub last_step : ℕ
 last_step = 9999999999
-
--- the recording of a program before its first step
-abbrev pub opened : Assembly → List TimedInput → ℕ → ℕ → RecordingState
-opened program inputs pages slots =
-    record {
-      session = monitor.start (start program.bytes pages) inputs program last_step;
-      pages = pages;
-      slots = slots;
-    }
 
 -- the board at reset
 abbrev pub first_board : RecordingState → BoardState

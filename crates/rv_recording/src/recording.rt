@@ -1,24 +1,23 @@
 //! Recordings.
-ghost use Rattle.std.specs.Prelude.{◌≡◌, ◌≢◌, ◌-◌, ◌++◌, ◌≤◌, true, false, length, min, None, Some, OnOk, OnErr, IfOk, IfErr, vec_capacity, vec_len};
+ghost use Rattle.std.specs.Prelude.{◌≡◌, ◌-◌, ◌++◌, ◌≤◌, true, false, min, Ok, Err, OnOk, OnErr, IfOk, IfErr, vec_capacity, vec_len};
 ghost use Rattle.std.specs.FinSet as set;
-ghost use Rattle.rv_board.specs.Boot.{boot_fault};
-ghost use Rattle.rv_board.specs.declared.event.BootFault.{BootFault};
-ghost use Rattle.rv_lists.specs.Text.{list_text, HasSteps, ReadsAs};
+ghost use Rattle.rv_lists.specs.Text.{list_text, ReadsAs};
 ghost use Rattle.rv_lists.specs.Timed.{never_falls};
 ghost use Rattle.rv_monitor.specs.Commands.{Leaves, LeavesRefused, answer, command_in, next_of};
 ghost use Rattle.rv_monitor.specs.Laws.{IsReached};
 ghost use Rattle.rv_monitor.specs.Room.{LacksRoom};
 ghost use Rattle.rv_monitor.specs.State.{given, with_break, without_break};
 ghost use Rattle.rv_monitor.specs.Stops.{Took, WasRefused, stop_of, TakesStep};
-ghost use Rattle.rv_recording.specs.Recording.{IsRun, first_board, gone_back, opened, with_timed};
+ghost use Rattle.rv_recording.specs.Recording.{IsRun, first_board, gone_back, last_step, with_timed};
+ghost use Rattle.rv_opening.specs.Opening.{Opens};
 
 use rv_base::NoMemory;
-use rv_board::{BootFault, BootedBoard};
+use rv_board::BootedBoard;
 use rv_cache::DecodeCache;
 use rv_hart::Outcome;
-use rv_lists::{Input, TimedInput, Timeline, list_text};
+use rv_lists::{Input, TimedInput, list_text};
 use rv_monitor::{Next, Session, Stop};
-use rv_program::Program;
+use rv_opening::{OpenFault, open_session};
 use rv_ram::PagedRam;
 use std::alloc::Global;
 use std::marker::Model;
@@ -63,35 +62,33 @@ impl Model for Recording {
 }
 
 impl Recording {
-    /// Boots a program on a board with a timed list, and returns the recording before its first step. It may
-    /// take [`LAST_STEP`] steps.
+    /// Opens a session of a source and a timed list on a board of these sizes, and returns it as a recording
+    /// before its first step. It may take [`LAST_STEP`] steps.
     ///
     /// # Errors
     ///
-    /// The first fault for which the board isn't booted; out of memory only if no other applies.
+    /// As those of [`open_session`].
     pub fn open(
         alloc: Global,
-        program: Program,
-        timeline: Timeline,
+        source: &[u8],
+        inputs: &[u8],
         pages: u32,
         slots: u32,
-    ) -> Result<Recording, BootFault>
-        requires { HasSteps timeline }
-        ensures ok { IfOk result (λ r. r ≡ opened program timeline pages slots) }
-        ensures err { IfErr result (λ e. e ≢ BootFault.OutOfMemory
-            → boot_fault (length program.bytes) pages slots ≡ Some e) }
-        ensures memory { IfErr result (λ e. e ≡ BootFault.OutOfMemory
-            → boot_fault (length program.bytes) pages slots ≡ None) }
+    ) -> Result<Recording, OpenFault>
+        ensures ok { IfOk result (λ r.
+            Opens source.now inputs.now pages slots last_step (Ok r.session)) }
+        ensures sizes { IfOk result (λ r. (r.pages ≡ pages) × (r.slots ≡ slots)) }
+        ensures err { IfErr result (λ e. Opens source.now inputs.now pages slots last_step (Err e)) }
     {
-        let board = match BootedBoard::boot(alloc, &program, pages, slots) {
-            Ok(board) => board,
+        let session = match open_session(alloc, source, inputs, pages, slots, LAST_STEP) {
+            Ok(session) => session,
             Err(fault) => return Err(fault),
         };
         // It tells that the steps of a timed list never fall.
-        let _inputs = timeline.inputs();
+        let _inputs = session.inputs();
         Ok(Recording {
             alloc,
-            session: Session::new(alloc, board, timeline, program, LAST_STEP),
+            session,
             pages,
             slots,
         })

@@ -5,6 +5,5 @@ use Rattle.rv_recording.proofs.recording.Recording.open.Goals as goal
 
 pub invariant_of-result : goal.invariant_of-result
 invariant_of-result c =
-    opened_is c.new.result c.in-Ok.board c.args.program c.args.timeline c.args.pages c.args.slots
-    c.new.ensures c.in-Ok.ensures.ok.1 c.in-Ok.ensures.ok.0
-    (ap never_falls (sym c.inputs-inputs.ensures.value) ∙ c.inputs-inputs.ensures.rising) c.requires
+    opened_is c.args.source.now c.args.inputs.now c.args.pages c.args.slots c.in-Ok.session c.in-Ok.ensures.opened
+    (ap never_falls (sym c.inputs-inputs.ensures.value) ∙ c.inputs-inputs.ensures.rising) c.in-Ok.ensures.steps
