@@ -8,8 +8,8 @@ use Rattle.rv_pmp.specs.Pmp.{PmpState}
 use Rattle.rv_pmp.specs.Pmp as protection
 use Rattle.rv_pmp.specs.declared.mode.Mode.{Mode}
 use Rattle.rv_pmp.specs.declared.mode.Mode.TheVariants.{User}
-use Rattle.rv_csr.specs.RegisterCases.{register_at, value_at}
-use Rattle.rv_csr.specs.Registers.{is_from_to, may_read, may_write, read}
+use Rattle.rv_csr.specs.RegisterCases.{is_from_to, register_at, value_at}
+use Rattle.rv_csr.specs.Registers.{may_read, may_write, read}
 use Rattle.rv_csr.proofs.Table.{read_by_cases}
 use Rattle.rv_csr.specs.State.{CsrState}
 use Rattle.rv_csr.specs.declared.register.Register.{Register}

@@ -1,13 +1,18 @@
 -- The table of the registers says what the cases by register say.
-use Rattle.std.proofs.Common.{◌≡◌, ℕ, ◌==◌, Bool, true, false, Option, Some, None, refl, ap}
-use Rattle.std.specs.Prelude.{if◌then◌else◌}
+use Rattle.std.proofs.Common.{◌≡◌, ℕ, zero, suc, ◌+◌, ◌-◌, ◌*◌, ◌==◌, Bool, true, false, cond, List, [], ◌∷◌, ◌++◌, map, length, Option, Some, None, refl, ap, sym, subst, ◌∙◌, arith, nat_lt, nat_le}
+use Rattle.std.specs.Prelude.{◌&&◌, ◌||◌, find, if◌then◌else◌, codes}
+use Rattle.std.specs.List.{list_any, range_with_len}
 use Rattle.std.specs.Option.{option_map, option_or}
+use Rattle.std.proofs.lemmas.Bool.Decides.{nat_tests}
+use Rattle.std.proofs.lemmas.List.Folds.{list_any-append}
+use Rattle.rv_isa.specs.Names.{csr_names, numbered}
 use Rattle.rv_isa.specs.declared.InterruptLines.{InterruptLines}
 use Rattle.rv_pmp.specs.Pmp as protection
+use Rattle.rv_pmp.specs.Pmp.{PmpState, is_config, is_address, config_word, entry_at, written}
 use Rattle.rv_pmp.specs.declared.mode.Mode.{Mode}
 use Rattle.rv_csr.specs.State.{CsrState}
-use Rattle.rv_csr.specs.Registers.{Row, table, row_in, is_zero, read, write, may_read, may_write}
-use Rattle.rv_csr.specs.RegisterCases.{register_at, value_of, with_value, with_value_at}
+use Rattle.rv_csr.specs.Registers.{Row, table, ignored, number_of, row_at, read, write, may_read, may_write}
+use Rattle.rv_csr.specs.RegisterCases.{is_from_to, is_zero, register_at, value_of, with_value, with_value_at}
 use Rattle.rv_csr.specs.RegisterCases as cases
 use Rattle.rv_csr.specs.declared.register.Register.{Register}
 use Rattle.rv_csr.specs.declared.register.Register.TheVariants.{Mstatus, Misa, Mie, Mtvec, Mscratch, Mepc, Mcause, Mtval, Mip, Mcycle, Mcycleh, Minstret, Minstreth, Zero}
@@ -23,54 +28,334 @@ Same (Some row) (Some register) = Agrees row register
 Same None (Some register) = ⊥
 Same (Some row) None = ⊥
 
-more : (b : Bool) (row : Row) (register : Register) (rows : Option Row) (others : Option Register)
-    → Agrees row register → Same rows others
-    → Same (if b then Some row else rows) (if b then Some register else others)
-more true row register rows others here later = here
-more false row register rows others here later = later
+-- one row more, with the number n
+more : (addr n : ℕ) (row : Row) (register : Register) (rows : Option Row) (others : Option Register)
+    → row.number ≡ n → Agrees row register → ((addr == n) ≡ false → Same rows others)
+    → Same (cond (addr == row.number) (Some row) rows) (if addr == n then Some register else others)
+more addr n row register rows others is here later =
+    subst (λ k. Same (cond (addr == k) (Some row) rows) (if addr == n then Some register else others)) (sym is)
+    (by (addr == n) later)
+  where
+    by : (b : Bool) → (b ≡ false → Same rows others)
+        → Same (cond b (Some row) rows) (if b then Some register else others)
+    by true later = here
+    by false later = later refl
 
-same : (addr : ℕ) → Same (row_in table addr) (register_at addr)
-unfolding table register_at
-same addr =
-    more (addr == 0x300) _ Mstatus _ _ (record { value = λ s lines. refl; written = λ s word. refl })
-    (more (addr == 0x301) _ Misa _ _ (record { value = λ s lines. refl; written = λ s word. refl })
-    (more (addr == 0x304) _ Mie _ _ (record { value = λ s lines. refl; written = λ s word. refl })
-    (more (addr == 0x305) _ Mtvec _ _ (record { value = λ s lines. refl; written = λ s word. refl })
-    (more (addr == 0x340) _ Mscratch _ _ (record { value = λ s lines. refl; written = λ s word. refl })
-    (more (addr == 0x341) _ Mepc _ _ (record { value = λ s lines. refl; written = λ s word. refl })
-    (more (addr == 0x342) _ Mcause _ _ (record { value = λ s lines. refl; written = λ s word. refl })
-    (more (addr == 0x343) _ Mtval _ _ (record { value = λ s lines. refl; written = λ s word. refl })
-    (more (addr == 0x344) _ Mip _ _ (record { value = λ s lines. refl; written = λ s word. refl })
-    (more (addr == 0xB00) _ Mcycle _ _ (record { value = λ s lines. refl; written = λ s word. refl })
-    (more (addr == 0xB80) _ Mcycleh _ _ (record { value = λ s lines. refl; written = λ s word. refl })
-    (more (addr == 0xB02) _ Minstret _ _ (record { value = λ s lines. refl; written = λ s word. refl })
-    (more (addr == 0xB82) _ Minstreth _ _ (record { value = λ s lines. refl; written = λ s word. refl })
-    (more (is_zero addr) _ Zero _ _ (record { value = λ s lines. refl; written = λ s word. refl })
-    tt)))))))))))))
+-- ---- the registers that have a name
+
+any-numbered : (addr : ℕ) (prefix suffix : List ℕ) (base first count : ℕ)
+    → list_any (λ named. addr == named.1) (numbered prefix suffix base first count)
+    ≡ (nat_le (base + first) addr && nat_lt addr (base + first + count))
+any-numbered addr prefix suffix base first zero = grind (arith, nat_tests)
+any-numbered addr prefix suffix base first (suc count) =
+    grind (arith, nat_tests, any-numbered addr prefix suffix base (first + 1) count)
+
+any-from_to : (addr : ℕ) (prefix suffix : List ℕ) (base first count low high : ℕ) → base + first ≡ low
+    → base + first + count ≡ suc high
+    → list_any (λ named. addr == named.1) (numbered prefix suffix base first count) ≡ is_from_to low high addr
+any-from_to addr prefix suffix base first count low high begin end =
+    any-numbered addr prefix suffix base first count ∙ grind (arith, nat_tests)
+
+joined : (addr : ℕ) (xs ys : List (List ℕ × ℕ)) (a b : Bool)
+    → list_any (λ named. addr == named.1) xs ≡ a → list_any (λ named. addr == named.1) ys ≡ b
+    → list_any (λ named. addr == named.1) (xs ++ ys) ≡ (a || b)
+joined addr xs ys a b p q = list_any-append (λ named. addr == named.1) xs ys ∙ (λ i. p i || q i)
+
+-- the names with numbers in them, each list with those after it
+abbrev high_halves : List (List ℕ × ℕ)
+high_halves = numbered (codes "mhpmcounter") (codes "h") 0xb80 3 29
+
+abbrev counters_on : List (List ℕ × ℕ)
+counters_on = numbered (codes "mhpmcounter") [] 0xb00 3 29 ++ high_halves
+
+abbrev events_on : List (List ℕ × ℕ)
+events_on = numbered (codes "mhpmevent") [] 0x320 3 29 ++ counters_on
+
+abbrev addresses_on : List (List ℕ × ℕ)
+addresses_on = numbered (codes "pmpaddr") [] 0x3b0 0 16 ++ events_on
+
+abbrev more_names : List (List ℕ × ℕ)
+more_names = numbered (codes "pmpcfg") [] 0x3a0 0 4 ++ addresses_on
+
+any-more : (addr : ℕ) → list_any (λ named. addr == named.1) more_names
+    ≡ (is_from_to 0x3A0 0x3A3 addr || (is_from_to 0x3B0 0x3BF addr || (is_from_to 0x323 0x33F addr
+    || (is_from_to 0xB03 0xB1F addr || is_from_to 0xB83 0xB9F addr))))
+any-more addr =
+    joined addr (numbered (codes "pmpcfg") [] 0x3a0 0 4) addresses_on _ _
+    (any-from_to addr (codes "pmpcfg") [] 0x3a0 0 4 0x3A0 0x3A3 refl refl)
+    (joined addr (numbered (codes "pmpaddr") [] 0x3b0 0 16) events_on _ _
+    (any-from_to addr (codes "pmpaddr") [] 0x3b0 0 16 0x3B0 0x3BF refl refl)
+    (joined addr (numbered (codes "mhpmevent") [] 0x320 3 29) counters_on _ _
+    (any-from_to addr (codes "mhpmevent") [] 0x320 3 29 0x323 0x33F refl refl)
+    (joined addr (numbered (codes "mhpmcounter") [] 0xb00 3 29) high_halves _ _
+    (any-from_to addr (codes "mhpmcounter") [] 0xb00 3 29 0xB03 0xB1F refl refl)
+    (any-from_to addr (codes "mhpmcounter") (codes "h") 0xb80 3 29 0xB83 0xB9F refl refl))))
+
+-- the numbers of the names without, before the rest
+abbrev named_before : ℕ → Bool → Bool
+named_before addr rest =
+    (addr == 0x300) || ((addr == 0x301) || ((addr == 0x304) || ((addr == 0x305) ||
+    ((addr == 0x306) || ((addr == 0x30A) || ((addr == 0x310) || ((addr == 0x31A) ||
+    ((addr == 0x320) || ((addr == 0x340) || ((addr == 0x341) || ((addr == 0x342) ||
+    ((addr == 0x343) || ((addr == 0x344) || ((addr == 0xB00) || ((addr == 0xB02) ||
+    ((addr == 0xB80) || ((addr == 0xB82) || ((addr == 0xF11) || ((addr == 0xF12) ||
+    ((addr == 0xF13) || ((addr == 0xF14) || ((addr == 0xF15) || rest))))))))))))))))))))))
+
+any-name : (addr : ℕ) → list_any (λ named. addr == named.1) csr_names
+    ≡ named_before addr (list_any (λ named. addr == named.1) more_names)
+unfolding csr_names
+any-name addr = refl
+
+five : (addr : ℕ) (rest : Bool)
+    → ((addr == 0xF11) || ((addr == 0xF12) || ((addr == 0xF13) || ((addr == 0xF14) || ((addr == 0xF15) || rest)))))
+    ≡ (is_from_to 0xF11 0xF15 addr || rest)
+five addr rest = grind (arith, nat_tests)
+
+five_and_more : (addr : ℕ)
+    → ((addr == 0x306) || ((addr == 0x30A) || ((addr == 0x310) || ((addr == 0x31A) || ((addr == 0x320)
+    || ((addr == 0xF11) || ((addr == 0xF12) || ((addr == 0xF13) || ((addr == 0xF14) || ((addr == 0xF15)
+    || (is_from_to 0x323 0x33F addr || (is_from_to 0xB03 0xB1F addr || is_from_to 0xB83 0xB9F addr))))))))))))
+    ≡ is_zero addr
+five_and_more addr =
+    ap (λ rest. (addr == 0x306) || ((addr == 0x30A) || ((addr == 0x310) || ((addr == 0x31A) || ((addr == 0x320) || rest)))))
+    (five addr _)
+
+-- a name that is of neither the table nor protection is one of a register that reads 0
+named_zero : (addr : ℕ) → (addr == 0x300) ≡ false
+    → (addr == 0x301) ≡ false
+    → (addr == 0x304) ≡ false
+    → (addr == 0x305) ≡ false
+    → (addr == 0x340) ≡ false
+    → (addr == 0x341) ≡ false
+    → (addr == 0x342) ≡ false
+    → (addr == 0x343) ≡ false
+    → (addr == 0x344) ≡ false
+    → (addr == 0xB00) ≡ false
+    → (addr == 0xB02) ≡ false
+    → (addr == 0xB80) ≡ false
+    → (addr == 0xB82) ≡ false
+    → is_config addr ≡ false → is_address addr ≡ false
+    → list_any (λ named. addr == named.1) csr_names ≡ is_zero addr
+named_zero addr f300 f301 f304 f305 f340 f341 f342 f343 f344 fB00 fB02 fB80 fB82 config address =
+    any-name addr ∙ ap (named_before addr) (any-more addr) ∙ rw (f300, f301, f304, f305, f340, f341, f342, f343, f344, fB00, fB02, fB80, fB82, config, address) (five_and_more addr)
+
+-- ---- the rows
+
+zero_found : (addr : ℕ) (names : List (List ℕ × ℕ)) (b : Bool)
+    → list_any (λ named. addr == named.1) names ≡ b
+    → Same (find (λ row. addr == row.number)
+    (map (λ named. record { number = named.1; value = λ s lines. 0; written = ignored }) names))
+    (if b then Some Zero else None)
+zero_found addr [] true is = absurd cc
+zero_found addr [] false is = tt
+zero_found addr (n ∷ ns) b is = by (addr == n.1) b is (zero_found addr ns b) where
+  by : (here b : Bool) → (here || list_any (λ named. addr == named.1) ns) ≡ b
+      → (list_any (λ named. addr == named.1) ns ≡ b
+      → Same (find (λ row. addr == row.number)
+      (map (λ named. record { number = named.1; value = λ s lines. 0; written = ignored }) ns))
+      (if b then Some Zero else None))
+      → Same (cond here (Some (record { number = n.1; value = λ s lines. 0; written = ignored }))
+      (find (λ row. addr == row.number)
+      (map (λ named. record { number = named.1; value = λ s lines. 0; written = ignored }) ns)))
+      (if b then Some Zero else None)
+  by true true is later = record { value = λ s lines. refl; written = λ s word. refl }
+  by true false is later = absurd cc
+  by false b is later = later is
+
+number_mstatus : number_of (codes "mstatus") ≡ 0x300
+unfolding number_of csr_names
+number_mstatus = refl
+
+number_misa : number_of (codes "misa") ≡ 0x301
+unfolding number_of csr_names
+number_misa = refl
+
+number_mie : number_of (codes "mie") ≡ 0x304
+unfolding number_of csr_names
+number_mie = refl
+
+number_mtvec : number_of (codes "mtvec") ≡ 0x305
+unfolding number_of csr_names
+number_mtvec = refl
+
+number_mscratch : number_of (codes "mscratch") ≡ 0x340
+unfolding number_of csr_names
+number_mscratch = refl
+
+number_mepc : number_of (codes "mepc") ≡ 0x341
+unfolding number_of csr_names
+number_mepc = refl
+
+number_mcause : number_of (codes "mcause") ≡ 0x342
+unfolding number_of csr_names
+number_mcause = refl
+
+number_mtval : number_of (codes "mtval") ≡ 0x343
+unfolding number_of csr_names
+number_mtval = refl
+
+number_mip : number_of (codes "mip") ≡ 0x344
+unfolding number_of csr_names
+number_mip = refl
+
+pub number_mcycle : number_of (codes "mcycle") ≡ 0xB00
+unfolding number_of csr_names
+number_mcycle = refl
+
+number_mcycleh : number_of (codes "mcycleh") ≡ 0xB80
+unfolding number_of csr_names
+number_mcycleh = refl
+
+pub number_minstret : number_of (codes "minstret") ≡ 0xB02
+unfolding number_of csr_names
+number_minstret = refl
+
+number_minstreth : number_of (codes "minstreth") ≡ 0xB82
+unfolding number_of csr_names
+number_minstreth = refl
+
+pub ruleset counter_numbers = (number_mcycle, number_minstret)
+
+same : (addr : ℕ) → is_config addr ≡ false → is_address addr ≡ false → Same (row_at addr) (register_at addr)
+unfolding table register_at row_at
+same addr config address =
+    more addr 0x300 _ Mstatus _ _ number_mstatus (record { value = λ s lines. refl; written = λ s word. refl }) (λ f300.
+    (more addr 0x301 _ Misa _ _ number_misa (record { value = λ s lines. refl; written = λ s word. refl }) (λ f301.
+    (more addr 0x304 _ Mie _ _ number_mie (record { value = λ s lines. refl; written = λ s word. refl }) (λ f304.
+    (more addr 0x305 _ Mtvec _ _ number_mtvec (record { value = λ s lines. refl; written = λ s word. refl }) (λ f305.
+    (more addr 0x340 _ Mscratch _ _ number_mscratch (record { value = λ s lines. refl; written = λ s word. refl }) (λ f340.
+    (more addr 0x341 _ Mepc _ _ number_mepc (record { value = λ s lines. refl; written = λ s word. refl }) (λ f341.
+    (more addr 0x342 _ Mcause _ _ number_mcause (record { value = λ s lines. refl; written = λ s word. refl }) (λ f342.
+    (more addr 0x343 _ Mtval _ _ number_mtval (record { value = λ s lines. refl; written = λ s word. refl }) (λ f343.
+    (more addr 0x344 _ Mip _ _ number_mip (record { value = λ s lines. refl; written = λ s word. refl }) (λ f344.
+    (more addr 0xB00 _ Mcycle _ _ number_mcycle (record { value = λ s lines. refl; written = λ s word. refl }) (λ fB00.
+    (more addr 0xB80 _ Mcycleh _ _ number_mcycleh (record { value = λ s lines. refl; written = λ s word. refl }) (λ fB80.
+    (more addr 0xB02 _ Minstret _ _ number_minstret (record { value = λ s lines. refl; written = λ s word. refl }) (λ fB02.
+    (more addr 0xB82 _ Minstreth _ _ number_minstreth (record { value = λ s lines. refl; written = λ s word. refl }) (λ fB82.
+    zero_found addr csr_names (is_zero addr)
+    (named_zero addr f300 f301 f304 f305 f340 f341 f342 f343 f344 fB00 fB02 fB80 fB82 config address))))))))))))))))))))))))))
+
+-- ---- what is at an address, by the register there
+
+-- where protection has a register, none of these is at the address
+module _ (addr : ℕ) (within : is_from_to 0x3A0 0x3BF addr ≡ true) where
+  not_at : (n : ℕ) → (nat_lt n 0x3A0 || nat_lt 0x3BF n) ≡ true → (addr == n) ≡ false
+  not_at n apart = grind (arith, nat_tests)
+
+  not_from : (first last : ℕ) → (nat_lt last 0x3A0 || nat_lt 0x3BF first) ≡ true
+      → is_from_to first last addr ≡ false
+  not_from first last apart = grind (arith, nat_tests)
+
+  none_within : register_at addr ≡ None
+  unfolding register_at
+  none_within =
+      rw (
+        not_at 0x300 refl,
+        not_at 0x301 refl,
+        not_at 0x304 refl,
+        not_at 0x305 refl,
+        not_at 0x340 refl,
+        not_at 0x341 refl,
+        not_at 0x342 refl,
+        not_at 0x343 refl,
+        not_at 0x344 refl,
+        not_at 0xB00 refl,
+        not_at 0xB80 refl,
+        not_at 0xB02 refl,
+        not_at 0xB82 refl,
+        not_at 0x306 refl,
+        not_at 0x30A refl,
+        not_at 0x310 refl,
+        not_at 0x31A refl,
+        not_at 0x320 refl,
+        not_from 0x323 0x33F refl,
+        not_from 0xB03 0xB1F refl,
+        not_from 0xB83 0xB9F refl,
+        not_from 0xF11 0xF15 refl,
+      ) refl
+
+none_config : (addr : ℕ) → is_config addr ≡ true → register_at addr ≡ None
+none_config addr within = none_within addr (grind (arith, nat_tests))
+
+none_address : (addr : ℕ) → is_address addr ≡ true → register_at addr ≡ None
+none_address addr within = none_within addr (grind (arith, nat_tests))
+
+abbrev given : {A : Type 0} → (Register → A) → Option A → Option Register → Option A
+given of_register protected None = protected
+given of_register protected (Some register) = Some (of_register register)
+
+module _ {A : Type 0} (of_row : Row → A) (of_register : Register → A) where
+  -- where protection has no register
+  picked : (found : Option Row) (register : Option Register) → Same found register
+      → ((row : Row) (register : Register) → Agrees row register → of_row row ≡ of_register register)
+      → option_map of_row found ≡ given of_register None register
+  picked None None s each = refl
+  picked (Some row) (Some register) s each = ap Some (each row register s)
+  picked None (Some register) s each = absurd s
+  picked (Some row) None s each = absurd s
 
 pub values : (state : CsrState) (lines : InterruptLines) (addr : ℕ)
-    → option_or (option_map (λ row. row.value state lines) (row_in table addr)) (protection.load state.pmp addr) ≡ cases.value_at state lines addr (register_at addr)
-values state lines addr = by (row_in table addr) (register_at addr) (same addr) where
-  by : (found : Option Row) (register : Option Register) → Same found register
-      → option_or (option_map (λ row. row.value state lines) found) (protection.load state.pmp addr)
-      ≡ cases.value_at state lines addr register
-  by None None s = refl
-  by (Some row) (Some register) s = ap Some (s.value state lines)
-  by None (Some register) s = absurd s
-  by (Some row) None s = absurd s
+    → option_or (protection.load state.pmp addr) (option_map (λ row. row.value state lines) (row_at addr))
+    ≡ cases.value_at state lines addr (register_at addr)
+unfolding protection.load
+values state lines addr =
+    go (is_config addr) refl (is_address addr) refl
+    ∙ sym (as_given (register_at addr))
+  where
+    loaded : Bool → Bool → Option ℕ
+    loaded a b =
+        if a then Some (config_word state.pmp (4 * (addr - 0x3A0)))
+        else (if b then Some (entry_at state.pmp (addr - 0x3B0)).address else None)
+
+    as_given : (register : Option Register)
+        → cases.value_at state lines addr register
+        ≡ given (value_of state lines) (loaded (is_config addr) (is_address addr)) register
+    as_given None = refl
+    as_given (Some register) = refl
+
+    go : (a : Bool) → is_config addr ≡ a → (b : Bool) → is_address addr ≡ b
+        → option_or (loaded a b) (option_map (λ row. row.value state lines) (row_at addr))
+        ≡ given (value_of state lines) (loaded a b) (register_at addr)
+    go true c b d = sym (ap (given (value_of state lines) (loaded true b)) (none_config addr c))
+    go false c true d = sym (ap (given (value_of state lines) (loaded false true)) (none_address addr d))
+    go false c false d =
+        picked (λ row. row.value state lines) (value_of state lines) (row_at addr) (register_at addr)
+        (same addr c d) (λ row register agrees. agrees.value state lines)
 
 pub writes : (state : CsrState) (addr word : ℕ)
-    → option_or (option_map (λ row. row.written state word) (row_in table addr))
-    (option_map (λ pmp. record state { pmp = pmp }) (protection.store state.pmp addr word)) ≡ with_value_at state addr word (register_at addr)
-writes state addr word = by (row_in table addr) (register_at addr) (same addr) where
-  by : (found : Option Row) (register : Option Register) → Same found register
-      → option_or (option_map (λ row. row.written state word) found)
-      (option_map (λ pmp. record state { pmp = pmp }) (protection.store state.pmp addr word))
-      ≡ with_value_at state addr word register
-  by None None s = refl
-  by (Some row) (Some register) s = ap Some (s.written state word)
-  by None (Some register) s = absurd s
-  by (Some row) None s = absurd s
+    → option_or (option_map (λ pmp. record state { pmp = pmp }) (protection.store state.pmp addr word))
+    (option_map (λ row. row.written state word) (row_at addr))
+    ≡ with_value_at state addr word (register_at addr)
+unfolding protection.store
+writes state addr word =
+    go (is_config addr) refl (is_address addr) refl
+    ∙ sym (as_given (register_at addr))
+  where
+    stored : Bool → Bool → Option CsrState
+    stored a b =
+        option_map (λ (pmp : PmpState). record state { pmp = pmp })
+        (if a || b
+        then Some (record {
+          entries = map (written state.pmp addr word) (range_with_len 0 (length state.pmp.entries));
+        }) else None)
+
+    of_register : Register → CsrState
+    of_register register = with_value state register word
+
+    as_given : (register : Option Register)
+        → with_value_at state addr word register
+        ≡ given of_register (stored (is_config addr) (is_address addr)) register
+    as_given None = refl
+    as_given (Some register) = refl
+
+    go : (a : Bool) → is_config addr ≡ a → (b : Bool) → is_address addr ≡ b
+        → option_or (stored a b) (option_map (λ row. row.written state word) (row_at addr))
+        ≡ given of_register (stored a b) (register_at addr)
+    go true c b d = sym (ap (given of_register (stored true b)) (none_config addr c))
+    go false c true d = sym (ap (given of_register (stored false true)) (none_address addr d))
+    go false c false d =
+        picked (λ row. row.written state word) of_register (row_at addr) (register_at addr)
+        (same addr c d) (λ row register agrees. agrees.written state word)
 
 -- ---- a read and a write by the register at the address
 

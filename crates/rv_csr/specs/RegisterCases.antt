@@ -1,14 +1,27 @@
 -- The control registers by cases: the register at an address, its value, and the state after a write to it.
 -- Not to audit: private contracts alone cite this. proofs/ proves that it is what the table says.
-use Rattle.std.specs.Prelude.{ℕ, ◌+◌, ◌%◌, ◌/◌, ◌^◌, ◌==◌, if◌then◌else◌, Option, Some, None}
+use Rattle.std.specs.Prelude.{ℕ, ◌+◌, ◌%◌, ◌/◌, ◌^◌, Bool, ◌==◌, ◌&&◌, ◌||◌, nat_le, if◌then◌else◌, Option, Some, None}
 use Rattle.std.specs.Option.{option_map}
 use Rattle.rv_base.specs.Halves.{with_low, with_high}
 use Rattle.rv_isa.specs.declared.InterruptLines.{InterruptLines}
 use Rattle.rv_pmp.specs.Pmp as protection
 use Rattle.rv_csr.specs.State.{CsrState}
-use Rattle.rv_csr.specs.Registers.{is_zero, status_word, with_status, lines_word, lines_of, aligned}
+use Rattle.rv_csr.specs.Registers.{status_word, with_status, lines_word, lines_of, aligned}
 use Rattle.rv_csr.specs.declared.register.Register.{Register}
 use Rattle.rv_csr.specs.declared.register.Register.TheVariants.{Mstatus, Misa, Mie, Mtvec, Mscratch, Mepc, Mcause, Mtval, Mip, Mcycle, Mcycleh, Minstret, Minstreth, Zero}
+
+-- whether an address is one of those from `first` to `last`
+abbrev pub is_from_to : ℕ → ℕ → ℕ → Bool
+is_from_to first last addr = nat_le first addr && nat_le addr last
+
+-- whether a register is one that reads 0. These ignore writes: mcounteren, menvcfg, mstatush, menvcfgh,
+-- mcountinhibit, mhpmevent3 to 31, mhpmcounter3 to 31 and their high halves. These are read-only: mvendorid,
+-- marchid, mimpid, mhartid, mconfigptr
+abbrev pub is_zero : ℕ → Bool
+is_zero addr =
+    (addr == 0x306) || ((addr == 0x30A) || ((addr == 0x310) || ((addr == 0x31A) || ((addr == 0x320)
+    || (is_from_to 0xF11 0xF15 addr || (is_from_to 0x323 0x33F addr
+    || (is_from_to 0xB03 0xB1F addr || is_from_to 0xB83 0xB9F addr)))))))
 
 -- the register at an address, if there is one that isn't of physical memory protection
 unfoldable pub register_at : ℕ → Option Register

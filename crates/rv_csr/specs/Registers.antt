@@ -2,9 +2,11 @@
 -- which modes may do either.
 -- RISC-V Privileged Architecture 20211203, section 2.1 for the addresses and 3.1 for the registers.
 -- To audit: public contracts cite this.
-use Rattle.std.specs.Prelude.{◌≡◌, ℕ, ◌+◌, ◌*◌, ◌/◌, ◌%◌, ◌^◌, Bool, false, ◌==◌, ◌&&◌, ◌||◌, not, nat_le, if◌then◌else◌, List, [], ◌∷◌, find, unwrap_or, Option, Some, None}
+use Rattle.std.specs.Prelude.{◌≡◌, ℕ, ◌+◌, ◌*◌, ◌/◌, ◌%◌, ◌^◌, Bool, false, ◌==◌, ◌&&◌, ◌||◌, not, nat_le, if◌then◌else◌, List, [], ◌∷◌, ◌++◌, map, codes, find, unwrap_or, Option, Some, None}
 use Rattle.std.specs.Option.{option_map, option_map_or, option_or}
+use Rattle.rv_base.specs.Tables.{lookup}
 use Rattle.rv_base.specs.Halves.{with_low, with_high}
+use Rattle.rv_isa.specs.Names.{csr_names}
 use Rattle.rv_isa.specs.Number.{bit, truth}
 use Rattle.rv_isa.specs.declared.InterruptLines.{InterruptLines}
 use Rattle.rv_pmp.specs.Pmp as protection
@@ -12,25 +14,10 @@ use Rattle.rv_pmp.specs.declared.mode.Mode.{Mode}
 use Rattle.rv_pmp.specs.declared.mode.Mode.TheVariants.{User, Machine}
 use Rattle.rv_csr.specs.State.{CsrState}
 use Rattle.rv_csr.specs.declared.counters.Counters.{Counters}
-use Rattle.rv_csr.specs.declared.register.Register.{Register}
-use Rattle.rv_csr.specs.declared.register.Register.TheVariants.{Mstatus, Misa, Mie, Mtvec, Mscratch, Mepc, Mcause, Mtval, Mip, Mcycle, Mcycleh, Minstret, Minstreth, Zero}
 use Rattle.rv_csr.specs.declared.mstatus.Mstatus as mstatus
 use Rattle.rv_csr.specs.declared.trap.TrapRegisters.{TrapRegisters}
 
 -- ---- the addresses
-
--- whether an address is one of those from `first` to `last`
-abbrev pub is_from_to : ℕ → ℕ → ℕ → Bool
-is_from_to first last addr = nat_le first addr && nat_le addr last
-
--- whether a register is one that reads 0. These ignore writes: mcounteren, menvcfg, mstatush, menvcfgh,
--- mcountinhibit, mhpmevent3 to 31, mhpmcounter3 to 31 and their high halves. These are read-only: mvendorid,
--- marchid, mimpid, mhartid, mconfigptr
-abbrev pub is_zero : ℕ → Bool
-is_zero addr =
-    (addr == 0x306) || (addr == 0x30A) || (addr == 0x310) || (addr == 0x31A) || (addr == 0x320)
-    || is_from_to 0x323 0x33F addr
-    || is_from_to 0xB03 0xB1F addr || is_from_to 0xB83 0xB9F addr || is_from_to 0xF11 0xF15 addr
 
 -- the level of a mode, as MPP and bits 9 and 8 of an address hold it
 abbrev pub level : Mode → ℕ
@@ -85,17 +72,19 @@ aligned word = word / 4 * 4
 
 -- ---- the table
 
+-- the number of the register with a name
+unfoldable pub number_of : List ℕ → ℕ
+number_of name = unwrap_or (lookup name csr_names) 0
+
 -- a register: its number, the word that a read gives while the interrupt lines have these levels, and the
 -- state after a write of a word
 pub record Row : Type 0 where
-  pub register : Register
   pub number : ℕ
   pub value : CsrState → InterruptLines → ℕ
   pub written : CsrState → ℕ → CsrState
 
-abbrev pub row : Register → ℕ → (CsrState → InterruptLines → ℕ) → (CsrState → ℕ → CsrState) → Row
-row register number value written =
-    record { register = register; number = number; value = value; written = written }
+abbrev pub row : List ℕ → (CsrState → InterruptLines → ℕ) → (CsrState → ℕ → CsrState) → Row
+row name value written = record { number = number_of name; value = value; written = written }
 
 -- a write that changes nothing, one to a register of traps, and one to a counter
 abbrev pub ignored : CsrState → ℕ → CsrState
@@ -111,45 +100,48 @@ to_counter write state word = record state { counters = write state.counters wor
 -- user mode; mtvec has no bit 1
 unfoldable pub table : List Row
 table =
-    row Mstatus 0x300 (λ s lines. status_word s.status) (λ s w. record s { status = with_status s.status w })
-    ∷ row Misa 0x301 (λ s lines. 0x40101100) ignored
-    ∷ row Mie 0x304 (λ s lines. lines_word s.enables) (λ s w. record s { enables = lines_of w })
-    ∷ row Mtvec 0x305 (λ s lines. s.trap.vector) (to_trap (λ t w. record t { vector = aligned w + w % 2 }))
-    ∷ row Mscratch 0x340 (λ s lines. s.trap.scratch) (to_trap (λ t w. record t { scratch = w }))
-    ∷ row Mepc 0x341 (λ s lines. s.trap.epc) (to_trap (λ t w. record t { epc = aligned w }))
-    ∷ row Mcause 0x342 (λ s lines. s.trap.cause) (to_trap (λ t w. record t { cause = w }))
-    ∷ row Mtval 0x343 (λ s lines. s.trap.value) (to_trap (λ t w. record t { value = w }))
-    ∷ row Mip 0x344 (λ s lines. lines_word lines) ignored
-    ∷ row Mcycle 0xB00 (λ s lines. s.counters.cycles % 2 ^ 32)
+    row (codes "mstatus") (λ s lines. status_word s.status) (λ s w. record s { status = with_status s.status w })
+    ∷ row (codes "misa") (λ s lines. 0x40101100) ignored
+    ∷ row (codes "mie") (λ s lines. lines_word s.enables) (λ s w. record s { enables = lines_of w })
+    ∷ row (codes "mtvec") (λ s lines. s.trap.vector) (to_trap (λ t w. record t { vector = aligned w + w % 2 }))
+    ∷ row (codes "mscratch") (λ s lines. s.trap.scratch) (to_trap (λ t w. record t { scratch = w }))
+    ∷ row (codes "mepc") (λ s lines. s.trap.epc) (to_trap (λ t w. record t { epc = aligned w }))
+    ∷ row (codes "mcause") (λ s lines. s.trap.cause) (to_trap (λ t w. record t { cause = w }))
+    ∷ row (codes "mtval") (λ s lines. s.trap.value) (to_trap (λ t w. record t { value = w }))
+    ∷ row (codes "mip") (λ s lines. lines_word lines) ignored
+    ∷ row (codes "mcycle") (λ s lines. s.counters.cycles % 2 ^ 32)
     (to_counter (λ c w. record c { cycles = with_low c.cycles w }))
-    ∷ row Mcycleh 0xB80 (λ s lines. s.counters.cycles / 2 ^ 32)
+    ∷ row (codes "mcycleh") (λ s lines. s.counters.cycles / 2 ^ 32)
     (to_counter (λ c w. record c { cycles = with_high c.cycles w }))
-    ∷ row Minstret 0xB02 (λ s lines. s.counters.retired % 2 ^ 32)
+    ∷ row (codes "minstret") (λ s lines. s.counters.retired % 2 ^ 32)
     (to_counter (λ c w. record c { retired = with_low c.retired w }))
-    ∷ row Minstreth 0xB82 (λ s lines. s.counters.retired / 2 ^ 32)
+    ∷ row (codes "minstreth") (λ s lines. s.counters.retired / 2 ^ 32)
     (to_counter (λ c w. record c { retired = with_high c.retired w }))
     ∷ []
 
--- the row of a number: one of the table, or else one that reads 0, if there is one
-abbrev pub row_in : List Row → ℕ → Option Row
-row_in [] addr = if is_zero addr then Some (row Zero addr (λ s lines. 0) ignored) else None
-row_in (row ∷ rows) addr = if addr == row.number then Some row else row_in rows addr
+-- a row for each name. A register with no other row, as mcounteren, reads 0, and a write to it changes nothing
+abbrev pub zeros : List Row
+zeros = map (λ named. record { number = named.1; value = λ s lines. 0; written = ignored }) csr_names
 
--- ---- reads and writes
+-- the row of a number, of which the first counts
+unfoldable pub row_at : ℕ → Option Row
+row_at addr = find (λ row. addr == row.number) (table ++ zeros)
+
+-- ---- reads and writes: physical memory protection has the first word about an address
 
 -- the value that a mode reads at an address, while the interrupt lines have these levels; None if it may not
 unfoldable pub read : CsrState → ℕ → Mode → InterruptLines → Option ℕ
 read state addr mode lines =
     if may_read addr mode
-    then option_or (option_map (λ row. row.value state lines) (row_in table addr)) (protection.load state.pmp addr)
+    then option_or (protection.load state.pmp addr) (option_map (λ row. row.value state lines) (row_at addr))
     else None
 
 -- the state after a mode's write at an address; None if it may not
 unfoldable pub write : CsrState → ℕ → Mode → ℕ → Option CsrState
 write state addr mode word =
     if may_write addr mode
-    then option_or (option_map (λ row. row.written state word) (row_in table addr))
-    (option_map (λ pmp. record state { pmp = pmp }) (protection.store state.pmp addr word))
+    then option_or (option_map (λ pmp. record state { pmp = pmp }) (protection.store state.pmp addr word))
+    (option_map (λ row. row.written state word) (row_at addr))
     else None
 
 -- the result of a write, and the state after it: unchanged if the mode may not write
@@ -172,8 +164,10 @@ counted_on count more = (count + more) % 2 ^ 64
 -- instruction wrote a half of keeps what was written
 unfoldable pub counted : Counters → Bool → Option ℕ → Counters
 counted counters retired wrote = record {
-  cycles = if wrote_half 0xB00 wrote then counters.cycles else counted_on counters.cycles 1;
-  retired = if retired && not (wrote_half 0xB02 wrote) then counted_on counters.retired 1 else counters.retired;
+  cycles = if wrote_half (number_of (codes "mcycle")) wrote then counters.cycles
+      else counted_on counters.cycles 1;
+  retired = if retired && not (wrote_half (number_of (codes "minstret")) wrote)
+      then counted_on counters.retired 1 else counters.retired;
 }
 
 -- the counters after a number of steps whose instructions all retired, and wrote neither of them

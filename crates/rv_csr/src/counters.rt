@@ -21,7 +21,7 @@ pub struct Counters {
 impl Counters {
     /// Counts a step. `retired` is whether its instruction retired, and `wrote` the address of the control
     /// register that it wrote, if any: a counter that the step wrote a half of keeps what was written.
-    #[tactic(auto, unfolding(crate::specs::Registers::counted))]
+    #[tactic(auto, unfolding(crate::specs::Registers::counted), using(crate::proofs::Table::counter_numbers))]
     pub(crate) fn count(&mut self, retired: bool, wrote: Option<u16>)
         ensures { self.new ≡ counted self.old retired wrote }
     {

@@ -2,6 +2,7 @@
 //! section 2.1 and table 2.5.
 ghost use Rattle.std.specs.Prelude.{◌≡◌, ◌<◌};
 ghost use Rattle.rv_csr.specs.RegisterCases.{register_at};
+ghost use Rattle.rv_csr.specs.RegisterCases as cases;
 ghost use Rattle.rv_csr.specs.Registers as spec;
 
 use crate::mstatus::mode_level;
@@ -73,7 +74,7 @@ impl Register {
 
 /// Whether the register at address `addr` reads 0 and ignores writes.
 fn is_zero(addr: u16) -> bool
-    ensures { result ≡ spec.is_zero addr }
+    ensures { result ≡ cases.is_zero addr }
 {
     match addr {
         0x306 | 0x30A | 0x310 | 0x31A | 0x320 => true,
