@@ -44,40 +44,40 @@ register_at addr =
 
 -- the value of a register, while the interrupt lines have these levels
 abbrev pub value_of : CsrState → InterruptLines → Register → ℕ
-value_of state lines Mstatus = status_word state.status
+value_of state lines Mstatus = status_word state.mstatus
 value_of state lines Misa = 0x40101100
-value_of state lines Mie = lines_word state.enables
-value_of state lines Mtvec = state.trap.vector
-value_of state lines Mscratch = state.trap.scratch
-value_of state lines Mepc = state.trap.epc
-value_of state lines Mcause = state.trap.cause
-value_of state lines Mtval = state.trap.value
+value_of state lines Mie = lines_word state.mie
+value_of state lines Mtvec = state.trap.mtvec
+value_of state lines Mscratch = state.trap.mscratch
+value_of state lines Mepc = state.trap.mepc
+value_of state lines Mcause = state.trap.mcause
+value_of state lines Mtval = state.trap.mtval
 value_of state lines Mip = lines_word lines
-value_of state lines Mcycle = state.counters.cycles % 2 ^ 32
-value_of state lines Mcycleh = state.counters.cycles / 2 ^ 32
-value_of state lines Minstret = state.counters.retired % 2 ^ 32
-value_of state lines Minstreth = state.counters.retired / 2 ^ 32
+value_of state lines Mcycle = state.counters.mcycle % 2 ^ 32
+value_of state lines Mcycleh = state.counters.mcycle / 2 ^ 32
+value_of state lines Minstret = state.counters.minstret % 2 ^ 32
+value_of state lines Minstreth = state.counters.minstret / 2 ^ 32
 value_of state lines Zero = 0
 
 -- the state after a write to a register
 abbrev pub with_value : CsrState → Register → ℕ → CsrState
-with_value state Mstatus word = record state { status = with_status state.status word }
+with_value state Mstatus word = record state { mstatus = with_status state.mstatus word }
 with_value state Misa word = state
-with_value state Mie word = record state { enables = lines_of word }
-with_value state Mtvec word = record state { trap = record state.trap { vector = aligned word + word % 2 } }
-with_value state Mscratch word = record state { trap = record state.trap { scratch = word } }
-with_value state Mepc word = record state { trap = record state.trap { epc = aligned word } }
-with_value state Mcause word = record state { trap = record state.trap { cause = word } }
-with_value state Mtval word = record state { trap = record state.trap { value = word } }
+with_value state Mie word = record state { mie = lines_of word }
+with_value state Mtvec word = record state { trap = record state.trap { mtvec = aligned word + word % 2 } }
+with_value state Mscratch word = record state { trap = record state.trap { mscratch = word } }
+with_value state Mepc word = record state { trap = record state.trap { mepc = aligned word } }
+with_value state Mcause word = record state { trap = record state.trap { mcause = word } }
+with_value state Mtval word = record state { trap = record state.trap { mtval = word } }
 with_value state Mip word = state
 with_value state Mcycle word =
-    record state { counters = record state.counters { cycles = with_low state.counters.cycles word } }
+    record state { counters = record state.counters { mcycle = with_low state.counters.mcycle word } }
 with_value state Mcycleh word =
-    record state { counters = record state.counters { cycles = with_high state.counters.cycles word } }
+    record state { counters = record state.counters { mcycle = with_high state.counters.mcycle word } }
 with_value state Minstret word =
-    record state { counters = record state.counters { retired = with_low state.counters.retired word } }
+    record state { counters = record state.counters { minstret = with_low state.counters.minstret word } }
 with_value state Minstreth word =
-    record state { counters = record state.counters { retired = with_high state.counters.retired word } }
+    record state { counters = record state.counters { minstret = with_high state.counters.minstret word } }
 with_value state Zero word = state
 
 -- the value at an address, and the state after a write there, by the register at the address

@@ -14,7 +14,7 @@ use Rattle.rv_pmp.specs.declared.mode.Mode.{Mode}
 use Rattle.rv_pmp.specs.declared.mode.Mode.TheVariants.{User, Machine}
 use Rattle.rv_csr.specs.State.{CsrState}
 use Rattle.rv_csr.specs.declared.counters.Counters.{Counters}
-use Rattle.rv_csr.specs.declared.mstatus.Mstatus as mstatus
+use Rattle.rv_csr.specs.declared.mstatus.Mstatus.{Mstatus}
 use Rattle.rv_csr.specs.declared.trap.TrapRegisters.{TrapRegisters}
 
 -- ---- the addresses
@@ -39,24 +39,22 @@ abbrev pub flag : ℕ → ℕ → Bool
 flag word place = bit word place == 1
 
 -- mstatus: MIE in bit 3, MPIE in bit 7, MPP in bits 12 and 11, MPRV in bit 17, TW in bit 21
-unfoldable pub status_word : mstatus.Mstatus → ℕ
-status_word status =
-    truth status.interrupts * 2 ^ 3 + truth status.previous_interrupts * 2 ^ 7
-    + level status.previous_mode * 2 ^ 11
-    + truth status.modify_privilege * 2 ^ 17 + truth status.timeout_wait * 2 ^ 21
+unfoldable pub status_word : Mstatus → ℕ
+status_word s =
+    truth s.mie * 2 ^ 3 + truth s.mpie * 2 ^ 7 + level s.mpp * 2 ^ 11 + truth s.mprv * 2 ^ 17 + truth s.tw * 2 ^ 21
 
 -- the mode of a field of MPP, which keeps the old mode if the field is no mode
 unfoldable pub mode_kept : Mode → ℕ → Mode
 mode_kept old field = unwrap_or (find (λ mode. field == level mode) (User ∷ Machine ∷ [])) old
 
 -- mstatus after a write
-unfoldable pub with_status : mstatus.Mstatus → ℕ → mstatus.Mstatus
+unfoldable pub with_status : Mstatus → ℕ → Mstatus
 with_status old word = record {
-  interrupts = flag word 3;
-  previous_interrupts = flag word 7;
-  previous_mode = mode_kept old.previous_mode (word / 2 ^ 11 % 4);
-  modify_privilege = flag word 17;
-  timeout_wait = flag word 21;
+  mie = flag word 3;
+  mpie = flag word 7;
+  mpp = mode_kept old.mpp (word / 2 ^ 11 % 4);
+  mprv = flag word 17;
+  tw = flag word 21;
 }
 
 -- mie and mip: the software interrupt in bit 3, that of the timer in bit 7, the external one in bit 11
@@ -100,23 +98,23 @@ to_counter write state word = record state { counters = write state.counters wor
 -- user mode; mtvec has no bit 1
 unfoldable pub table : List Row
 table =
-    row (codes "mstatus") (λ s lines. status_word s.status) (λ s w. record s { status = with_status s.status w })
+    row (codes "mstatus") (λ s lines. status_word s.mstatus) (λ s w. record s { mstatus = with_status s.mstatus w })
     ∷ row (codes "misa") (λ s lines. 0x40101100) ignored
-    ∷ row (codes "mie") (λ s lines. lines_word s.enables) (λ s w. record s { enables = lines_of w })
-    ∷ row (codes "mtvec") (λ s lines. s.trap.vector) (to_trap (λ t w. record t { vector = aligned w + w % 2 }))
-    ∷ row (codes "mscratch") (λ s lines. s.trap.scratch) (to_trap (λ t w. record t { scratch = w }))
-    ∷ row (codes "mepc") (λ s lines. s.trap.epc) (to_trap (λ t w. record t { epc = aligned w }))
-    ∷ row (codes "mcause") (λ s lines. s.trap.cause) (to_trap (λ t w. record t { cause = w }))
-    ∷ row (codes "mtval") (λ s lines. s.trap.value) (to_trap (λ t w. record t { value = w }))
+    ∷ row (codes "mie") (λ s lines. lines_word s.mie) (λ s w. record s { mie = lines_of w })
+    ∷ row (codes "mtvec") (λ s lines. s.trap.mtvec) (to_trap (λ t w. record t { mtvec = aligned w + w % 2 }))
+    ∷ row (codes "mscratch") (λ s lines. s.trap.mscratch) (to_trap (λ t w. record t { mscratch = w }))
+    ∷ row (codes "mepc") (λ s lines. s.trap.mepc) (to_trap (λ t w. record t { mepc = aligned w }))
+    ∷ row (codes "mcause") (λ s lines. s.trap.mcause) (to_trap (λ t w. record t { mcause = w }))
+    ∷ row (codes "mtval") (λ s lines. s.trap.mtval) (to_trap (λ t w. record t { mtval = w }))
     ∷ row (codes "mip") (λ s lines. lines_word lines) ignored
-    ∷ row (codes "mcycle") (λ s lines. s.counters.cycles % 2 ^ 32)
-    (to_counter (λ c w. record c { cycles = with_low c.cycles w }))
-    ∷ row (codes "mcycleh") (λ s lines. s.counters.cycles / 2 ^ 32)
-    (to_counter (λ c w. record c { cycles = with_high c.cycles w }))
-    ∷ row (codes "minstret") (λ s lines. s.counters.retired % 2 ^ 32)
-    (to_counter (λ c w. record c { retired = with_low c.retired w }))
-    ∷ row (codes "minstreth") (λ s lines. s.counters.retired / 2 ^ 32)
-    (to_counter (λ c w. record c { retired = with_high c.retired w }))
+    ∷ row (codes "mcycle") (λ s lines. s.counters.mcycle % 2 ^ 32)
+    (to_counter (λ c w. record c { mcycle = with_low c.mcycle w }))
+    ∷ row (codes "mcycleh") (λ s lines. s.counters.mcycle / 2 ^ 32)
+    (to_counter (λ c w. record c { mcycle = with_high c.mcycle w }))
+    ∷ row (codes "minstret") (λ s lines. s.counters.minstret % 2 ^ 32)
+    (to_counter (λ c w. record c { minstret = with_low c.minstret w }))
+    ∷ row (codes "minstreth") (λ s lines. s.counters.minstret / 2 ^ 32)
+    (to_counter (λ c w. record c { minstret = with_high c.minstret w }))
     ∷ []
 
 -- a row for each name. A register with no other row, as mcounteren, reads 0, and a write to it changes nothing
@@ -164,13 +162,13 @@ counted_on count more = (count + more) % 2 ^ 64
 -- instruction wrote a half of keeps what was written
 unfoldable pub counted : Counters → Bool → Option ℕ → Counters
 counted counters retired wrote = record {
-  cycles = if wrote_half (number_of (codes "mcycle")) wrote then counters.cycles
-      else counted_on counters.cycles 1;
-  retired = if retired && not (wrote_half (number_of (codes "minstret")) wrote)
-      then counted_on counters.retired 1 else counters.retired;
+  mcycle = if wrote_half (number_of (codes "mcycle")) wrote then counters.mcycle
+      else counted_on counters.mcycle 1;
+  minstret = if retired && not (wrote_half (number_of (codes "minstret")) wrote)
+      then counted_on counters.minstret 1 else counters.minstret;
 }
 
 -- the counters after a number of steps whose instructions all retired, and wrote neither of them
 abbrev pub later : Counters → ℕ → Counters
 later counters steps =
-    record { cycles = counted_on counters.cycles steps; retired = counted_on counters.retired steps }
+    record { mcycle = counted_on counters.mcycle steps; minstret = counted_on counters.minstret steps }

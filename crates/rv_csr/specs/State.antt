@@ -12,8 +12,8 @@ use Rattle.rv_csr.specs.declared.trap.TrapRegisters.{TrapRegisters}
 -- mstatus; the interrupts that mie enables; the registers of traps; mcycle and minstret; physical memory
 -- protection
 pub record CsrState : Type 0 where
-  pub status : Mstatus
-  pub enables : InterruptLines
+  pub mstatus : Mstatus
+  pub mie : InterruptLines
   pub trap : TrapRegisters
   pub counters : Counters
   pub pmp : PmpState
@@ -21,16 +21,9 @@ pub record CsrState : Type 0 where
 -- the state after a reset: all 0
 abbrev pub reset : CsrState
 reset = record {
-  status =
-      record {
-        interrupts = false;
-        previous_interrupts = false;
-        previous_mode = User;
-        modify_privilege = false;
-        timeout_wait = false;
-      };
-  enables = record { software = false; timer = false; external = false };
-  trap = record { vector = 0; scratch = 0; epc = 0; cause = 0; value = 0 };
-  counters = record { cycles = 0; retired = 0 };
+  mstatus = record { mie = false; mpie = false; mpp = User; mprv = false; tw = false };
+  mie = record { software = false; timer = false; external = false };
+  trap = record { mtvec = 0; mscratch = 0; mepc = 0; mcause = 0; mtval = 0 };
+  counters = record { mcycle = 0; minstret = 0 };
   pmp = protection.reset;
 }

@@ -27,7 +27,7 @@ first_enabled lines enables =
 -- the cause of the interrupt that is taken in a mode, if any: in machine mode none unless MIE is set
 unfoldable pub pending : CsrState → Mode → InterruptLines → Option ℕ
 pending state mode lines =
-    if is_machine mode && not state.status.interrupts then None else first_enabled lines state.enables
+    if is_machine mode && not state.mstatus.mie then None else first_enabled lines state.mie
 
 -- ---- trap entry and return
 
@@ -35,35 +35,30 @@ pending state mode lines =
 -- set
 unfoldable pub entered : CsrState → ℕ → ℕ → ℕ → Mode → CsrState
 entered state cause epc tval mode = record state {
-  status =
-      record state.status {
-        interrupts = false;
-        previous_interrupts = state.status.interrupts;
-        previous_mode = mode;
-      };
-  trap = record state.trap { epc = aligned epc; cause = cause; value = tval };
+  mstatus = record state.mstatus { mie = false; mpie = state.mstatus.mie; mpp = mode };
+  trap = record state.trap { mepc = aligned epc; mcause = cause; mtval = tval };
 }
 
 -- the address of the trap handler: the base of mtvec, or, for an interrupt in vectored mode, the base plus 4
 -- times its code
 unfoldable pub trap_pc : CsrState → ℕ → ℕ
 trap_pc state cause =
-    let base = aligned state.trap.vector in
-    if (state.trap.vector % 2 == 1) && nat_le (2 ^ 31) cause
+    let base = aligned state.trap.mtvec in
+    if (state.trap.mtvec % 2 == 1) && nat_le (2 ^ 31) cause
     then (base + 4 * (cause - 2 ^ 31)) % 2 ^ 32 else base
 
 -- the state after the return from a trap: MIE becomes MPIE, MPIE 1, and MPP user mode; MPRV is cleared unless
 -- the return is to machine mode
 unfoldable pub left : CsrState → CsrState
 left state = record state {
-  status = record state.status {
-    interrupts = state.status.previous_interrupts;
-    previous_interrupts = true;
-    previous_mode = User;
-    modify_privilege = state.status.modify_privilege && is_machine state.status.previous_mode;
+  mstatus = record state.mstatus {
+    mie = state.mstatus.mpie;
+    mpie = true;
+    mpp = User;
+    mprv = state.mstatus.mprv && is_machine state.mstatus.mpp;
   };
 }
 
 -- the mode whose permissions loads and stores have: MPP if MPRV is set, else the mode itself
 abbrev pub data_mode : CsrState → Mode → Mode
-data_mode state mode = if state.status.modify_privilege then state.status.previous_mode else mode
+data_mode state mode = if state.mstatus.mprv then state.mstatus.mpp else mode

@@ -13,9 +13,9 @@ const MINSTRET: u16 = 0xB02;
 #[derive(Clone, Copy)]
 pub struct Counters {
     /// mcycle: the number of steps.
-    pub cycles: u64,
+    pub mcycle: u64,
     /// minstret: the number of instructions that retired.
-    pub retired: u64,
+    pub minstret: u64,
 }
 
 impl Counters {
@@ -26,19 +26,19 @@ impl Counters {
         ensures { self.new ≡ counted self.old retired wrote }
     {
         if !wrote_half(MCYCLE, wrote) {
-            self.cycles = self.cycles.wrapping_add(1);
+            self.mcycle = self.mcycle.wrapping_add(1);
         }
         if retired && !wrote_half(MINSTRET, wrote) {
-            self.retired = self.retired.wrapping_add(1);
+            self.minstret = self.minstret.wrapping_add(1);
         }
     }
     /// Counts a number of steps whose instructions all retired, and wrote neither counter.
     pub(crate) fn count_retired(&mut self, steps: u64)
         ensures counted { self.new ≡ later self.old steps }
-        ensures cycles { self.old.cycles < 2 ^ 64 }
-        ensures retired { self.old.retired < 2 ^ 64 }
+        ensures cycles { self.old.mcycle < 2 ^ 64 }
+        ensures retired { self.old.minstret < 2 ^ 64 }
     {
-        self.cycles = self.cycles.wrapping_add(steps);
-        self.retired = self.retired.wrapping_add(steps);
+        self.mcycle = self.mcycle.wrapping_add(steps);
+        self.minstret = self.minstret.wrapping_add(steps);
     }
 }

@@ -34,8 +34,8 @@ const EXTERNAL_INTERRUPT: u32 = 0x8000000B;
 /// mepc is always a multiple of 4.
 #[derive(Drop)]
 pub struct Csrs {
-    status: Mstatus,
-    enables: InterruptLines,
+    mstatus: Mstatus,
+    mie: InterruptLines,
     trap: TrapRegisters,
     counters: Counters,
     pmp: Pmp,
@@ -48,14 +48,14 @@ impl Model for Csrs {
     ghost Value = { CsrState };
 
     ghost view = { λ c. record {
-      status = c.status;
-      enables = c.enables;
+      mstatus = c.mstatus;
+      mie = c.mie;
       trap = c.trap;
       counters = c.counters;
       pmp = c.pmp;
     } };
 
-    ghost invariant = { λ c. c.trap.epc % 4 ≡ 0 };
+    ghost invariant = { λ c. c.trap.mepc % 4 ≡ 0 };
 }
 
 impl Csrs {
@@ -64,28 +64,28 @@ impl Csrs {
         ensures { result ≡ reset }
     {
         Csrs {
-            status: Mstatus {
-                interrupts: false,
-                previous_interrupts: false,
-                previous_mode: Mode::User,
-                modify_privilege: false,
-                timeout_wait: false,
+            mstatus: Mstatus {
+                mie: false,
+                mpie: false,
+                mpp: Mode::User,
+                mprv: false,
+                tw: false,
             },
-            enables: InterruptLines {
+            mie: InterruptLines {
                 software: false,
                 timer: false,
                 external: false,
             },
             trap: TrapRegisters {
-                vector: 0,
-                scratch: 0,
-                epc: 0,
-                cause: 0,
-                value: 0,
+                mtvec: 0,
+                mscratch: 0,
+                mepc: 0,
+                mcause: 0,
+                mtval: 0,
             },
             counters: Counters {
-                cycles: 0,
-                retired: 0,
+                mcycle: 0,
+                minstret: 0,
             },
             pmp: Pmp::new(),
         }
@@ -112,19 +112,19 @@ impl Csrs {
         ensures { result ≡ value_of self.now lines register }
     {
         match register {
-            Register::Mstatus => self.status.word(),
+            Register::Mstatus => self.mstatus.word(),
             Register::Misa => 0x40101100,
-            Register::Mie => lines_word(self.enables),
-            Register::Mtvec => self.trap.vector,
-            Register::Mscratch => self.trap.scratch,
-            Register::Mepc => self.trap.epc,
-            Register::Mcause => self.trap.cause,
-            Register::Mtval => self.trap.value,
+            Register::Mie => lines_word(self.mie),
+            Register::Mtvec => self.trap.mtvec,
+            Register::Mscratch => self.trap.mscratch,
+            Register::Mepc => self.trap.mepc,
+            Register::Mcause => self.trap.mcause,
+            Register::Mtval => self.trap.mtval,
             Register::Mip => lines_word(lines),
-            Register::Mcycle => low_word(self.counters.cycles),
-            Register::Mcycleh => high_word(self.counters.cycles),
-            Register::Minstret => low_word(self.counters.retired),
-            Register::Minstreth => high_word(self.counters.retired),
+            Register::Mcycle => low_word(self.counters.mcycle),
+            Register::Mcycleh => high_word(self.counters.mcycle),
+            Register::Minstret => low_word(self.counters.minstret),
+            Register::Minstreth => high_word(self.counters.minstret),
             Register::Zero => 0,
         }
     }
@@ -154,21 +154,21 @@ impl Csrs {
         ensures { self.new ≡ with_value self.old register value }
     {
         match register {
-            Register::Mstatus => self.status = self.status.with_word(value),
-            Register::Mie => self.enables = lines_of(value),
-            Register::Mtvec => self.trap.vector = value / 4 * 4 + value % 2,
-            Register::Mscratch => self.trap.scratch = value,
-            Register::Mepc => self.trap.epc = value / 4 * 4,
-            Register::Mcause => self.trap.cause = value,
-            Register::Mtval => self.trap.value = value,
-            Register::Mcycle => self.counters.cycles = with_low_word(self.counters.cycles, value),
-            Register::Mcycleh => self.counters.cycles = with_high_word(self.counters.cycles, value),
-            Register::Minstret => self.counters.retired = with_low_word(
-                self.counters.retired,
+            Register::Mstatus => self.mstatus = self.mstatus.with_word(value),
+            Register::Mie => self.mie = lines_of(value),
+            Register::Mtvec => self.trap.mtvec = value / 4 * 4 + value % 2,
+            Register::Mscratch => self.trap.mscratch = value,
+            Register::Mepc => self.trap.mepc = value / 4 * 4,
+            Register::Mcause => self.trap.mcause = value,
+            Register::Mtval => self.trap.mtval = value,
+            Register::Mcycle => self.counters.mcycle = with_low_word(self.counters.mcycle, value),
+            Register::Mcycleh => self.counters.mcycle = with_high_word(self.counters.mcycle, value),
+            Register::Minstret => self.counters.minstret = with_low_word(
+                self.counters.minstret,
                 value,
             ),
-            Register::Minstreth => self.counters.retired = with_high_word(
-                self.counters.retired,
+            Register::Minstreth => self.counters.minstret = with_high_word(
+                self.counters.minstret,
                 value,
             ),
             Register::Misa | Register::Mip | Register::Zero => (),
@@ -190,10 +190,10 @@ impl Csrs {
     fn any_enabled(&self, mode: Mode) -> bool
         ensures { result ≡ any_enabled self.now mode }
     {
-        if !self.status.interrupts && mode.is_machine() {
+        if !self.mstatus.mie && mode.is_machine() {
             return false;
         }
-        self.enables.software || self.enables.timer || self.enables.external
+        self.mie.software || self.mie.timer || self.mie.external
     }
 
     /// Returns the cause of the interrupt to be taken in a mode, if any, while the interrupt lines have the
@@ -203,14 +203,14 @@ impl Csrs {
     pub fn pending(&self, mode: Mode, lines: InterruptLines) -> Option<u32>
         ensures { result ≡ traps.pending self.now mode lines }
     {
-        if mode.is_machine() && !self.status.interrupts {
+        if mode.is_machine() && !self.mstatus.mie {
             return None;
         }
-        if lines.external && self.enables.external {
+        if lines.external && self.mie.external {
             Some(EXTERNAL_INTERRUPT)
-        } else if lines.software && self.enables.software {
+        } else if lines.software && self.mie.software {
             Some(SOFTWARE_INTERRUPT)
-        } else if lines.timer && self.enables.timer {
+        } else if lines.timer && self.mie.timer {
             Some(TIMER_INTERRUPT)
         } else {
             None
@@ -225,14 +225,14 @@ impl Csrs {
         ensures pc { result ≡ traps.trap_pc self.old cause }
         ensures aligned { result % 4 ≡ 0 }
     {
-        self.status.previous_interrupts = self.status.interrupts;
-        self.status.interrupts = false;
-        self.status.previous_mode = mode;
-        self.trap.epc = epc / 4 * 4;
-        self.trap.cause = cause;
-        self.trap.value = tval;
-        let base = self.trap.vector / 4 * 4;
-        if self.trap.vector % 2 == 1 && cause >= 1 << 31 {
+        self.mstatus.mpie = self.mstatus.mie;
+        self.mstatus.mie = false;
+        self.mstatus.mpp = mode;
+        self.trap.mepc = epc / 4 * 4;
+        self.trap.mcause = cause;
+        self.trap.mtval = tval;
+        let base = self.trap.mtvec / 4 * 4;
+        if self.trap.mtvec % 2 == 1 && cause >= 1 << 31 {
             base.wrapping_add(cause << 2)
         } else {
             base
@@ -244,17 +244,17 @@ impl Csrs {
     #[tactic(auto, unfolding(crate::specs::Traps::left))]
     pub fn leave_trap(&mut self) -> (Mode, u32)
         ensures state { self.new ≡ traps.left self.old }
-        ensures mode { result.0 ≡ self.old.status.previous_mode }
-        ensures pc { result.1 ≡ self.old.trap.epc }
+        ensures mode { result.0 ≡ self.old.mstatus.mpp }
+        ensures pc { result.1 ≡ self.old.trap.mepc }
         ensures aligned { result.1 % 4 ≡ 0 }
-        ensures user { result.0 ≡ User → self.new.status.modify_privilege ≡ false }
+        ensures user { result.0 ≡ User → self.new.mstatus.mprv ≡ false }
     {
-        let mode = self.status.previous_mode;
-        self.status.interrupts = self.status.previous_interrupts;
-        self.status.previous_interrupts = true;
-        self.status.previous_mode = Mode::User;
-        self.status.modify_privilege = self.status.modify_privilege && mode.is_machine();
-        (mode, self.trap.epc)
+        let mode = self.mstatus.mpp;
+        self.mstatus.mie = self.mstatus.mpie;
+        self.mstatus.mpie = true;
+        self.mstatus.mpp = Mode::User;
+        self.mstatus.mprv = self.mstatus.mprv && mode.is_machine();
+        (mode, self.trap.mepc)
     }
 
     /// Returns the mode whose permissions loads and stores in a mode have: MPP if MPRV is set, else the mode
@@ -262,8 +262,8 @@ impl Csrs {
     pub fn data_mode(&self, mode: Mode) -> Mode
         ensures { result ≡ traps.data_mode self.now mode }
     {
-        if self.status.modify_privilege {
-            self.status.previous_mode
+        if self.mstatus.mprv {
+            self.mstatus.mpp
         } else {
             mode
         }
@@ -271,9 +271,9 @@ impl Csrs {
 
     /// Whether WFI is illegal in user mode (TW).
     pub fn traps_wfi(&self) -> bool
-        ensures { result ≡ self.now.status.timeout_wait }
+        ensures { result ≡ self.now.mstatus.tw }
     {
-        self.status.timeout_wait
+        self.mstatus.tw
     }
 
     /// Counts a step. `retired` is whether its instruction retired, and `wrote` the address of the control
@@ -287,8 +287,8 @@ impl Csrs {
     /// Counts a number of steps whose instructions all retired, and wrote neither counter.
     pub fn count_retired(&mut self, steps: u64)
         ensures counted { self.new ≡ record self.old { counters = registers.later self.old.counters steps } }
-        ensures cycles { self.old.counters.cycles < 2 ^ 64 }
-        ensures retired { self.old.counters.retired < 2 ^ 64 }
+        ensures cycles { self.old.counters.mcycle < 2 ^ 64 }
+        ensures retired { self.old.counters.minstret < 2 ^ 64 }
     {
         self.counters.count_retired(steps);
     }

@@ -11,15 +11,15 @@ use rv_pmp::Mode;
 #[derive(Clone, Copy)]
 pub struct Mstatus {
     /// MIE: whether interrupts are taken in machine mode.
-    pub interrupts: bool,
+    pub mie: bool,
     /// MPIE: MIE before the last trap.
-    pub previous_interrupts: bool,
+    pub mpie: bool,
     /// MPP: the mode before the last trap.
-    pub previous_mode: Mode,
+    pub mpp: Mode,
     /// MPRV: whether loads and stores have the permissions of MPP.
-    pub modify_privilege: bool,
+    pub mprv: bool,
     /// TW: whether WFI is illegal in user mode.
-    pub timeout_wait: bool,
+    pub tw: bool,
 }
 
 impl Mstatus {
@@ -28,11 +28,11 @@ impl Mstatus {
     pub(crate) fn word(&self) -> u32
         ensures { result ≡ status_word self.now }
     {
-        ((self.interrupts as u32) << 3)
-            + ((self.previous_interrupts as u32) << 7)
-            + (mode_level(self.previous_mode) << 11)
-            + ((self.modify_privilege as u32) << 17)
-            + ((self.timeout_wait as u32) << 21)
+        ((self.mie as u32) << 3)
+            + ((self.mpie as u32) << 7)
+            + (mode_level(self.mpp) << 11)
+            + ((self.mprv as u32) << 17)
+            + ((self.tw as u32) << 21)
     }
 
     /// Returns the fields after a write of `word`. MPP stays as it is if the word's field is no mode.
@@ -41,11 +41,11 @@ impl Mstatus {
         ensures { result ≡ with_status self.now word }
     {
         Mstatus {
-            interrupts: is_set(word, 3),
-            previous_interrupts: is_set(word, 7),
-            previous_mode: mode_of(self.previous_mode, (word >> 11) % 4),
-            modify_privilege: is_set(word, 17),
-            timeout_wait: is_set(word, 21),
+            mie: is_set(word, 3),
+            mpie: is_set(word, 7),
+            mpp: mode_of(self.mpp, (word >> 11) % 4),
+            mprv: is_set(word, 17),
+            tw: is_set(word, 21),
         }
     }
 }

@@ -5,13 +5,13 @@
 pub struct TrapRegisters {
     /// mtvec: the address of the trap handler, and in the lowest bit whether each interrupt has a handler of
     /// its own.
-    pub vector: u32,
+    pub mtvec: u32,
     /// mscratch: a word for the trap handler.
-    pub scratch: u32,
+    pub mscratch: u32,
     /// mepc: the address of the instruction that trapped.
-    pub epc: u32,
+    pub mepc: u32,
     /// mcause: the cause of the trap.
-    pub cause: u32,
+    pub mcause: u32,
     /// mtval: the address or the word that the cause is about, or 0.
-    pub value: u32,
+    pub mtval: u32,
 }

@@ -42,7 +42,7 @@ tried m (Ok j) k is = let same : j ≡ k = cc in ap (λ x. attempt m (Ok x)) sam
 tried m (Err t) k is = absurd cc
 
 abbrev returned : Machine → Machine
-returned m = record m { csrs = left m.csrs; mode = m.csrs.status.previous_mode; pc = m.csrs.trap.epc }
+returned m = record m { csrs = left m.csrs; mode = m.csrs.mstatus.mpp; pc = m.csrs.trap.mepc }
 
 returns : (m : Machine) → m.mode ≡ mode.Machine → effect Mret m ≡ Ok (returned m)
 unfolding effect return_effect

@@ -90,5 +90,5 @@ module _ (m : state.Machine) (P : state.Machine → Type 0)
   rows registers returns Ebreak = tt
   rows registers returns Mret = returns
   rows registers returns Wfi =
-      checked (at_next m) 2 (word Wfi) (is_machine m.mode || not m.csrs.status.timeout_wait) refl refl
+      checked (at_next m) 2 (word Wfi) (is_machine m.mode || not m.csrs.mstatus.tw) refl refl
   rows registers returns k = same _ refl refl

@@ -37,7 +37,7 @@ UserChangesByTraps = (m : Machine) → m.mode ≡ mode.User → ChangesByTrap m 
 pub record IsBack (old new : Machine) : Type 0 where
   pub pc : new.pc ≡ aligned old.pc
   pub mode : new.mode ≡ old.mode
-  pub interrupts : new.csrs.status.interrupts ≡ old.csrs.status.interrupts
+  pub interrupts : new.csrs.mstatus.mie ≡ old.csrs.mstatus.mie
   pub registers : new.registers ≡ old.registers
   pub memory : new.bus.ram ≡ old.bus.ram
 
