@@ -14,7 +14,6 @@ export class Board {
         this.piece = PIECE; // the most steps of a call of a command
         this.handle = this.exports.page_room(16n);
         this.room = this.exports.page_room(BigInt(ROOM));
-        this.out = this.exports.page_room(16n);
         this.bytes(this.handle, 16).fill(0);
         if (!this.exports.page_new(this.handle)) throw new Error("out of memory");
     }
@@ -22,12 +21,6 @@ export class Board {
     // The memory of the instance, which moves when it grows.
     bytes(place, count) {
         return new Uint8Array(this.exports.memory.buffer, Number(place), count);
-    }
-
-    // The number that a reader writes, which says whether there was memory.
-    readNumber(reader) {
-        if (!reader(this.out)) throw new Error("out of memory");
-        return Number(new DataView(this.exports.memory.buffer).getBigUint64(Number(this.out), true));
     }
 
     // Calls with the place and the length of each text, which lies in the memory meanwhile.
@@ -47,7 +40,7 @@ export class Board {
         const pieces = [];
         let count;
         do {
-            count = this.readNumber((out) => reader(this.handle, BigInt(from), this.room, BigInt(ROOM), out));
+            count = Number(reader(this.handle, BigInt(from), this.room, BigInt(ROOM)));
             pieces.push(this.bytes(this.room, count).slice());
             from += count;
         } while (count === ROOM);
@@ -67,7 +60,7 @@ export class Board {
     }
 
     steps() {
-        return this.readNumber((out) => this.exports.page_steps(this.handle, out));
+        return Number(this.exports.page_steps(this.handle));
     }
 
     // Opens a lab; returns why there is none, or nothing.

@@ -1,4 +1,4 @@
--- The seal and its parts own what a box at the same types owns.
+-- The page's state in a box, and the parts of that.
 use mir.Syntax.{impl, tnil, dnil}
 use mathlib.Core.List.{[]}
 use denote.Signature.{Slot, plain}
@@ -9,13 +9,9 @@ use Rattle.std_heap.proofs.Global.TheLaws as heap
 use Rattle.rv_page.specs.contracts.state.State as Home
 use Rattle.rv_page.proofs.state.State.TheLaws as home
 use Rattle.rv_page.specs.contracts.handle.parts.Parts as Parts
-use Rattle.rv_page.specs.contracts.handle.Handle as Sealed
 
 abbrev pub E : Bx
 E = record { row = Home.the_row; laws = home.the_row_laws; al = record { row = Heap.the_row; laws = heap.the_row_laws; g = ghosts; d = dict; drops = impl [] tnil dnil } }
 
 abbrev pub FromParts : Slot 0
 FromParts = plain (λ _. Parts.the_row Home.the_row Heap.the_row ghosts)
-
-abbrev pub FromSeal : Slot 0
-FromSeal = plain (λ _. Sealed.the_row)

@@ -1,6 +1,6 @@
 -- To audit: public contracts cite this.
 -- What a call of the page leaves, and what it copies.
-use Rattle.std.specs.Prelude.{◌≡◌, ◌⊎◌, ℕ, ◌-◌, Bool, true, false, List, ◌++◌, length, min, take, drop}
+use Rattle.std.specs.Prelude.{◌≡◌, ◌⊎◌, ◌≤◌, ◌==◌, ℕ, ◌-◌, Bool, false, not, None, List, [], length, ◌++◌, min, take, drop}
 use Rattle.std.specs.Option.{is_some}
 use Rattle.rv_page.specs.declared.state.State.{State}
 
@@ -10,29 +10,23 @@ use Rattle.rv_page.specs.declared.state.State.{State}
 abbrev pub has_lab : State → Bool
 has_lab s = is_some s.lab
 
--- there is one, there is none, and there is one where there was one
-abbrev pub HasLab : State → Type 0
-HasLab s = has_lab s ≡ true
+-- a state without a lab and with an empty text
+abbrev pub empty : State
+empty = record { lab = None; answer = record { bytes = []; is_cut = false } }
 
-abbrev pub HasNone : State → Type 0
-HasNone s = has_lab s ≡ false
-
+-- there is one where there was one
 abbrev pub Keeps : State → State → Type 0
 Keeps old new = has_lab new ≡ has_lab old
 
--- a load that ran out of memory leaves none, or has done nothing
-abbrev pub IsDropped : State → State → Type 0
-IsDropped old new = HasNone new ⊎ (new ≡ old)
-
 -- ---- codes
 
--- opened, refused, or no memory
-abbrev pub IsLoadCode : ℕ → Type 0
-IsLoadCode code = (code ≡ 0) ⊎ (code ≡ 1) ⊎ (code ≡ 4)
+-- opened, refused, or no memory: there is a lab after 0 alone
+abbrev pub IsLoaded : State → ℕ → Type 0
+IsLoaded new code = ((code ≡ 0) ⊎ (code ≡ 1) ⊎ (code ≡ 4)) × (has_lab new ≡ (code == 0))
 
--- the code 5 says that there is no lab, in whose place 4 may say that there was no memory
-abbrev pub IsAbsent : State → ℕ → Type 0
-IsAbsent s code = (code ≡ 5 → HasNone s) × (HasNone s → (code ≡ 5) ⊎ (code ≡ 4))
+-- a command's code: 5 says that there is no lab, and no other does
+abbrev pub IsDone : State → ℕ → Type 0
+IsDone old code = (code ≤ 5) × (has_lab old ≡ not (code == 5))
 
 -- ---- texts
 

@@ -1,6 +1,6 @@
 //! What the page keeps between two calls.
 ghost use Rattle.std.specs.Prelude.{◌≡◌, ◌≤◌, []};
-ghost use Rattle.rv_page.specs.Pages.{Keeps, HasLab, HasNone, IsAbsent, IsLoadCode};
+ghost use Rattle.rv_page.specs.Pages.{Keeps, IsDone, IsLoaded, empty};
 
 use rv_base::NoMemory;
 use rv_lab::{Answer, Lab, Next, OpenFault, Sizes, append_diagnosis};
@@ -45,13 +45,20 @@ fn code_of(next: Result<Next, NoMemory>) -> u32
 }
 
 impl State {
+    /// Returns a state without a lab and with an empty text.
+    pub(crate) fn new(alloc: Global) -> State
+        ensures { result ≡ empty }
+    {
+        State {
+            lab: None,
+            answer: Answer::new(alloc),
+        }
+    }
+
     /// Opens a lab, or says in the text why there is none.
     pub(crate) fn load(&mut self, alloc: Global, source: &[u8], inputs: &[u8], sizes: Sizes) -> u32
-        ensures open { result ≡ 0 → HasLab self.new }
+        ensures code { IsLoaded self.new result }
         ensures quiet { result ≡ 0 → self.new.answer.bytes ≡ [] }
-        ensures refused { result ≡ 1 → HasNone self.new }
-        ensures memory { result ≡ 4 → HasNone self.new }
-        ensures codes { IsLoadCode result }
     {
         self.lab = None;
         self.answer.clear();
@@ -70,9 +77,8 @@ impl State {
 
     /// Executes a command line, in at most `most` steps.
     pub(crate) fn command(&mut self, line: &[u8], most: u64) -> u32
+        ensures code { IsDone self.old result }
         ensures lab { Keeps self.old self.new }
-        ensures none { IsAbsent self.old result }
-        ensures codes { result ≤ 5 }
     {
         self.answer.clear();
         match &mut self.lab {
@@ -86,9 +92,8 @@ impl State {
 
     /// Goes on with a run, by at most `most` steps.
     pub(crate) fn go_on(&mut self, most: u64) -> u32
+        ensures code { IsDone self.old result }
         ensures lab { Keeps self.old self.new }
-        ensures none { IsAbsent self.old result }
-        ensures codes { result ≤ 5 }
     {
         self.answer.clear();
         match &mut self.lab {

@@ -24,11 +24,4 @@ impl<T, A: Allocator> Parts<T, A> {
         let (ptr, alloc) = Box::into_raw_with_allocator(b);
         Parts { ptr, alloc }
     }
-
-    pub fn into_box(self) -> Box<T, A>
-        ensures { result.value ≡ self.value }
-    {
-        let Parts { ptr, alloc } = self;
-        unsafe { Box::from_raw(alloc, ptr) }
-    }
 }
