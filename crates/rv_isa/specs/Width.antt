@@ -1,7 +1,7 @@
 -- To audit: public contracts cite this.
 -- The widths of accesses, and the operations of loads and of instructions with an immediate.
 -- RISC-V Unprivileged ISA 20191213, sections 2.4 and 2.6.
-use Rattle.std.specs.Prelude.{ℕ, Bool, true, false}
+use Rattle.std.specs.Prelude.{ℕ}
 use Rattle.rv_isa.specs.declared.op.AluOp.{AluOp}
 use Rattle.rv_isa.specs.declared.op.AluOp.TheVariants as alu
 use Rattle.rv_isa.specs.declared.op.ImmOp.{ImmOp}
@@ -26,14 +26,6 @@ load_width Lh = Two
 load_width Lw = Four
 load_width Lbu = One
 load_width Lhu = Two
-
--- whether a load extends with the sign of what it reads (section 2.6)
-abbrev pub is_signed_load : LoadOp → Bool
-is_signed_load Lb = true
-is_signed_load Lh = true
-is_signed_load Lw = true
-is_signed_load Lbu = false
-is_signed_load Lhu = false
 
 -- the operation of a register-immediate instruction (section 2.4)
 abbrev pub imm_alu_op : ImmOp → AluOp

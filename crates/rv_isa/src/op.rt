@@ -9,7 +9,7 @@ ghost use Rattle.rv_isa.specs.Layout as layout;
 ghost use Rattle.rv_isa.specs.Letters.{beginning_with};
 ghost use Rattle.rv_isa.specs.Table as table;
 ghost use Rattle.rv_isa.specs.Table.{name};
-ghost use Rattle.rv_isa.specs.Width.{bytes_of, load_width, is_signed_load, imm_alu_op, shift_alu_op};
+ghost use Rattle.rv_isa.specs.Width.{bytes_of, load_width, imm_alu_op, shift_alu_op};
 ghost use Rattle.rv_isa.specs.Word.{IsInRange};
 ghost use Rattle.rv_isa.specs.declared.op.Cond.{Cond};
 ghost use Rattle.rv_isa.specs.declared.op.LoadOp.{LoadOp};
@@ -383,17 +383,6 @@ impl LoadOp {
             LoadOp::Lb | LoadOp::Lbu => Width::One,
             LoadOp::Lh | LoadOp::Lhu => Width::Two,
             LoadOp::Lw => Width::Four,
-        }
-    }
-
-    /// Whether the load extends with the sign, and not with zeros. For four bytes both are the same, and LW
-    /// is signed. Section 2.6.
-    pub fn is_signed(self) -> bool
-        ensures { result ≡ is_signed_load self }
-    {
-        match self {
-            LoadOp::Lb | LoadOp::Lh | LoadOp::Lw => true,
-            LoadOp::Lbu | LoadOp::Lhu => false,
         }
     }
 

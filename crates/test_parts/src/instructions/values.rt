@@ -26,8 +26,6 @@ fn values(rt: HostRuntime) {
 #[test]
 fn parts_of_a_kind(rt: HostRuntime) {
     assert_eq!(rt; LoadOp::Lhu.width(), Width::Two);
-    assert!(rt; LoadOp::Lh.is_signed());
-    assert!(rt; !LoadOp::Lhu.is_signed());
     assert_eq!(rt; Width::Two.bytes(), 2);
     assert!(rt; Width::Two.is_aligned(6));
     assert!(rt; !Width::Four.is_aligned(6));
