@@ -293,8 +293,8 @@ impl Csrs {
         self.counters.count_retired(steps);
     }
 
-    /// Returns bytes within which protection grants user mode all accesses of a kind: those round the last one
-    /// that was asked for.
+    /// Returns bytes within which protection grants user mode all accesses of a kind: those round the last
+    /// one that was asked for.
     #[inline(always)]
     pub fn user_span(&self, access: Access) -> Span
         ensures { (first : ℕ) (w : Width) → result.first ≤ first → first + bytes_of w ≤ result.end

@@ -1,7 +1,8 @@
 //! Kinds laid out as fields, and put together again.
 //!
-//! `fields_of` lays a kind out by its format, and a function for each form puts it together. They are inlined: where the
-//! form of a kind or an operation is known, as where a word is decoded, no match is left of them.
+//! `fields_of` lays a kind out by its format, and a function for each form puts it together. They are
+//! inlined: where the form of a kind or an operation is known, as where a word is decoded, no match is left
+//! of them.
 ghost use Rattle.std.specs.Prelude.{◌≡◌, ◌<◌, ◌^◌};
 ghost use Rattle.rv_isa.specs.Fields as spec;
 ghost use Rattle.rv_isa.specs.Layout as layout;

@@ -90,8 +90,8 @@ impl Page {
         Ok(())
     }
 
-    /// Writes the low bytes of a value at an offset in the page, and returns whether they are there now. A page
-    /// that does not exist yet stays as it is, and has only zeros.
+    /// Writes the low bytes of a value at an offset in the page, and returns whether they are there now. A
+    /// page that does not exist yet stays as it is, and has only zeros.
     #[inline(always)]
     #[tactic(auto, using(crate::proofs::Put::length_put, crate::proofs::Table::put_unmade, crate::proofs::Table::unmade_bytes, crate::proofs::Table::made_bytes))]
     pub fn overwrite(&mut self, at: usize, width: Width, value: u32) -> bool

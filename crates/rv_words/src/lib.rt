@@ -30,7 +30,8 @@ pub struct Options {
     pub steps: u32,
     /// The pages of RAM, of 4096 bytes each: `read_words` gives 1 to 4096.
     pub pages: u16,
-    /// The slots of the decoded cache: `read_words` gives 64 to 4096, of which a board takes the powers of two.
+    /// The slots of the decoded cache: `read_words` gives 64 to 4096, of which a board takes the powers of
+    /// two.
     pub slots: u16,
 }
 
