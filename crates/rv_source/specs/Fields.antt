@@ -42,12 +42,9 @@ abbrev pub register : Operand → Option ℕ
 register x = option_and_then (λ name. lookup name register_names) (name x)
 
 -- control registers have numbers of twelve bits
-abbrev pub csr_number : ℕ → Option ℕ
-csr_number n = if nat_lt n 4096 then Some n else None
-
 abbrev pub csr_of : Atom → Option ℕ
-csr_of (a.Symbol name) = option_and_then csr_number (lookup name csr_names)
-csr_of (a.Number n) = csr_number n
+csr_of (a.Symbol name) = lookup name csr_names
+csr_of (a.Number n) = if nat_lt n 4096 then Some n else None
 csr_of _ = None
 
 -- the control register that an operand is, by its name or its number

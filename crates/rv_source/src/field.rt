@@ -1,8 +1,9 @@
 //! Reads the operands of a row into the fields of an instruction.
-ghost use Rattle.std.specs.Prelude.{◌≡◌, ◌<◌, ◌≤◌, ◌^◌};
+ghost use Rattle.std.specs.Prelude.{◌≡◌, ◌<◌, ◌≤◌, ◌^◌, Some, None, nat_lt, if◌then◌else◌};
 ghost use Rattle.std.specs.Option.{option_map};
 ghost use Rattle.rv_isa.specs.Number.{IsWithin};
-ghost use Rattle.rv_source.specs.Fields.{atom_alone, base, csr, csr_number, fence_sets, given, immediate, instruction, is_text, is_value, name, put, register, set, in_roles, start, value_in};
+ghost use Rattle.rv_isa.specs.Names.{csr_names};
+ghost use Rattle.rv_source.specs.Fields.{atom_alone, base, csr, fence_sets, given, immediate, instruction, is_text, is_value, name, put, register, set, in_roles, start, value_in};
 ghost use Rattle.rv_source.specs.Partial.{in_role};
 ghost use Rattle.rv_base.specs.Tables.{lookup};
 
@@ -119,7 +120,7 @@ fn register(operand: &Operand) -> Option<Reg>
 
 /// Returns the control register with a number, if it has twelve bits.
 fn numbered(number: u32) -> Option<Csr>
-    ensures { result ≡ csr_number number }
+    ensures { result ≡ (if nat_lt number 4096 then Some number else None) }
 {
     if number < 4096 {
         Some(Csr(number as u16))
@@ -128,15 +129,23 @@ fn numbered(number: u32) -> Option<Csr>
     }
 }
 
+/// Returns the control register with a name.
+#[tactic(auto, using(crate::proofs::Sets::csr_below))]
+fn named(name: &Name) -> Option<Csr>
+    ensures { result ≡ lookup name.now csr_names }
+{
+    match csr_named(name.bytes()) {
+        Some(number) => Some(Csr(number)),
+        None => None,
+    }
+}
+
 /// Returns the control register that an operand is, by its name or its number.
 fn control_register(operand: &Operand) -> Option<Csr>
     ensures { result ≡ csr operand.now }
 {
     match atom_alone(operand) {
-        Some(Atom::Symbol(name)) => match csr_named(name.bytes()) {
-            Some(number) => numbered(u32::from(number)),
-            None => None,
-        },
+        Some(Atom::Symbol(name)) => named(name),
         Some(Atom::Number(number)) => numbered(*number),
         _ => None,
     }

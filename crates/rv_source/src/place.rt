@@ -1,5 +1,7 @@
 //! Where in a line the fault is that it has in phase one.
-ghost use Rattle.std.specs.Prelude.{◌≡◌, ◌+◌, ◌≤◌, length, IfOk};
+ghost use Rattle.std.specs.Prelude.{◌≡◌, ◌+◌, ◌≤◌, length, slice_get, IfOk};
+ghost use Rattle.std.specs.Option.{unwrap_or};
+ghost use Rattle.rv_tokens.specs.Tokens.{places};
 
 use crate::misplaced::misplaced;
 use crate::shape::wrong_operand;
@@ -19,7 +21,8 @@ pub struct Spot {
 
 /// Returns the place of a line as a whole.
 pub fn whole_line(line: &[u8]) -> Place
-    ensures { result.column + result.len ≤ length line.now }
+    ensures is { result ≡ record { column = 0; len = length line.now } }
+    ensures within { result.column + result.len ≤ length line.now }
 {
     Place {
         column: 0,
@@ -29,7 +32,8 @@ pub fn whole_line(line: &[u8]) -> Place
 
 /// Returns the place of the token with an index, or of the whole line if it has fewer tokens.
 pub fn token_place(line: &[u8], index: usize) -> Place
-    ensures { result.column + result.len ≤ length line.now }
+    ensures is { result ≡ unwrap_or (slice_get (places line.now) index) (record { column = 0; len = length line.now }) }
+    ensures within { result.column + result.len ≤ length line.now }
 {
     match place_of(line, index) {
         Some(place) => place,
