@@ -17,7 +17,8 @@ use Rattle.rv_asm.specs.Assembly.{faults_in, phase_one_fault, phase_three_fault,
 use Rattle.rv_asm.specs.Counted.{joined, first, first_fault}
 use Rattle.rv_asm.specs.Symbols.{Definitions}
 use Rattle.rv_asm.specs.Steps.{Known, start, known_before, stated, labelled, stated_bytes, laid_out}
-use Rattle.rv_asm.specs.Diagnosed.{new_labels, cleared, kept, judged, faults_of, fault_of, LiesIn, Diagnoses}
+use Rattle.rv_asm.specs.Diagnosed.{new_labels, kept, faults_of, fault_of, LiesIn, Diagnoses}
+use Rattle.rv_asm.specs.Judged.{cleared, judged}
 use Rattle.rv_asm.specs.Counted.{all_faults, unless_faulty, first_of, fault_in, first_of_phases, assembled_by}
 use Rattle.rv_asm.proofs.Counting.{firsts, first_is, err_is, faults_are, phases_found, assembled_is}
 use Rattle.rv_asm.specs.Judged.{fault_on, known_after, IsFound, listed}

@@ -12,7 +12,8 @@ use Rattle.rv_program.specs.declared.fault.FaultKind.TheVariants.{DuplicateSymbo
 use Rattle.rv_program.specs.declared.fault.AsmFault.{AsmFault}
 use Rattle.rv_asm.specs.Symbols.{Definitions, operand_value}
 use Rattle.rv_base.specs.Limits.{ram_base, image_limit}
-use Rattle.rv_asm.specs.Layout.{line_at, address, names, is_unknown, size_at, phase_two_fault}
+use Rattle.rv_asm.specs.Layout.{line_at, address, names, is_unknown, phase_two_fault}
+use Rattle.rv_asm.specs.Counted.{size_at}
 use Rattle.rv_asm.specs.Counted.{renames, relabels, fault_stated_by}
 use Rattle.rv_asm.specs.Kept.{fails}
 use Rattle.rv_asm.specs.Listing.{◌>>=◌, Valuation, asked, is_instruction, size_of, statement_bytes}

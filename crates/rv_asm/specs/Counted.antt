@@ -16,7 +16,7 @@ use Rattle.rv_source.specs.declared.statement.Statement.{Statement}
 use Rattle.rv_source.specs.declared.statement.Statement.TheVariants as s
 use Rattle.rv_program.specs.declared.fault.FaultKind.TheVariants.{DuplicateSymbol, NotConstant, Misplaced, TooLarge}
 use Rattle.rv_asm.specs.Symbols.{value_of}
-use Rattle.rv_asm.specs.Listing.{Valuation, is_instruction, size_of}
+use Rattle.rv_asm.specs.Listing.{Valuation, is_instruction, size_of, constant_in}
 use Rattle.rv_program.specs.Program.{Assembly}
 use Rattle.rv_program.specs.declared.fault.FaultKind.{FaultKind}
 use Rattle.rv_program.specs.declared.fault.AsmFault.{AsmFault}
@@ -66,6 +66,14 @@ assembled_by source =
 -- the names that n lines define as labels, with their addresses
 abbrev pub labels : List Said → ℕ → List (List ℕ × ℕ)
 labels said n = joined (λ k. labels_in (address said k) (line_at said k).labels) n
+
+-- ---- a statement, if there is one
+
+abbrev pub size_at : Valuation → ℕ → Option Statement → ℕ
+size_at early here statement = option_map_or (size_of early here) statement 0
+
+abbrev pub constants_at : Valuation → Option Statement → List (List ℕ × ℤ)
+constants_at early statement = option_map_or (constant_in early) statement []
 
 -- ---- phase two
 

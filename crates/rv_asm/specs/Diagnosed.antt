@@ -24,29 +24,22 @@ new_labels known (label.Name name ∷ ls) = if is_some (value_of known name) the
     else label.Name name ∷ new_labels ((name, pos 0) ∷ known) ls
 new_labels known (label.Local number ∷ ls) = label.Local number ∷ new_labels known ls
 
--- line k without its statement, and without labels that define a name a second time
-abbrev pub cleared : List Said → ℕ → Said
-cleared lines k =
-    record { labels = new_labels (names lines k) (line_at lines k).labels; statement = None }
-
 -- the lines, of which those of the first n that are faulty in phase two, each judged by the lines that are
--- kept before it, are cleared
+-- kept before it, lose their statement and the labels that define a name a second time
 unfoldable pub kept : List Said → ℕ → List Said
 kept lines zero = lines
 kept lines (suc k) =
     let ls = kept lines k in
-    if is_some (phase_two_fault ls k) then set ls k (cleared ls k) else ls
-
--- the fault of line k in phase two, judged so
-abbrev pub judged : List Said → ℕ → Option FaultKind
-judged lines k = phase_two_fault (kept lines k) k
+    let cleared : Said = record { labels = new_labels (names ls k) (line_at ls k).labels; statement = None } in
+    if is_some (phase_two_fault ls k) then set ls k cleared else ls
 
 -- the faults of a source in the first phase that has one
 unfoldable pub faults_of : List (List ℕ) → List AsmFault
 faults_of texts =
     let n = length texts in
-    unwrap_or (find (λ faults. not (is_nothing faults)) (faults_in (phase_one_fault texts) n
-    ∷ faults_in (judged (all_said texts)) n ∷ faults_in (phase_three_fault (all_said texts)) n ∷ [])) []
+    let two = faults_in (λ k. phase_two_fault (kept (all_said texts) k) k) n in
+    unwrap_or (find (λ faults. not (is_nothing faults)) (faults_in (phase_one_fault texts) n ∷ two
+    ∷ faults_in (phase_three_fault (all_said texts)) n ∷ [])) []
 
 -- ---- a diagnosis
 

@@ -14,7 +14,8 @@ use Rattle.rv_asm.specs.declared.diagnosis.Diagnosis.{Diagnosis}
 use Rattle.rv_asm.specs.Symbols.{Definitions}
 use Rattle.rv_asm.specs.Counted.{relabels, fault_stated_by}
 use Rattle.rv_asm.specs.Steps.{Known, values_of, labelled, stated, stated_bytes, after_line}
-use Rattle.rv_asm.specs.Diagnosed.{new_labels}
+use Rattle.rv_asm.specs.Layout.{line_at, names, phase_two_fault}
+use Rattle.rv_asm.specs.Diagnosed.{new_labels, kept}
 
 -- unless memory ran out, nothing changed
 abbrev pub Keeps : {A : Type 0} → FaultKind → A → A → Type 0
@@ -43,6 +44,15 @@ known_after k known line =
     if is_some (fault_on k known line)
     then labelled k known (new_labels known.definitions.names line.labels)
     else stated k (labelled k known line.labels) line.statement
+
+-- line k without its statement, and without labels that define a name a second time
+abbrev pub cleared : List Said → ℕ → Said
+cleared lines k =
+    record { labels = new_labels (names lines k) (line_at lines k).labels; statement = None }
+
+-- the fault of line k in phase two, judged by the lines that are kept before it
+abbrev pub judged : List Said → ℕ → Option FaultKind
+judged lines k = phase_two_fault (kept lines k) k
 
 -- a diagnosis of line k, which has this text, if there is this fault
 pub record IsFound (k : ℕ) (text : List ℕ) (fault : Option FaultKind) (found : Option Diagnosis) : Type 0 where

@@ -51,27 +51,22 @@ values_at line k here names locals = operand_value (record {
   locals = locals ++ locals_in k here line.labels;
 }) k here
 
-abbrev pub size_at : Valuation → ℕ → Option Statement → ℕ
-size_at early here statement = option_map_or (size_of early here) statement 0
-
-abbrev pub constants_at : Valuation → Option Statement → List (List ℕ × ℤ)
-constants_at early statement = option_map_or (constant_in early) statement []
-
 -- the address of line k, and the names and the local labels that are defined before it
 unfoldable mutual
   pub address : List Said → ℕ → ℕ
   address lines zero = ram_base
   address lines (suc k) =
       let line = line_at lines k in
-      address lines k + size_at (values_at line k (address lines k) (names lines k) (locals lines k))
-      (address lines k) line.statement
+      let early = values_at line k (address lines k) (names lines k) (locals lines k) in
+      address lines k + option_map_or (size_of early (address lines k)) line.statement 0
 
   pub names : List Said → ℕ → List (List ℕ × ℤ)
   names lines zero = []
   names lines (suc k) =
       let line = line_at lines k in
+      let early = values_at line k (address lines k) (names lines k) (locals lines k) in
       (names lines k ++ names_in (address lines k) line.labels)
-      ++ constants_at (values_at line k (address lines k) (names lines k) (locals lines k)) line.statement
+      ++ option_map_or (constant_in early) line.statement []
 
   pub locals : List Said → ℕ → List LocalLabel
   locals lines zero = []

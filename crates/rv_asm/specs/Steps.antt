@@ -18,7 +18,8 @@ use Rattle.rv_asm.specs.declared.kept.Kept.{Kept}
 use Rattle.rv_asm.specs.declared.kept.Kept.TheVariants as kept
 use Rattle.rv_asm.specs.declared.single.Single.{Single}
 use Rattle.rv_asm.specs.Symbols.{Definitions, value_of, atom_value, sum_value, operand_value, added}
-use Rattle.rv_asm.specs.Layout.{line_at, address, names, locals, names_in, locals_in, size_at, constants_at, phase_two_fault}
+use Rattle.rv_asm.specs.Layout.{line_at, address, names, locals, names_in, locals_in, phase_two_fault}
+use Rattle.rv_asm.specs.Counted.{size_at, constants_at}
 use Rattle.rv_asm.specs.Counted.{fault_stated_by}
 use Rattle.rv_asm.specs.Listing.{◌>>=◌, Valuation, wanted, bytes, statement_bytes}
 use Rattle.rv_asm.specs.Assembly.{phase_one_fault, all_said}

@@ -9,7 +9,8 @@ ghost use Rattle.rv_program.specs.Faults.{kind_of};
 ghost use Rattle.rv_asm.specs.Assembly.{all_said, assembled, phase_one_fault, phase_three_fault};
 ghost use Rattle.rv_asm.specs.Layout.{definitions};
 ghost use Rattle.rv_asm.specs.Steps.{start, known_before, image_of};
-ghost use Rattle.rv_asm.specs.Diagnosed.{kept, judged, faults_of, fault_of, Diagnoses};
+ghost use Rattle.rv_asm.specs.Diagnosed.{kept, faults_of, fault_of, Diagnoses};
+ghost use Rattle.rv_asm.specs.Judged.{judged};
 ghost use Rattle.rv_asm.specs.Counted.{all_faults, fault_in};
 ghost use Rattle.rv_asm.specs.Judged.{IsUnreadBy, IsFound, Judges, Tries, listed};
 

@@ -1,7 +1,7 @@
 use Rattle.std.proofs.Common.{◌≡◌, ◌∙◌, ◌∷◌, length, ap, sym, arith}
 use Rattle.rv_base.specs.Lines.{lines}
 use Rattle.rv_asm.specs.Assembly.{all_said}
-use Rattle.rv_asm.specs.Diagnosed.{judged}
+use Rattle.rv_asm.specs.Judged.{judged}
 use Rattle.rv_asm.proofs.Reading.{begun, read_more, read_all}
 use Rattle.rv_asm.proofs.Diagnosing.{none_found, known_begun, kept_up_to, judged_more, known_more}
 use Rattle.rv_asm.proofs.faults.diagnose_layout.Goals as goal
