@@ -9,8 +9,10 @@ pub enum Field {
     Immediate,
     /// The upper twenty bits of `lui` and `auipc`.
     Upper,
-    /// A shift amount, or the immediate of a control register instruction.
-    FiveBits,
+    /// The amount of a shift, of five bits.
+    Amount,
+    /// The immediate of a control register instruction, of five bits.
+    CsrImmediate,
     /// The distance from a branch to its target.
     Branch,
     /// The distance from `jal` to its target.
@@ -35,7 +37,7 @@ impl Field {
         match self {
             Field::Immediate => (-2048, 2047),
             Field::Upper => (-524_288, 1_048_575),
-            Field::FiveBits => (0, 31),
+            Field::Amount | Field::CsrImmediate => (0, 31),
             Field::Branch => (-4096, 4094),
             Field::Jump => (-1_048_576, 1_048_574),
             Field::Word => (-0x8000_0000, 0xffff_ffff),

@@ -140,7 +140,8 @@ fn field_of(instr: Instr, operand: &Operand) -> Field {
         Kind::Lui { .. } | Kind::Auipc { .. } => Field::Upper,
         Kind::Jal { .. } => Field::Jump,
         Kind::Branch { .. } => Field::Branch,
-        Kind::Shift { .. } | Kind::CsrImm { .. } => Field::FiveBits,
+        Kind::Shift { .. } => Field::Amount,
+        Kind::CsrImm { .. } => Field::CsrImmediate,
         _ => Field::Immediate,
     }
 }

@@ -126,9 +126,13 @@ fn words_of(field: Field, value: i64) -> (&'static str, &'static str) {
             "the value of twenty bits",
             "write these bits alone, as in `lui a0,0x10000`, or `%hi(value)`; `li` loads all of it",
         ),
-        Field::FiveBits => (
+        Field::Amount => (
+            "the amount of a shift",
+            "shift by at most 31: a word has 32 bits",
+        ),
+        Field::CsrImmediate => (
             "the value of five bits",
-            "shift by 0 to 31; load a greater value by `li`, and use `csrw`",
+            "load the value by `li` into a register, and use `csrw`, `csrs` or `csrc`",
         ),
         Field::Branch => (
             "the target of a branch",
