@@ -1,7 +1,13 @@
 //! Breakpoints.
-use crate::answer::Answer;
+ghost use Rattle.std.specs.Prelude.{◌≡◌, OnOk};
+ghost use Rattle.rv_base.specs.Words.{words};
+ghost use Rattle.rv_lab.specs.declared.command.Command.TheVariants as command;
+ghost use Rattle.rv_lab.specs.Commands.{Changes};
+ghost use Rattle.rv_lab.specs.State.{setup};
+
 use crate::lab::{Lab, Next};
 use crate::operands::{line_number, only_word};
+use rv_answers::Answer;
 use rv_base::{NoMemory, RAM_BASE, has_word};
 
 /// The words of memory in a page.
@@ -41,7 +47,10 @@ impl Lab {
         &mut self,
         operands: &[u8],
         answer: &mut Answer,
-    ) -> Result<Next, NoMemory> {
+    ) -> Result<Next, NoMemory>
+        ensures setup { setup self.new ≡ setup self.old }
+        ensures leaves { OnOk result (Changes command.Break (words operands.now) self.old self.new) }
+    {
         if !has_word(operands) {
             self.list_breaks(answer);
             return Ok(Next::More);
@@ -60,7 +69,10 @@ impl Lab {
     }
 
     /// Executes `d`.
-    pub(crate) fn clear_command(&mut self, operands: &[u8], answer: &mut Answer) {
+    pub(crate) fn clear_command(&mut self, operands: &[u8], answer: &mut Answer)
+        ensures setup { setup self.new ≡ setup self.old }
+        ensures leaves { Changes command.Clear (words operands.now) self.old self.new }
+    {
         let Some(address) = self.break_address("d", operands, answer) else {
             return;
         };

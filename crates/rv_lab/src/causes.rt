@@ -1,5 +1,5 @@
 //! The causes of traps in words.
-use crate::answer::Answer;
+use rv_answers::Answer;
 
 /// The causes of exceptions, by number.
 static EXCEPTIONS: [&str; 12] = [

@@ -1,6 +1,13 @@
 //! The commands: their table, and the reading of a command line.
-use crate::answer::Answer;
+ghost use Rattle.std.specs.Prelude.{◌≡◌, unwrap_or};
+ghost use Rattle.std.specs.Option.{option_map};
+ghost use Rattle.rv_base.specs.Tables.{lookup};
+ghost use Rattle.rv_base.specs.Words.{words};
+ghost use Rattle.rv_lab.specs.Rows.{canonical, named};
+ghost use Rattle.rv_lab.specs.Words.{command_of, commands, other_words, read, repeated};
+
 use crate::nearest::Nearest;
+use rv_answers::Answer;
 use rv_base::{LINE_LIMIT, begins_comment, first_word, look_up};
 use std::alloc::Global;
 
@@ -43,7 +50,9 @@ pub(crate) enum Command {
 impl Command {
     /// Returns what an empty line does after this command, by what it did before: it repeats a step or list
     /// command, and takes a step after another that moves the board.
-    pub(crate) fn if_repeated(self, last: Command) -> Command {
+    pub(crate) fn if_repeated(self, last: Command) -> Command
+        ensures { result ≡ repeated self last }
+    {
         match self {
             Command::Step | Command::Over | Command::List => self,
             Command::Go | Command::Finish | Command::Until | Command::Trace | Command::Back => {
@@ -325,17 +334,26 @@ static OTHERS: [(&str, &str); 24] = [
 ];
 
 /// Returns the commands by their words. A long table is read in one place, since each costs its whole proof.
-pub(crate) fn commands() -> &'static [(&'static str, Row)] {
+#[tactic(auto, unfolding(crate::specs::Words::commands))]
+pub(crate) fn commands() -> &'static [(&'static str, Row)]
+    ensures { named result.now ≡ commands }
+{
     &COMMANDS
 }
 
 /// Returns the other words for commands.
-fn other_words() -> &'static [(&'static str, &'static str)] {
+#[tactic(auto, unfolding(crate::specs::Words::other_words))]
+fn other_words() -> &'static [(&'static str, &'static str)]
+    ensures { canonical result.now ≡ other_words }
+{
     &OTHERS
 }
 
 /// Returns the row of a command's word.
-pub(crate) fn row_of(word: &[u8]) -> Option<Row> {
+#[tactic(auto, using(crate::proofs::Tables::row_is, crate::proofs::Tables::no_other))]
+pub(crate) fn row_of(word: &[u8]) -> Option<Row>
+    ensures { option_map (λ r. r.command) result ≡ lookup (unwrap_or (lookup word.now other_words) word.now) commands }
+{
     match look_up(other_words(), word) {
         Some(other) => look_up(commands(), other.as_bytes()),
         None => look_up(commands(), word),
@@ -365,22 +383,25 @@ fn refuse_word(word: &[u8], nearest: &mut Nearest<'_>, answer: &mut Answer) {
 }
 
 /// Reads a command line. One that is no command is answered, and reads as `Nothing`.
+#[tactic(auto, unfolding(crate::specs::Words::read))]
 pub(crate) fn read_command<'a>(
     line: &'a [u8],
     alloc: Global,
     answer: &mut Answer,
-) -> CommandLine<'a> {
+) -> CommandLine<'a>
+    ensures { (result.command, words result.operands.now) ≡ read line.now }
+{
     if line.len() > LINE_LIMIT {
         answer.say("a line has at most 1024 bytes\n");
         return CommandLine {
             command: Command::Nothing,
-            operands: b"",
+            operands: line,
         };
     }
     let Some((word, operands)) = first_word(line) else {
         return CommandLine {
             command: Command::Again,
-            operands: b"",
+            operands: line,
         };
     };
     let command = if begins_comment(word) {
@@ -392,7 +413,9 @@ pub(crate) fn read_command<'a>(
 }
 
 /// Returns the command of a word, or `Nothing` where it is no command, which is answered.
-fn command_of(word: &[u8], alloc: Global, answer: &mut Answer) -> Command {
+fn command_of(word: &[u8], alloc: Global, answer: &mut Answer) -> Command
+    ensures { result ≡ command_of word.now }
+{
     match row_of(word) {
         Some(row) => row.command,
         None => {

@@ -1,5 +1,5 @@
 //! What the bits of control registers say.
-use crate::answer::Answer;
+use rv_answers::Answer;
 
 /// The names of the control registers that are often asked for.
 pub(crate) static NAMES: [&str; 20] = [

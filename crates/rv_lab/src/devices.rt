@@ -1,8 +1,8 @@
 //! The state of the devices.
-use crate::answer::Answer;
 use crate::control::{MIE, MIP, MSTATUS, has_bit};
 use crate::lab::Lab;
 use crate::protection::append_protection;
+use rv_answers::Answer;
 use rv_board::BootedBoard;
 use rv_mmio::{Serial, Timer};
 use rv_plic::{Plic, Source};

@@ -1,13 +1,30 @@
 //! Why a source, a timed list or a board is refused.
-use crate::answer::Answer;
+use rv_answers::Answer;
+use rv_asm::diagnose;
+use rv_base::NoMemory;
 use rv_board::BootFault;
 use rv_opening::OpenFault;
+use rv_sentences::append_report;
+
+/// Appends what is wrong with each faulty line of a source, as compilers print it.
+fn report(file: &str, source: &[u8], answer: &mut Answer) {
+    let alloc = answer.alloc();
+    let mut text = Vec::new(alloc);
+    let reported = match diagnose(alloc, source) {
+        Ok(all) => append_report(alloc, file, source, &all, &mut text),
+        Err(NoMemory) => Err(NoMemory),
+    };
+    answer.put(text.as_slice());
+    if reported.is_err() {
+        answer.cut();
+    }
+}
 
 /// Appends why there is no lab: of a source each faulty line of its first phase that has one, as compilers
 /// print them.
 pub fn append_diagnosis(file: &str, source: &[u8], fault: OpenFault, answer: &mut Answer) {
     match fault {
-        OpenFault::Source(_) => answer.report(file, source),
+        OpenFault::Source(_) => report(file, source, answer),
         OpenFault::Input(line) => {
             answer.say("input line ");
             answer.number(line as u64);

@@ -1,7 +1,12 @@
 //! The execution of a command.
-use crate::answer::Answer;
+ghost use Rattle.std.specs.Prelude.{◌≡◌, OnOk};
+ghost use Rattle.rv_base.specs.Words.{words};
+ghost use Rattle.rv_lab.specs.Commands.{Changes, Leaves, Repeats};
+ghost use Rattle.rv_lab.specs.State.{setup};
+
 use crate::command::Command;
 use crate::lab::{Lab, Next};
+use rv_answers::Answer;
 use rv_base::NoMemory;
 
 impl Lab {
@@ -11,7 +16,10 @@ impl Lab {
         command: Command,
         operands: &[u8],
         answer: &mut Answer,
-    ) -> Result<Next, NoMemory> {
+    ) -> Result<Next, NoMemory>
+        ensures setup { setup self.new ≡ setup self.old }
+        ensures leaves { OnOk result (Leaves command (words operands.now) self.old self.new) }
+    {
         match command {
             Command::Step => self.step_command(operands, answer),
             Command::Go => self.go_command(operands, answer),
@@ -26,7 +34,10 @@ impl Lab {
     }
 
     /// Executes the last step or list command again.
-    fn repeat(&mut self, answer: &mut Answer) -> Result<Next, NoMemory> {
+    fn repeat(&mut self, answer: &mut Answer) -> Result<Next, NoMemory>
+        ensures setup { setup self.new ≡ setup self.old }
+        ensures repeats { OnOk result (Repeats self.old.again self.old self.new) }
+    {
         match self.last.command {
             Command::Step => self.run_steps(self.last.count, answer),
             Command::StepOnce => self.run_steps(1, answer),
@@ -45,7 +56,10 @@ impl Lab {
         command: Command,
         operands: &[u8],
         answer: &mut Answer,
-    ) -> Result<Next, NoMemory> {
+    ) -> Result<Next, NoMemory>
+        ensures setup { setup self.new ≡ setup self.old }
+        ensures changes { OnOk result (Changes command (words operands.now) self.old self.new) }
+    {
         match command {
             Command::List => self.list_command(operands, answer),
             Command::Break => return self.break_command(operands, answer),

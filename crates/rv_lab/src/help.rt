@@ -1,8 +1,8 @@
 //! Help.
-use crate::answer::Answer;
 use crate::command::{commands, row_of};
 use crate::lab::Lab;
 use crate::operands::only_word;
+use rv_answers::Answer;
 use rv_base::has_word;
 
 /// The width of a command's form in the list.

@@ -1,7 +1,16 @@
 //! Inputs by hand, and what was done as texts for rvboard.
-use crate::answer::{Answer, cut_at};
+ghost use Rattle.std.specs.Prelude.{◌≡◌, [], ◌∷◌, OnOk};
+ghost use Rattle.rv_base.specs.Words.{words};
+ghost use Rattle.rv_lab.specs.declared.command.Command.TheVariants as command;
+ghost use Rattle.rv_lab.specs.Commands.{Changes, Gave, Monitors, with_inputs};
+ghost use Rattle.rv_lab.specs.State.{setup};
+ghost use Rattle.rv_answers.specs.Answer.{Appended};
+ghost use Rattle.rv_lab.specs.Saved.{steps_text};
+ghost use Rattle.rv_lists.specs.Text.{list_text};
+
 use crate::lab::{Lab, Next};
 use crate::operands::only_word;
+use rv_answers::{Answer, cut_at};
 use rv_base::{NoMemory, decimal, first_word, has_word, hex_byte, look_up};
 use rv_lists::Input;
 use rv_monitor::Next as Monitored;
@@ -143,6 +152,20 @@ pub fn saved_name<'a>(line: &'a [u8]) -> Option<&'a [u8]> {
     only_word(rest)
 }
 
+/// Appends commands of the monitor that take `left` steps, in at most `lines` lines.
+#[tactic(auto, using(rv_answers::proofs::Pieces::then, rv_answers::proofs::Pieces::nothing), unfolding(crate::specs::Saved::steps_text))]
+fn append_steps(lines: u8, left: u64, answer: &mut Answer)
+    ensures { Appended answer.old answer.new (steps_text lines left) }
+{
+    if lines == 0 || left == 0 {
+        return;
+    }
+    answer.say("s ");
+    answer.number(left.min(MOST_STEPS));
+    answer.say("\n");
+    append_steps(lines - 1, left.saturating_sub(MOST_STEPS), answer);
+}
+
 impl Lab {
     /// Appends how many inputs the board was given, or that it takes none.
     fn tell_given(&self, count: u64, answer: &mut Answer) {
@@ -153,16 +176,29 @@ impl Lab {
         answer.fill("%d input%{s||s} before step %d\n", &values);
     }
 
-    /// Gives the board bytes before the next step.
-    fn give_bytes(&mut self, received: Received<'_>) -> Result<(), NoMemory> {
+    /// Gives the board an input before the next step.
+    fn give(&mut self, input: Input) -> Result<(), NoMemory>
+        ensures setup { setup self.new ≡ setup self.old }
+        ensures given { OnOk result (self.new ≡ with_inputs self.old (input ∷ [])) }
+    {
+        self.recording.give(input)
+    }
+
+    /// Gives the board the bytes that are received before the next step, at most `most`.
+    #[tactic(auto, using(crate::proofs::Runs::gave_none, crate::proofs::Runs::gave_more))]
+    fn give_bytes(&mut self, received: Received<'_>, most: usize) -> Result<(), NoMemory>
+        ensures setup { setup self.new ≡ setup self.old }
+        ensures given { OnOk result (Gave self.old self.new) }
+    {
         let mut left = received;
-        for _ in 0..received.text.len() {
-            match left.next() {
-                Some(byte) => self.recording.give(Input::Rx(byte))?,
-                None => break,
-            }
+        if most == 0 {
+            return Ok(());
         }
-        Ok(())
+        let Some(byte) = left.next() else {
+            return Ok(());
+        };
+        self.give(Input::Rx(byte))?;
+        self.give_bytes(left, most - 1)
     }
 
     /// Executes `rx`.
@@ -170,11 +206,14 @@ impl Lab {
         &mut self,
         operands: &[u8],
         answer: &mut Answer,
-    ) -> Result<Next, NoMemory> {
+    ) -> Result<Next, NoMemory>
+        ensures setup { setup self.new ≡ setup self.old }
+        ensures leaves { OnOk result (Changes command.Receive (words operands.now) self.old self.new) }
+    {
         let received = bytes_of(operands);
         match received.count() {
             Some(count) if count > 0 => {
-                self.give_bytes(received)?;
+                self.give_bytes(received, received.text.len())?;
                 self.tell_given(count, answer);
             }
             _ => answer.say(
@@ -185,18 +224,22 @@ impl Lab {
     }
 
     /// Executes `line`.
+    #[tactic(auto, using(crate::proofs::Runs::gave))]
     pub(crate) fn line_command(
         &mut self,
         operands: &[u8],
         answer: &mut Answer,
-    ) -> Result<Next, NoMemory> {
+    ) -> Result<Next, NoMemory>
+        ensures setup { setup self.new ≡ setup self.old }
+        ensures leaves { OnOk result (Changes command.Line (words operands.now) self.old self.new) }
+    {
         let Some(input) = read_line_input(operands) else {
             answer.say(
                 "line: a source from 1 to 31 and 0 or 1 are wanted; `help line` has an example\n",
             );
             return Ok(Next::More);
         };
-        self.recording.give(input)?;
+        self.give(input)?;
         self.tell_given(1, answer);
         Ok(Next::More)
     }
@@ -206,9 +249,14 @@ impl Lab {
         &mut self,
         operands: &[u8],
         answer: &mut Answer,
-    ) -> Result<Next, NoMemory> {
+    ) -> Result<Next, NoMemory>
+        ensures setup { setup self.new ≡ setup self.old }
+        ensures leaves { OnOk result (Monitors operands.now self.old self.new) }
+    {
         self.begin();
-        let next = answer.monitor(&mut self.recording, operands)?;
+        let mut text = Vec::new(self.alloc);
+        let next = self.recording.command(operands, &mut text)?;
+        answer.put(text.as_slice());
         self.tell_console(answer);
         Ok(match next {
             Monitored::More => Next::More,
@@ -217,26 +265,33 @@ impl Lab {
     }
 
     /// Appends the inputs so far as a timed list of rvboard.
-    pub fn append_saved_inputs(&self, answer: &mut Answer) {
-        answer.inputs(self.alloc, &self.recording);
+    pub fn append_saved_inputs(&self, answer: &mut Answer)
+        ensures { Appended answer.old answer.new (list_text self.now.recording.session.timed.inputs) }
+    {
+        match self.recording.inputs_text(self.alloc) {
+            Ok(text) => answer.put(text.as_slice()),
+            Err(NoMemory) => answer.cut(),
+        }
     }
 
     /// Appends commands of rvboard's monitor that take as many steps as were taken.
-    pub fn append_saved_commands(&self, answer: &mut Answer) {
-        let mut left = self.steps();
-        for _ in 0..10u8 {
-            if left > 0 {
-                let count = left.min(MOST_STEPS);
-                answer.fill("s %d\n", &[count]);
-                left = left.saturating_sub(count);
-            }
-        }
+    pub fn append_saved_commands(&self, answer: &mut Answer)
+        ensures { Appended answer.old answer.new (steps_text 10 self.now.recording.session.timed.taken) }
+    {
+        append_steps(10, self.steps(), answer);
     }
 
     /// Appends the options with which rvboard repeats what was done.
     pub fn append_saved_options(&self, answer: &mut Answer) {
-        let values = [self.steps(), self.recording.pages() as u64];
+        let steps = self.steps();
+        let values = [steps.min(MOST_STEPS), self.recording.pages() as u64];
         answer.fill("--steps %d --pages %d\n", &values);
+        if steps > MOST_STEPS {
+            let more = steps - MOST_STEPS;
+            let form =
+                "# rvboard takes at most 1000000000 steps, and so not the last %d; `u %d` goes back to there, and then save again\n";
+            answer.fill(form, &[more, more]);
+        }
     }
 
     /// Appends that what was done is saved under a name, and how rvboard repeats it.

@@ -1,14 +1,21 @@
 //! The lab: what a caller may ask of it.
-use crate::answer::Answer;
+ghost use Rattle.std.specs.Prelude.{◌≡◌, ◌≤◌, max, IfOk, OnOk};
+ghost use Rattle.rv_monitor.specs.Laws.{IsReached};
+ghost use Rattle.rv_recording.specs.Recording.{IsRun, first_board};
+ghost use Rattle.rv_lab.specs.State.{setup};
+ghost use Rattle.rv_lab.specs.Commands.{Obeys};
+
 use crate::command::{Command, CommandLine, read_command};
 use crate::plan::Plan;
 use crate::registers::Registers;
+use rv_answers::Answer;
 use rv_asm::{Listing, Program, list};
 use rv_base::{NoMemory, cut_lines, low_word};
 use rv_board::BootedBoard;
 use rv_opening::OpenFault;
 use rv_recording::Recording;
 use std::alloc::Global;
+use std::marker::Model;
 
 /// The sizes of a board.
 #[derive(Clone, Copy)]
@@ -79,6 +86,20 @@ impl Drop for Lab {
     }
 }
 
+impl Model for Lab {
+    ghost use Rattle.std.specs.Coded.{codes, coded_ℕ};
+    ghost use Rattle.std.specs.FinSet as set;
+    ghost use Rattle.std.specs.Ordering.{nat_cmp};
+    ghost use Rattle.rv_plic.specs.Codes.{plic_code};
+    ghost use Rattle.rv_lab.specs.State.{LabState};
+
+    ghost Value = { LabState };
+
+    ghost coded = { Prim.hlevel (codes, plic_code, set.code {R = nat_cmp} coded_ℕ) };
+
+    ghost view = { λ l. record { source = l.source.items; listing = l.listing; recording = l.recording; before = l.last.steps; again = l.last.command; count = l.last.count; plan = l.last.plan; piece = l.piece } };
+}
+
 impl Lab {
     /// Assembles a source, and boots its image on a board that gets the inputs of a timed list.
     ///
@@ -117,18 +138,25 @@ impl Lab {
         })
     }
 
-    /// Returns the board.
-    pub fn board(&self) -> &BootedBoard {
+    /// Returns the board. Whatever the commands, it is the run of the recorded events from reset on.
+    pub fn board(&self) -> &BootedBoard
+        ensures value { result.now ≡ self.now.recording.session.timed.board }
+        ensures run { IsRun (first_board self.now.recording) self.now.recording.session.timed }
+    {
         self.recording.session().board()
     }
 
     /// Returns the number of steps that the board has taken.
-    pub fn steps(&self) -> u64 {
+    pub fn steps(&self) -> u64
+        ensures { result ≡ self.now.recording.session.timed.taken }
+    {
         self.recording.steps()
     }
 
-    /// Makes a call of `command` or `go_on` take at most so many steps: a longer run goes on by `go_on`.
-    pub fn set_piece(&mut self, steps: u64) {
+    /// Makes a call of `command` or `go_on` take at most `steps` steps, or one: a longer run goes on by `go_on`.
+    pub fn set_piece(&mut self, steps: u64)
+        ensures { self.new ≡ record self.old { piece = max steps 1 } }
+    {
         self.piece = steps.max(1);
     }
 
@@ -167,7 +195,10 @@ impl Lab {
     /// # Errors
     ///
     /// `NoMemory` if memory runs out. The lab is as after some of the command's steps then, or as it was.
-    pub fn command(&mut self, line: &[u8], answer: &mut Answer) -> Result<Next, NoMemory> {
+    pub fn command(&mut self, line: &[u8], answer: &mut Answer) -> Result<Next, NoMemory>
+        ensures setup { setup self.new ≡ setup self.old }
+        ensures obeys { OnOk result (Obeys line.now self.old self.new) }
+    {
         let CommandLine { command, operands } = read_command(line, self.alloc, answer);
         self.last.plan = None;
         let again = self.last.command;

@@ -2,7 +2,6 @@
 //! and no terminal in it.
 #![tactic(auto)]
 
-mod answer;
 mod breaks;
 mod causes;
 mod command;
@@ -26,8 +25,8 @@ mod tell;
 mod until;
 mod why;
 
-pub use answer::Answer;
 pub use diagnosis::append_diagnosis;
 pub use inputs::saved_name;
 pub use lab::{Lab, Next, Sizes};
+pub use rv_answers::Answer;
 pub use rv_opening::OpenFault;

@@ -1,5 +1,9 @@
 //! What memory holds: words, instructions, and bytes with their text.
-use crate::answer::Answer;
+ghost use Rattle.rv_answers.specs.Answer.{Appended};
+ghost use Rattle.rv_answers.specs.Places.{instruction_text};
+ghost use Rattle.rv_monitor.specs.Views.{word_of};
+
+use rv_answers::{Answer, append_instruction};
 use rv_board::BootedBoard;
 use rv_isa::{Instr, decode};
 use rv_monitor::word_at;
@@ -13,16 +17,10 @@ pub(crate) fn instruction_at(board: &BootedBoard, address: u32) -> Option<Instr>
 }
 
 /// Appends the word at an address and the text of its instruction.
-pub(crate) fn append_instruction(board: &BootedBoard, address: u32, answer: &mut Answer) {
-    let Some(word) = word_at(board, address) else {
-        return answer.say("no memory is here");
-    };
-    answer.word(word);
-    answer.say("  ");
-    match decode(word) {
-        Some(instr) => answer.instruction(instr),
-        None => answer.say("no instruction"),
-    }
+pub(crate) fn append_instruction_at(board: &BootedBoard, address: u32, answer: &mut Answer)
+    ensures { Appended answer.old answer.new (instruction_text (word_of board.now address)) }
+{
+    append_instruction(word_at(board, address), answer);
 }
 
 /// Appends a byte of memory, or `--` where there is none.

@@ -1,5 +1,5 @@
 //! The nearest of some names to a word.
-use crate::answer::Answer;
+use rv_answers::Answer;
 use std::alloc::Global;
 use strsim::generic_levenshtein;
 

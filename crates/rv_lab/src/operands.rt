@@ -1,14 +1,20 @@
 //! The operands of commands: numbers, registers, and addresses.
-ghost use Rattle.std.specs.Prelude.{◌<◌, IfSome, length};
+ghost use Rattle.std.specs.Prelude.{◌≡◌, ◌<◌, IfSome, length};
+ghost use Rattle.std.specs.Option.{option_map};
+ghost use Rattle.rv_base.specs.Words.{words};
+ghost use Rattle.rv_lab.specs.Commands.{count_of};
+ghost use Rattle.rv_lab.specs.Rows.{only_of};
 
-use crate::answer::Answer;
 use crate::lab::Lab;
 use crate::nearest::Nearest;
+use rv_answers::Answer;
 use rv_base::{decimal, first_word, has_word, hex_digit, low_word};
 use rv_isa::reg_named;
 
 /// Returns the only word of a text.
-pub(crate) fn only_word<'a>(text: &'a [u8]) -> Option<&'a [u8]> {
+pub(crate) fn only_word<'a>(text: &'a [u8]) -> Option<&'a [u8]>
+    ensures { option_map (λ w. w.now) result ≡ only_of (words text.now) }
+{
     let (word, rest) = first_word(text)?;
     if has_word(rest) { None } else { Some(word) }
 }
@@ -16,6 +22,7 @@ pub(crate) fn only_word<'a>(text: &'a [u8]) -> Option<&'a [u8]> {
 /// Reads the only word of a text as a number of at most `most`, or returns `usual` where there is no word.
 pub(crate) fn count_or(text: &[u8], usual: u64, most: u64) -> Option<u64>
     requires { most < 10000000000 }
+    ensures { result ≡ count_of usual most (words text.now) }
 {
     if !has_word(text) {
         return Some(usual);

@@ -8,8 +8,8 @@ pub(crate) enum Goal {
     Count,
     /// A breakpoint.
     Break,
-    /// The return from as many calls and handlers as were entered and one more.
-    Out,
+    /// The return from all of these open calls and handlers.
+    Out(u64),
     /// A condition.
     Until(Condition),
 }
@@ -21,6 +21,4 @@ pub(crate) struct Plan {
     pub(crate) goal: Goal,
     /// The most steps that are left.
     pub(crate) left: u64,
-    /// How many calls and handlers were entered and not left.
-    pub(crate) depth: i64,
 }

@@ -1,6 +1,6 @@
 //! Protection as a list of regions.
-use crate::answer::Answer;
 use crate::control::has_bit;
+use rv_answers::Answer;
 use rv_board::BootedBoard;
 
 /// The numbers of the first control registers of protection.

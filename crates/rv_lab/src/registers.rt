@@ -1,5 +1,5 @@
 //! The registers by their names, and which of them changed.
-use crate::answer::Answer;
+use rv_answers::Answer;
 use rv_board::BootedBoard;
 use rv_isa::Reg;
 

@@ -1,16 +1,19 @@
 //! Commands that move the board.
-use crate::answer::Answer;
+ghost use Rattle.std.specs.Prelude.{◌≡◌, ◌≤◌, Ok, Some, None, true, OnOk, ℕ};
+ghost use Rattle.rv_base.specs.Words.{words};
+ghost use Rattle.rv_lab.specs.declared.command.Command.TheVariants as command;
+ghost use Rattle.rv_lab.specs.declared.plan.Goal.TheVariants as goal;
+ghost use Rattle.rv_lab.specs.Commands.{Begins, Continues, GoesOn, Leaves, Repeats, RunsFor, Steps, Traced, backed, begun, goal_after, stepped};
+ghost use Rattle.rv_lab.specs.State.{setup};
+
 use crate::lab::{Lab, Next};
-use crate::memory::instruction_at;
 use crate::operands::count_or;
 use crate::plan::{Goal, Plan};
 use crate::registers::Registers;
+use rv_answers::Answer;
 use rv_base::NoMemory;
-use rv_board::BootedBoard;
-use rv_hart::Outcome;
-use rv_isa::Operation;
 use rv_monitor::Stop;
-use rv_recording::End;
+use rv_recording::{End, LAST_STEP};
 
 /// How many steps `c` and `until` take where no number is given.
 pub(crate) const USUAL_STEPS: u64 = 1_000_000;
@@ -20,30 +23,6 @@ pub(crate) const MOST_STEPS: u64 = 1_000_000_000;
 
 /// The most lines of a trace.
 const MOST_TRACED: u64 = 1000;
-
-/// Returns by how much a jump changes the depth of calls, by the numbers of the register that it writes and
-/// of the one that it reads.
-fn jump_change(to: u8, from: u8) -> i64 {
-    match (to, from) {
-        (1, _) => 1,
-        (0, 1) => -1,
-        _ => 0,
-    }
-}
-
-/// Returns by how much the next instruction changes the depth of calls and handlers, if it retires.
-fn depth_change(board: &BootedBoard) -> i64 {
-    let Some(instr) = instruction_at(board, board.pc()) else {
-        return 0;
-    };
-    let fields = instr.fields();
-    match fields.operation {
-        Operation::Jal => jump_change(fields.rd.number(), 0),
-        Operation::Jalr => jump_change(fields.rd.number(), fields.rs1.number()),
-        Operation::Mret => -1,
-        _ => 0,
-    }
-}
 
 /// Returns why steps ended.
 fn end_of(stop: Stop) -> End {
@@ -56,50 +35,39 @@ fn end_of(stop: Stop) -> End {
 
 impl Lab {
     /// Begins a command that moves the board: keeps what it is compared with.
-    pub(crate) fn begin(&mut self) {
+    pub(crate) fn begin(&mut self)
+        ensures { self.new ≡ begun self.old }
+    {
         self.last.registers = Registers::of(self.board());
         self.last.steps = self.recording.steps();
         self.last.told = self.board().console().len();
     }
 
-    /// Takes a step out of the present function, and returns why the run is over, if it is.
-    fn step_out(&mut self, plan: &mut Plan) -> Result<Option<End>, NoMemory> {
-        let change = depth_change(self.board());
-        let Some(outcome) = self.recording.take_step()? else {
-            return Ok(Some(End::Stuck));
-        };
-        let trapped = matches!(outcome, Outcome::Trapped { .. });
-        plan.depth = plan.depth.saturating_add(if trapped { 1 } else { change });
-        let session = self.recording.session();
-        if session.board().halted().is_some() {
-            return Ok(Some(End::Halted));
-        }
-        if plan.depth < 0 {
-            return Ok(Some(End::Reached));
-        }
-        if session.has_break(session.board().pc()) {
-            return Ok(Some(End::Breakpoint));
-        }
-        Ok(None)
-    }
-
-    /// Takes steps until as many calls and handlers have returned as were entered, and one more.
-    fn run_out(&mut self, plan: &mut Plan, most: u64) -> Result<End, NoMemory> {
-        for _ in 0..most {
-            if let Some(end) = self.step_out(plan)? {
-                return Ok(end);
-            }
-        }
-        Ok(End::Limit)
-    }
-
-    /// Takes a piece of a run.
-    fn run_piece(&mut self, plan: &mut Plan, most: u64) -> Result<End, NoMemory> {
-        match plan.goal {
-            Goal::Count => Ok(end_of(self.recording.step(most)?)),
-            Goal::Break => Ok(end_of(self.recording.go(most)?)),
+    /// Takes a piece of a run, of at most `most` steps, and returns why it ended. `goal` is what the run goes on
+    /// for, before it and after it.
+    #[tactic(auto, using(crate::proofs::Runs::took, crate::proofs::Runs::ran_out, crate::proofs::Runs::ran_until))]
+    fn run_piece(&mut self, goal: &mut Goal, most: u64) -> Result<End, NoMemory>
+        ensures runs { OnOk result (RunsFor goal.old most self.old.recording self.new.recording) }
+        ensures goal { OnOk result (goal.new ≡ goal_after goal.old self.old.recording self.new.recording) }
+        ensures others { self.new ≡ record self.old { recording = self.new.recording } }
+        ensures setup { setup self.new ≡ setup self.old }
+    {
+        match *goal {
+            Goal::Count => match self.recording.step(most) {
+                Ok(stop) => Ok(end_of(stop)),
+                Err(NoMemory) => Err(NoMemory),
+            },
+            Goal::Break => match self.recording.go(most) {
+                Ok(stop) => Ok(end_of(stop)),
+                Err(NoMemory) => Err(NoMemory),
+            },
             Goal::Until(condition) => self.recording.run_until(condition, most),
-            Goal::Out => self.run_out(plan, most),
+            Goal::Out(open) => {
+                let mut open = open;
+                let end = self.recording.run_out(&mut open, most)?;
+                *goal = Goal::Out(open);
+                Ok(end)
+            }
         }
     }
 
@@ -108,54 +76,63 @@ impl Lab {
     /// # Errors
     ///
     /// `NoMemory` if memory runs out. The steps before it are taken.
-    pub fn go_on(&mut self, answer: &mut Answer) -> Result<Next, NoMemory> {
-        let Some(mut plan) = self.last.plan else {
+    pub fn go_on(&mut self, answer: &mut Answer) -> Result<Next, NoMemory>
+        ensures setup { setup self.new ≡ setup self.old }
+        ensures continues { OnOk result (Continues self.old.plan self.old self.new) }
+    {
+        let Some(plan) = self.last.plan else {
             return Ok(Next::More);
         };
+        self.go_on_with(plan, answer)
+    }
+
+    /// Goes on with a run.
+    fn go_on_with(&mut self, plan: Plan, answer: &mut Answer) -> Result<Next, NoMemory>
+        ensures setup { setup self.new ≡ setup self.old }
+        ensures goes_on { OnOk result (GoesOn plan self.old self.new) }
+    {
         self.last.plan = None;
         let before = self.recording.steps();
-        let most = plan.left.min(self.piece);
-        let end = self.run_piece(&mut plan, most)?;
+        let mut goal = plan.goal;
+        let end = self.run_piece(&mut goal, plan.left.min(self.piece))?;
         let done = self.recording.steps().saturating_sub(before);
-        plan.left = plan.left.saturating_sub(done);
-        if matches!(end, End::Limit) && plan.left > 0 && done > 0 {
-            self.last.plan = Some(plan);
+        let left = plan.left.saturating_sub(done);
+        if matches!(end, End::Limit) && left > 0 && done > 0 {
+            self.last.plan = Some(Plan { goal, left });
             self.tell_console(answer);
             return Ok(Next::Running);
         }
-        self.tell_end(plan.goal, end, answer);
+        self.tell_end(goal, end, answer);
         Ok(Next::More)
     }
 
     /// Begins a run.
-    fn run(
-        &mut self,
-        goal: Goal,
-        depth: i64,
-        most: u64,
-        answer: &mut Answer,
-    ) -> Result<Next, NoMemory> {
+    fn run(&mut self, goal: Goal, most: u64, answer: &mut Answer) -> Result<Next, NoMemory>
+        ensures setup { setup self.new ≡ setup self.old }
+        ensures runs { OnOk result (GoesOn (record { goal = goal; left = most }) (begun self.old) self.new) }
+    {
         self.begin();
-        self.last.plan = Some(Plan {
-            goal,
-            left: most,
-            depth,
-        });
-        self.go_on(answer)
+        self.go_on_with(Plan { goal, left: most }, answer)
     }
 
     /// Takes some steps.
-    pub(crate) fn run_steps(&mut self, count: u64, answer: &mut Answer) -> Result<Next, NoMemory> {
+    pub(crate) fn run_steps(&mut self, count: u64, answer: &mut Answer) -> Result<Next, NoMemory>
+        ensures setup { setup self.new ≡ setup self.old }
+        ensures steps { OnOk result (Steps count self.old self.new) }
+    {
         self.last.count = count;
         if count == 1 {
             self.step_once(answer)?;
             return Ok(Next::More);
         }
-        self.run(Goal::Count, 0, count, answer)
+        self.run(Goal::Count, count, answer)
     }
 
     /// Takes a step, and tells what it did.
-    fn step_once(&mut self, answer: &mut Answer) -> Result<(), NoMemory> {
+    fn step_once(&mut self, answer: &mut Answer) -> Result<(), NoMemory>
+        ensures setup { setup self.new ≡ setup self.old }
+        ensures step { OnOk result (self.new ≡ record (begun self.old) { recording = stepped self.old.recording }) }
+    {
         self.begin();
         let outcome = self.recording.take_step()?;
         self.tell_step(outcome, answer);
@@ -167,7 +144,10 @@ impl Lab {
         &mut self,
         operands: &[u8],
         answer: &mut Answer,
-    ) -> Result<Next, NoMemory> {
+    ) -> Result<Next, NoMemory>
+        ensures setup { setup self.new ≡ setup self.old }
+        ensures leaves { OnOk result (Leaves command.Step (words operands.now) self.old self.new) }
+    {
         match count_or(operands, 1, MOST_STEPS) {
             Some(count) => self.run_steps(count, answer),
             None => {
@@ -182,9 +162,12 @@ impl Lab {
         &mut self,
         operands: &[u8],
         answer: &mut Answer,
-    ) -> Result<Next, NoMemory> {
+    ) -> Result<Next, NoMemory>
+        ensures setup { setup self.new ≡ setup self.old }
+        ensures leaves { OnOk result (Leaves command.Go (words operands.now) self.old self.new) }
+    {
         match count_or(operands, USUAL_STEPS, MOST_STEPS) {
-            Some(count) => self.run(Goal::Break, 0, count, answer),
+            Some(count) => self.run(Goal::Break, count, answer),
             None => {
                 refuse_count("c", operands, answer);
                 Ok(Next::More)
@@ -193,13 +176,19 @@ impl Lab {
     }
 
     /// Executes `next`.
-    pub(crate) fn over_command(&mut self, answer: &mut Answer) -> Result<Next, NoMemory> {
-        self.run(Goal::Out, -1, USUAL_STEPS, answer)
+    pub(crate) fn over_command(&mut self, answer: &mut Answer) -> Result<Next, NoMemory>
+        ensures setup { setup self.new ≡ setup self.old }
+        ensures leaves { OnOk result (Begins (goal.Out 0) 1000000 self.old self.new) }
+    {
+        self.run(Goal::Out(0), USUAL_STEPS, answer)
     }
 
     /// Executes `finish`.
-    pub(crate) fn finish_command(&mut self, answer: &mut Answer) -> Result<Next, NoMemory> {
-        self.run(Goal::Out, 0, USUAL_STEPS, answer)
+    pub(crate) fn finish_command(&mut self, answer: &mut Answer) -> Result<Next, NoMemory>
+        ensures setup { setup self.new ≡ setup self.old }
+        ensures leaves { OnOk result (Begins (goal.Out 1) 1000000 self.old self.new) }
+    {
+        self.run(Goal::Out(1), USUAL_STEPS, answer)
     }
 
     /// Executes `until`.
@@ -207,15 +196,21 @@ impl Lab {
         &mut self,
         operands: &[u8],
         answer: &mut Answer,
-    ) -> Result<Next, NoMemory> {
+    ) -> Result<Next, NoMemory>
+        ensures setup { setup self.new ≡ setup self.old }
+        ensures leaves { OnOk result (Leaves command.Until (words operands.now) self.old self.new) }
+    {
         match self.read_condition(operands, answer) {
-            Some(condition) => self.run(Goal::Until(condition), 0, USUAL_STEPS, answer),
+            Some(condition) => self.run(Goal::Until(condition), USUAL_STEPS, answer),
             None => Ok(Next::More),
         }
     }
 
     /// Takes a step, and tells it in a line. Returns whether the board goes on.
-    fn trace_step(&mut self, answer: &mut Answer) -> Result<bool, NoMemory> {
+    fn trace_step(&mut self, answer: &mut Answer) -> Result<bool, NoMemory>
+        ensures setup { setup self.new ≡ setup self.old }
+        ensures step { OnOk result (self.new ≡ record self.old { recording = stepped self.old.recording }) }
+    {
         let before = Registers::of(self.board());
         let at = self.board().pc();
         let Some(outcome) = self.recording.take_step()? else {
@@ -229,25 +224,55 @@ impl Lab {
         Ok(self.board().halted().is_none())
     }
 
+    /// Takes steps, at most `count`, and tells each in a line.
+    #[tactic(auto, using(crate::proofs::Runs::traced_none, crate::proofs::Runs::traced_one, crate::proofs::Runs::traced_more))]
+    fn trace_steps(&mut self, count: u64, answer: &mut Answer) -> Result<(), NoMemory>
+        ensures setup { setup self.new ≡ setup self.old }
+        ensures traced { OnOk result (Traced count self.old self.new) }
+    {
+        if count == 0 {
+            return Ok(());
+        }
+        if self.trace_step(answer)? {
+            return self.trace_steps(count - 1, answer);
+        }
+        Ok(())
+    }
+
     /// Executes `trace`.
     pub(crate) fn trace_command(
         &mut self,
         operands: &[u8],
         answer: &mut Answer,
-    ) -> Result<Next, NoMemory> {
+    ) -> Result<Next, NoMemory>
+        ensures setup { setup self.new ≡ setup self.old }
+        ensures leaves { OnOk result (Leaves command.Trace (words operands.now) self.old self.new) }
+    {
         let Some(count) = count_or(operands, 10, MOST_TRACED) else {
             refuse_count("trace", operands, answer);
             return Ok(Next::More);
         };
         self.begin();
-        for _ in 0..count {
-            if !self.trace_step(answer)? {
-                break;
-            }
-        }
+        self.trace_steps(count, answer)?;
         self.tell_console(answer);
         self.tell_halt(answer);
         Ok(Next::More)
+    }
+
+    /// Goes back to after the first `to` steps.
+    fn go_back_to(&mut self, to: u64) -> Result<(), NoMemory>
+        requires { to ≤ self.old.recording.session.timed.taken }
+        ensures setup { setup self.new ≡ setup self.old }
+        ensures back { OnOk result (self.new ≡ backed self.old to) }
+    {
+        match self.recording.go_back(to) {
+            Ok(()) => {
+                self.last.steps = self.recording.steps();
+                self.last.told = self.board().console().len();
+                Ok(())
+            }
+            Err(NoMemory) => Err(NoMemory),
+        }
     }
 
     /// Executes `u`.
@@ -255,18 +280,18 @@ impl Lab {
         &mut self,
         operands: &[u8],
         answer: &mut Answer,
-    ) -> Result<Next, NoMemory> {
+    ) -> Result<Next, NoMemory>
+        ensures setup { setup self.new ≡ setup self.old }
+        ensures leaves { OnOk result (Leaves command.Back (words operands.now) self.old self.new) }
+    {
         let now = self.recording.steps();
-        let usual = now.saturating_sub(self.last.steps).min(MOST_STEPS);
-        let Some(count) = count_or(operands, usual, MOST_STEPS) else {
+        let usual = now.saturating_sub(self.last.steps);
+        let Some(count) = count_or(operands, usual, LAST_STEP) else {
             refuse_count("u", operands, answer);
             return Ok(Next::More);
         };
-        let to = now.saturating_sub(count);
         self.begin();
-        self.recording.go_back(to)?;
-        self.last.steps = self.recording.steps();
-        self.last.told = self.board().console().len();
+        self.go_back_to(now.saturating_sub(count))?;
         answer.fill("back at step %d\n", &[self.recording.steps()]);
         self.tell_halt(answer);
         self.append_here(answer);

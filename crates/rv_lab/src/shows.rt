@@ -1,12 +1,12 @@
 //! Commands that show registers, memory and traps.
-use crate::answer::Answer;
 use crate::causes::append_cause;
 use crate::control::{MCAUSE, append_bits};
 use crate::lab::Lab;
-use crate::memory::{append_bytes, append_instruction, append_text, append_words};
+use crate::memory::{append_bytes, append_instruction_at, append_text, append_words};
 use crate::nearest::Nearest;
 use crate::operands::{count_or, only_word};
 use crate::registers::{Registers, append_register, append_registers};
+use rv_answers::Answer;
 use rv_base::{decimal, first_word, has_word, look_up, low_word};
 use rv_board::TrapRecord;
 use rv_isa::{csr_named, reg_named};
@@ -163,7 +163,7 @@ impl Lab {
         answer.word(address);
         self.append_label(address, answer);
         answer.say("  ");
-        append_instruction(self.board(), address, answer);
+        append_instruction_at(self.board(), address, answer);
         answer.end();
     }
 

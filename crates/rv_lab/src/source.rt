@@ -1,10 +1,9 @@
 //! The source with addresses and words.
-ghost use Rattle.rv_lab.specs.Answer.{Appended};
-ghost use Rattle.rv_lab.specs.Places.{bytes_text, cell_text, mark, row_text, word_text};
+ghost use Rattle.std.specs.Prelude.{◌≡◌};
 
-use crate::answer::Answer;
 use crate::lab::Lab;
 use crate::operands::{count_or, line_number};
+use rv_answers::{Answer, Row, append_row};
 use rv_base::{cut_lines, first_word};
 use rv_monitor::word_at;
 
@@ -13,74 +12,6 @@ const USUAL_LINES: u64 = 11;
 
 /// The most lines that `l` lists.
 const MOST_LINES: u64 = 1000;
-
-/// What a row of a list says of a line of the source beside its number and its text.
-#[derive(Clone, Copy)]
-struct Row {
-    /// Whether pc is in its bytes.
-    is_here: bool,
-    /// Whether a breakpoint is at its address.
-    is_marked: bool,
-    /// Its address, if it has bytes.
-    address: Option<u32>,
-    /// Its first word, if it has four bytes.
-    word: Option<u32>,
-    /// Whether it has more than four bytes.
-    has_more: bool,
-}
-
-/// Appends a sign, or a space where it doesn't stand.
-fn append_mark(stands: bool, sign: &str, answer: &mut Answer)
-    ensures { Appended answer.old answer.new (mark stands sign.now) }
-{
-    answer.say(if stands { sign } else { " " });
-}
-
-/// Appends the address of a line and the first word there.
-#[tactic(auto, using(crate::proofs::Pieces::then), unfolding(crate::specs::Places::bytes_text))]
-fn append_bytes(address: u32, word: Option<u32>, has_more: bool, answer: &mut Answer)
-    ensures { Appended answer.old answer.new (bytes_text address word has_more) }
-{
-    answer.word(address);
-    answer.say("  ");
-    append_word(word, answer);
-    append_mark(has_more, "+", answer);
-    answer.say(" ");
-}
-
-/// Appends the first word of a line.
-fn append_word(word: Option<u32>, answer: &mut Answer)
-    ensures { Appended answer.old answer.new (word_text word) }
-{
-    match word {
-        Some(word) => answer.word(word),
-        None => answer.say("        "),
-    }
-}
-
-/// Appends where a line lies, or spaces where it has no bytes.
-fn append_cell(row: Row, answer: &mut Answer)
-    ensures { Appended answer.old answer.new (cell_text row.address row.word row.has_more) }
-{
-    match row.address {
-        Some(address) => append_bytes(address, row.word, row.has_more, answer),
-        None => answer.say("                    "),
-    }
-}
-
-/// Appends a row of a list of the source.
-#[tactic(auto, using(crate::proofs::Pieces::then), unfolding(crate::specs::Places::row_text))]
-fn append_row(row: Row, number: usize, text: &[u8], answer: &mut Answer)
-    ensures { Appended answer.old answer.new
-        (row_text row.is_here row.is_marked row.address row.word row.has_more number text.now) }
-{
-    append_mark(row.is_here, ">", answer);
-    append_mark(row.is_marked, "*", answer);
-    append_cell(row, answer);
-    answer.line_number(number);
-    answer.put(text);
-    answer.say("\n");
-}
 
 impl Lab {
     /// Returns the row of a line.
@@ -144,7 +75,9 @@ impl Lab {
     }
 
     /// Lists lines round a line.
-    fn list_round(&mut self, line: usize, count: u64, answer: &mut Answer) {
+    fn list_round(&mut self, line: usize, count: u64, answer: &mut Answer)
+        ensures { self.new ≡ self.old }
+    {
         let count = count as usize;
         let first = line.saturating_sub(count / 2).max(1);
         let end = self.append_lines(first, count, answer);
@@ -156,7 +89,9 @@ impl Lab {
     }
 
     /// Executes `l`.
-    pub(crate) fn list_command(&mut self, operands: &[u8], answer: &mut Answer) {
+    pub(crate) fn list_command(&mut self, operands: &[u8], answer: &mut Answer)
+        ensures { self.new ≡ self.old }
+    {
         let Some((word, rest)) = first_word(operands) else {
             let here = self.listing.line_at(self.board().pc());
             return self.list_round(here.unwrap_or(1), USUAL_LINES, answer);
@@ -171,7 +106,9 @@ impl Lab {
     }
 
     /// Lists the lines that follow those of the last list.
-    pub(crate) fn list_more(&mut self, answer: &mut Answer) {
+    pub(crate) fn list_more(&mut self, answer: &mut Answer)
+        ensures { self.new ≡ self.old }
+    {
         let first = self.last.listed.max(1);
         if first > self.listing.len() {
             return answer.say("that was the last line\n");

@@ -1,39 +1,16 @@
 //! Where the program is, and what a command did.
-ghost use Rattle.rv_lab.specs.Answer.{Appended};
-ghost use Rattle.rv_lab.specs.Places.{distance_text, label_text};
+ghost use Rattle.std.specs.Prelude.{◌≡◌};
 
-use crate::answer::Answer;
 use crate::causes::append_cause;
 use crate::lab::Lab;
-use crate::memory::{append_escaped, append_instruction};
+use crate::memory::{append_escaped, append_instruction_at};
 use crate::plan::Goal;
 use crate::registers::{Registers, append_changes, append_register, append_value};
+use rv_answers::{Answer, append_label};
 use rv_hart::Outcome;
 use rv_monitor::word_at;
 use rv_pmp::Mode;
 use rv_recording::{Condition, End, Watched};
-
-/// Appends a distance from a label.
-#[tactic(auto, using(crate::proofs::Pieces::then, crate::proofs::Pieces::nothing), unfolding(crate::specs::Places::distance_text))]
-fn append_distance(distance: u32, answer: &mut Answer)
-    ensures { Appended answer.old answer.new (distance_text distance) }
-{
-    if distance > 0 {
-        answer.say("+");
-        answer.number(u64::from(distance));
-    }
-}
-
-/// Appends a label, and the distance from it.
-#[tactic(auto, using(crate::proofs::Pieces::then), unfolding(crate::specs::Places::label_text))]
-fn append_name(name: &[u8], distance: u32, answer: &mut Answer)
-    ensures { Appended answer.old answer.new (label_text name.now distance) }
-{
-    answer.say(" <");
-    answer.put(name);
-    append_distance(distance, answer);
-    answer.say(">");
-}
 
 impl Lab {
     /// Appends the nearest label before an address with its distance, as `<loop+8>`, if the address is in the
@@ -45,7 +22,7 @@ impl Lab {
         let Some(near) = self.listing.label_before(address) else {
             return;
         };
-        append_name(near.name.bytes(), near.distance, answer);
+        append_label(near.name.bytes(), near.distance, answer);
     }
 
     /// Appends an address with its label, its line's number and the line's text.
@@ -54,7 +31,7 @@ impl Lab {
         self.append_label(address, answer);
         answer.say("  ");
         let Some(line) = self.listing.line_at(address) else {
-            return append_instruction(self.board(), address, answer);
+            return append_instruction_at(self.board(), address, answer);
         };
         answer.line_number(line);
         answer.put(self.line(line).unwrap_or(b""));
@@ -86,7 +63,9 @@ impl Lab {
 
     /// Appends the bytes that the console got and that weren't told, marked by a bar. A line that isn't ended
     /// yet ends with a backslash.
-    pub(crate) fn tell_console(&mut self, answer: &mut Answer) {
+    pub(crate) fn tell_console(&mut self, answer: &mut Answer)
+        ensures { self.new ≡ self.old }
+    {
         let console = self.recording.session().board().console();
         let (_, new) = console.split_at(self.last.told.min(console.len()));
         append_console(new, answer);
@@ -116,7 +95,9 @@ impl Lab {
     }
 
     /// Appends what a single step did, and where the program is.
-    pub(crate) fn tell_step(&mut self, outcome: Option<Outcome>, answer: &mut Answer) {
+    pub(crate) fn tell_step(&mut self, outcome: Option<Outcome>, answer: &mut Answer)
+        ensures { self.new ≡ self.old }
+    {
         self.tell_console(answer);
         let Some(outcome) = outcome else {
             return self.tell_stuck(answer);
@@ -192,7 +173,9 @@ impl Lab {
     }
 
     /// Appends why a run is over, what it changed, and where the program is.
-    pub(crate) fn tell_end(&mut self, goal: Goal, end: End, answer: &mut Answer) {
+    pub(crate) fn tell_end(&mut self, goal: Goal, end: End, answer: &mut Answer)
+        ensures { self.new ≡ self.old }
+    {
         self.tell_console(answer);
         let steps = self.last_steps();
         match end {
@@ -226,7 +209,7 @@ impl Lab {
         self.tell_halt(answer);
         self.append_here(answer);
         answer.say("  ");
-        append_instruction(board, board.pc(), answer);
+        append_instruction_at(board, board.pc(), answer);
         answer.end();
     }
 }

@@ -1,7 +1,7 @@
 //! What a run goes on for, as `until` reads it.
-use crate::answer::Answer;
 use crate::lab::Lab;
 use crate::operands::{number, only_word};
+use rv_answers::Answer;
 use rv_base::{first_word, has_word, look_up};
 use rv_isa::reg_named;
 use rv_recording::{Condition, Relation, Watched};

@@ -1,11 +1,11 @@
 //! Why the first trap that met no handler came.
-use crate::answer::Answer;
 use crate::causes::append_cause;
 use crate::control::{MSTATUS, MTVEC, has_bit};
 use crate::lab::Lab;
-use crate::memory::{append_instruction, instruction_at};
+use crate::memory::{append_instruction_at, instruction_at};
 use crate::protection::{append_region, entry_at, read_region};
 use crate::registers::register_name;
+use rv_answers::Answer;
 use rv_base::NoMemory;
 use rv_board::{BootedBoard, TrapRecord};
 use rv_hart::Outcome;
@@ -167,7 +167,7 @@ impl Lab {
         answer.end();
         if self.listing.line_at(trap.epc).is_some() {
             answer.say("  ");
-            append_instruction(board, trap.epc, answer);
+            append_instruction_at(board, trap.epc, answer);
             answer.end();
         }
         append_reason(board, trap, answer);

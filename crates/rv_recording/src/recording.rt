@@ -155,7 +155,7 @@ impl Recording {
         ensures took { OnOk result (Took set.empty n self.old.session self.new.session) }
         ensures stop { IfOk result (λ stop. stop ≡ stop_of set.empty self.old.session self.new.session) }
         ensures err { OnErr result (WasRefused set.empty n self.old.session self.new.session) }
-        ensures others { self.new ≡ record self.old { session = self.new.session } }
+        ensures others { self.new ≡ with_timed self.old self.new.session.timed }
     {
         self.session.step(n)
     }
@@ -171,7 +171,7 @@ impl Recording {
             (λ stop. stop ≡ stop_of self.old.session.breakpoints self.old.session self.new.session) }
         ensures err { OnErr result
             (WasRefused self.old.session.breakpoints n self.old.session self.new.session) }
-        ensures others { self.new ≡ record self.old { session = self.new.session } }
+        ensures others { self.new ≡ with_timed self.old self.new.session.timed }
     {
         self.session.go(n)
     }

@@ -1,11 +1,7 @@
 //! The text of an answer.
 use itoa::Buffer;
-use rv_asm::diagnose;
-use rv_base::{NoMemory, byte_digits, low_word, word_digits};
+use rv_base::{byte_digits, low_word, word_digits};
 use rv_isa::{Instr, write_instr};
-use rv_monitor::Next;
-use rv_recording::Recording;
-use rv_sentences::append_report;
 use std::alloc::Global;
 use std::marker::Model;
 
@@ -13,7 +9,7 @@ use std::marker::Model;
 static SPACES: [u8; 24] = *b"                        ";
 
 /// Splits a text before the first of a byte, or at its end.
-pub(crate) fn cut_at<'a>(text: &'a [u8], sign: u8) -> (&'a [u8], &'a [u8]) {
+pub fn cut_at<'a>(text: &'a [u8], sign: u8) -> (&'a [u8], &'a [u8]) {
     for (place, byte) in text.iter().enumerate() {
         if *byte == sign {
             return text.split_at(place);
@@ -59,7 +55,7 @@ impl Drop for Answer {
 }
 
 impl Model for Answer {
-    ghost use Rattle.rv_lab.specs.Answer.{Written};
+    ghost use Rattle.rv_answers.specs.Answer.{Written};
 
     ghost Value = { Written };
 
@@ -67,11 +63,12 @@ impl Model for Answer {
 }
 
 impl Answer {
-    ghost use Rattle.std.specs.Prelude.{◌≡◌, [], false};
+    ghost use Rattle.std.specs.Prelude.{◌≡◌, [], true, false, codes};
     ghost use Rattle.std.specs.Fmt.{decimal};
     ghost use Rattle.rv_base.specs.Digits.{hex};
-    ghost use Rattle.rv_lab.specs.Answer.{Appended};
-    ghost use Rattle.rv_lab.specs.Places.{number_text};
+    ghost use Rattle.rv_isa.specs.Text.{text};
+    ghost use Rattle.rv_answers.specs.Answer.{Appended};
+    ghost use Rattle.rv_answers.specs.Places.{number_text};
 
     /// Returns an empty answer. It doesn't allocate.
     pub fn new(alloc: Global) -> Answer
@@ -106,8 +103,20 @@ impl Answer {
         self.is_cut = false;
     }
 
+    /// Returns the allocator.
+    pub fn alloc(&self) -> Global {
+        self.alloc
+    }
+
+    /// Notes that memory ran out, so that a piece is missing at the end.
+    pub fn cut(&mut self)
+        ensures { self.new ≡ record self.old { is_cut = true } }
+    {
+        self.is_cut = true;
+    }
+
     /// Appends a piece.
-    pub(crate) fn put(&mut self, piece: &[u8])
+    pub fn put(&mut self, piece: &[u8])
         ensures { Appended self.old self.new piece.now }
     {
         if self.is_cut {
@@ -117,33 +126,33 @@ impl Answer {
     }
 
     /// Appends a text.
-    pub(crate) fn say(&mut self, text: &str)
+    pub fn say(&mut self, text: &str)
         ensures { Appended self.old self.new text.now }
     {
         self.put(text.as_bytes());
     }
 
     /// Appends a byte.
-    pub(crate) fn byte(&mut self, byte: u8) {
+    pub fn byte(&mut self, byte: u8) {
         self.put(&[byte]);
     }
 
     /// Appends the eight hexadecimal digits of a word.
-    pub(crate) fn word(&mut self, word: u32)
+    pub fn word(&mut self, word: u32)
         ensures { Appended self.old self.new (hex 8 word) }
     {
         self.put(&word_digits(word));
     }
 
     /// Appends the two hexadecimal digits of a byte.
-    pub(crate) fn digits(&mut self, byte: u8)
+    pub fn digits(&mut self, byte: u8)
         ensures { Appended self.old self.new (hex 2 byte) }
     {
         self.put(&byte_digits(byte));
     }
 
     /// Appends a number in decimal.
-    pub(crate) fn number(&mut self, number: u64)
+    pub fn number(&mut self, number: u64)
         ensures { Appended self.old self.new (decimal number) }
     {
         let mut buffer = Buffer::new();
@@ -151,14 +160,14 @@ impl Answer {
     }
 
     /// Appends a signed number in decimal.
-    pub(crate) fn signed(&mut self, number: i32) {
+    pub fn signed(&mut self, number: i32) {
         let mut buffer = Buffer::new();
         self.put(buffer.format(number).as_bytes());
     }
 
     /// Appends a form with a value in the place of each of its `%`: of `%d` in decimal, of `%x` as a word in
     /// hexadecimal, and of `%{no|one|more}` the text whose number, from 0, it is, or the last one.
-    pub(crate) fn fill(&mut self, form: &str, values: &[u64]) {
+    pub fn fill(&mut self, form: &str, values: &[u64]) {
         let mut rest = form.as_bytes();
         for value in values {
             rest = self.fill_one(rest, *value);
@@ -189,19 +198,19 @@ impl Answer {
     }
 
     /// Appends `count` spaces, at most 24.
-    pub(crate) fn spaces(&mut self, count: usize) {
+    pub fn spaces(&mut self, count: usize) {
         self.put(SPACES.split_at(count.min(24)).0);
     }
 
     /// Appends a text, and spaces up to a width.
-    pub(crate) fn padded(&mut self, text: &[u8], width: usize) {
+    pub fn padded(&mut self, text: &[u8], width: usize) {
         self.put(text);
         self.spaces(width.saturating_sub(text.len()));
     }
 
     /// Appends the number of a line and a colon, and spaces up to a width.
     #[tactic(auto, using(crate::proofs::Pieces::then), unfolding(crate::specs::Places::number_text))]
-    pub(crate) fn line_number(&mut self, number: usize)
+    pub fn line_number(&mut self, number: usize)
         ensures { Appended self.old self.new (number_text number) }
     {
         let mut buffer = Buffer::new();
@@ -213,7 +222,7 @@ impl Answer {
     }
 
     /// Appends that a text isn't what a command wants, and why.
-    pub(crate) fn refuse(&mut self, command: &str, text: &[u8], why: &str) {
+    pub fn refuse(&mut self, command: &str, text: &[u8], why: &str) {
         self.say(command);
         self.say(": `");
         self.put(text);
@@ -222,48 +231,25 @@ impl Answer {
     }
 
     /// Ends a line with where to find an example of a command.
-    pub(crate) fn see_help(&mut self, command: &str) {
+    pub fn see_help(&mut self, command: &str) {
         self.say("; `help ");
         self.say(command);
         self.say("` has an example\n");
     }
 
     /// Ends the line.
-    pub(crate) fn end(&mut self) {
+    pub fn end(&mut self)
+        ensures { Appended self.old self.new (codes "\n") }
+    {
         self.put(b"\n");
     }
 
     /// Appends the text of an instruction.
-    pub(crate) fn instruction(&mut self, instr: Instr) {
+    pub fn instruction(&mut self, instr: Instr)
+        ensures { Appended self.old self.new (text instr) }
+    {
         if !self.is_cut {
             self.is_cut = write_instr(instr, &mut self.bytes).is_err();
         }
-    }
-
-    /// Appends the timed list of a recording.
-    pub(crate) fn inputs(&mut self, alloc: Global, recording: &Recording) {
-        match recording.inputs_text(alloc) {
-            Ok(text) => self.put(text.as_slice()),
-            Err(NoMemory) => self.is_cut = true,
-        }
-    }
-
-    /// Appends what is wrong with each faulty line of a source, as compilers print it.
-    pub(crate) fn report(&mut self, file: &str, source: &[u8]) {
-        let alloc = self.alloc;
-        let reported = match diagnose(alloc, source) {
-            Ok(all) => append_report(alloc, file, source, &all, &mut self.bytes),
-            Err(NoMemory) => Err(NoMemory),
-        };
-        self.is_cut = self.is_cut || reported.is_err();
-    }
-
-    /// Has the monitor of a recording do a command, and appends its answer.
-    pub(crate) fn monitor(
-        &mut self,
-        recording: &mut Recording,
-        line: &[u8],
-    ) -> Result<Next, NoMemory> {
-        recording.command(line, &mut self.bytes)
     }
 }

@@ -1,8 +1,11 @@
--- Not to audit: private contracts alone cite this.
--- The texts of places in the source, as `w` and `l` print them.
+-- To audit: public contracts cite this.
+-- The texts of places in the source, as `w` and `l` of the lab print them (this project's own: docs/LAB.md).
 use Rattle.std.specs.Prelude.{ℕ, ◌-◌, ◌==◌, Bool, true, false, List, [], ◌++◌, length, take, codes, if◌then◌else◌, Option, Some, None}
 use Rattle.std.specs.Fmt.{decimal}
 use Rattle.rv_base.specs.Digits.{hex}
+use Rattle.rv_isa.specs.Meaning.{means}
+use Rattle.rv_isa.specs.Text.{text}
+use Rattle.rv_isa.specs.declared.kind.Kind.{Kind}
 
 -- the number of a line, a colon, and spaces up to a width of six
 unfoldable pub number_text : ℕ → List ℕ
@@ -40,3 +43,13 @@ unfoldable pub row_text : Bool → Bool → Option ℕ → Option ℕ → Bool �
 row_text here marked address word more number text =
     mark here (codes ">") ++ mark marked (codes "*") ++ cell_text address word more ++ number_text number
     ++ text ++ codes "\n"
+
+-- the instruction of a word
+abbrev pub meaning_text : Option Kind → List ℕ
+meaning_text None = codes "no instruction"
+meaning_text (Some kind) = text kind
+
+-- a word of memory and its instruction
+unfoldable pub instruction_text : Option ℕ → List ℕ
+instruction_text None = codes "no memory is here"
+instruction_text (Some word) = hex 8 word ++ codes "  " ++ meaning_text (means word)

@@ -1,6 +1,6 @@
 -- Pieces that are appended one after another.
 use Rattle.std.proofs.Common.{◌∙◌, ℕ, List, [], ◌++◌, sym, ap, append-nil, append_assoc}
-use Rattle.rv_lab.specs.Answer.{Written, Appended}
+use Rattle.rv_answers.specs.Answer.{Written, Appended}
 
 pub then : (a b c : Written) (p q : List ℕ) → Appended a b p → Appended b c q → Appended a c (p ++ q)
 then a b c p q e f = record {

@@ -1,0 +1,73 @@
+//! Rows of a list of the source.
+ghost use Rattle.rv_answers.specs.Answer.{Appended};
+ghost use Rattle.rv_answers.specs.Places.{bytes_text, cell_text, mark, row_text, word_text};
+
+use crate::Answer;
+
+/// What a row of a list says of a line of the source beside its number and its text.
+#[derive(Clone, Copy)]
+pub struct Row {
+    /// Whether pc is in its bytes.
+    pub is_here: bool,
+    /// Whether a breakpoint is at its address.
+    pub is_marked: bool,
+    /// Its address, if it has bytes.
+    pub address: Option<u32>,
+    /// Its first word, if it has four bytes.
+    pub word: Option<u32>,
+    /// Whether it has more than four bytes.
+    pub has_more: bool,
+}
+
+/// Appends a sign, or a space where it doesn't stand.
+fn append_mark(stands: bool, sign: &str, answer: &mut Answer)
+    ensures { Appended answer.old answer.new (mark stands sign.now) }
+{
+    answer.say(if stands { sign } else { " " });
+}
+
+/// Appends the address of a line and the first word there.
+#[tactic(auto, using(crate::proofs::Pieces::then), unfolding(crate::specs::Places::bytes_text))]
+fn append_bytes(address: u32, word: Option<u32>, has_more: bool, answer: &mut Answer)
+    ensures { Appended answer.old answer.new (bytes_text address word has_more) }
+{
+    answer.word(address);
+    answer.say("  ");
+    append_word(word, answer);
+    append_mark(has_more, "+", answer);
+    answer.say(" ");
+}
+
+/// Appends the first word of a line.
+fn append_word(word: Option<u32>, answer: &mut Answer)
+    ensures { Appended answer.old answer.new (word_text word) }
+{
+    match word {
+        Some(word) => answer.word(word),
+        None => answer.say("        "),
+    }
+}
+
+/// Appends where a line lies, or spaces where it has no bytes.
+fn append_cell(row: Row, answer: &mut Answer)
+    ensures { Appended answer.old answer.new (cell_text row.address row.word row.has_more) }
+{
+    match row.address {
+        Some(address) => append_bytes(address, row.word, row.has_more, answer),
+        None => answer.say("                    "),
+    }
+}
+
+/// Appends a row of a list of the source.
+#[tactic(auto, using(crate::proofs::Pieces::then), unfolding(crate::specs::Places::row_text))]
+pub fn append_row(row: Row, number: usize, text: &[u8], answer: &mut Answer)
+    ensures { Appended answer.old answer.new
+        (row_text row.is_here row.is_marked row.address row.word row.has_more number text.now) }
+{
+    append_mark(row.is_here, ">", answer);
+    append_mark(row.is_marked, "*", answer);
+    append_cell(row, answer);
+    answer.line_number(number);
+    answer.put(text);
+    answer.say("\n");
+}

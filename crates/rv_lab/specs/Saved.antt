@@ -1,0 +1,11 @@
+-- To audit: public contracts cite this.
+-- What `save` writes as commands of the monitor (this project's own: docs/LAB.md).
+use Rattle.std.specs.Prelude.{ℕ, zero, suc, ◌-◌, ◌==◌, List, [], ◌++◌, min, codes, if◌then◌else◌}
+use Rattle.std.specs.Fmt.{decimal}
+
+-- commands that take n steps, in so many lines at most
+unfoldable pub steps_text : ℕ → ℕ → List ℕ
+steps_text zero n = []
+steps_text (suc lines) n =
+    if n == 0 then []
+    else codes "s " ++ decimal (min n 1000000000) ++ codes "\n" ++ steps_text lines (n - 1000000000)

@@ -1,0 +1,29 @@
+-- To audit: public contracts cite this.
+-- The state of a lab.
+use Rattle.std.specs.Prelude.{◌≡◌, ℕ, List, Option, Result, Ok}
+use Rattle.rv_base.specs.Lines.{lines}
+use Rattle.rv_program.specs.Program.{Assembly}
+use Rattle.rv_lists.specs.Timed.{timed}
+use Rattle.rv_lists.specs.declared.input.TimedInput.{TimedInput}
+use Rattle.rv_asm.specs.Assembly.{assembled}
+use Rattle.rv_asm.specs.Lines.{Listed, listed}
+use Rattle.rv_recording.specs.Recording.{RecordingState}
+use Rattle.rv_lab.specs.declared.command.Command.{Command}
+use Rattle.rv_lab.specs.declared.plan.Plan.{Plan}
+
+-- a source with its listing and the recording of its image; the number of steps before the last command that
+-- moved the board; what an empty line repeats, and the steps of the last `s`; the run that isn't over; and the
+-- most steps of a call
+pub record LabState : Type 0 where
+  pub source : List ℕ
+  pub listing : Listed
+  pub recording : RecordingState
+  pub before : ℕ
+  pub again : Command
+  pub count : ℕ
+  pub plan : Option Plan
+  pub piece : ℕ
+
+-- what no command changes: the source, its listing, the program, the sizes of its board, and the steps of a call
+abbrev pub setup : LabState → List ℕ × Listed × Assembly × ℕ × ℕ × ℕ
+setup l = (l.source, l.listing, l.recording.session.program, l.recording.pages, l.recording.slots, l.piece)
