@@ -13,8 +13,8 @@ use Rattle.rv_program.specs.Program.{Assembly}
 use Rattle.rv_opening.specs.declared.fault.OpenFault.{OpenFault}
 use Rattle.rv_opening.specs.declared.fault.OpenFault.TheVariants.{Source, Input, Board, OutOfMemory}
 
--- a session before its first step: of the program of a source, with the inputs of a timed list, on the board at
--- reset, which boots
+-- a session before its first step: of the program of a source, with the inputs of a timed list, on the board
+-- at reset, which boots
 pub record IsOpened (source inputs : List ℕ) (pages slots limit : ℕ) (s : SessionState) : Type 0 where
   pub program : assembled source ≡ Ok s.program
   pub list : IsRead inputs (Ok s.timed.inputs)
