@@ -17,10 +17,10 @@ export function call(act, ...words) {
 // Ends a run between two of its pieces.
 export const pauseRun = () => worker.postMessage({ act: "pause" });
 
-// Has the progress of each long run shown: its steps so far.
+// Has the progress of each long run shown: its steps so far, and what the program has sent since the last time.
 export function onProgress(show) {
-    worker.onmessage = ({ data: { id, result, failed, lost, steps } }) => {
-        if (steps !== undefined) return show(steps);
+    worker.onmessage = ({ data: { id, result, failed, lost, steps, sent } }) => {
+        if (steps !== undefined) return show(steps, sent);
         const { resolve, reject } = waiting.get(id);
         waiting.delete(id);
         if (failed === undefined) return resolve(result);

@@ -41,8 +41,25 @@ export class Editor {
     }
 
     changed() {
+        const before = this.lines;
         this.lines = this.text.value.split("\n");
+        this.moveBreakpoints(before);
         this.draw();
+    }
+
+    // Has breakpoints stay at their lines where lines come or go above them; those of lines that went go too.
+    moveBreakpoints(before) {
+        const now = this.lines, more = now.length - before.length;
+        if (!more || !this.breakpoints.size) return;
+        const least = Math.min(now.length, before.length);
+        const differs = (line, i) => line !== before[i];
+        const first = now.slice(0, least).findIndex(differs), same = first < 0 ? least : first;
+        let after = 0; // lines at the end that are the same
+        while (after < least - same && now.at(-1 - after) === before.at(-1 - after)) after++;
+        const [old, cut] = [before[same], now[same]];
+        const last = same + (old && cut && (old.startsWith(cut) || cut.startsWith(old)) ? 1 : 0); // that stays
+        const stays = [...this.breakpoints].filter((line) => line <= last || line > before.length - after);
+        this.breakpoints = new Set(stays.map((line) => (line <= last ? line : line + more)));
     }
 
     // Tab moves the focus on, as everywhere; Control+] indents.

@@ -12,29 +12,30 @@ web = top / "web"
 
 
 # The modules of the page, each after those that it imports.
-PAGE = ["client.mjs", "language.mjs", "links.mjs", "texts.mjs", "editor.mjs", "views.mjs", "page.mjs"]
+PAGE = ["dom", "client", "language", "links", "texts", "views", "editor", "files", "tabs", "page"]
 
 
 def script(*names):
     """The modules as one script: a line that imports is left out, and `export` is taken from the others."""
-    text = "\n".join((web / name).read_text() for name in names)
+    text = "\n".join((web / f"{name}.mjs").read_text() for name in names)
     text = re.sub(r"^import .*\n", "", text, flags=re.M)
     return re.sub(r"^export ", "", text, flags=re.M)
 
 
 def examples():
-    """Each example with its timed list, by its name."""
+    """Each example and each lesson (`lab/NAME`) with its timed list, by its name."""
     found = {}
-    for path in sorted([*top.glob("examples/*.s"), *top.glob("examples/lab/*.s")]):
+    for path in [*sorted(top.glob("examples/*.s")), *sorted(top.glob("examples/lab/*.s"))]:
         inputs = path.with_name(path.name + ".input")
         timed = inputs.read_text() if inputs.exists() else ""
-        found[path.stem] = {"source": path.read_text(), "inputs": timed}
+        name = str(path.relative_to(top / "examples").with_suffix(""))
+        found[name] = {"source": path.read_text(), "inputs": timed}
     return json.dumps(found).replace("</", "<\\/")
 
 
 parts = {
     "style": (web / "style.css").read_text(),
-    "worker": script("board.mjs", "worker.mjs"),
+    "worker": script("board", "worker"),
     "page": script(*PAGE),
     "examples": examples(),
     "wasm": base64.b64encode((out / "board.wasm").read_bytes()).decode(),

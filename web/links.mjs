@@ -1,11 +1,13 @@
 // Files that are saved, and links that hold a state.
 
+const KEPT = 10000; // milliseconds for which a saved file can be fetched
+
 export function download(name, text) {
     const link = document.createElement("a");
     link.href = URL.createObjectURL(new Blob([text], { type: "text/plain" }));
     link.download = name;
     link.click();
-    URL.revokeObjectURL(link.href);
+    setTimeout(() => URL.revokeObjectURL(link.href), KEPT);
 }
 
 async function through(stream, bytes) {
@@ -24,5 +26,8 @@ export async function writeFragment(state) {
 export async function readFragment(fragment) {
     const all = atob(fragment.replaceAll("-", "+").replaceAll("_", "/"));
     const bytes = Uint8Array.from(all, (it) => it.charCodeAt(0));
-    return JSON.parse(new TextDecoder().decode(await through(new DecompressionStream("deflate-raw"), bytes)));
+    const text = new TextDecoder().decode(await through(new DecompressionStream("deflate-raw"), bytes));
+    const { source, inputs = "", breakpoints = [] } = JSON.parse(text);
+    if (typeof source !== "string") throw new Error("no source");
+    return { source, inputs: String(inputs), breakpoints: breakpoints.filter(Number.isInteger) };
 }

@@ -1,42 +1,43 @@
 // The page: what is on the board, the commands that change it, and the controls that give them.
 import { BoardLost, call, onProgress, pauseRun } from "./client.mjs";
+import { $, say } from "./dom.mjs";
 import { Editor } from "./editor.mjs";
+import { Files } from "./files.mjs";
 import { escaped } from "./language.mjs";
-import { download, readFragment, writeFragment } from "./links.mjs";
-import { readDevices, readFaults, readLevels, readListing } from "./texts.mjs";
-import { readRegisters, readSaved, readTraps } from "./texts.mjs";
-import { controlHtml, controlLines, listingHtml, memoryHtml } from "./views.mjs";
-import { protectionHtml, registersHtml, sourceText } from "./views.mjs";
+import { download } from "./links.mjs";
+import { Tabs } from "./tabs.mjs";
+import { readFaults, readLevels, readListing, readRegisters, readSaved } from "./texts.mjs";
+import { registersHtml } from "./views.mjs";
 
-const $ = (id) => document.getElementById(id);
-const PAGES = 256; // of memory, as rvboard has them
 const TYPED = 200; // milliseconds without a key before what is typed is assembled
 const STEPS = 1000000000; // the most steps of a command
+const REPLAYED = 3000000; // the most steps that are run again in one piece to go back
 const LABELS = 1000; // the most labels that are shown in memory
-const EXAMPLES = JSON.parse($("examples").textContent);
 
 let editor; // the source and its marks
+let files, tabs;
 let assembled = null; // the source that is on the board, or nothing
+let given = ""; // the timed list that it was assembled with
 let steps = 0;
+let undone = 0; // the step to which Undo goes back: the one before the last command that took steps
 let labels = []; // of the assembled source, with their addresses
-let levels = {}; // by number: whether the interrupt line is high
 let saved = { inputs: "", commands: "", options: "" };
 let done = []; // the commands that were given
 let running = false; // whether a command is at work
-let slow = false; // whether a run is on that takes some steps a second
+let current = Promise.resolve(); // the work that was begun last
+let turn = 0; // the number of the run that is on, or 0
+let turns = 0; // how many runs there were
 let began = { time: 0, steps: 0 }; // where the command began
 
 // ---- What happened
 
-function say(text) {
-    $("answer").textContent = text;
-}
-
-function showProgress(now) {
+function showProgress(now, sent) {
     const seconds = (performance.now() - began.time) / 1000;
     const rate = ((now - began.steps) / seconds / 1e6).toFixed(1);
     $("progress").hidden = false;
     $("progress").textContent = `Running: step ${now.toLocaleString("en")}, ${rate} million steps a second`;
+    if (sent) $("console").append(sent);
+    $("console").scrollTop = $("console").scrollHeight;
 }
 
 function setRunning(is) {
@@ -44,101 +45,6 @@ function setRunning(is) {
     began = { time: performance.now(), steps };
     $("progress").hidden = true;
     showControls();
-}
-
-// ---- Tabs: each with the commands whose answers it shows
-
-const TABS = {
-    control: {
-        title: "Control",
-        lines: () => controlLines,
-        show: (panel, answers) => (panel.innerHTML = controlHtml(answers)),
-    },
-    memory: {
-        title: "Memory",
-        html: `<p><label>From <input id="memory-where" value="sp" size="14"></label>
-            <label><input id="memory-words" type="checkbox"> as words</label>
-            <span class="hint">a name, a line, a register, 0x and a number, each with +N</span></p>
-            <div class="shown"></div>`,
-        lines: () => [`m ${$("memory-where").value.trim() || "sp"} 128`],
-        show: showMemory,
-    },
-    listing: { title: "Listing", lines: () => [], show: showListing },
-    traps: {
-        title: "Traps",
-        html: `<pre class="shown"></pre>
-            <p class="hint">Why? (Alt+Y) explains the first trap that no handler took.</p>`,
-        lines: () => ["t"],
-        show: (panel, [traps]) => (panel.querySelector(".shown").textContent = traps),
-    },
-    devices: {
-        title: "Devices",
-        html: `<pre class="shown"></pre>
-            <h3>Interrupt lines</h3>
-            <p class="hint">Sources 1 to 23 ask while their line is high, 24 to 31 at each rise.</p>
-            <ul id="lines"></ul>`,
-        lines: () => ["dev"],
-        show: showDevices,
-    },
-    protection: { title: "Protection", lines: () => ["dev", "t"], show: showProtection },
-    repeat: {
-        title: "Repeat",
-        html: `<label for="inputs">Timed list for the next Assemble</label>
-            <textarea id="inputs" rows="4" spellcheck="false" placeholder="100 rx 48 69"></textarea>
-            <h3>Inputs so far</h3><pre class="shown"></pre>
-            <h3>Commands that repeat the run</h3><pre class="commands"></pre>
-            <p><code class="options"></code></p>
-            <p><button id="save-run">Save lab.input and lab.commands</button></p>
-            <h3>What was done</h3><pre class="done"></pre>`,
-        lines: () => [],
-        show: showRepeat,
-    },
-};
-const NAMES = Object.keys(TABS);
-let tab = NAMES[0];
-
-function showMemory(panel, [answer], { registers }) {
-    const isWords = $("memory-words").checked;
-    panel.querySelector(".shown").innerHTML = memoryHtml(answer, isWords, registers, labels);
-}
-
-function showListing(panel, _, { listing }) {
-    panel.innerHTML = listingHtml(listing);
-    panel.querySelector("tr.here")?.scrollIntoView({ block: "nearest" });
-}
-
-function showDevices(panel, [answer]) {
-    const { plain, sources } = readDevices(answer);
-    panel.querySelector(".shown").textContent = plain.join("\n");
-    for (const button of panel.querySelectorAll("[role=switch]")) {
-        const high = levels[button.value] ?? false;
-        button.setAttribute("aria-checked", high);
-        button.querySelector(".level").textContent = high ? "high" : "low";
-        button.nextElementSibling.textContent = sourceText(sources[button.value]);
-    }
-}
-
-function showProtection(panel, [devices, traps]) {
-    panel.innerHTML = protectionHtml(readDevices(devices).regions, PAGES, readTraps(traps));
-}
-
-function showRepeat(panel) {
-    const put = (name, text) => (panel.querySelector(name).textContent = text || "none");
-    put(".shown", saved.inputs);
-    put(".commands", saved.commands);
-    put(".done", done.join("\n"));
-    put(".options", `rvboard SOURCE --input lab.input --commands lab.commands ${saved.options}`);
-}
-
-function showTab(name, takesFocus = false) {
-    tab = name;
-    for (const it of NAMES) {
-        $(`tab-${it}`).setAttribute("aria-selected", it === name);
-        $(`tab-${it}`).tabIndex = it === name ? 0 : -1;
-        $(`panel-${it}`).hidden = it !== name;
-    }
-    if (takesFocus) $(`tab-${name}`).focus();
-    refreshIdle();
 }
 
 // ---- The board
@@ -152,18 +58,16 @@ async function readLines() {
 // Asks for all that is in sight, and shows it.
 async function refresh() {
     if (assembled === null) return;
-    const { lines, show } = TABS[tab], panel = $(`panel-${tab}`);
-    const [registers, save, ...answers] = await call("ask", ["r", "save", ...lines()]);
     steps = await call("steps");
-    const state = { ...readRegisters(registers), listing: await readLines() };
+    const [registers, save, ...answers] = await call("ask", ["r", "save", ...tabs.lines({ steps })]);
+    const board = { ...readRegisters(registers), listing: await readLines() };
     saved = readSaved(save);
-    levels = readLevels(saved.inputs, steps);
-    $("registers").innerHTML = registersHtml(state.registers);
-    const label = state.label ? ` <${state.label}>` : "";
-    $("where").textContent = `pc ${state.pc}${label}, ${state.mode} mode, step ${steps.toLocaleString("en")}`;
-    show(panel, answers, state);
+    $("registers").innerHTML = registersHtml(board.registers);
+    const label = board.label ? ` <${board.label}>` : "";
+    $("where").textContent = `pc ${board.pc}${label}, ${board.mode} mode, step ${steps.toLocaleString("en")}`;
+    tabs.show(answers, { ...board, labels, saved, done, levels: readLevels(saved.inputs, steps) });
     showConsole(await call("console"));
-    markLines(state.listing);
+    markLines(board.listing);
 }
 
 // Shows the board once more, unless a command is at work, which will.
@@ -197,7 +101,7 @@ function fail(error) {
 async function work(act) {
     if (running) return;
     setRunning(true);
-    await act().catch(fail);
+    await (current = act().catch(fail));
     setRunning(false);
 }
 
@@ -207,9 +111,28 @@ function command(line) {
         if (assembled === null) return say("No program is on the board: assemble one.");
         let text = await call("command", line);
         if (text.includes("type `why`")) text += (await call("ask", ["why"]))[0];
-        done.push(line);
-        await refresh();
-        say(text.trimEnd());
+        await showDone(line, text);
+    });
+}
+
+// Shows the board after a command, and says its answer.
+async function showDone(line, text) {
+    const before = steps;
+    done.push(line);
+    await refresh();
+    if (steps !== before) undone = Math.min(before, steps);
+    say(text.trimEnd());
+}
+
+// Goes back to a step. From far behind it the board runs there in pieces, so that a pause comes through.
+async function goBack(to) {
+    const line = `u ${steps - to}`;
+    if (to <= REPLAYED || to > STEPS) return command(line);
+    await work(async () => {
+        await call("command", `u ${steps}`);
+        await call("command", `s ${to}`);
+        const [there, where] = await call("ask", ["s 0", "w"]);
+        await showDone(line, `${(await call("steps")) === to ? `back at step ${to}` : "paused"}\n${where}`);
     });
 }
 
@@ -217,10 +140,12 @@ function command(line) {
 function assemble() {
     return work(async () => {
         const source = editor.source, lines = [...editor.breakpoints];
-        const fault = await call("load", source, $("inputs").value);
+        given = $("inputs").value;
+        const fault = await call("load", source, given);
         showFaults(readFaults(fault));
         assembled = fault ? null : source;
         done = [];
+        undone = 0;
         if (fault) return say(fault.trimEnd());
         for (const line of lines) await call("command", `b ${line}`);
         labels = await readLabels(source);
@@ -248,14 +173,18 @@ function showFaults(faults) {
     editor.draw();
 }
 
-let typing;
+let typing; // the timer of the next check
 
-// Assembles what is typed, to mark its faults; the board stays as it is.
+// Marks what is typed as it is checked, which assembles it; the board stays as it is.
 function typed() {
     const isSame = editor.source === assembled;
     $("stale").hidden = assembled === null || isSame;
     editor.here = 0;
     if (isSame) refreshIdle();
+    checkSoon();
+}
+
+function checkSoon() {
     clearTimeout(typing);
     typing = setTimeout(() => checkSource().catch(fail), TYPED);
 }
@@ -269,31 +198,63 @@ async function toggleBreakpoint(line) {
     if (assembled !== null) await command(`${editor.breakpoints.has(line) ? "d" : "b"} ${line}`);
 }
 
+// Whether the last command left a run that may go on.
+const isUnfinished = () => /^still running|^paused$/m.test($("answer").textContent);
+
 // Runs at the speed that is set: at once, or some steps a second.
 async function run() {
-    const speed = Number($("speed").value);
-    if (!speed) return command(`c ${STEPS}`);
-    slow = true;
-    while (slow) {
-        await command("c 1");
-        if (!$("answer").textContent.startsWith("still running")) slow = false;
-        await new Promise((wake) => setTimeout(wake, 1000 / speed));
+    const mine = (turn = ++turns), from = steps;
+    while (turn === mine) {
+        const speed = Number($("speed").value);
+        await command(speed ? "c 1" : `c ${STEPS}`);
+        if (turn !== mine) return;
+        if (!speed || !isUnfinished()) turn = 0;
+        else await new Promise((wake) => setTimeout(wake, 1000 / speed));
     }
+    if (steps > from) undone = from;
     showControls();
 }
 
 function pause() {
-    slow = false;
+    turn = 0;
     pauseRun();
+    showControls();
 }
 
-// Puts a source, a timed list and breakpoints into the page, and assembles them.
+// Does something between two pieces of a run, which goes on then. Returns whether it was done.
+async function between(act) {
+    const resumes = turn > 0;
+    if (running && !resumes) {
+        say("The board is at work: pause it first.");
+        return false;
+    }
+    if (resumes) {
+        pause();
+        await current;
+    }
+    const goesOn = resumes && isUnfinished(), source = assembled;
+    await act();
+    if (goesOn && assembled === source) run();
+    return true;
+}
+
+// What a link holds of the page. Where the timed list is the one on the board, what was given by hand is in it.
+function readState() {
+    const inputs = $("inputs").value === given ? saved.inputs : $("inputs").value;
+    return { source: editor.source, inputs, breakpoints: [...editor.breakpoints] };
+}
+
+// Puts a source, a timed list and breakpoints into the page, and assembles them; returns whether it did.
 async function loadState({ source, inputs, breakpoints = [] }) {
-    if (running || slow) return say("The board runs: pause it first.");
+    if (running || turn) {
+        say("The board runs: pause it first.");
+        return false;
+    }
     $("inputs").value = inputs;
     editor.source = source;
     editor.breakpoints = new Set(breakpoints);
     await assemble();
+    return true;
 }
 
 // ---- Controls
@@ -305,32 +266,51 @@ const CONTROLS = [
     { id: "step", title: "Step", key: "S", act: () => command("s") },
     { id: "over", title: "Over", key: "O", act: () => command("next") },
     { id: "out", title: "Out", key: "U", act: () => command("finish") },
-    { id: "back", title: "Back", key: "B", act: () => command("u 1") },
-    { id: "undo", title: "Undo", key: "Z", act: () => command("u") },
-    { id: "reset", title: "Reset", key: "0", act: () => command(`u ${STEPS}`) },
+    { id: "back", title: "Back", key: "B", act: () => goBack(Math.max(0, steps - 1)) },
+    { id: "undo", title: "Undo", key: "Z", act: () => goBack(undone) },
+    { id: "reset", title: "Reset", key: "0", act: () => goBack(0) },
     { id: "trap", title: "To trap", key: "T", act: () => command("until trap") },
     { id: "why", title: "Why?", key: "Y", act: () => command("why") },
     { id: "break", title: "Breakpoint", key: "K", act: () => toggleBreakpoint(editor.line), always: true },
 ];
+// What each does, for those who point at it.
+const DOES = {
+    assemble: "Assembles the source, and boots the board",
+    run: "Runs up to a breakpoint, the end, or a pause",
+    pause: "Pauses the run",
+    step: "Takes a step",
+    over: "Takes a step, and a call with all it does as one",
+    out: "Runs until the present function or handler has returned",
+    back: "Goes back a step",
+    undo: "Goes back to before the last command that took steps",
+    reset: "Goes back to the start",
+    trap: "Runs up to a trap",
+    why: "Explains the first trap without a handler, or else the last one",
+    break: "Sets or clears a breakpoint at the line of the caret",
+};
 const SPEEDS = { 0: "full", 50: "50 steps a second", 10: "10 steps a second", 2: "2 steps a second" };
 
 function isOn({ always, whileRunning }) {
-    if (running || slow) return whileRunning;
+    if (running || turn) return whileRunning;
     return !whileRunning && (always || assembled !== null);
 }
 
 // A control that is off stays in the order of focus, so that the focus isn't lost while the board runs.
+// What happens during a run isn't read out before its end.
 function showControls() {
     for (const control of CONTROLS) $(control.id).setAttribute("aria-disabled", !isOn(control));
+    $("answer").setAttribute("aria-busy", turn > 0);
 }
 
 function press(control) {
-    if (isOn(control)) control.act();
+    if (isOn(control)) return control.act();
+    if (running || turn) return say("The board runs: pause it first.");
+    say(control.whileRunning ? "Nothing runs." : "No program is on the board: assemble one.");
 }
 
 function makeControls() {
     const buttons = CONTROLS.map(({ id, title, key }) => {
-        const keys = `title="Alt+${key}" aria-keyshortcuts="Alt+${key}"`;
+        const keys = `title="${DOES[id]} (Alt+${key})" aria-keyshortcuts="Alt+${key}"`;
         return `<button id="${id}" ${keys}>${title} <kbd>${key}</kbd></button>`;
     });
     const speeds = Object.entries(SPEEDS).map(([value, title]) => `<option value=${value}>${title}</option>`);
@@ -346,101 +326,52 @@ function makeControls() {
     });
 }
 
-function makeTabs() {
-    const buttons = NAMES.map((name) => {
-        const words = `role="tab" id="tab-${name}" aria-controls="panel-${name}"`;
-        return `<button ${words}>${TABS[name].title}</button>`;
-    });
-    const panels = NAMES.map((name) => {
-        const words = `role="tabpanel" id="panel-${name}" aria-labelledby="tab-${name}" tabindex="0" hidden`;
-        return `<div ${words}>${TABS[name].html ?? ""}</div>`;
-    });
-    $("tabs").innerHTML = buttons.join("");
-    $("panels").innerHTML = panels.join("");
-    for (const name of NAMES) $(`tab-${name}`).addEventListener("click", () => showTab(name));
-    $("tabs").addEventListener("keydown", ({ key }) => {
-        const move = { ArrowRight: 1, ArrowLeft: -1 }[key];
-        if (move) showTab(NAMES[(NAMES.indexOf(tab) + move + NAMES.length) % NAMES.length], true);
-    });
-}
-
-function makePanels() {
-    const numbers = Array.from({ length: 31 }, (_, i) => i + 1);
-    const lines = numbers.map((number) => {
-        const words = `role="switch" aria-checked="false" value="${number}"`;
-        return `<li><button ${words}>${number} <span class="level">low</span></button> <span></span></li>`;
-    });
-    $("lines").innerHTML = lines.join("");
-    $("lines").addEventListener("click", ({ target }) => {
-        const button = target.closest("[role=switch]");
-        if (button) command(`line ${button.value} ${button.getAttribute("aria-checked") === "true" ? 0 : 1}`);
-    });
-    for (const id of ["memory-where", "memory-words"]) $(id).addEventListener("change", refreshIdle);
-    $("save-run").addEventListener("click", () => {
-        download("lab.input", saved.inputs);
-        download("lab.commands", saved.commands);
-    });
-}
-
 // Sends a text to the serial port, as bytes in hexadecimal, some in each command.
 async function send(text) {
-    const bytes = [...new TextEncoder().encode(text)].map((byte) => byte.toString(16).padStart(2, "0"));
+    const line = text + ($("send-line").checked ? "\n" : "");
+    const bytes = [...new TextEncoder().encode(line)].map((byte) => byte.toString(16).padStart(2, "0"));
     for (let at = 0; at < bytes.length; at += 300) await command(`rx ${bytes.slice(at, at + 300).join(" ")}`);
 }
 
 function makeForms() {
-    $("send").addEventListener("submit", (event) => {
-        event.preventDefault();
-        send($("send-text").value + ($("send-line").checked ? "\n" : ""));
-        $("send-text").value = "";
-    });
-    $("ask").addEventListener("submit", (event) => {
-        event.preventDefault();
-        command($("ask-line").value);
-        $("ask-line").value = "";
-    });
+    for (const [form, field, act] of [["send", "send-text", send], ["ask", "ask-line", command]]) {
+        $(form).addEventListener("submit", async (event) => {
+            event.preventDefault();
+            const text = $(field).value;
+            $(field).value = "";
+            if (!(await between(() => act(text)))) $(field).value = text;
+        });
+    }
     $("faults").addEventListener("click", ({ target }) => {
         if (target.value) editor.goTo(Number(target.value));
     });
-}
-
-function makeFiles() {
-    const names = Object.keys(EXAMPLES).map((name) => `<option>${name}</option>`);
-    $("example").innerHTML = `<option value="">choose…</option>${names.join("")}`;
-    $("example").addEventListener("change", ({ target }) => {
-        if (target.value) loadState(EXAMPLES[target.value]);
+    $("panel-listing").addEventListener("click", ({ target }) => {
+        const line = Number(target.closest("tr")?.dataset.line);
+        if (line) between(() => toggleBreakpoint(line));
     });
-    $("open").addEventListener("click", () => $("file").click());
-    $("file").addEventListener("change", async ({ target }) => {
-        if (target.files.length) await loadState({ source: await target.files[0].text(), inputs: "" });
-        target.value = "";
+    $("lines").addEventListener("click", ({ target }) => {
+        const button = target.closest("[role=switch]");
+        const level = button?.getAttribute("aria-checked") === "true" ? 0 : 1;
+        if (button) between(() => command(`line ${button.value} ${level}`));
     });
-    $("save").addEventListener("click", () => download("program.s", editor.source));
-    $("link").addEventListener("click", async () => {
-        const inputs = $("inputs").value || saved.inputs;
-        const breakpoints = [...editor.breakpoints];
-        location.hash = await writeFragment({ source: editor.source, inputs, breakpoints });
-        await navigator.clipboard?.writeText(location.href).catch(() => {});
-        say("The link is in the address bar: it holds the source, the inputs and the breakpoints.");
-    });
+    $("inputs").addEventListener("input", checkSoon);
+    $("speed").addEventListener("change", () => turn && between(() => {}));
+    $("save-input").addEventListener("click", () => download("lab.input", saved.inputs));
+    $("save-commands").addEventListener("click", () => download("lab.commands", saved.commands));
 }
 
 async function start() {
     const parts = { text: $("text"), colours: $("colours"), gutter: $("gutter") };
-    editor = new Editor(parts, { onChange: typed, onBreakpoint: toggleBreakpoint });
+    editor = new Editor(parts, { onChange: typed, onBreakpoint: (line) => between(() => toggleBreakpoint(line)) });
+    tabs = new Tabs(refreshIdle);
+    files = new Files({ source: () => editor.source, state: readState, load: loadState });
     makeControls();
-    makeTabs();
-    makePanels();
     makeForms();
-    makeFiles();
-    showTab(tab);
     showControls();
     onProgress(showProgress);
     await call("start", Uint8Array.from(atob($("wasm").textContent.trim()), (it) => it.charCodeAt(0)));
-    const linked = await readFragment(location.hash.slice(1)).catch(() => null);
-    await loadState(linked ?? EXAMPLES.hello);
-    if (location.hash && !linked) say("The link holds no program that can be read.");
+    await files.loadLink();
     document.body.dataset.ready = "yes";
 }
 
-start();
+start().catch((error) => say(`The page can't run in this browser: ${error.message}`));

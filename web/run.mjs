@@ -29,7 +29,7 @@ export function status(board) {
     return `${halted ? `halted ${halted[1]}` : `running at ${pc[0]}`} after ${steps} steps\n`;
 }
 
-// Takes steps until the board halts, or so many.
+// Takes steps until the board halts, and no more than `steps`.
 export function runAll(board, steps) {
     for (let answer = board.command(encode(`s ${steps}`)); answer.next === RUNNING; ) answer = board.goOn();
 }

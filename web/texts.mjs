@@ -101,7 +101,7 @@ export function readSaved(text) {
     return { inputs, options, commands };
 }
 
-// The level of each interrupt line after so many steps: its last input in a timed list.
+// The level of each interrupt line after some steps: that of its last input in the timed list up to there.
 export function readLevels(inputs, steps) {
     const all = [...inputs.matchAll(/^(\d+) line (\d+) ([01])$/gm)];
     const past = all.filter(([, step]) => Number(step) <= steps);

@@ -22,11 +22,11 @@ export const controlLines = CONTROL.map((name) => `p ${name}`);
 const hex8 = (number) => number.toString(16).padStart(8, "0");
 const joined = (parts, between = ", ") => parts.filter(Boolean).join(between);
 
-// A table with a title, the heads of its columns and its rows, each with a class or none.
-function table(title, heads, rows, classes = []) {
+// A table with a title, the heads of its columns and its rows, each with attributes or none.
+function table(title, heads, rows, attributes = []) {
     const head = heads.map((it) => `<th scope="col">${it}</th>`).join("");
     const cells = rows.map((row) => `<td>${row.join("</td><td>")}</td>`);
-    const body = cells.map((row, i) => `<tr class="${classes[i] ?? ""}">${row}</tr>`);
+    const body = cells.map((row, i) => `<tr ${attributes[i] ?? ""}>${row}</tr>`);
     const parts = [`<thead><tr>${head}</tr></thead>`, `<tbody>${body.join("")}</tbody>`];
     return `<table><caption>${title}</caption>${parts.join("")}</table>`;
 }
@@ -76,13 +76,16 @@ export function memoryHtml(text, isWords, registers, labels) {
 
 // ---- The listing
 
+// The listing; a click on one of its lines sets or clears a breakpoint.
 export function listingHtml(lines) {
     const rows = lines.map(({ here, marked, address, word, number, text }) => {
         const marks = joined([here && "➤", marked && "●"], "");
         return [marks, address, word, number, escaped(text)];
     });
-    const classes = lines.map(({ here }) => (here ? "here" : ""));
-    return table("Listing", ["Mark", "Address", "Word", "Line", "Source"], rows, classes);
+    const attributes = lines.map(({ here, number }) => {
+        return `data-line="${number}" ${here ? 'class="here" aria-current="true"' : ""}`;
+    });
+    return table("Listing", ["Mark", "Address", "Word", "Line", "Source"], rows, attributes);
 }
 
 // ---- Devices

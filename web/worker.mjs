@@ -8,10 +8,19 @@ const PIECES = { least: 1000, most: 10000000 }; // steps of a piece
 
 let module, lab, checker;
 let paused = false;
+let told = 0; // how many bytes of the console the page has
+let decoder; // of those that it gets in a long run
 
 function renew() {
     lab = new Board(module);
     checker = new Board(module);
+}
+
+// Tells the page how far a long run is, and what the program has sent meanwhile.
+function report() {
+    const more = lab.console(told);
+    told += more.length;
+    postMessage({ steps: lab.steps(), sent: decoder.decode(more, { stream: true }) });
 }
 
 // Lets waiting messages come in.
@@ -54,11 +63,12 @@ const acts = {
     // Executes a command line to its end, or up to a pause.
     async command(line) {
         paused = false;
+        decoder = new TextDecoder();
         let { next, text } = lab.command(encode(line));
         let answer = decode(text), reported = performance.now();
         while (next === RUNNING && !paused) {
             if (performance.now() - reported > PROGRESS) {
-                postMessage({ steps: lab.steps() });
+                report();
                 reported = performance.now();
             }
             await breathe();
@@ -71,7 +81,12 @@ const acts = {
     // The answers of commands that only look.
     ask: (lines) => lines.map((line) => lab.ask(line)),
 
-    console: () => decode(lab.console()),
+    console() {
+        const bytes = lab.console();
+        told = bytes.length;
+        return decode(bytes);
+    },
+
     steps: () => lab.steps(),
 };
 

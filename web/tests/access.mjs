@@ -8,7 +8,7 @@ import { openPage } from "./chromium.mjs";
 const url = `file://${fileURLToPath(new URL("../../out/web/index.html", import.meta.url))}`;
 const ROLES = ["banner", "main", "toolbar", "tablist", "tabpanel", "log", "status"];
 const ORDER = [
-    ...["example", "open", "save", "link"],
+    ...["example", "load", "open", "save", "link"],
     ...["assemble", "run", "pause", "step", "over", "out", "back", "undo", "reset", "trap", "why", "break"],
     "speed",
     ...["text", "console", "send-text", "answer", "ask-line", "tab-control"],
@@ -88,13 +88,30 @@ const fits = (page) => page.run(`${root}.scrollWidth <= innerWidth`);
 const size = (page) => page.run(`[${root}.scrollWidth, ${root}.scrollHeight]`);
 const ready = (page) => page.until(`document.body.dataset.ready === "yes"`);
 
+// The controls whose words are cut, and those that lie over another.
+function misplaced() {
+    const controls = [...document.querySelectorAll("button, select, input:not([hidden])")];
+    const seen = controls.filter((it) => it.checkVisibility()).map((it) => [it, it.getBoundingClientRect()]);
+    const isCut = ([it]) => it.tagName === "BUTTON" && it.scrollWidth > it.clientWidth + 1;
+    const meet = (a, b) => a.left < b.right - 1 && b.left < a.right - 1 && a.top < b.bottom - 1 && b.top < a.bottom - 1;
+    const isOver = ([it, box], i) => seen.slice(0, i).some(([, other]) => meet(box, other));
+    return seen.filter((it, i) => isCut(it) || isOver(it, i)).map(([it]) => it.id || it.textContent);
+}
+
+// Checks that nothing is cut with each tab in front.
+async function placed(page, name) {
+    const wrong = [];
+    await inEachTab(page, async (tab) => {
+        if (!(await fits(page))) wrong.push(`${tab}: ${await size(page)}`);
+        wrong.push(...(await page.run(`(${misplaced})()`)));
+    });
+    check(`${name}: nothing is cut at the side, and no control is cut or lies over another`, !wrong.length, wrong);
+}
+
 const page = await openPage(url);
 await ready(page);
-await page.run(`(() => {
-    const examples = document.getElementById("example");
-    examples.value = "interrupt";
-    examples.dispatchEvent(new Event("change"));
-})()`);
+await page.run(`document.getElementById("example").value = "interrupt"`);
+await page.run(`document.getElementById("load").click()`);
 await page.until(`document.getElementById("text").value.startsWith("# External interrupts")`);
 await roles(page);
 await focusOrder(page);
@@ -104,8 +121,9 @@ await inEachTab(page, async (tab) => {
 });
 const isInSight = (await fits(page)) && (await page.run(`${root}.scrollHeight <= innerHeight`));
 check("at 1280 by 720 all is in sight", isInSight, await size(page));
+await placed(page, "at 1280 by 720");
 await page.run(`${root}.style.fontSize = "200%"`);
-check("with text at twice its size nothing is cut at the side", await fits(page), await size(page));
+await placed(page, "with text at twice its size");
 await page.close();
 
 const dark = await openPage(url, { dark: true });
@@ -113,8 +131,13 @@ await ready(dark);
 await inEachTab(dark, (tab) => contrast(dark, `${tab}, dark`));
 await dark.close();
 
-const tablet = await openPage(url, { width: 820, height: 1180 });
+const tablet = await openPage(url, { width: 768, height: 1024 });
 await ready(tablet);
-check("on a tablet nothing is cut at the side", await fits(tablet), await size(tablet));
+await placed(tablet, "on a tablet");
+await tablet.run(`${root}.style.fontSize = "200%"`);
+await placed(tablet, "on a tablet with text at twice its size");
+await tablet.run(`document.getElementById("tab-repeat").scrollIntoView()`);
+const bar = await tablet.run(`document.getElementById("controls").getBoundingClientRect().top`);
+same("on a tablet the controls stay in sight below", bar, 0);
 await tablet.close();
 finish();

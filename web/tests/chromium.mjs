@@ -15,12 +15,18 @@ export async function openPage(url, { width = 1280, height = 720, dark = false }
     const browser = spawn("chromium", [...words, `--user-data-dir=${home}`, "about:blank"], {
         stdio: ["ignore", "ignore", "ignore", "pipe", "pipe"],
     });
-    const waiting = new Map(), errors = [];
+    const waiting = new Map(), errors = [], asked = []; // what dialogs asked
     let calls = 0, rest = "", worker = null; // the session of the page's worker
+    let choosing; // is called when the page wants a file
 
     function receive({ id, error, result, method, params }) {
         if (method === "Target.attachedToTarget") worker = params.sessionId;
         if (method === "Runtime.exceptionThrown") errors.push(textOf(params.exceptionDetails));
+        if (method === "Page.javascriptDialogOpening") {
+            asked.push(params.message);
+            call("Page.handleJavaScriptDialog", { accept: true });
+        }
+        if (method === "Page.fileChooserOpened") choosing(params.backendNodeId);
         if (!id) return;
         const { resolve, reject } = waiting.get(id);
         waiting.delete(id);
@@ -47,11 +53,14 @@ export async function openPage(url, { width = 1280, height = 720, dark = false }
     await call("Emulation.setDeviceMetricsOverride", { width, height, deviceScaleFactor: 1, mobile: false });
     const features = [{ name: "prefers-color-scheme", value: dark ? "dark" : "light" }];
     await call("Emulation.setEmulatedMedia", { features });
+    await call("Page.setInterceptFileChooserDialog", { enabled: true });
+    await send("Browser.setDownloadBehavior", { behavior: "allow", downloadPath: home });
     await call("Page.navigate", { url });
 
     const page = {
         call,
         errors,
+        asked,
 
         async run(expression) {
             const words = { expression, awaitPromise: true, returnByValue: true };
@@ -88,6 +97,22 @@ export async function openPage(url, { width = 1280, height = 720, dark = false }
         },
 
         type: (text) => call("Input.insertText", { text }),
+
+        // Does what opens the browser's dialog for files, and chooses a file there.
+        async choose(file, open) {
+            const wanted = new Promise((resolve) => (choosing = resolve));
+            await open();
+            await call("DOM.setFileInputFiles", { files: [file], backendNodeId: await wanted });
+        },
+
+        // The text of a file that the page has saved.
+        async saved(name) {
+            const file = path.join(home, name);
+            for (let i = 0; i < TRIES && !fs.existsSync(file); i++) await wait(PAUSE);
+            const text = fs.readFileSync(file, "utf8");
+            fs.rmSync(file);
+            return text;
+        },
 
         // Presses a key: its name, its code, and whether Alt is held.
         async press(key, code = key, alt = false) {

@@ -1,97 +1,12 @@
-// node web/tests/lessons.mjs PROGRAM [FOLDER]: lessons by clicks and keys in headless Chromium, beside what
-// the built program prints. The page is opened from disk. With FOLDER, pictures of four states are written to it.
-import { spawnSync } from "node:child_process";
+// node web/tests/lessons.mjs PROGRAM [FOLDER]: lessons by clicks and keys, beside what the built program prints.
+// With FOLDER, pictures of four states are written to it.
 import fs from "node:fs";
-import os from "node:os";
-import path from "node:path";
-import { fileURLToPath } from "node:url";
-import { check, contains, finish, same } from "./checks.mjs";
-import { openPage } from "./chromium.mjs";
+import { check, contains, same } from "./checks.mjs";
+import { answer, answers, choose, idle, lab, learn, native, open, page, printed } from "./user.mjs";
+import { sourceOf, top, typeOver, where } from "./user.mjs";
 
-const program = path.resolve(process.argv[2]), pictures = process.argv[3];
-const top = fileURLToPath(new URL("../..", import.meta.url));
-const room = fs.mkdtempSync(path.join(os.tmpdir(), "rv-lessons-"));
-const page = await openPage(`file://${top}/out/web/index.html`);
-
-const sourceOf = (name) => fs.readFileSync(`${top}/examples/${name}.s`, "utf8");
-const taskSource = sourceOf("lab/task");
-
-// What the built program prints for a source, a timed list and commands.
-function native(source, { inputs, commands, words = [] }) {
-    const all = [`${room}/source.s`, ...words];
-    fs.writeFileSync(all[0], source);
-    for (const [name, text] of Object.entries({ input: inputs, commands })) {
-        if (text === undefined) continue;
-        fs.writeFileSync(`${room}/${name}`, text);
-        all.push(`--${name}`, `${room}/${name}`);
-    }
-    return spawnSync(program, all, { maxBuffer: 1 << 28 }).stdout.toString();
-}
-
-const quoted = (text) => JSON.stringify(text);
+const pictures = process.argv[3];
 const picture = (name) => pictures && page.picture(`${pictures}/${name}.png`);
-const idle = () => page.until(`document.getElementById("pause").getAttribute("aria-disabled") === "true"`);
-const answered = `document.getElementById("answer").textContent`;
-const answers = (text) => page.until(`${answered}.includes(${quoted(text)})`);
-const answer = () => page.text("#answer");
-const where = () => page.text("#where");
-
-const isAtReset = () => page.until(`/step 0$/.test(document.getElementById("where").textContent)`);
-
-// Puts a source and a timed list into the page, and assembles them.
-async function open(source, inputs = "") {
-    await idle();
-    await page.run(`(() => {
-        const text = document.getElementById("text");
-        text.value = ${quoted(source)};
-        text.dispatchEvent(new Event("input"));
-        document.getElementById("inputs").value = ${quoted(inputs)};
-        document.getElementById("answer").textContent = "";
-    })()`);
-    await page.alt("A");
-    await answers("Assembled");
-    await isAtReset();
-}
-
-// Chooses an example from the list.
-async function choose(name) {
-    await idle();
-    await page.run(`(() => {
-        const examples = document.getElementById("example");
-        document.getElementById("answer").textContent = "";
-        examples.value = ${quoted(name)};
-        examples.dispatchEvent(new Event("change"));
-    })()`);
-    await answers("Assembled");
-    await isAtReset();
-}
-
-// Types over the first place of a text in the source.
-async function typeOver(old, text) {
-    await page.run(`(() => {
-        const text = document.getElementById("text"), at = text.value.indexOf(${quoted(old)});
-        text.focus();
-        text.setSelectionRange(at, at + ${old.length});
-    })()`);
-    await page.type(text);
-}
-
-// Gives a command of the lab.
-async function lab(line, expected) {
-    await page.click("#ask-line");
-    await page.type(line);
-    await page.press("Enter");
-    await answers(expected);
-    await idle();
-}
-
-// The console and the last line, as rvboard prints them.
-async function printed() {
-    const sent = await page.text("#console"), said = await answer();
-    const [, code, steps] = said.match(/halted with code (\d+) after (\d+) steps?/) ?? [];
-    const end = sent && !sent.endsWith("\n") ? "\n" : "";
-    return `${sent}${end}halted ${code} after ${steps} steps\n`;
-}
 
 async function allExamples() {
     const files = fs.readdirSync(`${top}/examples`);
@@ -216,7 +131,7 @@ async function interruptLine() {
 }
 
 async function protection() {
-    await choose("task");
+    await choose("lab/task");
     await page.click("#tab-protection");
     await page.alt("T");
     await answers("trap 7");
@@ -228,7 +143,7 @@ async function protection() {
 }
 
 async function link() {
-    await choose("task");
+    await choose("lab/task");
     await page.click(`#gutter li[value="4"]`);
     await answers("breakpoint at line");
     await page.click("#link");
@@ -238,7 +153,7 @@ async function link() {
     await page.call("Page.navigate", { url: "about:blank" });
     await page.call("Page.navigate", { url: address });
     await page.until(`document.body.dataset.ready === "yes"`);
-    same("a link holds the source", await page.run(`document.getElementById("text").value`), taskSource);
+    same("a link holds the source", await page.run(`document.getElementById("text").value`), sourceOf("lab/task"));
     contains("and the breakpoint", await page.text("#gutter"), /◉/);
 }
 
@@ -278,16 +193,4 @@ async function lost() {
     check("after an exception the board is made anew, and a line says so", true);
 }
 
-await page.until(`document.body.dataset.ready === "yes"`);
-const lessons = [allExamples, fault, breakpoint, byKeys, byHand, interruptLine, protection, link, longRun, lost];
-for (const lesson of lessons) {
-    try {
-        await lesson();
-    } catch (error) {
-        check(lesson.name, false, error.message);
-    }
-}
-same("the page has no error", page.errors.join("\n"), "");
-await page.close();
-fs.rmSync(room, { recursive: true });
-finish();
+await learn(allExamples, fault, breakpoint, byKeys, byHand, interruptLine, protection, link, longRun, lost);

@@ -1,0 +1,113 @@
+// A user of the page in headless Chromium, which is opened from disk: what the tests do by clicks and keys, and
+// what the built program, whose path is the first word, prints.
+import { spawnSync } from "node:child_process";
+import fs from "node:fs";
+import os from "node:os";
+import path from "node:path";
+import { fileURLToPath } from "node:url";
+import { check, finish, same } from "./checks.mjs";
+import { openPage } from "./chromium.mjs";
+
+const program = path.resolve(process.argv[2]);
+export const top = fileURLToPath(new URL("../..", import.meta.url));
+export const room = fs.mkdtempSync(path.join(os.tmpdir(), "rv-lessons-"));
+export const page = await openPage(`file://${top}/out/web/index.html`);
+
+export const sourceOf = (name) => fs.readFileSync(`${top}/examples/${name}.s`, "utf8");
+
+// What the built program prints for a source, a timed list and commands.
+export function native(source, { inputs, commands, words = [] }) {
+    const all = [`${room}/source.s`, ...words];
+    fs.writeFileSync(all[0], source);
+    for (const [name, text] of Object.entries({ input: inputs, commands })) {
+        if (text === undefined) continue;
+        fs.writeFileSync(`${room}/${name}`, text);
+        all.push(`--${name}`, `${room}/${name}`);
+    }
+    return spawnSync(program, all, { maxBuffer: 1 << 28 }).stdout.toString();
+}
+
+export const quoted = (text) => JSON.stringify(text);
+export const idle = () => page.until(`document.getElementById("pause").getAttribute("aria-disabled") === "true"`);
+const answered = `document.getElementById("answer").textContent`;
+export const answers = (text) => page.until(`${answered}.includes(${quoted(text)})`);
+export const answer = () => page.text("#answer");
+export const where = () => page.text("#where");
+
+const isAtReset = () => page.until(`/step 0$/.test(document.getElementById("where").textContent)`);
+
+// Puts a source and a timed list into the page, and assembles them.
+export async function open(source, inputs = "") {
+    await idle();
+    await page.run(`(() => {
+        const text = document.getElementById("text");
+        text.value = ${quoted(source)};
+        text.dispatchEvent(new Event("input"));
+        document.getElementById("inputs").value = ${quoted(inputs)};
+        document.getElementById("answer").textContent = "";
+    })()`);
+    await page.alt("A");
+    await answers("Assembled");
+    await isAtReset();
+}
+
+// Loads an example of the list.
+export async function choose(name) {
+    await idle();
+    await page.run(`(() => {
+        const examples = document.getElementById("example");
+        document.getElementById("answer").textContent = "";
+        examples.value = ${quoted(name)};
+    })()`);
+    await page.click("#load");
+    await answers("Assembled");
+    await isAtReset();
+}
+
+// Types over the first place of a text in the source.
+export async function typeOver(old, text) {
+    await page.run(`(() => {
+        const text = document.getElementById("text"), at = text.value.indexOf(${quoted(old)});
+        text.focus();
+        text.setSelectionRange(at, at + ${old.length});
+    })()`);
+    await page.type(text);
+}
+
+const forget = () => page.run(`document.getElementById("answer").textContent = ""`);
+
+// Presses Alt and a key, and waits for the answer and the end of what it begins.
+export async function press(key, expected) {
+    await forget();
+    await page.alt(key);
+    await answers(expected);
+    await idle();
+}
+
+// Gives a command of the lab.
+export async function lab(line, expected) {
+    await forget();
+    await page.click("#ask-line");
+    await page.type(line);
+    await page.press("Enter");
+    await answers(expected);
+    await idle();
+}
+
+// The console and the last line, as rvboard prints them.
+export async function printed() {
+    const sent = await page.text("#console"), said = await answer();
+    const [, code, steps] = said.match(/halted with code (\d+) after (\d+) steps?/) ?? [];
+    const end = sent && !sent.endsWith("\n") ? "\n" : "";
+    return `${sent}${end}halted ${code} after ${steps} steps\n`;
+}
+
+// Goes through lessons one by one: one that can't be ended is a check that failed.
+export async function learn(...lessons) {
+    await page.until(`document.body.dataset.ready === "yes"`);
+    for (const lesson of lessons) await lesson().catch((error) => check(lesson.name, false, error.message));
+    same("the page has no error", page.errors.join("\n"), "");
+    await page.close();
+    fs.rmSync(room, { recursive: true });
+    finish();
+}
