@@ -3,7 +3,7 @@
 use Rattle.std.specs.Prelude.{ℕ, zero, suc, ◌-◌, ◌==◌, List, [], ◌++◌, min, codes, if◌then◌else◌}
 use Rattle.std.specs.Fmt.{decimal}
 
--- commands that take n steps, in so many lines at most
+-- commands that take n steps, in at most `lines` lines
 unfoldable pub steps_text : ℕ → ℕ → List ℕ
 steps_text zero n = []
 steps_text (suc lines) n =
