@@ -13,7 +13,7 @@ use Rattle.rv_recording.specs.declared.until.End.{End}
 use Rattle.rv_recording.specs.declared.until.End.TheVariants.{Limit, Stuck}
 use Rattle.rv_recording.proofs.Running.{Going, begins, goes_on, ended, limit, refused, taken_is, due_is, due_at, one_more}
 
--- n steps were taken, none of which ends the run, and so many calls are open
+-- n steps were taken, none of which ends the run, and `calls` is the number of open calls after them
 pub record GoingOut (first : ℕ) (old now : RecordingState) (calls n : ℕ) : Type 0 where
   pub going : Going (out_at first old.session) old now n
   pub number : calls ≡ open_at first old.session.timed n
