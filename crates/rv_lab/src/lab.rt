@@ -1,7 +1,9 @@
 //! The lab: what a caller may ask of it.
-ghost use Rattle.std.specs.Prelude.{◌≡◌, ◌≤◌, max, IfOk, OnOk};
+ghost use Rattle.std.specs.Prelude.{◌≡◌, ◌≤◌, max, IfOk, None, Ok, OnOk};
+ghost use Rattle.rv_asm.specs.Lines.{listed};
 ghost use Rattle.rv_monitor.specs.Laws.{IsReached};
-ghost use Rattle.rv_recording.specs.Recording.{IsRun, first_board};
+ghost use Rattle.rv_opening.specs.Opening.{Opens};
+ghost use Rattle.rv_recording.specs.Recording.{IsRun, first_board, last_step};
 ghost use Rattle.rv_lab.specs.State.{setup};
 ghost use Rattle.rv_lab.specs.Commands.{Obeys};
 
@@ -112,7 +114,15 @@ impl Lab {
         source: &[u8],
         inputs: &[u8],
         sizes: Sizes,
-    ) -> Result<Lab, OpenFault> {
+    ) -> Result<Lab, OpenFault>
+        ensures opens { IfOk result (λ l.
+            Opens source.now inputs.now sizes.pages sizes.slots last_step (Ok l.recording.session)) }
+        ensures sizes { IfOk result (λ l.
+            (l.recording.pages ≡ sizes.pages) × (l.recording.slots ≡ sizes.slots)) }
+        ensures listing { IfOk result (λ l. listed source.now ≡ Ok l.listing) }
+        ensures begins { IfOk result (λ l. (l.source ≡ source.now) × (l.before ≡ 0) × (l.plan ≡ None)
+            × (l.piece ≡ 1000000)) }
+    {
         let listing = list(alloc, source)?;
         let (pages, slots) = (u32::from(sizes.pages), u32::from(sizes.slots));
         let recording = Recording::open(alloc, source, inputs, pages, slots)?;
