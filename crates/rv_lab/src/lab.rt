@@ -1,5 +1,5 @@
 //! The lab: what a caller may ask of it.
-ghost use Rattle.std.specs.Prelude.{◌≡◌, ◌≤◌, max, IfOk, None, Ok, OnOk};
+ghost use Rattle.std.specs.Prelude.{◌≡◌, ◌≤◌, max, Err, IfErr, IfOk, None, Ok, OnOk};
 ghost use Rattle.rv_asm.specs.Lines.{listed};
 ghost use Rattle.rv_monitor.specs.Laws.{IsReached};
 ghost use Rattle.rv_opening.specs.Opening.{Opens};
@@ -109,14 +109,11 @@ impl Lab {
     ///
     /// The first fault of the source, the timed list and the board, in this order; `OutOfMemory` may come in
     /// place of any result.
-    pub fn open(
-        alloc: Global,
-        source: &[u8],
-        inputs: &[u8],
-        sizes: Sizes,
-    ) -> Result<Lab, OpenFault>
+    pub fn open(alloc: Global, source: &[u8], inputs: &[u8], sizes: Sizes) -> Result<Lab, OpenFault>
         ensures opens { IfOk result (λ l.
             Opens source.now inputs.now sizes.pages sizes.slots last_step (Ok l.recording.session)) }
+        ensures err { IfErr result (λ e.
+            Opens source.now inputs.now sizes.pages sizes.slots last_step (Err e)) }
         ensures sizes { IfOk result (λ l.
             (l.recording.pages ≡ sizes.pages) × (l.recording.slots ≡ sizes.slots)) }
         ensures listing { IfOk result (λ l. listed source.now ≡ Ok l.listing) }

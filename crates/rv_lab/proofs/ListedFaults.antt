@@ -1,0 +1,39 @@
+-- The fault of a source's listing is that of the source.
+use Rattle.std.proofs.Common.{◌≡◌, List, ℕ, Result, Ok, Err}
+use Rattle.rv_asm.specs.Assembly.{assembled}
+use Rattle.rv_asm.specs.Lines.{Listed, listed}
+use Rattle.rv_program.specs.Program.{Assembly}
+use Rattle.rv_program.specs.Faults.{FailsBy, Fails}
+use Rattle.rv_program.specs.declared.fault.AsmFault.{AsmFault}
+use Rattle.rv_program.specs.declared.fault.FaultKind.{FaultKind}
+use Rattle.rv_program.specs.declared.fault.FaultKind.TheVariants as kind
+use Rattle.rv_asm.specs.Listing.{◌>>=◌}
+
+bound_fault : (made : Result Assembly AsmFault) (more : Assembly → Listed) (fault : AsmFault)
+    → (made >>= λ a. Ok (more a)) ≡ Err fault → made ≡ Err fault
+bound_fault (Ok a) more fault is = absurd cc
+bound_fault (Err other) more fault is = cc
+
+is_assembled : (source : List ℕ) (fault : AsmFault) → listed source ≡ Err fault
+    → assembled source ≡ Err fault
+unfolding listed
+is_assembled source fault is = bound_fault (assembled source) _ fault is
+
+fails_by : (kind : FaultKind) (source : List ℕ) (fault : AsmFault) → FailsBy kind fault (listed source)
+    → FailsBy kind fault (assembled source)
+fails_by kind.OutOfMemory source fault h = h
+fails_by kind.BadByte source fault h = is_assembled source fault h
+fails_by kind.LineTooLong source fault h = is_assembled source fault h
+fails_by kind.Syntax source fault h = is_assembled source fault h
+fails_by kind.UnknownWord source fault h = is_assembled source fault h
+fails_by kind.BadOperands source fault h = is_assembled source fault h
+fails_by kind.DuplicateSymbol source fault h = is_assembled source fault h
+fails_by kind.NotConstant source fault h = is_assembled source fault h
+fails_by kind.Misplaced source fault h = is_assembled source fault h
+fails_by kind.TooLarge source fault h = is_assembled source fault h
+fails_by kind.Undefined source fault h = is_assembled source fault h
+fails_by kind.OutOfRange source fault h = is_assembled source fault h
+
+pub fails : (source : List ℕ) (fault : AsmFault) → Fails fault (listed source)
+    → Fails fault (assembled source)
+fails source fault h = fails_by fault.kind source fault h
