@@ -1,7 +1,9 @@
 -- To audit: public contracts cite this.
 -- What a call of the page leaves, and what it copies.
-use Rattle.std.specs.Prelude.{◌≡◌, ◌⊎◌, ◌≤◌, ◌==◌, ℕ, ◌-◌, Bool, false, not, None, List, [], length, ◌++◌, min, take, drop}
+use Rattle.std.specs.Prelude.{◌≡◌, ◌⊎◌, ◌≤◌, ◌==◌, ℕ, ◌-◌, Bool, false, not, Option, None, Some, IfSome, List, [], length, ◌++◌, max, min, take, drop}
 use Rattle.std.specs.Option.{is_some}
+use Rattle.rv_board.specs.State.{console_of}
+use Rattle.rv_lab.specs.State.{LabState}
 use Rattle.rv_page.specs.declared.state.State.{State}
 
 -- ---- the lab
@@ -14,9 +16,30 @@ has_lab s = is_some s.lab
 abbrev pub empty : State
 empty = record { lab = None; answer = record { bytes = []; is_cut = false } }
 
--- there is one where there was one
+-- the lab before a call and the one after it, where there is one, are in a relation
+abbrev pub OfLabs : State → State → (LabState → LabState → Type 0) → Type 0
+OfLabs old new R = IfSome old.lab (λ l. IfSome new.lab (R l))
+
+-- there is a lab where there was one
 abbrev pub Keeps : State → State → Type 0
 Keeps old new = has_lab new ≡ has_lab old
+
+-- a lab whose calls take at most n steps, or one
+abbrev pub in_pieces : ℕ → LabState → LabState
+in_pieces n l = record l { piece = max n 1 }
+
+-- the steps that the lab's board has taken, and what it has sent
+abbrev pub taken : State → ℕ
+taken s = taken_by s.lab where
+  taken_by : Option LabState → ℕ
+  taken_by None = 0
+  taken_by (Some l) = l.recording.session.timed.taken
+
+abbrev pub sent : State → List ℕ
+sent s = sent_by s.lab where
+  sent_by : Option LabState → List ℕ
+  sent_by None = []
+  sent_by (Some l) = console_of l.recording.session.timed.board
 
 -- ---- codes
 

@@ -4,8 +4,10 @@
 //! A handle lends its state to each call, so what is only read takes no memory.
 #![tactic(auto)]
 
-ghost use Rattle.std.specs.Prelude.{◌≡◌, true, false, length, [], Some};
-ghost use Rattle.rv_page.specs.Pages.{Keeps, IsDone, IsLoaded, copied, empty, with_copied};
+ghost use Rattle.std.specs.Prelude.{◌≡◌, ◌≤◌, true, false, length, [], Some};
+ghost use Rattle.rv_lab.specs.State.{setup};
+ghost use Rattle.rv_lab.specs.Commands.{Continues, Obeys};
+ghost use Rattle.rv_page.specs.Pages.{Keeps, IsDone, IsLoaded, OfLabs, copied, empty, in_pieces, sent, taken, with_copied};
 
 mod copying;
 mod handle;
@@ -58,6 +60,9 @@ pub extern "C" fn page_load(
 pub extern "C" fn page_command(handle: &mut Handle, line: &[u8], most: u64) -> u32
     ensures code { IsDone handle.old.value result }
     ensures lab { Keeps handle.old.value handle.new.value }
+    ensures setup { OfLabs handle.old.value handle.new.value (λ l m. setup m ≡ setup (in_pieces most l)) }
+    ensures obeys { result ≤ 3 → OfLabs handle.old.value handle.new.value
+        (λ l. Obeys line.now (in_pieces most l)) }
 {
     handle.state().command(line, most)
 }
@@ -68,6 +73,9 @@ pub extern "C" fn page_command(handle: &mut Handle, line: &[u8], most: u64) -> u
 pub extern "C" fn page_go_on(handle: &mut Handle, most: u64) -> u32
     ensures code { IsDone handle.old.value result }
     ensures lab { Keeps handle.old.value handle.new.value }
+    ensures setup { OfLabs handle.old.value handle.new.value (λ l m. setup m ≡ setup (in_pieces most l)) }
+    ensures continues { result ≤ 3 → OfLabs handle.old.value handle.new.value
+        (λ l. Continues l.plan (in_pieces most l)) }
 {
     handle.state().go_on(most)
 }
@@ -76,6 +84,7 @@ pub extern "C" fn page_go_on(handle: &mut Handle, most: u64) -> u32
 #[unsafe(no_mangle)]
 pub extern "C" fn page_steps(handle: &mut Handle) -> u64
     ensures kept { handle.new.value ≡ handle.old.value }
+    ensures steps { result ≡ taken handle.old.value }
 {
     handle.state().steps()
 }
@@ -94,6 +103,8 @@ pub extern "C" fn page_text(handle: &mut Handle, from: usize, out: &mut [u8]) ->
 #[unsafe(no_mangle)]
 pub extern "C" fn page_console(handle: &mut Handle, from: usize, out: &mut [u8]) -> usize
     ensures kept { handle.new.value ≡ handle.old.value }
+    ensures count { result ≡ copied (sent handle.old.value) from (length out.old) }
+    ensures bytes { out.new ≡ with_copied (sent handle.old.value) from out.old }
 {
     copy_from(handle.state().console(), from, out)
 }

@@ -1,6 +1,8 @@
 //! What the page keeps between two calls.
-ghost use Rattle.std.specs.Prelude.{◌≡◌, ◌≤◌, []};
-ghost use Rattle.rv_page.specs.Pages.{Keeps, IsDone, IsLoaded, empty};
+ghost use Rattle.std.specs.Prelude.{◌≡◌, ◌≤◌, [], IfErr};
+ghost use Rattle.rv_lab.specs.State.{setup};
+ghost use Rattle.rv_lab.specs.Commands.{Continues, Obeys};
+ghost use Rattle.rv_page.specs.Pages.{Keeps, IsDone, IsLoaded, OfLabs, empty, in_pieces, sent, taken};
 
 use rv_base::NoMemory;
 use rv_lab::{Answer, Lab, Next, OpenFault, Sizes, append_diagnosis};
@@ -33,7 +35,8 @@ const NO_LAB: u32 = 5;
 
 /// Returns the code of what follows a command.
 fn code_of(next: Result<Next, NoMemory>) -> u32
-    ensures { result ≤ 4 }
+    ensures codes { result ≤ 4 }
+    ensures memory { IfErr next (λ e. result ≡ 4) }
 {
     match next {
         Ok(Next::More) => MORE,
@@ -79,6 +82,8 @@ impl State {
     pub(crate) fn command(&mut self, line: &[u8], most: u64) -> u32
         ensures code { IsDone self.old result }
         ensures lab { Keeps self.old self.new }
+        ensures setup { OfLabs self.old self.new (λ l m. setup m ≡ setup (in_pieces most l)) }
+        ensures obeys { result ≤ 3 → OfLabs self.old self.new (λ l. Obeys line.now (in_pieces most l)) }
     {
         self.answer.clear();
         match &mut self.lab {
@@ -94,6 +99,9 @@ impl State {
     pub(crate) fn go_on(&mut self, most: u64) -> u32
         ensures code { IsDone self.old result }
         ensures lab { Keeps self.old self.new }
+        ensures setup { OfLabs self.old self.new (λ l m. setup m ≡ setup (in_pieces most l)) }
+        ensures continues { result ≤ 3 → OfLabs self.old self.new
+            (λ l. Continues l.plan (in_pieces most l)) }
     {
         self.answer.clear();
         match &mut self.lab {
@@ -106,7 +114,9 @@ impl State {
     }
 
     /// Returns the number of steps that were taken.
-    pub(crate) fn steps(&self) -> u64 {
+    pub(crate) fn steps(&self) -> u64
+        ensures { result ≡ taken self.now }
+    {
         match &self.lab {
             Some(lab) => lab.steps(),
             None => 0,
@@ -114,7 +124,9 @@ impl State {
     }
 
     /// Returns the bytes that the console has got.
-    pub(crate) fn console(&self) -> &[u8] {
+    pub(crate) fn console(&self) -> &[u8]
+        ensures { result.now ≡ sent self.now }
+    {
         match &self.lab {
             Some(lab) => lab.board().console(),
             None => b"",
