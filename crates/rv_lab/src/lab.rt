@@ -160,7 +160,8 @@ impl Lab {
         self.recording.steps()
     }
 
-    /// Makes a call of `command` or `go_on` take at most `steps` steps, or one: a longer run goes on by `go_on`.
+    /// Makes a call of `command` or `go_on` take at most `steps` steps, or one: a longer run goes on by
+    /// `go_on`.
     pub fn set_piece(&mut self, steps: u64)
         ensures { self.new ≡ record self.old { piece = max steps 1 } }
     {

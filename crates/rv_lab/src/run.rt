@@ -43,8 +43,8 @@ impl Lab {
         self.last.told = self.board().console().len();
     }
 
-    /// Takes a piece of a run, of at most `most` steps, and returns why it ended. `goal` is what the run goes on
-    /// for, before it and after it.
+    /// Takes a piece of a run, of at most `most` steps, and returns why it ended. `goal` is what the run goes
+    /// on for, before it and after it.
     #[tactic(auto, using(crate::proofs::Runs::took, crate::proofs::Runs::ran_out, crate::proofs::Runs::ran_until))]
     fn run_piece(&mut self, goal: &mut Goal, most: u64) -> Result<End, NoMemory>
         ensures runs { OnOk result (RunsFor goal.old most self.old.recording self.new.recording) }

@@ -12,8 +12,8 @@ use rv_monitor::Session;
 use rv_ram::PagedRam;
 use std::alloc::Global;
 
-/// Assembles a source, reads a timed list, and boots the image on a board of these sizes. The session may take
-/// `limit` steps, and has taken none.
+/// Assembles a source, reads a timed list, and boots the image on a board of these sizes. The session may
+/// take `limit` steps, and has taken none.
 ///
 /// # Errors
 ///

@@ -2,7 +2,6 @@
 -- What a call of the page leaves, and what it copies.
 use Rattle.std.specs.Prelude.{◌≡◌, ◌⊎◌, ◌≤◌, ◌==◌, ℕ, ◌-◌, Bool, false, not, Option, None, Some, IfSome, List, [], length, ◌++◌, max, min, take, drop}
 use Rattle.std.specs.Option.{is_some}
-use Rattle.rv_board.specs.State.{console_of}
 use Rattle.rv_lab.specs.State.{LabState}
 use Rattle.rv_page.specs.declared.state.State.{State}
 
@@ -39,7 +38,7 @@ abbrev pub sent : State → List ℕ
 sent s = sent_by s.lab where
   sent_by : Option LabState → List ℕ
   sent_by None = []
-  sent_by (Some l) = console_of l.recording.session.timed.board
+  sent_by (Some l) = l.recording.session.timed.board.machine.bus.serial.sent
 
 -- ---- codes
 

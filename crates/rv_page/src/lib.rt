@@ -19,8 +19,8 @@ pub use crate::state::State;
 use rv_lab::Sizes;
 use std::alloc::Global;
 
-/// Makes a handle without a lab and with an empty text, and returns whether there was memory for it. What lies
-/// at `out` then is the handle that the page passes to its other calls.
+/// Makes a handle without a lab and with an empty text, and returns whether there was memory for it. What
+/// lies at `out` then is the handle that the page passes to its other calls.
 #[unsafe(no_mangle)]
 pub extern "C" fn page_new(alloc: Global, out: &mut NewHandle) -> bool
     ensures made { result ≡ true → out.new.value ≡ Some empty }
@@ -33,9 +33,9 @@ pub extern "C" fn page_new(alloc: Global, out: &mut NewHandle) -> bool
     true
 }
 
-/// Opens a lab of a source with a timed list, on a board with `pages` pages and `slots` slots. The code is 0 if
-/// it is open, before its first step, and the text is empty; 1 if the source, the list or the board is refused,
-/// and the text says why; 4 if memory ran out. There is no lab but by 0.
+/// Opens a lab of a source with a timed list, on a board with `pages` pages and `slots` slots. The code is 0
+/// if it is open, before its first step, and the text is empty; 1 if the source, the list or the board is
+/// refused, and the text says why; 4 if memory ran out. There is no lab but by 0.
 #[unsafe(no_mangle)]
 pub extern "C" fn page_load(
     alloc: Global,
@@ -53,9 +53,10 @@ pub extern "C" fn page_load(
         .load(alloc, source, inputs, Sizes { pages, slots })
 }
 
-/// Executes a command line of the lab, and the text is its answer. It takes at most `most` steps: a longer run
-/// goes on by `page_go_on`. The code is 0 if another command follows, 1 if the run goes on, 2 if what was done
-/// is to be saved under the line's name, 3 if no command follows, 4 if memory ran out, and 5 if there is no lab.
+/// Executes a command line of the lab, and the text is its answer. It takes at most `most` steps: a longer
+/// run goes on by `page_go_on`. The code is 0 if another command follows, 1 if the run goes on, 2 if what was
+/// done is to be saved under the line's name, 3 if no command follows, 4 if memory ran out, and 5 if there is
+/// no lab.
 #[unsafe(no_mangle)]
 pub extern "C" fn page_command(handle: &mut Handle, line: &[u8], most: u64) -> u32
     ensures code { IsDone handle.old.value result }

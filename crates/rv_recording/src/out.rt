@@ -88,9 +88,9 @@ impl Recording {
         }
     }
 
-    /// Takes steps until one after which no call is open, the board has halted or the next instruction is at a
-    /// breakpoint, at most `most`, and returns which it was. `calls` is the number of calls and handlers that
-    /// are open; 1 stands for the present function.
+    /// Takes steps until one after which no call is open, the board has halted or the next instruction is at
+    /// a breakpoint, at most `most`, and returns which it was. `calls` is the number of calls and handlers
+    /// that are open; 1 stands for the present function.
     ///
     /// # Errors
     ///
