@@ -60,7 +60,7 @@ export class Files {
         history.replaceState(null, "", `#${await writeFragment(this.state())}`);
         const copied = await navigator.clipboard?.writeText(location.href).then(() => true, () => false);
         const place = copied ? "copied, and in the address bar" : "in the address bar";
-        say(`The link is ${place}: it holds the source, the inputs and the breakpoints.`);
+        say(`The link is ${place}: it holds the source, the inputs, the breakpoints and the size of memory.`);
     }
 
     // Loads what the page's link holds, or an example.

@@ -27,7 +27,8 @@ export async function readFragment(fragment) {
     const all = atob(fragment.replaceAll("-", "+").replaceAll("_", "/"));
     const bytes = Uint8Array.from(all, (it) => it.charCodeAt(0));
     const text = new TextDecoder().decode(await through(new DecompressionStream("deflate-raw"), bytes));
-    const { source, inputs = "", breakpoints = [] } = JSON.parse(text);
+    const { source, inputs = "", breakpoints = [], pages } = JSON.parse(text);
     if (typeof source !== "string") throw new Error("no source");
-    return { source, inputs: String(inputs), breakpoints: breakpoints.filter(Number.isInteger) };
+    const marks = breakpoints.filter(Number.isInteger), size = Number.isInteger(pages) ? { pages } : {};
+    return { source, inputs: String(inputs), breakpoints: marks, ...size };
 }

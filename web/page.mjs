@@ -13,11 +13,14 @@ const TYPED = 200; // milliseconds without a key before what is typed is assembl
 const STEPS = 1000000000; // the most steps of a command
 const REPLAYED = 3000000; // the most steps that are run again in one piece to go back
 const LABELS = 1000; // the most labels that are shown in memory
+const PAGES = 256; // of memory, unless others are asked for, as rvboard has them
+const MOST = 65535; // the largest number of pages that can be passed: the lab refuses it
 
 let editor; // the source and its marks
 let files, tabs;
 let assembled = null; // the source that is on the board, or nothing
 let given = ""; // the timed list that it was assembled with
+let pages = PAGES; // of the memory that it was assembled with
 let steps = 0;
 let undone = 0; // the step to which Undo goes back: the one before the last command that took steps
 let labels = []; // of the assembled source, with their addresses
@@ -65,7 +68,7 @@ async function refresh() {
     $("registers").innerHTML = registersHtml(board.registers);
     const label = board.label ? ` <${board.label}>` : "";
     $("where").textContent = `pc ${board.pc}${label}, ${board.mode} mode, step ${steps.toLocaleString("en")}`;
-    tabs.show(answers, { ...board, labels, saved, done, levels: readLevels(saved.inputs, steps) });
+    tabs.show(answers, { ...board, pages, labels, saved, done, levels: readLevels(saved.inputs, steps) });
     showConsole(await call("console"));
     markLines(board.listing);
 }
@@ -136,12 +139,15 @@ async function goBack(to) {
     });
 }
 
+const readPages = () => Math.min(MOST, Math.max(0, Math.trunc($("pages").valueAsNumber) || 0));
+
 // Assembles the source with its timed list, and boots the board. Breakpoints stay at their lines.
 function assemble() {
     return work(async () => {
         const source = editor.source, lines = [...editor.breakpoints];
         given = $("inputs").value;
-        const fault = await call("load", source, given);
+        pages = readPages();
+        const fault = await call("load", source, given, pages);
         showFaults(readFaults(fault));
         assembled = fault ? null : source;
         done = [];
@@ -190,7 +196,7 @@ function checkSoon() {
 }
 
 async function checkSource() {
-    showFaults(readFaults(await call("check", editor.source, $("inputs").value)));
+    showFaults(readFaults(await call("check", editor.source, $("inputs").value, readPages())));
 }
 
 async function toggleBreakpoint(line) {
@@ -241,16 +247,18 @@ async function between(act) {
 // What a link holds of the page. Where the timed list is the one on the board, what was given by hand is in it.
 function readState() {
     const inputs = $("inputs").value === given ? saved.inputs : $("inputs").value;
-    return { source: editor.source, inputs, breakpoints: [...editor.breakpoints] };
+    return { source: editor.source, inputs, breakpoints: [...editor.breakpoints], pages: readPages() };
 }
 
-// Puts a source, a timed list and breakpoints into the page, and assembles them; returns whether it did.
-async function loadState({ source, inputs, breakpoints = [] }) {
+// Puts a source, a timed list, breakpoints and a size of memory into the page, and assembles them; returns
+// whether it did.
+async function loadState({ source, inputs, breakpoints = [], pages = PAGES }) {
     if (running || turn) {
         say("The board runs: pause it first.");
         return false;
     }
     $("inputs").value = inputs;
+    $("pages").value = pages;
     editor.source = source;
     editor.breakpoints = new Set(breakpoints);
     await assemble();
@@ -354,7 +362,7 @@ function makeForms() {
         const level = button?.getAttribute("aria-checked") === "true" ? 0 : 1;
         if (button) between(() => command(`line ${button.value} ${level}`));
     });
-    $("inputs").addEventListener("input", checkSoon);
+    for (const id of ["inputs", "pages"]) $(id).addEventListener("input", checkSoon);
     $("speed").addEventListener("change", () => turn && between(() => {}));
     $("save-input").addEventListener("click", () => download("lab.input", saved.inputs));
     $("save-commands").addEventListener("click", () => download("lab.commands", saved.commands));

@@ -4,7 +4,6 @@ import { readDevices, readTraps } from "./texts.mjs";
 import { controlHtml, controlLines, listingHtml, memoryHtml } from "./views.mjs";
 import { protectionHtml, sourceText } from "./views.mjs";
 
-const PAGES = 256; // of memory, as rvboard has them
 const SHOWN = 128; // bytes of memory
 const EXPLAINED = 1000000; // the most steps that are run again to explain a trap without being asked
 
@@ -20,6 +19,8 @@ const TABS = {
             <button id="memory-earlier">Earlier</button> <button id="memory-later">Later</button>
             <label><input id="memory-words" type="checkbox"> as words</label>
             <span class="hint">a register such as sp, a name, a line, 0x and a number, each with +N</span></p>
+            <p><label>Size at the next Assemble <input id="pages" type="number" min="1" max="4096"></label> pages
+            of 4,096 bytes</p>
             <div class="shown"></div>`,
         lines: () => [`m ${$("memory-where").value.trim() || "sp"} ${SHOWN}`],
         show: showMemory,
@@ -90,8 +91,8 @@ function showDevices(panel, [answer], { levels }) {
     }
 }
 
-function showProtection(panel, [devices, traps]) {
-    panel.innerHTML = protectionHtml(readDevices(devices).regions, PAGES, readTraps(traps));
+function showProtection(panel, [devices, traps], { pages }) {
+    panel.innerHTML = protectionHtml(readDevices(devices).regions, pages, readTraps(traps));
 }
 
 function showRepeat(panel, _, { saved, done }) {

@@ -50,13 +50,13 @@ const acts = {
     },
 
     // Why a source is refused, or nothing.
-    check(source, inputs) {
-        const fault = checker.load(encode(source), encode(inputs));
+    check(source, inputs, pages) {
+        const fault = checker.load(encode(source), encode(inputs), pages);
         return fault && decode(fault);
     },
 
-    load(source, inputs) {
-        const fault = lab.load(encode(source), encode(inputs));
+    load(source, inputs, pages) {
+        const fault = lab.load(encode(source), encode(inputs), pages);
         return fault && decode(fault);
     },
 

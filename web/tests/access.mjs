@@ -17,14 +17,19 @@ const CONTROLS = new Set(["button", "textbox", "combobox", "checkbox", "switch",
 
 const TABS = ["control", "memory", "listing", "traps", "devices", "protection", "repeat"];
 
+// Opens a tab: not by the mouse, since what the tab before shows may still come and move it.
+async function openTab(page, tab) {
+    await page.run(`document.getElementById("tab-${tab}").click()`);
+    await page.until(`!document.getElementById("panel-${tab}").hidden`);
+}
+
 // Does a check with each of the tabs in front.
 async function inEachTab(page, look) {
     for (const tab of TABS) {
-        await page.click(`#tab-${tab}`);
-        await page.until(`!document.getElementById("panel-${tab}").hidden`);
+        await openTab(page, tab);
         await look(tab);
     }
-    await page.click("#tab-control");
+    await openTab(page, "control");
 }
 
 async function names(page, tab) {

@@ -72,9 +72,9 @@ export async function openPage(url, { width = 1280, height = 720, dark = false }
         // Evaluates an expression in the page's worker.
         runInWorker: (expression) => send("Runtime.evaluate", { expression }, worker),
 
-        // Waits until an expression holds, some ten seconds at most.
-        async until(expression) {
-            for (let i = 0; i < TRIES; i++) {
+        // Waits until an expression holds, some ten seconds at most, or `times` as long.
+        async until(expression, times = 1) {
+            for (let i = 0; i < TRIES * times; i++) {
                 if (await page.run(expression).catch(() => false)) return;
                 await wait(PAUSE);
             }

@@ -184,6 +184,9 @@ async function refused() {
     await page.alt("S");
     await answers("No program is on the board");
     await choose("echo");
+    await page.run(`document.getElementById("pages").value = 5000`);
+    await press("A", "bad pages: 1 to 4096 are wanted");
+    await page.run(`document.getElementById("pages").value = 256`);
     await page.run(`document.getElementById("inputs").value = ""`);
     await press("A", "Assembled");
     await page.alt("R");

@@ -19,6 +19,37 @@ async function allExamples() {
     }
 }
 
+// Examples with commands of the monitor: the lab executes each as `monitor` and the command.
+async function commandExamples() {
+    const files = fs.readdirSync(`${top}/examples`);
+    for (const file of files.filter((it) => it.endsWith(".s") && files.includes(`${it}.commands`))) {
+        await choose(file.slice(0, -2));
+        const lines = fs.readFileSync(`${top}/examples/${file}.commands`, "utf8").split("\n");
+        let all = "";
+        for (const line of lines.filter((it) => it && !it.startsWith("#"))) {
+            await lab(`monitor ${line}`, "");
+            await page.until(`document.getElementById("answer").textContent !== ""`);
+            await idle();
+            all += `${(await answer()).split("\nno memory is at pc")[0]}\n`;
+        }
+        const expected = fs.readFileSync(`${top}/examples/${file}.stdout`, "utf8");
+        same(`commands of ${file}`, all, expected.replace(/^running at .*\n/m, ""));
+    }
+}
+
+// Programs of others, which want 4 MB of memory.
+async function programsOfOthers() {
+    for (const name of ["solver", "lisp"]) {
+        const source = fs.readFileSync(`${top}/bench/${name}.s`, "utf8");
+        await open(source, "", 1024);
+        await page.alt("R");
+        await page.until(`/halted with code/.test(document.getElementById("answer").textContent)`, 4);
+        await idle();
+        const words = ["--steps", "1000000000", "--pages", "1024"];
+        same(`${name} of others`, await printed(), native(source, { words }));
+    }
+}
+
 async function fault() {
     await choose("hello");
     const source = sourceOf("hello");
@@ -146,6 +177,7 @@ async function link() {
     await choose("lab/task");
     await page.click(`#gutter li[value="4"]`);
     await answers("breakpoint at line");
+    await page.run(`document.getElementById("pages").value = 512`);
     await page.click("#link");
     await page.until(`location.hash.length > 10`);
     const address = await page.run("location.href");
@@ -155,6 +187,7 @@ async function link() {
     await page.until(`document.body.dataset.ready === "yes"`);
     same("a link holds the source", await page.run(`document.getElementById("text").value`), sourceOf("lab/task"));
     contains("and the breakpoint", await page.text("#gutter"), /◉/);
+    same("and the size of memory", await page.run(`document.getElementById("pages").value`), "512");
 }
 
 async function longRun() {
@@ -193,4 +226,5 @@ async function lost() {
     check("after an exception the board is made anew, and a line says so", true);
 }
 
-await learn(allExamples, fault, breakpoint, byKeys, byHand, interruptLine, protection, link, longRun, lost);
+await learn(allExamples, commandExamples, programsOfOthers, fault, breakpoint, byKeys, byHand, interruptLine, protection,
+    link, longRun, lost);

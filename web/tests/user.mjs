@@ -36,14 +36,15 @@ export const where = () => page.text("#where");
 
 const isAtReset = () => page.until(`/step 0$/.test(document.getElementById("where").textContent)`);
 
-// Puts a source and a timed list into the page, and assembles them.
-export async function open(source, inputs = "") {
+// Puts a source, a timed list and a size of memory into the page, and assembles them.
+export async function open(source, inputs = "", pages = 256) {
     await idle();
     await page.run(`(() => {
         const text = document.getElementById("text");
         text.value = ${quoted(source)};
         text.dispatchEvent(new Event("input"));
         document.getElementById("inputs").value = ${quoted(inputs)};
+        document.getElementById("pages").value = ${pages};
         document.getElementById("answer").textContent = "";
     })()`);
     await page.alt("A");
