@@ -1,7 +1,12 @@
 -- To audit: public contracts cite this.
 -- What a call of the page leaves, and what it copies.
-use Rattle.std.specs.Prelude.{◌≡◌, ◌⊎◌, ◌≤◌, ◌==◌, ℕ, ◌-◌, Bool, false, not, Option, None, Some, IfSome, List, [], length, ◌++◌, max, min, take, drop}
+use Rattle.std.specs.Prelude.{◌≡◌, ◌≢◌, ◌⊎◌, ◌≤◌, ◌==◌, ℕ, ◌-◌, Bool, false, not, Option, None, Some, IfSome, Ok, Err, List, [], length, ◌++◌, max, min, take, drop}
 use Rattle.std.specs.Option.{is_some}
+use Rattle.rv_asm.specs.Lines.{listed}
+use Rattle.rv_opening.specs.Opening.{Opens}
+use Rattle.rv_opening.specs.declared.fault.OpenFault.{OpenFault}
+use Rattle.rv_opening.specs.declared.fault.OpenFault.TheVariants.{OutOfMemory}
+use Rattle.rv_recording.specs.Recording.{last_step}
 use Rattle.rv_lab.specs.State.{LabState}
 use Rattle.rv_page.specs.declared.state.State.{State}
 
@@ -39,6 +44,22 @@ sent s = sent_by s.lab where
   sent_by : Option LabState → List ℕ
   sent_by None = []
   sent_by (Some l) = l.recording.session.timed.board.machine.bus.serial.sent
+
+-- ---- a load
+
+-- the lab of a source with a timed list on a board of these sizes, before its first command
+pub record IsOpened (source inputs : List ℕ) (pages slots : ℕ) (l : LabState) : Type 0 where
+  pub session : Opens source inputs pages slots last_step (Ok l.recording.session)
+  pub sizes : (l.recording.pages ≡ pages) × (l.recording.slots ≡ slots)
+  pub text : l.source ≡ source
+  pub listing : listed source ≡ Ok l.listing
+  pub plan : l.plan ≡ None
+
+-- there is no such lab, for a fault of the source, the timed list or the board
+pub record IsRefused (source inputs : List ℕ) (pages slots : ℕ) : Type 0 where
+  pub fault : OpenFault
+  pub is : Opens source inputs pages slots last_step (Err fault)
+  pub memory : fault ≢ OutOfMemory
 
 -- ---- codes
 

@@ -4,10 +4,10 @@
 //! A handle lends its state to each call, so what is only read takes no memory.
 #![tactic(auto)]
 
-ghost use Rattle.std.specs.Prelude.{◌≡◌, ◌≤◌, true, false, length, [], Some};
+ghost use Rattle.std.specs.Prelude.{◌≡◌, ◌≤◌, true, false, length, [], Some, IfSome};
 ghost use Rattle.rv_lab.specs.State.{setup};
 ghost use Rattle.rv_lab.specs.Commands.{Continues, Obeys};
-ghost use Rattle.rv_page.specs.Pages.{Keeps, IsDone, IsLoaded, OfLabs, copied, empty, in_pieces, sent, taken, with_copied};
+ghost use Rattle.rv_page.specs.Pages.{Keeps, IsDone, IsLoaded, IsOpened, IsRefused, OfLabs, copied, empty, in_pieces, sent, taken, with_copied};
 
 mod copying;
 mod handle;
@@ -46,6 +46,8 @@ pub extern "C" fn page_load(
     slots: u16,
 ) -> u32
     ensures code { IsLoaded handle.new.value result }
+    ensures opened { result ≡ 0 → IfSome handle.new.value.lab (IsOpened source.now inputs.now pages slots) }
+    ensures refused { result ≡ 1 → IsRefused source.now inputs.now pages slots }
     ensures quiet { result ≡ 0 → handle.new.value.answer.bytes ≡ [] }
 {
     handle

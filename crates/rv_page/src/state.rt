@@ -1,8 +1,8 @@
 //! What the page keeps between two calls.
-ghost use Rattle.std.specs.Prelude.{◌≡◌, ◌≤◌, [], IfErr};
+ghost use Rattle.std.specs.Prelude.{◌≡◌, ◌≤◌, [], IfErr, IfSome};
 ghost use Rattle.rv_lab.specs.State.{setup};
 ghost use Rattle.rv_lab.specs.Commands.{Continues, Obeys};
-ghost use Rattle.rv_page.specs.Pages.{Keeps, IsDone, IsLoaded, OfLabs, empty, in_pieces, sent, taken};
+ghost use Rattle.rv_page.specs.Pages.{Keeps, IsDone, IsLoaded, IsOpened, IsRefused, OfLabs, empty, in_pieces, sent, taken};
 
 use rv_base::NoMemory;
 use rv_lab::{Answer, Lab, Next, OpenFault, Sizes, append_diagnosis};
@@ -61,6 +61,9 @@ impl State {
     /// Opens a lab, or says in the text why there is none.
     pub(crate) fn load(&mut self, alloc: Global, source: &[u8], inputs: &[u8], sizes: Sizes) -> u32
         ensures code { IsLoaded self.new result }
+        ensures opened { result ≡ 0 → IfSome self.new.lab
+            (IsOpened source.now inputs.now sizes.pages sizes.slots) }
+        ensures refused { result ≡ 1 → IsRefused source.now inputs.now sizes.pages sizes.slots }
         ensures quiet { result ≡ 0 → self.new.answer.bytes ≡ [] }
     {
         self.lab = None;
