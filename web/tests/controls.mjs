@@ -3,7 +3,7 @@ import fs from "node:fs";
 import path from "node:path";
 import { check, contains, same } from "./checks.mjs";
 import { answer, answers, choose, idle, lab, learn, native, open, page } from "./user.mjs";
-import { press, printed, quoted, room, sourceOf, top, typeOver, where } from "./user.mjs";
+import { pauseWhenRunning, press, printed, quoted, room, sourceOf, top, typeOver, where } from "./user.mjs";
 
 const lineOf = (name, text) => sourceOf(name).split("\n").findIndex((it) => it.includes(text)) + 1;
 const isRunning = () => page.until(`!document.getElementById("progress").hidden`);
@@ -73,19 +73,16 @@ async function inputWhileRunning() {
     same("and what was sent", await page.run(`document.getElementById("inputs").value`), inputs);
 }
 
+// The program runs for 160 million steps, so that the way back shows its progress on a fast machine too.
 async function backFromFar() {
-    await open(fs.readFileSync(`${top}/bench/loop.s`, "utf8"));
+    await open(fs.readFileSync(`${top}/bench/loop.s`, "utf8").replace("TURNS,4000000", "TURNS,20000000"));
     await press("R", "halted with code");
     const end = await where();
-    await page.alt("B");
-    await isRunning();
-    await answers("back at step");
-    await idle();
+    await press("B", "back at step");
     const [before, now] = [end, await where()].map((it) => Number(it.match(/step (.*)$/)[1].replaceAll(",", "")));
     same("a step back from a long run is one step", now, before - 1);
-    await page.alt("B");
-    await isRunning();
-    await press("P", "paused");
+    await pauseWhenRunning();
+    await press("B", "paused");
     check("a long way back can be paused", true);
     await press("0", "back at step 0");
     contains("reset is step 0", await where(), /step 0$/);

@@ -194,18 +194,18 @@ async function longRun() {
     const source = fs.readFileSync(`${top}/bench/loop.s`, "utf8");
     await open(source);
     await page.alt("R");
-    await page.until(`!document.getElementById("progress").hidden`);
-    const progress = await page.text("#progress");
-    contains("a long run counts its steps", progress, /^Running: step [\d,]+, [\d.]+ million steps a /);
     await answers("halted with code");
     await idle();
     const words = ["--steps", "1000000000"];
     same("32 million steps end as natively", await printed(), native(source, { words }));
-    await page.alt("0");
-    await answers("back at step 0");
-    await idle();
+}
+
+async function endlessRun() {
+    await open("again:  j again\n");
     await page.alt("R");
     await page.until(`!document.getElementById("progress").hidden`);
+    const progress = await page.text("#progress");
+    contains("a run counts its steps", progress, /^Running: step [\d,]+, [\d.]+ million steps a /);
     await page.alt("P");
     await answers("paused");
     await idle();
@@ -227,4 +227,4 @@ async function lost() {
 }
 
 await learn(allExamples, commandExamples, programsOfOthers, fault, breakpoint, byKeys, byHand, interruptLine, protection,
-    link, longRun, lost);
+    link, longRun, endlessRun, lost);

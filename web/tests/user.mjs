@@ -34,6 +34,17 @@ export const answers = (text) => page.until(`${answered}.includes(${quoted(text)
 export const answer = () => page.text("#answer");
 export const where = () => page.text("#where");
 
+// Pauses the next run as soon as its progress is shown: it may be over before a test has looked twice.
+export const pauseWhenRunning = () => page.run(`(() => {
+    const line = document.getElementById("progress");
+    const observer = new MutationObserver(() => {
+        if (line.hidden) return;
+        observer.disconnect();
+        document.getElementById("pause").click();
+    });
+    observer.observe(line, { attributes: true });
+})()`);
+
 const isAtReset = () => page.until(`/step 0$/.test(document.getElementById("where").textContent)`);
 
 // Puts a source, a timed list and a size of memory into the page, and assembles them.
