@@ -2,21 +2,22 @@
 use Rattle.std.proofs.Common.{◌≡◌, ℕ, suc, ◌<◌, ◌≤◌, Bool, true, false, cond, List, [], ◌∷◌, length, take, drop, refl, sym, ap, arith, ◌==◌}
 use Rattle.std.proofs.Math.Numerals.{one-add}
 use Rattle.std.specs.Prelude.{Some, None, nat_lt}
-use Rattle.std.specs.List.{position_or_len, position}
+use Rattle.std.specs.List.{onto_first, position_or_len, position}
 use Rattle.std.proofs.lemmas.Bool.Decides.{nat_tests}
 use Rattle.std.proofs.lemmas.List.{drop_all, take_all, length-map}
-use Rattle.rv_base.specs.Lines.{split, with_byte, without_return, lines}
+use Rattle.std.specs.Str.Lines.{strip_carriage_return}
+use Rattle.rv_base.specs.Lines.{split, lines}
 
 -- how many bytes stand before the first LF
 abbrev pub until_feed : List ℕ → ℕ
 until_feed s = position_or_len (λ b. b == 10) s
 
-with_byte_front : (b : ℕ) (bs : List ℕ) → ((0 < length bs) →
+onto_front : (b : ℕ) (bs : List ℕ) → ((0 < length bs) →
     split bs ≡ take (until_feed bs) bs ∷ split (drop 1 (drop (until_feed bs) bs)))
-    → with_byte b (split bs) ≡ (b ∷ take (until_feed bs) bs) ∷ split (drop 1 (drop (until_feed bs) bs))
+    → onto_first b (split bs) ≡ (b ∷ take (until_feed bs) bs) ∷ split (drop 1 (drop (until_feed bs) bs))
 unfolding split
-with_byte_front b [] h = refl
-with_byte_front b (c ∷ bs) h = ap (with_byte b) (h (omega arith))
+onto_front b [] h = refl
+onto_front b (c ∷ bs) h = ap (onto_first b) (h (omega arith))
 
 split_step : (b : ℕ) (bs : List ℕ) (t : Bool) → (b == 10) ≡ t →
     (0 < length bs → split bs ≡ take (until_feed bs) bs ∷ split (drop 1 (drop (until_feed bs) bs)))
@@ -24,7 +25,7 @@ split_step : (b : ℕ) (bs : List ℕ) (t : Bool) → (b == 10) ≡ t →
     ∷ split (drop 1 (drop (until_feed (b ∷ bs)) (b ∷ bs)))
 unfolding split
 split_step b bs true e h = rw e refl
-split_step b bs false e h = rw (e, one-add) (with_byte_front b bs h)
+split_step b bs false e h = rw (e, one-add) (onto_front b bs h)
 
 pub split_front : (s : List ℕ) → 0 < length s → split s ≡ take (until_feed s) s
     ∷ split (drop 1 (drop (until_feed s) s))
@@ -43,14 +44,14 @@ at_end s false e h = grind (arith, nat_tests)
 
 -- a text with a LF
 pub lines_feed : (s : List ℕ) (n : ℕ) → 0 < length s → Some n ≡ position (λ b. b == 10) s →
-    lines s ≡ without_return (take n s) ∷ lines (drop 1 (drop n s))
+    lines s ≡ strip_carriage_return (take n s) ∷ lines (drop 1 (drop n s))
 lines_feed s n h e =
     let is = at_feed s n (nat_lt (until_feed s) (length s)) refl (sym e) in
     rw is (rw (split_front s h) refl)
 
 -- a text without one
 pub lines_last : (s : List ℕ) → 0 < length s → None ≡ position (λ b. b == 10) s →
-    lines s ≡ without_return s ∷ lines []
+    lines s ≡ strip_carriage_return s ∷ lines []
 unfolding split
 lines_last s h e =
     let past = at_end s (nat_lt (until_feed s) (length s)) refl (sym e) in
@@ -64,14 +65,14 @@ unfolding split
 lines_end [] h = refl
 lines_end (b ∷ bs) h = absurd (omega arith)
 
-with_byte_length : (b : ℕ) (ls : List (List ℕ)) → length (with_byte b ls) ≤ suc (length ls)
-with_byte_length b [] = omega arith
-with_byte_length b (l ∷ ls) = omega arith
+onto_length : (b : ℕ) (ls : List (List ℕ)) → length (onto_first b ls) ≤ suc (length ls)
+onto_length b [] = omega arith
+onto_length b (l ∷ ls) = omega arith
 
 split_step_length : (b : ℕ) (bs : List ℕ) (t : Bool) → length (split bs) ≤ length bs →
-    length (cond t ([] ∷ split bs) (with_byte b (split bs))) ≤ suc (length bs)
+    length (cond t ([] ∷ split bs) (onto_first b (split bs))) ≤ suc (length bs)
 split_step_length b bs true h = omega (arith, h)
-split_step_length b bs false h = omega (arith, h, with_byte_length b (split bs))
+split_step_length b bs false h = omega (arith, h, onto_length b (split bs))
 
 split_length : (s : List ℕ) → length (split s) ≤ length s
 unfolding split
@@ -80,4 +81,4 @@ split_length (b ∷ bs) = split_step_length b bs (b == 10) (split_length bs)
 
 -- a text has no more lines than bytes
 pub lines_length : (s : List ℕ) → length (lines s) ≤ length s
-lines_length s = omega (arith, length-map (split s) without_return, split_length s)
+lines_length s = omega (arith, length-map (split s) strip_carriage_return, split_length s)

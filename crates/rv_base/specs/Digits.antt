@@ -1,11 +1,8 @@
 -- To audit: public contracts cite this.
 -- Numbers in hexadecimal, in lower case.
-use Rattle.std.specs.Prelude.{ℕ, zero, suc, ◌+◌, ◌/◌, ◌%◌, ◌^◌, List, [], ◌∷◌, ◌++◌, false, if◌then◌else◌, nat_lt, codes}
+use Rattle.std.specs.Prelude.{ℕ, zero, suc, ◌/◌, ◌%◌, ◌^◌, List, [], ◌∷◌, ◌++◌, false, codes}
 use Rattle.std.specs.Fmt.{digits}
-
--- 0 to 9, and a to f
-abbrev pub digit : ℕ → ℕ
-digit n = if nat_lt n 10 then 48 + n else 87 + n
+pub use Rattle.std.specs.Char.{digit_char as digit}
 
 -- the digits of a number at that many places, the highest first
 unfoldable pub hex : ℕ → ℕ → List ℕ

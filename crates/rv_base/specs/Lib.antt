@@ -1,8 +1,10 @@
+pub mod Decimals
 pub mod Digits
 pub mod Halves
 pub mod Limits
 pub mod Lines
 pub mod Numbers
+pub mod Registers
 pub mod Room
 pub mod Tables
 pub mod Words

@@ -1,4 +1,4 @@
--- To audit: public contracts cite this.
+-- Not to audit: only what asks for room and private contracts cite this.
 -- Texts with room: the bytes that a text may still grow by without asking the allocator.
 use Rattle.std.specs.Prelude.{◌≡◌, ℕ, ◌+◌, ◌≤◌, List, ◌++◌, length, Vec, vec_len, vec_capacity}
 

@@ -1,7 +1,6 @@
 -- To audit: public contracts cite this.
 -- The words of a line.
-use Rattle.std.specs.Prelude.{◌≡◌, ℕ, ◌||◌, Bool, List, [], ◌∷◌, length, filter, ◌==◌, nat_lt, slice_index, Option, Some, None}
-use Rattle.std.specs.Borrow.{Bor}
+use Rattle.std.specs.Prelude.{ℕ, ◌||◌, Bool, List, length, filter, ◌==◌, nat_lt, slice_index}
 use Rattle.std.specs.List.{slice_split}
 
 -- a space or a tab
@@ -15,12 +14,3 @@ words line = filter (λ word. nat_lt 0 (length word)) (slice_split is_blank line
 -- `#` at its front
 abbrev pub begins_comment : List ℕ → Bool
 begins_comment word = slice_index word 0 == 35
-
--- the first word of a text, and what follows it
-abbrev pub IsFirstWord : List ℕ → Option (Bor (List ℕ) × Bor (List ℕ)) → Type 0
-IsFirstWord text None = words text ≡ []
-IsFirstWord text (Some p) = words text ≡ p.0.now ∷ words p.1.now
-
--- whether a text has a word
-abbrev pub has_word : List ℕ → Bool
-has_word text = nat_lt 0 (length (words text))

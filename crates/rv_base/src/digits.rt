@@ -1,5 +1,5 @@
 //! Writes numbers in hexadecimal.
-ghost use Rattle.std.specs.Prelude.{◌≡◌, ◌++◌, ◌+◌, ◌%◌, ◌<◌, ◌≤◌, false, codes, vec_len, vec_capacity};
+ghost use Rattle.std.specs.Prelude.{◌≡◌, ◌++◌, ◌+◌, ◌%◌, ◌<◌, ◌≤◌, false, codes, length, vec_len, vec_capacity};
 ghost use Rattle.std.specs.Fmt.{digits};
 ghost use Rattle.rv_base.specs.Digits.{digit, hex, short_hex};
 ghost use Rattle.rv_base.specs.Room.{HasRoom, Appended};
@@ -61,7 +61,9 @@ fn append_digits(text: &mut Vec<u8>, number: u32)
 /// Appends a number in hexadecimal without leading zeros, as `0xf11`, to a text that has room.
 pub fn append_hex(text: &mut Vec<u8>, number: u32)
     requires { HasRoom text.old (short_hex number) }
-    ensures { Appended text.old text.new (short_hex number) }
+    ensures items { text.new.items ≡ text.old.items ++ short_hex number }
+    ensures len { vec_len text.new ≡ vec_len text.old + length (short_hex number) }
+    ensures capacity { vec_capacity text.old ≤ vec_capacity text.new }
 {
     append_within(text, b"0x");
     append_digits(text, number);

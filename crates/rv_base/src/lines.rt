@@ -2,7 +2,8 @@
 ghost use Rattle.std.specs.Prelude.{◌≡◌, ◌<◌, ◌≤◌, ◌∷◌, ◌==◌, length};
 ghost use Rattle.std.specs.List.{position};
 ghost use Rattle.std.specs.Iterator.{YieldsFirstRef, item_count};
-ghost use Rattle.rv_base.specs.Lines.{lines, without_return};
+ghost use Rattle.std.specs.Str.Lines.{strip_carriage_return};
+ghost use Rattle.rv_base.specs.Lines.{lines};
 
 use std::marker::Model;
 
@@ -15,7 +16,7 @@ fn line_feed(text: &[u8]) -> Option<usize>
 
 /// Returns the line without a CR at its end.
 fn without_return(line: &[u8]) -> &[u8]
-    ensures { result.now ≡ without_return line.now }
+    ensures { result.now ≡ strip_carriage_return line.now }
 {
     if !line.is_empty() && line[line.len() - 1] == b'\r' {
         &line[..line.len() - 1]

@@ -1,6 +1,6 @@
 //! Reads numbers.
 ghost use Rattle.std.specs.Prelude.{◌≡◌, ◌+◌, ◌*◌, ◌<◌, ◌≤◌, Bool, IfSome};
-ghost use Rattle.rv_base.specs.Numbers.{decimal, hex_digit, byte_of};
+ghost use Rattle.rv_base.specs.Numbers.{decimal, hex_digit, hex_byte};
 
 /// Returns the number that decimal digits stand for, or None where there is no digit, another byte, or a
 /// number above `most`. Leading zeros are allowed.
@@ -40,9 +40,9 @@ pub fn hex_digit(b: u8) -> Option<u8>
 }
 
 /// Returns the byte that two hexadecimal digits stand for, or None for any other word.
-#[tactic(auto, unfolding(crate::specs::Numbers::byte_of))]
+#[tactic(auto, unfolding(crate::specs::Numbers::hex_byte, crate::specs::Numbers::hex_digit, crate::specs::Numbers::number_in))]
 pub fn hex_byte(word: &[u8]) -> Option<u8>
-    ensures { result ≡ byte_of word.now }
+    ensures { result ≡ hex_byte word.now }
 {
     match word {
         [high, low] => Some(16 * hex_digit(*high)? + hex_digit(*low)?),

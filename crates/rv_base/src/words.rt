@@ -1,7 +1,7 @@
 //! The words of a line.
-ghost use Rattle.std.specs.Prelude.{◌≡◌, ◌<◌, ◌+◌, length, take, drop, IfSome};
+ghost use Rattle.std.specs.Prelude.{◌≡◌, ◌<◌, ◌+◌, [], ◌∷◌, length, take, drop, nat_lt, IfSome, MatchOption};
 ghost use Rattle.std.specs.List.{position};
-ghost use Rattle.rv_base.specs.Words.{is_blank, begins_comment, IsFirstWord, has_word};
+ghost use Rattle.rv_base.specs.Words.{is_blank, begins_comment, words};
 
 /// Whether a byte is a space or a tab.
 pub fn is_blank(byte: u8) -> bool
@@ -21,7 +21,7 @@ fn first_blank(text: &[u8]) -> Option<usize>
 /// Returns the first word of a text and what follows it, or None where the text has no word. Blanks separate
 /// words.
 pub fn first_word<'a>(text: &'a [u8]) -> Option<(&'a [u8], &'a [u8])>
-    ensures value { IsFirstWord text.now result }
+    ensures value { MatchOption result (words text.now ≡ []) (λ p. words text.now ≡ p.0.now ∷ words p.1.now) }
     ensures shorter { IfSome result (λ p. length p.1.now < length text.now) }
 {
     let mut rest = text;
@@ -41,7 +41,7 @@ pub fn first_word<'a>(text: &'a [u8]) -> Option<(&'a [u8], &'a [u8])>
 
 /// Whether a text has a word.
 pub fn has_word(text: &[u8]) -> bool
-    ensures { result ≡ has_word text.now }
+    ensures { result ≡ nat_lt 0 (length (words text.now)) }
 {
     first_word(text).is_some()
 }
