@@ -4,9 +4,9 @@ use Rattle.std.proofs.lemmas.Fmt.{length-decimal-le, length_signed_le}
 use Rattle.std.specs.Prelude.{ℤ, pos, negsuc}
 use Rattle.std.specs.Fmt.{decimal, signed_decimal}
 use Rattle.rv_isa.specs.Number.{IsWithin}
-use Rattle.rv_isa.specs.Table.{name, branch_operation, load_operation, store_operation, imm_operation, shift_operation, alu_operation, csr_operation, csr_imm_operation}
+use Rattle.rv_isa.specs.Table.{mnemonic}
+use Rattle.rv_isa.specs.Kinds.{branch_operation, load_operation, store_operation, imm_operation, shift_operation, alu_operation, csr_operation, csr_imm_operation, IsInRange}
 use Rattle.rv_isa.specs.Text.{target, register, text}
-use Rattle.rv_isa.specs.Word.{IsInRange}
 use Rattle.rv_isa.specs.declared.kind.Kind.{Kind}
 use Rattle.rv_isa.specs.declared.kind.Kind.TheVariants.{Lui}
 use Rattle.rv_base.proofs.Hexadecimal.{hex_length}
@@ -14,36 +14,36 @@ use Rattle.rv_base.specs.Digits.{short_hex}
 
 -- ---- mnemonics
 
-cond_length : (op : _) → length (name (branch_operation op)) ≤ 4
-unfolding name branch_operation
+cond_length : (op : _) → length (mnemonic (branch_operation op)) ≤ 4
+unfolding mnemonic branch_operation
 cond_length op = grind arith
 
-load_length : (op : _) → length (name (load_operation op)) ≤ 3
-unfolding name load_operation
+load_length : (op : _) → length (mnemonic (load_operation op)) ≤ 3
+unfolding mnemonic load_operation
 load_length op = grind arith
 
-width_length : (op : _) → length (name (store_operation op)) ≤ 2
-unfolding name store_operation
+width_length : (op : _) → length (mnemonic (store_operation op)) ≤ 2
+unfolding mnemonic store_operation
 width_length op = grind arith
 
-imm_op_length : (op : _) → length (name (imm_operation op)) ≤ 5
-unfolding name imm_operation
+imm_op_length : (op : _) → length (mnemonic (imm_operation op)) ≤ 5
+unfolding mnemonic imm_operation
 imm_op_length op = grind arith
 
-shift_length : (op : _) → length (name (shift_operation op)) ≤ 4
-unfolding name shift_operation
+shift_length : (op : _) → length (mnemonic (shift_operation op)) ≤ 4
+unfolding mnemonic shift_operation
 shift_length op = grind arith
 
-csr_op_length : (op : _) → length (name (csr_operation op)) ≤ 5
-unfolding name csr_operation
+csr_op_length : (op : _) → length (mnemonic (csr_operation op)) ≤ 5
+unfolding mnemonic csr_operation
 csr_op_length op = grind arith
 
-csr_imm_length : (op : _) → length (name (csr_imm_operation op)) ≤ 6
-unfolding name csr_imm_operation
+csr_imm_length : (op : _) → length (mnemonic (csr_imm_operation op)) ≤ 6
+unfolding mnemonic csr_imm_operation
 csr_imm_length op = grind arith
 
-alu_length : (op : _) → length (name (alu_operation op)) ≤ 6
-unfolding name alu_operation
+alu_length : (op : _) → length (mnemonic (alu_operation op)) ≤ 6
+unfolding mnemonic alu_operation
 alu_length op = grind arith
 
 -- ---- operands
@@ -81,6 +81,6 @@ jump_length (negsuc n) h =
 ruleset lengths = (cond_length, load_length, width_length, imm_op_length, shift_length, csr_op_length, csr_imm_length, alu_length, small_length, register_length, upper_length, csr_number_length, immediate_length, branch_length, jump_length)
 
 pub text_length : (k : Kind) → IsInRange k → length (text k) ≤ 19
-unfolding text name
+unfolding text mnemonic
 text_length (Lui rd imm) r = simp length-append (grind (arith, lengths))
 text_length k r = simp length-append (grind (arith, lengths))

@@ -9,10 +9,14 @@ use Rattle.rv_isa.proofs.OneLayout.{kept, branch_kind, load_kind, store_kind, im
 use Rattle.rv_isa.specs.Fields.{kind_of, unsigned}
 use Rattle.rv_isa.specs.Layout.{fields_of, laid}
 use Rattle.rv_isa.specs.Meaning.{first_below, first_within, first_distance, first_in, first_registers, first_fields, first_of, first_kind, means}
-use Rattle.rv_isa.specs.Mnemonics.{blank, first_named, named, with_fields}
+use Rattle.rv_isa.specs.Fields.{blank, with_fields}
+use Rattle.rv_isa.specs.Kinds.{IsMeaning, operation_of, operations, word, format_of, FieldsFit, IsInRange}
 use Rattle.rv_isa.specs.Number.{modulo, IsWithin, IsDistance}
-use Rattle.rv_isa.specs.Table.{name, operation_of, operations}
-use Rattle.rv_isa.specs.Word.{word, format_of, FieldsFit, IsInRange, Means}
+use Rattle.rv_isa.specs.Mnemonics.{first_named}
+use Rattle.rv_isa.specs.Table.{mnemonic}
+use Rattle.rv_isa.specs.Word.{Means}
+use Rattle.rv_isa.proofs.Encodings.{from_kinds}
+use Rattle.rv_isa.proofs.Named.{named_itself}
 use Rattle.rv_isa.specs.declared.op.Operation.{Operation}
 use Rattle.rv_isa.specs.declared.op.Operation.TheVariants as o
 use Rattle.rv_isa.specs.declared.kind.Kind.{Kind}
@@ -205,12 +209,6 @@ found-of k f r p =
 
 -- ---- the operations
 
--- an operation is the one with its mnemonic, so it is one of the list
-named_itself : (x : Operation) → named (name x) ≡ Some x
-unfolding operations name
-named_itself o.Lui = refl
-named_itself x = refl
-
 found-first : {A : Type 0} (b : Bool) (x y : Operation) (others : Option Operation) (f : Operation → Option A)
     (later : Option A) → (if b then Some y else others) ≡ Some x → Found (f x) → (others ≡ Some x → Found later) →
     Found (option_or (f y) later)
@@ -223,7 +221,7 @@ found-named : {A : Type 0} (text : List ℕ) (xs : List Operation) (f : Operatio
 unfolding first_in
 found-named text [] f x e p = absurd (none-some x e)
 found-named text (y ∷ ys) f x e p =
-    found-first (bytes_eq (name y) text) x y _ f _ e p (λ e. found-named text ys f x e p)
+    found-first (bytes_eq (mnemonic y) text) x y _ f _ e p (λ e. found-named text ys f x e p)
 
 -- ---- all kinds
 
@@ -235,14 +233,14 @@ only-kind f h = only-in operations _ (λ x. only-of x f h)
 found-kind : {A : Type 0} (f : Kind → Option A) (k : Kind) → IsInRange k → Found (f k) → Found (first_kind f)
 unfolding first_kind
 found-kind f k r p =
-    found-named (name (operation_of k)) operations _ (operation_of k) (named_itself (operation_of k))
+    found-named (mnemonic (operation_of k)) operations _ (operation_of k) (named_itself (operation_of k))
     (found-of k f r p)
 
 -- ---- the kind that a word means
 
 means-from : (w : ℕ) (o : Option Kind) → IfSome o (λ k. IsInRange k × (word k ≡ w)) →
-    ((k : Kind) → IsInRange k → word k ≡ w → IsSome o) → Means w o
-unfolding Means
+    ((k : Kind) → IsInRange k → word k ≡ w → IsSome o) → IsMeaning w o
+unfolding IsMeaning
 means-from w (Some k) here all = here
 means-from w None here all = λ k r e. true≢false (sym (all k r e))
 
@@ -254,9 +252,12 @@ found-means : (w : ℕ) (k : Kind) → word k ≡ w → Found (if word k == w th
 found-means w k e = found-if (word k == w) (Some k) (eq-eqb _ _ e) (record { some = refl })
 
 -- the search finds the kind that the word means
-pub means_inverts : (w : ℕ) → Means w (means w)
+by_search : (w : ℕ) → IsMeaning w (means w)
 unfolding means
-means_inverts w =
+by_search w =
     means-from w _
     (only-kind {P = λ k. IsInRange k × (word k ≡ w)} _ (only-means w)).holds
     (λ k r e. (found-kind _ k r (found-means w k e)).some)
+
+pub means_inverts : (w : ℕ) → Means w (means w)
+means_inverts w = from_kinds w (means w) (by_search w)

@@ -2,8 +2,8 @@
 use Rattle.std.proofs.Common.{◌≡◌, ◌∙◌, ℕ, ◌^◌, ◌<◌, refl, ap, arith}
 use Rattle.rv_isa.specs.Fields.{kind_of, unsigned}
 use Rattle.rv_isa.specs.Layout.{fields_of}
-use Rattle.rv_isa.specs.Table.{row, branch_operation, load_operation, store_operation, imm_operation, shift_operation, alu_operation, csr_operation, csr_imm_operation}
-use Rattle.rv_isa.specs.Word.{IsInRange}
+use Rattle.rv_isa.specs.Table.{kind_in, row}
+use Rattle.rv_isa.specs.Kinds.{branch_operation, load_operation, store_operation, imm_operation, shift_operation, alu_operation, csr_operation, csr_imm_operation, IsInRange}
 use Rattle.rv_isa.specs.declared.fields.Fields.{Fields}
 use Rattle.rv_isa.specs.declared.kind.Kind.{Kind}
 use Rattle.rv_isa.specs.declared.kind.Kind.TheVariants.{Lui, Auipc, Branch, Load, Store, OpImm, Shift, Op, Fence, FenceI, Csr, CsrImm}
@@ -11,36 +11,36 @@ use Rattle.std.specs.Prelude.{pos}
 
 -- ---- the kind of each form's operation
 
-pub branch_kind : (op : _) (f : Fields) → (row (branch_operation op)).kind f ≡ Branch op f.rs1 f.rs2 f.imm
+pub branch_kind : (op : _) (f : Fields) → kind_in (row (branch_operation op)).1 f ≡ Branch op f.rs1 f.rs2 f.imm
 unfolding branch_operation
 branch_kind op f = grind arith
 
-pub load_kind : (op : _) (f : Fields) → (row (load_operation op)).kind f ≡ Load op f.rd f.rs1 f.imm
+pub load_kind : (op : _) (f : Fields) → kind_in (row (load_operation op)).1 f ≡ Load op f.rd f.rs1 f.imm
 unfolding load_operation
 load_kind op f = grind arith
 
-pub store_kind : (op : _) (f : Fields) → (row (store_operation op)).kind f ≡ Store op f.rs2 f.rs1 f.imm
+pub store_kind : (op : _) (f : Fields) → kind_in (row (store_operation op)).1 f ≡ Store op f.rs2 f.rs1 f.imm
 unfolding store_operation
 store_kind op f = grind arith
 
-pub imm_kind : (op : _) (f : Fields) → (row (imm_operation op)).kind f ≡ OpImm op f.rd f.rs1 f.imm
+pub imm_kind : (op : _) (f : Fields) → kind_in (row (imm_operation op)).1 f ≡ OpImm op f.rd f.rs1 f.imm
 unfolding imm_operation
 imm_kind op f = grind arith
 
-pub shift_kind : (op : _) (f : Fields) → (row (shift_operation op)).kind f ≡ Shift op f.rd f.rs1 (unsigned f.imm)
+pub shift_kind : (op : _) (f : Fields) → kind_in (row (shift_operation op)).1 f ≡ Shift op f.rd f.rs1 (unsigned f.imm)
 unfolding shift_operation
 shift_kind op f = grind arith
 
-pub alu_kind : (op : _) (f : Fields) → (row (alu_operation op)).kind f ≡ Op op f.rd f.rs1 f.rs2
+pub alu_kind : (op : _) (f : Fields) → kind_in (row (alu_operation op)).1 f ≡ Op op f.rd f.rs1 f.rs2
 unfolding alu_operation
 alu_kind op f = grind arith
 
-pub csr_kind : (op : _) (f : Fields) → (row (csr_operation op)).kind f ≡ Csr op f.rd f.rs1 (unsigned f.imm)
+pub csr_kind : (op : _) (f : Fields) → kind_in (row (csr_operation op)).1 f ≡ Csr op f.rd f.rs1 (unsigned f.imm)
 unfolding csr_operation
 csr_kind op f = grind arith
 
 pub csr_imm_kind : (op : _) (f : Fields) →
-    (row (csr_imm_operation op)).kind f ≡ CsrImm op f.rd f.rs1 (unsigned f.imm)
+    kind_in (row (csr_imm_operation op)).1 f ≡ CsrImm op f.rd f.rs1 (unsigned f.imm)
 unfolding csr_imm_operation
 csr_imm_kind op f = grind arith
 

@@ -1,9 +1,8 @@
 -- Not to audit: only the type of instructions and private contracts cite this, and proofs.
 -- The fields of each kind, by its format: what `kind_of` undoes, so that an instruction has one layout.
 use Rattle.std.specs.Prelude.{◌^◌, ◌<◌, pos, Bool, true, false}
-use Rattle.rv_isa.specs.Mnemonics.{with_fields}
-use Rattle.rv_isa.specs.Table.{operation_of}
-use Rattle.rv_isa.specs.Word.{format_of}
+use Rattle.rv_isa.specs.Fields.{with_fields}
+use Rattle.rv_isa.specs.Kinds.{operation_of, format_of}
 use Rattle.rv_isa.specs.declared.fields.Fields.{Fields}
 use Rattle.rv_isa.specs.declared.format.Format.{Format}
 use Rattle.rv_isa.specs.declared.format.Format.TheVariants.{R, Amount, I, Number, S, B, U, J, Whole}

@@ -3,7 +3,8 @@
 use Rattle.std.specs.Prelude.{ℕ, Bool, false, not, List, [], ◌∷◌, filter, ◌==◌}
 use Rattle.rv_isa.specs.declared.op.Operation.{Operation}
 use Rattle.rv_isa.specs.Names.{register_names}
-use Rattle.rv_isa.specs.Table.{name, operations}
+use Rattle.rv_isa.specs.Table.{mnemonic}
+use Rattle.rv_isa.specs.Kinds.{operations}
 
 -- whether a text begins with a letter
 abbrev pub begins : ℕ → List ℕ → Bool
@@ -12,7 +13,7 @@ begins letter (b ∷ bs) = b == letter
 
 -- the operations whose mnemonics begin with a letter
 unfoldable pub beginning_with : ℕ → List Operation
-beginning_with letter = filter (λ op. begins letter (name op)) operations
+beginning_with letter = filter (λ op. begins letter (mnemonic op)) operations
 
 -- the names of registers that begin with `x`, and the others
 unfoldable pub numbered_names : List (List ℕ × ℕ)

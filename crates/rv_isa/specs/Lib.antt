@@ -1,5 +1,7 @@
 pub mod Alu
 pub mod Fields
+pub mod Kinds
+pub mod Laws
 pub mod Layout
 pub mod Letters
 pub mod Meaning

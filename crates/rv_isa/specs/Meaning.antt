@@ -1,14 +1,13 @@
--- To audit: public contracts cite this.
--- The kind that a word means: the inverse of the table of words, by a search through the operations, and for each
--- through its fields in their ranges.
--- No program runs the search: it defines the function that `decode` computes.
+-- Not to audit: the laws `meaning_inverts` and `one_meaning` say all of `means`: it is what a word means by
+-- `Means`.
+-- The kind that a word means, by a search through the operations, and for each through its fields in their
+-- ranges. No program runs the search: it defines the function that `decode` computes.
 use Rattle.std.specs.Prelude.{ℕ, zero, suc, ◌^◌, ◌==◌, if◌then◌else◌, ℤ, pos, negsuc, List, [], ◌∷◌, Option, Some, None}
 use Rattle.std.specs.Option.{option_or}
 use Rattle.rv_isa.specs.Number.{modulo}
 use Rattle.rv_isa.specs.Fields.{kind_of}
-use Rattle.rv_isa.specs.Mnemonics.{blank, with_fields}
-use Rattle.rv_isa.specs.Table.{operations}
-use Rattle.rv_isa.specs.Word.{format_of, word}
+use Rattle.rv_isa.specs.Fields.{blank, with_fields}
+use Rattle.rv_isa.specs.Kinds.{operations, format_of, word}
 use Rattle.rv_isa.specs.declared.format.Format.{Format}
 use Rattle.rv_isa.specs.declared.format.Format.TheVariants.{R, Amount, I, Number, S, B, U, J, Whole}
 use Rattle.rv_isa.specs.declared.kind.Kind.{Kind}

@@ -5,6 +5,7 @@
 ghost use Rattle.std.specs.Prelude.{◌≡◌, ◌≢◌, ◌<◌, ◌≤◌, ◌*◌, ◌/◌, ◌%◌, ◌^◌};
 ghost use Rattle.rv_isa.specs.Number.{modulo, IsWithin, IsDistance};
 ghost use Rattle.rv_isa.specs.Word.{Means};
+ghost use Rattle.rv_isa.specs.Kinds.{IsMeaning};
 ghost use Rattle.rv_isa.specs.Meaning.{means};
 
 use crate::encoding::one_meaning;
@@ -29,9 +30,9 @@ pub fn meaning_inverts(word: u32)
 {}
 
 /// Decodes a word by its opcode, its lowest seven bits.
-#[tactic(auto, unfolding(crate::specs::Word::word, crate::specs::Word::Means))]
+#[tactic(auto, unfolding(crate::specs::Kinds::word, crate::specs::Kinds::IsMeaning))]
 fn decode_opcode(word: u32) -> Option<Instr>
-    ensures { Means word result }
+    ensures { IsMeaning word result }
 {
     match word % 128 {
         opcode::LUI => Some(Instr::of(Kind::Lui {
@@ -58,10 +59,10 @@ fn decode_opcode(word: u32) -> Option<Instr>
     }
 }
 
-#[tactic(auto, unfolding(crate::specs::Word::word, crate::specs::Word::Means))]
+#[tactic(auto, unfolding(crate::specs::Kinds::word, crate::specs::Kinds::IsMeaning))]
 fn jalr(word: u32) -> Option<Instr>
     requires { word % 2 ^ 7 ≡ 0x67 }
-    ensures { Means word result }
+    ensures { IsMeaning word result }
 {
     match funct3(word) {
         0 => Some(Instr::of(Kind::Jalr {
@@ -73,10 +74,10 @@ fn jalr(word: u32) -> Option<Instr>
     }
 }
 
-#[tactic(auto, using(crate::proofs::Codes::codes), unfolding(crate::specs::Word::word, crate::specs::Word::Means))]
+#[tactic(auto, using(crate::proofs::Codes::codes), unfolding(crate::specs::Kinds::word, crate::specs::Kinds::IsMeaning))]
 fn branch(word: u32) -> Option<Instr>
     requires { word % 2 ^ 7 ≡ 0x63 }
-    ensures { Means word result }
+    ensures { IsMeaning word result }
 {
     let cond = Cond::from_funct3(funct3(word))?;
     Some(Instr::of(Kind::Branch {
@@ -87,10 +88,10 @@ fn branch(word: u32) -> Option<Instr>
     }))
 }
 
-#[tactic(auto, using(crate::proofs::Codes::codes), unfolding(crate::specs::Word::word, crate::specs::Word::Means))]
+#[tactic(auto, using(crate::proofs::Codes::codes), unfolding(crate::specs::Kinds::word, crate::specs::Kinds::IsMeaning))]
 fn load(word: u32) -> Option<Instr>
     requires { word % 2 ^ 7 ≡ 0x03 }
-    ensures { Means word result }
+    ensures { IsMeaning word result }
 {
     let op = LoadOp::from_funct3(funct3(word))?;
     Some(Instr::of(Kind::Load {
@@ -101,10 +102,10 @@ fn load(word: u32) -> Option<Instr>
     }))
 }
 
-#[tactic(auto, using(crate::proofs::Codes::codes), unfolding(crate::specs::Word::word, crate::specs::Word::Means))]
+#[tactic(auto, using(crate::proofs::Codes::codes), unfolding(crate::specs::Kinds::word, crate::specs::Kinds::IsMeaning))]
 fn store(word: u32) -> Option<Instr>
     requires { word % 2 ^ 7 ≡ 0x23 }
-    ensures { Means word result }
+    ensures { IsMeaning word result }
 {
     let width = Width::from_funct3(funct3(word))?;
     Some(Instr::of(Kind::Store {
@@ -116,10 +117,10 @@ fn store(word: u32) -> Option<Instr>
 }
 
 /// For the function codes 1 and 5 the high seven bits are the code of a shift, else a part of the immediate.
-#[tactic(auto, using(crate::proofs::Codes::codes), unfolding(crate::specs::Word::word, crate::specs::Word::Means))]
+#[tactic(auto, using(crate::proofs::Codes::codes), unfolding(crate::specs::Kinds::word, crate::specs::Kinds::IsMeaning))]
 fn op_imm(word: u32) -> Option<Instr>
     requires { word % 2 ^ 7 ≡ 0x13 }
-    ensures { Means word result }
+    ensures { IsMeaning word result }
 {
     match funct3(word) {
         1 | 5 => {
@@ -143,10 +144,10 @@ fn op_imm(word: u32) -> Option<Instr>
     }
 }
 
-#[tactic(auto, using(crate::proofs::Codes::codes), unfolding(crate::specs::Word::word, crate::specs::Word::Means))]
+#[tactic(auto, using(crate::proofs::Codes::codes), unfolding(crate::specs::Kinds::word, crate::specs::Kinds::IsMeaning))]
 fn op(word: u32) -> Option<Instr>
     requires { word % 2 ^ 7 ≡ 0x33 }
-    ensures { Means word result }
+    ensures { IsMeaning word result }
 {
     let op = AluOp::from_codes(funct7(word), funct3(word))?;
     Some(Instr::of(Kind::Op {
@@ -157,10 +158,10 @@ fn op(word: u32) -> Option<Instr>
     }))
 }
 
-#[tactic(auto, unfolding(crate::specs::Word::word, crate::specs::Word::Means))]
+#[tactic(auto, unfolding(crate::specs::Kinds::word, crate::specs::Kinds::IsMeaning))]
 fn misc_mem(word: u32) -> Option<Instr>
     requires { word % 2 ^ 7 ≡ 0x0f }
-    ensures { Means word result }
+    ensures { IsMeaning word result }
 {
     match funct3(word) {
         0 => Some(Instr::of(Kind::Fence {
@@ -177,10 +178,10 @@ fn misc_mem(word: u32) -> Option<Instr>
     }
 }
 
-#[tactic(auto, using(crate::proofs::Codes::codes), unfolding(crate::specs::Word::word, crate::specs::Word::Means))]
+#[tactic(auto, using(crate::proofs::Codes::codes), unfolding(crate::specs::Kinds::word, crate::specs::Kinds::IsMeaning))]
 fn system(word: u32) -> Option<Instr>
     requires { word % 2 ^ 7 ≡ 0x73 }
-    ensures { Means word result }
+    ensures { IsMeaning word result }
 {
     match funct3(word) {
         0 => match word {

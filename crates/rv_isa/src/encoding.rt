@@ -2,11 +2,13 @@
 //!
 //! Each format has a function that puts the fields in their places. RISC-V Unprivileged ISA 20191213,
 //! sections 2.2 and 2.3 and chapter 24.
-ghost use Rattle.std.specs.Prelude.{◌≡◌, ◌<◌, ◌^◌};
+ghost use Rattle.std.specs.Prelude.{◌≡◌, ◌<◌, ◌^◌, Some};
 ghost use Rattle.rv_isa.specs.Number.{modulo, IsWithin};
-ghost use Rattle.rv_isa.specs.Word as spec;
+ghost use Rattle.rv_isa.specs.Kinds as spec;
+ghost use Rattle.rv_isa.specs.Laws.{OneWord};
 ghost use Rattle.rv_isa.specs.Layout.{CodesFit};
-ghost use Rattle.rv_isa.specs.Word.{FieldsFit, Means, IsInRange, OneMeaning};
+ghost use Rattle.rv_isa.specs.Word.{Means, OneMeaning};
+ghost use Rattle.rv_isa.specs.Kinds.{FieldsFit, IsInRange};
 ghost use Rattle.rv_isa.specs.declared.kind.Kind.{Kind};
 
 use crate::format::Format;
@@ -15,9 +17,10 @@ use crate::{Instr, Reg};
 /// Returns the word of an instruction: the sum of its fields, each times the power of two of its lowest bit.
 ///
 /// RISC-V Unprivileged ISA 20191213, sections 2.2 and 2.3 and chapter 24.
-#[tactic(auto, unfolding(crate::specs::Word::word))]
+#[tactic(auto, using(crate::proofs::Encodings::word_means), unfolding(crate::specs::Kinds::word))]
 pub fn encode(instr: Instr) -> u32
-    ensures { result ≡ spec.word instr }
+    ensures value { result ≡ spec.word instr }
+    ensures means { Means result (Some instr) }
 {
     word_in(instr.kind().format())
 }
@@ -168,6 +171,12 @@ fn low_12(imm: i32) -> u16
 /// A law: no two instructions have the same word.
 pub fn words_differ()
     ensures { (a b : Kind) → IsInRange a → IsInRange b → spec.word a ≡ spec.word b → a ≡ b }
+{}
+
+/// A law: an instruction has one word, and is a kind in range.
+#[tactic(auto, using(crate::proofs::Encodings::means_kind))]
+pub fn one_word()
+    ensures { OneWord }
 {}
 
 /// A law: a word means one instruction or none, so `decode` could return nothing else.

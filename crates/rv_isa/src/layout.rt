@@ -6,8 +6,8 @@
 ghost use Rattle.std.specs.Prelude.{◌≡◌, ◌<◌, ◌^◌};
 ghost use Rattle.rv_isa.specs.Fields as spec;
 ghost use Rattle.rv_isa.specs.Layout as layout;
-ghost use Rattle.rv_isa.specs.Mnemonics.{with_fields};
-ghost use Rattle.rv_isa.specs.Word.{FieldsFit, IsInRange};
+ghost use Rattle.rv_isa.specs.Fields.{with_fields};
+ghost use Rattle.rv_isa.specs.Kinds.{FieldsFit, IsInRange};
 ghost use Rattle.rv_isa.specs.declared.kind.Kind.TheVariants as kind;
 
 use crate::format::Format;

@@ -1,8 +1,9 @@
 //! The operation with a mnemonic, and its instruction with fields.
 ghost use Rattle.std.specs.Prelude.{◌≡◌};
-ghost use Rattle.rv_isa.specs.Fields.{kind_of};
-ghost use Rattle.rv_isa.specs.Mnemonics.{blank, first_named, named, with_fields};
-ghost use Rattle.rv_isa.specs.Word.{IsInRange};
+ghost use Rattle.rv_isa.specs.Fields.{blank, kind_of, with_fields};
+ghost use Rattle.rv_isa.specs.Laws.{OneMnemonic, OneOperation};
+ghost use Rattle.rv_isa.specs.Mnemonics.{first_named, named};
+ghost use Rattle.rv_isa.specs.Kinds.{IsInRange};
 
 use crate::op::{beginning_with, kind_of};
 use crate::{Fields, Instr, Kind, Operation, Reg};
@@ -17,6 +18,18 @@ pub fn operation_named(mnemonic: &[u8]) -> Option<Operation>
     };
     first_named(beginning_with(*letter), mnemonic)
 }
+
+/// A law: a mnemonic is that of one operation or of none.
+#[tactic(auto, using(crate::proofs::Named::one_mnemonic))]
+pub fn one_mnemonic()
+    ensures { OneMnemonic }
+{}
+
+/// A law: a kind is of one operation, whatever its fields.
+#[tactic(auto, using(crate::proofs::Zeros::one_operation))]
+pub fn one_operation()
+    ensures { OneOperation }
+{}
 
 /// Returns the first of these operations with a mnemonic.
 fn first_named(operations: &[Operation], mnemonic: &[u8]) -> Option<Operation>
@@ -48,7 +61,7 @@ impl Operation {
     }
 
     /// Returns the operation's kind, with zeros in all fields.
-    #[tactic(auto, using(crate::proofs::Zeros::zeros_in_range), unfolding(crate::specs::Mnemonics::blank))]
+    #[tactic(auto, using(crate::proofs::Zeros::zeros_in_range), unfolding(crate::specs::Fields::blank))]
     pub fn kind(self) -> Kind
         ensures { result ≡ blank self }
     {

@@ -1,16 +1,17 @@
-//! The operations: the table of instructions, and the operations of each form.
+//! The operations: the table of instructions, the operations of each form, and their values.
 //!
 //! A new operation has a row in each `match` that it belongs to here. RISC-V Unprivileged ISA 20191213,
 //! chapter 24, has the function codes: funct3 has three bits, funct7 has seven. `from_funct3` and
 //! `from_codes` return the operation that has codes, or `None` where none has them.
 ghost use Rattle.std.specs.Prelude.{◌≡◌, ◌≢◌, ◌<◌, ◌+◌, ◌%◌, ◌==◌, MatchOption, true};
+ghost use Rattle.rv_isa.specs.Alu.{value};
 ghost use Rattle.rv_isa.specs.Fields as spec;
 ghost use Rattle.rv_isa.specs.Layout as layout;
 ghost use Rattle.rv_isa.specs.Letters.{beginning_with};
-ghost use Rattle.rv_isa.specs.Table as table;
-ghost use Rattle.rv_isa.specs.Table.{name};
+ghost use Rattle.rv_isa.specs.Kinds as table;
+ghost use Rattle.rv_isa.specs.Table.{mnemonic};
 ghost use Rattle.rv_isa.specs.Width.{bytes_of, load_width, imm_alu_op, shift_alu_op};
-ghost use Rattle.rv_isa.specs.Word.{IsInRange};
+ghost use Rattle.rv_isa.specs.Kinds.{IsInRange};
 ghost use Rattle.rv_isa.specs.declared.op.Cond.{Cond};
 ghost use Rattle.rv_isa.specs.declared.op.LoadOp.{LoadOp};
 ghost use Rattle.rv_isa.specs.declared.op.Width.{Width};
@@ -19,6 +20,7 @@ ghost use Rattle.rv_isa.specs.declared.op.CsrOp.{CsrOp};
 ghost use Rattle.rv_isa.specs.declared.op.ShiftOp.{ShiftOp};
 ghost use Rattle.rv_isa.specs.declared.op.AluOp.{AluOp};
 
+use crate::arith::{div, mulh, mulhsu, rem};
 use crate::layout::{
     auipc, branch, csr, csr_imm, fence, fence_i, jal, jalr, load, lui, op, op_imm, shift, store,
 };
@@ -92,7 +94,7 @@ pub enum Operation {
 impl Operation {
     /// Returns the mnemonic.
     pub(crate) fn mnemonic(self) -> &'static str
-        ensures { result.now ≡ name self }
+        ensures { result.now ≡ mnemonic self }
     {
         self.row().0
     }
@@ -114,9 +116,9 @@ impl Operation {
     }
 
     /// Returns the mnemonic and the function codes: those that the word doesn't have are 0.
-    #[tactic(auto, unfolding(crate::specs::Table::name, crate::specs::Table::funct3, crate::specs::Table::funct7))]
+    #[tactic(auto, unfolding(crate::specs::Table::mnemonic, crate::specs::Kinds::funct3, crate::specs::Kinds::funct7))]
     fn row(self) -> (&'static str, u32, u32)
-        ensures name { result.0.now ≡ name self }
+        ensures mnemonic { result.0.now ≡ mnemonic self }
         ensures funct3 { (result.1 ≡ table.funct3 self) × (result.1 < 8) }
         ensures funct7 { (result.2 ≡ table.funct7 self) × (result.2 < 128) }
     {
@@ -183,7 +185,7 @@ impl Operation {
 }
 
 /// Returns the operations whose mnemonics begin with a letter.
-#[tactic(auto, unfolding(crate::specs::Letters::beginning_with, crate::specs::Table::operations, crate::specs::Table::name))]
+#[tactic(auto, unfolding(crate::specs::Letters::beginning_with, crate::specs::Kinds::operations, crate::specs::Table::mnemonic))]
 pub(crate) fn beginning_with(letter: u8) -> &'static [Operation]
     ensures { result.now ≡ beginning_with letter }
 {
@@ -312,7 +314,7 @@ pub enum Cond {
 
 impl Cond {
     /// Returns the operation of the branch.
-    #[tactic(auto, unfolding(crate::specs::Table::branch_operation))]
+    #[tactic(auto, unfolding(crate::specs::Kinds::branch_operation))]
     pub(crate) fn operation(self) -> Operation
         ensures { result ≡ table.branch_operation self }
     {
@@ -326,7 +328,7 @@ impl Cond {
         }
     }
 
-    #[tactic(auto, unfolding(crate::specs::Table::funct3, crate::specs::Table::branch_operation))]
+    #[tactic(auto, unfolding(crate::specs::Kinds::funct3, crate::specs::Kinds::branch_operation))]
     pub(crate) fn from_funct3(funct3: u32) -> Option<Cond>
         ensures { MatchOption result ((op : Cond) → table.funct3 (table.branch_operation op) ≢ funct3)
             (λ op. table.funct3 (table.branch_operation op) ≡ funct3) }
@@ -362,7 +364,7 @@ pub enum LoadOp {
 
 impl LoadOp {
     /// Returns the operation of the load.
-    #[tactic(auto, unfolding(crate::specs::Table::load_operation))]
+    #[tactic(auto, unfolding(crate::specs::Kinds::load_operation))]
     pub(crate) fn operation(self) -> Operation
         ensures { result ≡ table.load_operation self }
     {
@@ -386,7 +388,7 @@ impl LoadOp {
         }
     }
 
-    #[tactic(auto, unfolding(crate::specs::Table::funct3, crate::specs::Table::load_operation))]
+    #[tactic(auto, unfolding(crate::specs::Kinds::funct3, crate::specs::Kinds::load_operation))]
     pub(crate) fn from_funct3(funct3: u32) -> Option<LoadOp>
         ensures { MatchOption result ((op : LoadOp) → table.funct3 (table.load_operation op) ≢ funct3)
             (λ op. table.funct3 (table.load_operation op) ≡ funct3) }
@@ -417,7 +419,7 @@ pub enum Width {
 
 impl Width {
     /// Returns the operation of the store.
-    #[tactic(auto, unfolding(crate::specs::Table::store_operation))]
+    #[tactic(auto, unfolding(crate::specs::Kinds::store_operation))]
     pub(crate) fn store_operation(self) -> Operation
         ensures { result ≡ table.store_operation self }
     {
@@ -451,7 +453,7 @@ impl Width {
         }
     }
 
-    #[tactic(auto, unfolding(crate::specs::Table::funct3, crate::specs::Table::store_operation))]
+    #[tactic(auto, unfolding(crate::specs::Kinds::funct3, crate::specs::Kinds::store_operation))]
     pub(crate) fn from_funct3(funct3: u32) -> Option<Width>
         ensures { MatchOption result ((op : Width) → table.funct3 (table.store_operation op) ≢ funct3)
             (λ op. table.funct3 (table.store_operation op) ≡ funct3) }
@@ -486,7 +488,7 @@ pub enum ImmOp {
 
 impl ImmOp {
     /// Returns the operation with an immediate.
-    #[tactic(auto, unfolding(crate::specs::Table::imm_operation))]
+    #[tactic(auto, unfolding(crate::specs::Kinds::imm_operation))]
     pub(crate) fn operation(self) -> Operation
         ensures { result ≡ table.imm_operation self }
     {
@@ -514,7 +516,7 @@ impl ImmOp {
         }
     }
 
-    #[tactic(auto, unfolding(crate::specs::Table::funct3, crate::specs::Table::imm_operation))]
+    #[tactic(auto, unfolding(crate::specs::Kinds::funct3, crate::specs::Kinds::imm_operation))]
     pub(crate) fn from_funct3(funct3: u32) -> Option<ImmOp>
         ensures { MatchOption result ((op : ImmOp) → table.funct3 (table.imm_operation op) ≢ funct3)
             (λ op. table.funct3 (table.imm_operation op) ≡ funct3) }
@@ -546,7 +548,7 @@ pub enum CsrOp {
 
 impl CsrOp {
     /// Returns the operation with a register.
-    #[tactic(auto, unfolding(crate::specs::Table::csr_operation))]
+    #[tactic(auto, unfolding(crate::specs::Kinds::csr_operation))]
     pub(crate) fn operation(self) -> Operation
         ensures { result ≡ table.csr_operation self }
     {
@@ -558,7 +560,7 @@ impl CsrOp {
     }
 
     /// Returns the operation with a number.
-    #[tactic(auto, unfolding(crate::specs::Table::csr_imm_operation))]
+    #[tactic(auto, unfolding(crate::specs::Kinds::csr_imm_operation))]
     pub(crate) fn imm_operation(self) -> Operation
         ensures { result ≡ table.csr_imm_operation self }
     {
@@ -569,7 +571,7 @@ impl CsrOp {
         }
     }
 
-    #[tactic(auto, unfolding(crate::specs::Table::funct3, crate::specs::Table::csr_operation, crate::specs::Table::csr_imm_operation))]
+    #[tactic(auto, unfolding(crate::specs::Kinds::funct3, crate::specs::Kinds::csr_operation, crate::specs::Kinds::csr_imm_operation))]
     pub(crate) fn from_funct3(funct3: u32) -> Option<CsrOp>
         ensures register { MatchOption result ((op : CsrOp) → table.funct3 (table.csr_operation op) ≢ funct3)
             (λ op. table.funct3 (table.csr_operation op) ≡ funct3) }
@@ -600,7 +602,7 @@ pub enum ShiftOp {
 
 impl ShiftOp {
     /// Returns the operation of the shift by an immediate.
-    #[tactic(auto, unfolding(crate::specs::Table::shift_operation))]
+    #[tactic(auto, unfolding(crate::specs::Kinds::shift_operation))]
     pub(crate) fn operation(self) -> Operation
         ensures { result ≡ table.shift_operation self }
     {
@@ -622,7 +624,7 @@ impl ShiftOp {
         }
     }
 
-    #[tactic(auto, unfolding(crate::specs::Table::funct3, crate::specs::Table::funct7, crate::specs::Table::shift_operation))]
+    #[tactic(auto, unfolding(crate::specs::Kinds::funct3, crate::specs::Kinds::funct7, crate::specs::Kinds::shift_operation))]
     pub(crate) fn from_codes(funct7: u32, funct3: u32) -> Option<ShiftOp>
         ensures { MatchOption result
             ((op : ShiftOp) → table.funct7 (table.shift_operation op) ≡ funct7 → table.funct3 (table.shift_operation op) ≢ funct3)
@@ -682,7 +684,7 @@ pub enum AluOp {
 
 impl AluOp {
     /// Returns the operation on two registers.
-    #[tactic(auto, unfolding(crate::specs::Table::alu_operation))]
+    #[tactic(auto, unfolding(crate::specs::Kinds::alu_operation))]
     pub(crate) fn operation(self) -> Operation
         ensures { result ≡ table.alu_operation self }
     {
@@ -708,7 +710,7 @@ impl AluOp {
         }
     }
 
-    #[tactic(auto, unfolding(crate::specs::Table::funct3, crate::specs::Table::funct7, crate::specs::Table::alu_operation))]
+    #[tactic(auto, unfolding(crate::specs::Kinds::funct3, crate::specs::Kinds::funct7, crate::specs::Kinds::alu_operation))]
     pub(crate) fn from_codes(funct7: u32, funct3: u32) -> Option<AluOp>
         ensures { MatchOption result
             ((op : AluOp) → table.funct7 (table.alu_operation op) ≡ funct7 → table.funct3 (table.alu_operation op) ≢ funct3)
@@ -735,5 +737,37 @@ impl AluOp {
             (0x1, 7) => Some(AluOp::Remu),
             _ => None,
         }
+    }
+}
+
+/// Returns the value of an operation on two words, modulo 2^32.
+///
+/// Shifts use the low five bits of `b`. A quotient is rounded towards zero, and a remainder has the sign of
+/// the dividend. For a divisor of zero the quotient is all ones and the remainder is the dividend; for -2^31
+/// by -1 they are -2^31 and 0. RISC-V Unprivileged ISA 20191213, section 2.4 and chapter 7.
+#[inline(always)]
+#[tactic(auto, using(crate::proofs::Bits::bit_sums), unfolding(crate::specs::Alu::value))]
+pub fn alu(op: AluOp, a: u32, b: u32) -> u32
+    ensures { result ≡ value op a b }
+{
+    match op {
+        AluOp::Add => a.wrapping_add(b),
+        AluOp::Sub => a.wrapping_sub(b),
+        AluOp::Sll => a << (b % 32),
+        AluOp::Slt => (a.cast_signed() < b.cast_signed()) as u32,
+        AluOp::Sltu => (a < b) as u32,
+        AluOp::Xor => a ^ b,
+        AluOp::Srl => a >> (b % 32),
+        AluOp::Sra => (a.cast_signed() >> (b % 32)).cast_unsigned(),
+        AluOp::Or => a | b,
+        AluOp::And => a & b,
+        AluOp::Mul => a.wrapping_mul(b),
+        AluOp::Mulh => mulh(a, b),
+        AluOp::Mulhsu => mulhsu(a, b),
+        AluOp::Mulhu => ((a as u64 * b as u64) >> 32) as u32,
+        AluOp::Div => div(a, b),
+        AluOp::Divu => a.checked_div(b).unwrap_or(u32::MAX),
+        AluOp::Rem => rem(a, b),
+        AluOp::Remu => a.checked_rem(b).unwrap_or(a),
     }
 }
