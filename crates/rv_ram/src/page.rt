@@ -1,5 +1,5 @@
 //! A page of memory, which is allocated once something other than zeros is stored in it.
-ghost use Rattle.std.specs.Prelude.{◌≡◌, ◌+◌, ◌<◌, ◌≤◌, ◌||◌, not, true, false, length, slice_index, OnOk, OnErr};
+ghost use Rattle.std.specs.Prelude.{◌≡◌, ◌+◌, ◌<◌, ◌≤◌, ◌||◌, not, true, false, length, slice_index, IfOk, OnOk, OnErr};
 ghost use Rattle.std.specs.Vec.{vec_len};
 ghost use Rattle.rv_isa.specs.Width.{bytes_of};
 ghost use Rattle.rv_ram.specs.Bytes.{value_at, put, zeros};
@@ -39,6 +39,15 @@ impl Page {
         Page {
             bytes: Vec::new(alloc),
         }
+    }
+
+    /// Returns a copy of the page. A page that does not exist yet has no bytes to copy.
+    pub fn try_clone(&self, alloc: Global) -> Result<Page, NoMemory>
+        ensures { IfOk result (λ page. page ≡ self.now) }
+    {
+        Ok(Page {
+            bytes: Vec::from_slice(alloc, &self.bytes)?,
+        })
     }
 
     /// Returns the byte at an offset in the page.

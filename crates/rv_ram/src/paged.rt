@@ -52,6 +52,19 @@ fn blank_pages(alloc: Global, pages: u32) -> Result<Vec<Page>, NoMemory>
     Ok(table)
 }
 
+/// Returns a copy of each page.
+fn copied_pages(alloc: Global, pages: &[Page]) -> Result<Vec<Page>, NoMemory>
+    ensures { IfOk result (λ table. table.items ≡ pages.now) }
+{
+    let mut table = Vec::with_capacity(alloc, pages.len())?;
+    for page in pages {
+        if table.push(page.try_clone(alloc)?).is_err() {
+            return Err(NoMemory);
+        }
+    }
+    Ok(table)
+}
+
 impl PagedRam {
     /// Returns a memory of `pages` pages, all zero, of which none exists yet.
     #[tactic(auto, using(crate::proofs::Table::all_bytes_new, crate::proofs::Table::made_new, crate::proofs::Table::is_table_new, crate::proofs::Zeros::length_zeros))]
@@ -64,6 +77,19 @@ impl PagedRam {
     {
         Ok(PagedRam {
             pages: blank_pages(alloc, pages)?,
+        })
+    }
+
+    /// Returns a copy of the memory. It allocates the table, and the pages that exist.
+    ///
+    /// # Errors
+    ///
+    /// `NoMemory` if memory runs out.
+    pub fn try_clone(&self, alloc: Global) -> Result<PagedRam, NoMemory>
+        ensures { IfOk result (λ m. m ≡ self.now) }
+    {
+        Ok(PagedRam {
+            pages: copied_pages(alloc, &self.pages)?,
         })
     }
 }
