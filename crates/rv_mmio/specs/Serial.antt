@@ -1,6 +1,7 @@
 -- To audit: public contracts cite this.
 -- The serial port: a queue of received bytes, and the console, which is the bytes that were sent.
 use Rattle.std.specs.Prelude.{ℕ, Bool, true, false, ◌+◌, ◌%◌, nat_lt, if◌then◌else◌, List, [], ◌∷◌, ◌++◌, length, drop, slice_get, unwrap_or}
+use Rattle.rv_base.specs.Registers.{Register, register}
 use Rattle.rv_mmio.specs.declared.serial.SerialReg.{SerialReg}
 use Rattle.rv_mmio.specs.declared.serial.SerialReg.TheVariants.{Tx, Rx, Status}
 
@@ -21,23 +22,18 @@ abbrev pub status_word : SerialState → ℕ
 status_word serial =
     (if nat_lt 0 (length serial.waiting) then 1 else 0) + 2 + (if serial.overrun then 4 else 0)
 
--- the word that a load of a register returns: for the receive register the oldest byte, or a word that no byte
--- has if none is waiting
-abbrev pub load_value : SerialState → SerialReg → ℕ
-load_value serial Tx = 0
-load_value serial Rx = unwrap_or (slice_get serial.waiting 0) 0x80000000
-load_value serial Status = status_word serial
-
--- the port after a load of a register: the oldest byte is taken, or the overrun cleared
-abbrev pub after_load : SerialState → SerialReg → SerialState
-after_load serial Tx = serial
-after_load serial Rx = record serial { waiting = drop 1 serial.waiting }
-after_load serial Status = record serial { overrun = false }
-
--- the port after a store of a word to a register
-abbrev pub stored : SerialState → SerialReg → ℕ → SerialState
-stored serial Tx word = record serial { sent = serial.sent ++ (word % 256) ∷ [] }
-stored serial reg word = serial
+-- the registers. A store to the transmit register sends the low byte of its word. A load of the receive
+-- register takes the oldest byte, and returns a word that no byte has where none is waiting; one of the
+-- status register clears the overrun
+abbrev pub at : SerialReg → Register SerialState
+at Tx = register (λ s. 0) (λ s w. record s { sent = s.sent ++ (w % 256) ∷ [] })
+at Rx = record {
+  word = λ s. unwrap_or (slice_get s.waiting 0) 0x80000000;
+  loaded = λ s. record s { waiting = drop 1 s.waiting };
+  stored = λ s w. s;
+}
+at Status =
+    record { word = status_word; loaded = λ s. record s { overrun = false }; stored = λ s w. s }
 
 -- the port after it received a byte: the queue holds 16, and a byte beyond them is lost
 abbrev pub received : SerialState → ℕ → SerialState

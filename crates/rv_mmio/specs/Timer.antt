@@ -3,6 +3,7 @@
 -- software interrupt bit msip of section 3.1.9, each read and written by words.
 use Rattle.std.specs.Prelude.{ℕ, Bool, false, ◌+◌, ◌-◌, ◌/◌, ◌%◌, ◌^◌, ◌==◌, nat_le, if◌then◌else◌}
 use Rattle.rv_base.specs.Halves.{with_low, with_high}
+use Rattle.rv_base.specs.Registers.{Register, register}
 use Rattle.rv_mmio.specs.declared.timer.TimerReg.{TimerReg}
 use Rattle.rv_mmio.specs.declared.timer.TimerReg.TheVariants.{Msip, MtimecmpLow, MtimecmpHigh, MtimeLow, MtimeHigh}
 
@@ -24,18 +25,10 @@ ticked timer = record timer { time = (timer.time + 1) % 2 ^ 64 }
 abbrev pub is_due : TimerState → Bool
 is_due timer = nat_le timer.compare timer.time
 
--- the word of a register
-abbrev pub load_value : TimerState → TimerReg → ℕ
-load_value timer Msip = if timer.software then 1 else 0
-load_value timer MtimecmpLow = timer.compare % 2 ^ 32
-load_value timer MtimecmpHigh = timer.compare / 2 ^ 32
-load_value timer MtimeLow = timer.time % 2 ^ 32
-load_value timer MtimeHigh = timer.time / 2 ^ 32
-
--- the timer after a word is stored in a register: msip keeps bit 0
-abbrev pub stored : TimerState → TimerReg → ℕ → TimerState
-stored timer Msip word = record timer { software = word % 2 == 1 }
-stored timer MtimecmpLow word = record timer { compare = with_low timer.compare word }
-stored timer MtimecmpHigh word = record timer { compare = with_high timer.compare word }
-stored timer MtimeLow word = record timer { time = with_low timer.time word }
-stored timer MtimeHigh word = record timer { time = with_high timer.time word }
+-- the registers: msip keeps bit 0 of a word
+abbrev pub at : TimerReg → Register TimerState
+at Msip = register (λ t. if t.software then 1 else 0) (λ t w. record t { software = w % 2 == 1 })
+at MtimecmpLow = register (λ t. t.compare % 2 ^ 32) (λ t w. record t { compare = with_low t.compare w })
+at MtimecmpHigh = register (λ t. t.compare / 2 ^ 32) (λ t w. record t { compare = with_high t.compare w })
+at MtimeLow = register (λ t. t.time % 2 ^ 32) (λ t w. record t { time = with_low t.time w })
+at MtimeHigh = register (λ t. t.time / 2 ^ 32) (λ t w. record t { time = with_high t.time w })

@@ -1,9 +1,11 @@
 //! The serial port.
 ghost use Rattle.std.specs.Prelude.{◌≡◌, ◌+◌, ◌≤◌, [], ◌∷◌, ◌++◌, true, length, vec_len, vec_capacity, IfOk, OnOk, OnErr};
 ghost use Rattle.rv_mmio.specs.declared.serial.SerialReg.TheVariants.{Rx, Status};
-ghost use Rattle.rv_mmio.specs.Serial.{reset, status_word, load_value, after_load, stored, received};
+ghost use Rattle.rv_mmio.specs.ConsoleRoom.{HasConsoleRoom};
+ghost use Rattle.rv_mmio.specs.Serial.{reset, status_word, at, received};
 ghost use Rattle.rv_mmio.specs.Room.{is_full, wants_room};
 
+use crate::buffer::copied_buffer;
 use circular_buffer::HeapCircularBuffer;
 use rv_base::NoMemory;
 use std::alloc::Global;
@@ -62,6 +64,21 @@ impl Serial {
         })
     }
 
+    /// Returns a copy of the port. It allocates the queue, and the console with its room.
+    ///
+    /// # Errors
+    ///
+    /// `NoMemory` if memory runs out.
+    pub fn try_clone(&self, alloc: Global) -> Result<Serial, NoMemory>
+        ensures { IfOk result (λ s. s ≡ self.now) }
+    {
+        Ok(Serial {
+            waiting: copied_buffer(alloc, &self.waiting)?,
+            sent: copied_console(alloc, &self.sent)?,
+            overrun: self.overrun,
+        })
+    }
+
     /// Receives a byte from outside. Where 16 are waiting already, the byte is lost and the overrun is set.
     pub fn receive(&mut self, byte: u8)
         ensures { self.new ≡ received self.old byte }
@@ -74,8 +91,8 @@ impl Serial {
     /// Loads a register. A load of the receive register takes the byte, one of the status register clears the
     /// overrun.
     pub fn load(&mut self, reg: SerialReg) -> u32
-        ensures value { result ≡ load_value self.old reg }
-        ensures after { self.new ≡ after_load self.old reg }
+        ensures value { result ≡ (at reg).word self.old }
+        ensures after { self.new ≡ (at reg).loaded self.old }
     {
         match reg {
             SerialReg::Tx => 0,
@@ -88,7 +105,7 @@ impl Serial {
     /// others change nothing. A store is refused only where the console has to make room, which it does for
     /// 4096 bytes at a time.
     pub fn store(&mut self, reg: SerialReg, word: u32) -> Result<(), NoMemory>
-        ensures ok { OnOk result (self.new ≡ stored self.old reg word) }
+        ensures ok { OnOk result (self.new ≡ (at reg).stored self.old word) }
         ensures err { OnErr result (self.new ≡ self.old) }
         ensures room { OnErr result (wants_room self.old reg ≡ true) }
     {
@@ -135,8 +152,8 @@ impl Serial {
 
     /// Takes the oldest received byte, if one is waiting.
     fn take_byte(&mut self) -> u32
-        ensures value { result ≡ load_value self.old Rx }
-        ensures after { self.new ≡ after_load self.old Rx }
+        ensures value { result ≡ (at Rx).word self.old }
+        ensures after { self.new ≡ (at Rx).loaded self.old }
     {
         match self.waiting.pop_front() {
             Some(byte) => byte as u32,
@@ -147,7 +164,7 @@ impl Serial {
     /// Returns the status word, and clears the overrun.
     fn take_status(&mut self) -> u32
         ensures value { result ≡ status_word self.old }
-        ensures after { self.new ≡ after_load self.old Status }
+        ensures after { self.new ≡ (at Status).loaded self.old }
     {
         let received = if self.waiting.is_empty() { 0 } else { 1 };
         let lost = if self.overrun { 4 } else { 0 };
@@ -165,4 +182,14 @@ fn make_room(sent: &mut Vec<u8>) -> Result<(), NoMemory>
 {
     sent.reserve(ROOM)?;
     Ok(())
+}
+
+/// Returns a copy of a console, with room up to the next multiple of 4096 bytes.
+fn copied_console(alloc: Global, sent: &[u8]) -> Result<Vec<u8>, NoMemory>
+    ensures items { IfOk result (λ copy. copy.items ≡ sent.now) }
+    ensures room { IfOk result (λ copy. HasConsoleRoom (vec_len copy) (vec_capacity copy)) }
+{
+    let mut copy = Vec::with_capacity(alloc, sent.len().next_multiple_of(ROOM))?;
+    copy.extend_from_slice(sent)?;
+    Ok(copy)
 }

@@ -1,6 +1,6 @@
 //! The machine timer.
 ghost use Rattle.std.specs.Prelude.{◌≡◌};
-ghost use Rattle.rv_mmio.specs.Timer.{reset, ticked, is_due, load_value, stored};
+ghost use Rattle.rv_mmio.specs.Timer.{reset, ticked, is_due, at};
 
 use rv_base::{high_word, low_word, with_high_word, with_low_word};
 use std::marker::Model;
@@ -99,7 +99,7 @@ impl Timer {
 
     /// Loads a register: returns its word.
     pub fn load(&self, reg: TimerReg) -> u32
-        ensures { result ≡ load_value self.now reg }
+        ensures { result ≡ (at reg).word self.now }
     {
         match reg {
             TimerReg::Msip => self.software as u32,
@@ -112,7 +112,7 @@ impl Timer {
 
     /// Stores a word in a register. The software interrupt bit keeps bit 0.
     pub fn store(&mut self, reg: TimerReg, word: u32)
-        ensures { self.new ≡ stored self.old reg word }
+        ensures { self.new ≡ (at reg).stored self.old word }
     {
         match reg {
             TimerReg::Msip => self.software = word % 2 == 1,

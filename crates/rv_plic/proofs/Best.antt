@@ -1,16 +1,17 @@
 -- The best source by its property, and the search for it.
 use Rattle.std.proofs.Common.{◌≡◌, ℕ, zero, suc, ◌+◌, ◌<◌, ◌≤◌, ◌⊎◌, Bool, true, false, cond, refl, sym, ◌∙◌, ap, subst, arith, inl, inr}
-use Rattle.std.specs.Prelude.{◌==◌, ◌&&◌, ◌||◌, not, nat_lt, slice_index, Option, Some, None}
+use Rattle.std.specs.Prelude.{◌&&◌, not, nat_lt, slice_index, Option, Some, None}
 use Rattle.std.specs.List.{range_with_len, find, list_any}
 use Rattle.std.specs.Option.{option_map_or}
 use Rattle.std.specs.FinSet.{contains, intersection, empty, contains-empty, contains-intersection}
 use Rattle.std.specs.Ordering.{nat_cmp}
 use Rattle.std.specs.Cmp.{nat_cmp_total}
-use Rattle.std.proofs.lemmas.Bool.{cases_eq, and_parts, and_from, or_from, or_left, or_right, and_left, and_right, not_from_false, not-true, le-ltb, lt-ltb, eq-eqb, ne_eqb, both_ways}
+use Rattle.std.proofs.lemmas.Bool.{cases_eq, and_parts, and_from, or_from, and_left, not_from_false, le-ltb, lt-ltb, ltb-true, both_ways, false_from_ne_true}
 use Rattle.rv_plic.specs.Sources.{sources}
 use Rattle.rv_plic.specs.Words.{any-range}
-use Rattle.rv_plic.specs.Plic.{PlicState, is_waiting, is_candidate, priority_of, best}
-use Rattle.rv_plic.specs.Best.{IsFirst, IsBestBelow, IsBest}
+use Rattle.rv_plic.specs.Gateways.{PlicState}
+use Rattle.rv_plic.specs.Plic.{priority_of, best}
+use Rattle.rv_plic.specs.Best.{IsFirst, IsBestBelow, IsBest, is_waiting}
 
 pub and_unless : (x y : Bool) → (x ≡ true → y ≡ false) → (x && y) ≡ false
 and_unless true y h = h refl
@@ -30,81 +31,75 @@ find_none-range test a (suc n) none =
     ap (λ b. cond b (Some a) (find test (range_with_len (a + 1) n))) (none a (omega arith) (omega arith))
     ∙ find_none-range test (a + 1) n (λ t low high. none t (omega arith) (omega arith))
 
--- a search finds the only number that passes
-find_first : (test : ℕ → Bool) (a b : ℕ) (later : Option ℕ) (v : Bool) → test a ≡ v
-    → (test a ≡ true → a ≡ b) → (test a ≡ false → later ≡ Some b) → cond v (Some a) later ≡ Some b
-find_first test a b later true is first rest = ap (λ t. Some t) (first is)
-find_first test a b later false is first rest = rest is
-
-find_only-range : (test : ℕ → Bool) (a n b : ℕ) → a ≤ b → b < a + n → test b ≡ true
-    → ((t : ℕ) → a ≤ t → t < a + n → test t ≡ true → t ≡ b) → find test (range_with_len a n) ≡ Some b
-find_only-range test a zero b low high is only = absurd (omega arith)
-find_only-range test a (suc n) b low high is only =
-    find_first test a b (find test (range_with_len (a + 1) n)) (test a) refl
-    (only a (omega arith) (omega arith)) (λ fails.
+-- a search finds a number that passes, where no lower one does
+find_first-range : (test : ℕ → Bool) (a n b : ℕ) → a ≤ b → b < a + n → test b ≡ true
+    → ((t : ℕ) → a ≤ t → t < b → test t ≡ false) → find test (range_with_len a n) ≡ Some b
+find_first-range test a zero b low high is none = absurd (omega arith)
+find_first-range test a (suc n) b low high is none =
     elim (cases_eq a b) [
-      | inl e ↦ absurd (both_ways (test a) fails (ap test e ∙ is))
-      | inr other ↦ find_only-range test (a + 1) n b (omega arith) (omega arith) is
-          (λ t l h p. only t (omega arith) (omega arith) p)
-    ])
+      | inl e ↦ ap (λ t. cond t (Some a) (find test (range_with_len (a + 1) n))) (ap test e ∙ is) ∙ ap Some e
+      | inr other ↦ let next : a < b = grind arith in
+          ap (λ t. cond t (Some a) (find test (range_with_len (a + 1) n))) (none a (omega arith) next)
+          ∙ find_first-range test (a + 1) n b (omega arith) (omega arith) is
+          (λ t l h. none t (omega arith) h)
+    ]
 
-module _ (passes : ℕ → Bool) (priority : ℕ → ℕ) where
-  abbrev before : ℕ → ℕ → Bool
-  before first second =
-      nat_lt (priority second) (priority first) || (priority first == priority second && nat_lt first second)
+module _ (waits : ℕ → Bool) (priority : ℕ → ℕ) where
+  -- whether a source waits with a priority above another one
+  abbrev above : ℕ → ℕ → Bool
+  above limit source = waits source && nat_lt limit (priority source)
 
-  not_before : (source other : ℕ) → IsFirst priority source other → before other source ≡ false
-  not_before source other first =
-      or_from _ _ (le-ltb (priority source) (priority other) first.higher)
+  -- the priority of a source that waits isn't above that of the best
+  not_above : (source other : ℕ) → (above 0 other ≡ true → IsFirst priority source other)
+      → above (priority source) other ≡ false
+  not_above source other first = by (waits other) refl where
+    by : (b : Bool) → waits other ≡ b → (b && nat_lt (priority source) (priority other)) ≡ false
+    by false waiting = refl
+    by true waiting = false_from_ne_true _ (λ more.
+        let higher : priority source < priority other = ltb-true (priority source) (priority other) more in
+        let best : IsFirst priority source other =
+        first (and_from _ _ waiting (lt-ltb 0 (priority other) (omega arith))) in
+        absurd (omega (arith, best.higher)))
+
+  -- a source with a lower number than the best has a lower priority
+  above_lower : (source other : ℕ) → IsFirst priority source other → other < source → waits source ≡ true
+      → above (priority other) source ≡ true
+  above_lower source other first lower waiting =
+      and_from _ _ waiting (lt-ltb (priority other) (priority source)
       (elim (cases_eq (priority other) (priority source)) [
-        | inl e ↦ and_right _ _ (le-ltb other source (first.lower e))
-        | inr differ ↦ and_left _ _ (ne_eqb (priority other) (priority source) differ)
-      ])
-
-  before_other : (source other : ℕ) → IsFirst priority source other → (other ≡ source → ⊥)
-      → before source other ≡ true
-  before_other source other first is_other =
-      elim (cases_eq (priority other) (priority source)) [
-        | inl e ↦ or_right _ _ (and_from _ _ (eq-eqb (priority source) (priority other) (sym e))
-            (let least : source ≤ other = first.lower e in lt-ltb source other (grind arith)))
-        | inr differ ↦ let most : priority other ≤ priority source = first.higher
-            in or_left _ _ (lt-ltb (priority other) (priority source) (grind arith))
-      ]
+        | inl e ↦ absurd (omega (arith, first.lower e))
+        | inr differ ↦ let most : priority other ≤ priority source = first.higher in grind arith
+      ]))
 
   module _ (n : ℕ) where
     abbrev is_unbeaten : ℕ → Bool
     is_unbeaten source =
-        passes source && not (list_any (λ other. passes other && before other source) (range_with_len 1 n))
+        above 0 source && not (list_any (above (priority source)) (range_with_len 1 n))
 
-    best_is_unbeaten : (source : ℕ) → IsBestBelow (1 + n) passes priority (Some source)
+    best_is_unbeaten : (source : ℕ) → IsBestBelow (1 + n) (above 0) priority (Some source)
         → is_unbeaten source ≡ true
     best_is_unbeaten source is =
-        and_from _ _ is.2 (not_from_false _ (none-range (λ other. passes other && before other source) 1 n
-        (λ t low high. and_unless (passes t) _ (λ p. not_before source t (is.3 t low high p)))))
+        and_from _ _ is.2 (not_from_false _ (none-range (above (priority source)) 1 n
+        (λ t low high. not_above source t (λ p. is.3 t low high p))))
 
-    unbeaten_is_best : (source other : ℕ) → IsBestBelow (1 + n) passes priority (Some source) → 1 ≤ other
-        → other < 1 + n → is_unbeaten other ≡ true → other ≡ source
-    unbeaten_is_best source other is low high lead =
-        let parts : (passes other ≡ true) × (not (list_any (λ t. passes t && before t other)
-        (range_with_len 1 n)) ≡ true) = and_parts _ _ lead in
-        elim (cases_eq other source) [
-          | inl e ↦ e
-          | inr differ ↦ absurd (both_ways _ (not-true _ parts.1)
-              (any-range (λ t. passes t && before t other) 1 n source is.0 is.1
-              (and_from _ _ is.2 (before_other source other (is.3 other low high parts.0) differ))))
-        ]
+    lower_is_beaten : (source other : ℕ) → IsBestBelow (1 + n) (above 0) priority (Some source) → 1 ≤ other
+        → other < source → is_unbeaten other ≡ false
+    lower_is_beaten source other is low lower =
+        and_unless (above 0 other) _ (λ passes.
+        ap not (any-range (above (priority other)) 1 n source is.0 is.1
+        (above_lower source other (is.3 other low (omega (arith, is.1)) passes) lower (and_parts _ _ is.2).0)))
 
-    search_finds_best : (found : Option ℕ) → IsBestBelow (1 + n) passes priority found
+    search_finds_best : (found : Option ℕ) → IsBestBelow (1 + n) (above 0) priority found
         → find is_unbeaten (range_with_len 1 n) ≡ found
     search_finds_best None none =
-        find_none-range is_unbeaten 1 n (λ t low high. and_left (passes t) _ (none t low high))
+        find_none-range is_unbeaten 1 n (λ t low high. and_left (above 0 t) _ (none t low high))
     search_finds_best (Some source) is =
-        find_only-range is_unbeaten 1 n source is.0 is.1 (best_is_unbeaten source is)
-        (λ t low high lead. unbeaten_is_best source t is low high lead)
+        find_first-range is_unbeaten 1 n source is.0 is.1 (best_is_unbeaten source is)
+        (λ t low high. lower_is_beaten source t is low high)
 
 pub best_by_property : (plic : PlicState) (found : Option ℕ) → IsBest plic found → best plic ≡ found
 unfolding best sources
-best_by_property plic found is = search_finds_best (is_candidate plic) (priority_of plic) 31 found is
+best_by_property plic found is = search_finds_best (is_waiting plic) (priority_of plic) 31 found is
 
 -- ---- the search over the sources from 1 on
 module _ (is_in : ℕ → Bool) (priority : ℕ → ℕ) where

@@ -1,90 +1,93 @@
 -- The rows of the registers are the registers by cases.
 use Rattle.std.proofs.Common.{◌≡◌, ◌≢◌, ℕ, zero, suc, ◌+◌, ◌*◌, ◌/◌, ◌%◌, ◌<◌, ◌≤◌, Bool, true, false, cond, List, [], ◌∷◌, ◌++◌, map, Option, Some, None, refl, ap, arith, nat_lt, nat_le, eqb-true}
-use Rattle.std.specs.Prelude.{◌==◌, ◌&&◌, find, unwrap_or, if◌then◌else◌}
+use Rattle.std.specs.Prelude.{◌==◌, ◌&&◌, find, unwrap_or, slice_set, if◌then◌else◌}
 use Rattle.std.specs.List.{range_with_len}
 use Rattle.std.specs.Option.{option_map_or}
 use Rattle.std.proofs.lemmas.Bool.Decides.{nat_tests}
 use Rattle.rv_plic.specs.Sources.{sources, sources_of, word_of}
-use Rattle.rv_plic.specs.Plic.{PlicState, Row, row, rows, priority_of, with_priority, best, claimed, completed, load_value, after_load, stored}
-use Rattle.rv_plic.specs.Registers.{register_at, word_at, with_word, after_reading}
+use Rattle.rv_plic.specs.Gateways.{PlicState}
+use Rattle.rv_plic.specs.Plic.{registers, priority_of, best, claimed, completed, at}
+use Rattle.rv_base.specs.Registers.{Register, register}
+use Rattle.rv_plic.specs.Registers.{reg_at, word_at, with_word, after_reading}
 use Rattle.rv_plic.specs.declared.register.PlicReg.{PlicReg}
 use Rattle.rv_plic.specs.declared.register.PlicReg.TheVariants.{Priority, Pending, Enables, Threshold, Claim}
 
 -- a row says what the cases say of a register
-record Agrees (plic : PlicState) (r : Row) (register : PlicReg) : Type 0 where
-  pub word : r.word ≡ word_at plic register
-  pub loaded : r.loaded ≡ after_reading plic register
-  pub stored : (word : ℕ) → r.stored word ≡ with_word plic register word
+record Agrees (plic : PlicState) (r : ℕ × Register PlicState) (reg : PlicReg) : Type 0 where
+  pub word : r.1.word plic ≡ word_at plic reg
+  pub loaded : r.1.loaded plic ≡ after_reading plic reg
+  pub stored : (word : ℕ) → r.1.stored plic word ≡ with_word plic reg word
 
-abbrev Same : PlicState → Option Row → Option PlicReg → Type 0
+abbrev Same : PlicState → Option (ℕ × Register PlicState) → Option PlicReg → Type 0
 Same plic None None = Unit {0}
-Same plic (Some r) (Some register) = Agrees plic r register
-Same plic None (Some register) = ⊥
+Same plic (Some r) (Some reg) = Agrees plic r reg
+Same plic None (Some reg) = ⊥
 Same plic (Some r) None = ⊥
 
-more : (plic : PlicState) (b : Bool) (r : Row) (register : PlicReg) (rest : Option Row) (others : Option PlicReg)
-    → Agrees plic r register → Same plic rest others
-    → Same plic (cond b (Some r) rest) (if b then Some register else others)
-more plic true r register rest others here later = here
-more plic false r register rest others here later = later
+more : (plic : PlicState) (b : Bool) (r : ℕ × Register PlicState) (reg : PlicReg)
+    (rest : Option (ℕ × Register PlicState)) (others : Option PlicReg)
+    → Agrees plic r reg → Same plic rest others
+    → Same plic (cond b (Some r) rest) (if b then Some reg else others)
+more plic true r reg rest others here later = here
+more plic false r reg rest others here later = later
 
 -- ---- the rows of the priorities
 
-priority_row : PlicState → ℕ → Row
-priority_row plic s = row (4 * s) (priority_of plic s) plic (λ word. with_priority plic s (word % 8))
+priority_row : ℕ → ℕ × Register PlicState
+priority_row s = (4 * s, register (λ p. priority_of p s) (λ p word. record p { priorities = slice_set p.priorities s (word % 8) }))
 
-found_from : (plic : PlicState) (off s a n : ℕ) (rest : List Row) → off ≡ 4 * s → a ≤ s → s < a + n
-    → find (λ r. off == r.offset) (map (priority_row plic) (range_with_len a n) ++ rest)
-    ≡ Some (priority_row plic s)
+found_from : (off s a n : ℕ) (rest : List (ℕ × Register PlicState)) → off ≡ 4 * s → a ≤ s → s < a + n
+    → find (λ r. off == r.0) (map priority_row (range_with_len a n) ++ rest)
+    ≡ Some (priority_row s)
 unfolding priority_row
-found_from plic off s a zero rest is low high = absurd (omega arith)
-found_from plic off s a (suc n) rest is low high =
-    go (off == 4 * a) refl (λ above. found_from plic off s (a + 1) n rest is above (omega (arith, high)))
+found_from off s a zero rest is low high = absurd (omega arith)
+found_from off s a (suc n) rest is low high =
+    go (off == 4 * a) refl (λ above. found_from off s (a + 1) n rest is above (omega (arith, high)))
   where
     go : (b : Bool) → (off == 4 * a) ≡ b
         → (a + 1 ≤ s
-        → find (λ r. off == r.offset) (map (priority_row plic) (range_with_len (a + 1) n) ++ rest)
-        ≡ Some (priority_row plic s))
-        → cond b (Some (priority_row plic a))
-        (find (λ r. off == r.offset) (map (priority_row plic) (range_with_len (a + 1) n) ++ rest))
-        ≡ Some (priority_row plic s)
+        → find (λ r. off == r.0) (map priority_row (range_with_len (a + 1) n) ++ rest)
+        ≡ Some (priority_row s))
+        → cond b (Some (priority_row a))
+        (find (λ r. off == r.0) (map priority_row (range_with_len (a + 1) n) ++ rest))
+        ≡ Some (priority_row s)
     go true here later =
         let same : off ≡ 4 * a = eqb-true off (4 * a) here in
         let it : a ≡ s = omega (arith, is, same) in
-        ap (λ q. Some (priority_row plic q)) it
+        ap (λ q. Some (priority_row q)) it
     go false apart later =
         let other : a ≢ s = (λ it. absurd (grind (arith, nat_tests))) in
         later (omega (arith, other, low))
 
-none_from : (plic : PlicState) (off a n : ℕ) (rest : List Row) → ((s : ℕ) → a ≤ s → s < a + n → off ≢ 4 * s)
-    → find (λ r. off == r.offset) (map (priority_row plic) (range_with_len a n) ++ rest)
-    ≡ find (λ r. off == r.offset) rest
+none_from : (off a n : ℕ) (rest : List (ℕ × Register PlicState)) → ((s : ℕ) → a ≤ s → s < a + n → off ≢ 4 * s)
+    → find (λ r. off == r.0) (map priority_row (range_with_len a n) ++ rest)
+    ≡ find (λ r. off == r.0) rest
 unfolding priority_row
-none_from plic off a zero rest none = refl
-none_from plic off a (suc n) rest none =
-    go (off == 4 * a) refl (none_from plic off (a + 1) n rest (λ s low high. none s (omega arith) (omega arith)))
+none_from off a zero rest none = refl
+none_from off a (suc n) rest none =
+    go (off == 4 * a) refl (none_from off (a + 1) n rest (λ s low high. none s (omega arith) (omega arith)))
   where
     go : (b : Bool) → (off == 4 * a) ≡ b
-        → find (λ r. off == r.offset) (map (priority_row plic) (range_with_len (a + 1) n) ++ rest)
-        ≡ find (λ r. off == r.offset) rest
-        → cond b (Some (priority_row plic a))
-        (find (λ r. off == r.offset) (map (priority_row plic) (range_with_len (a + 1) n) ++ rest))
-        ≡ find (λ r. off == r.offset) rest
+        → find (λ r. off == r.0) (map priority_row (range_with_len (a + 1) n) ++ rest)
+        ≡ find (λ r. off == r.0) rest
+        → cond b (Some (priority_row a))
+        (find (λ r. off == r.0) (map priority_row (range_with_len (a + 1) n) ++ rest))
+        ≡ find (λ r. off == r.0) rest
     go true here later = absurd (none a (omega arith) (omega arith) (eqb-true off (4 * a) here))
     go false apart later = later
 
 -- ---- each register
 
-after : PlicState → List Row
-after plic =
-    row 0x1000 (word_of plic.pending) plic (λ word. plic)
-    ∷ row 0x2000 (word_of plic.enabled) plic (λ word. record plic { enabled = sources_of word })
-    ∷ row 0x200000 plic.threshold plic (λ word. record plic { threshold = word % 8 })
-    ∷ row 0x200004 (unwrap_or (best plic) 0) (claimed plic (best plic)) (completed plic)
+after : List (ℕ × Register PlicState)
+after =
+    (0x1000, register (λ p. word_of p.pending) (λ p word. p))
+    ∷ (0x2000, register (λ p. word_of p.enabled) (λ p word. record p { enabled = sources_of word }))
+    ∷ (0x200000, register (λ p. p.threshold) (λ p word. record p { threshold = word % 8 }))
+    ∷ (0x200004, record { word = λ p. unwrap_or (best p) 0; loaded = claimed; stored = completed })
     ∷ []
 
 others : (plic : PlicState) (off : ℕ)
-    → Same plic (find (λ r. off == r.offset) (after plic))
+    → Same plic (find (λ r. off == r.0) after)
     (if off == 0x1000 then Some Pending
     else (if off == 0x2000 then Some Enables
     else (if off == 0x200000 then Some Threshold else (if off == 0x200004 then Some Claim else None))))
@@ -97,55 +100,61 @@ others plic off =
     tt)))
 
 same : (plic : PlicState) (off : ℕ) → off % 4 ≡ 0
-    → Same plic (find (λ r. off == r.offset) (rows plic)) (register_at off)
-unfolding rows register_at sources priority_row after
+    → Same plic (find (λ r. off == r.0) registers) (reg_at off)
+unfolding registers reg_at sources priority_row after
 same plic off aligned = go (nat_le 4 off && nat_lt off 128) refl where
   go : (b : Bool) → (nat_le 4 off && nat_lt off 128) ≡ b
       → Same plic
-      (find (λ r. off == r.offset) (map (priority_row plic) (range_with_len 1 31) ++ after plic))
+      (find (λ r. off == r.0) (map priority_row (range_with_len 1 31) ++ after))
       (if b then Some (Priority (off / 4))
       else (if off == 0x1000 then Some Pending
       else (if off == 0x2000 then Some Enables
       else (if off == 0x200000 then Some Threshold else (if off == 0x200004 then Some Claim else None)))))
   go true within =
-      rw (found_from plic off (off / 4) 1 31 (after plic) (omega arith) (grind (arith, nat_tests)) (grind (arith, nat_tests)))
+      rw (found_from off (off / 4) 1 31 after (omega arith) (grind (arith, nat_tests)) (grind (arith, nat_tests)))
       (record { word = refl; loaded = refl; stored = λ word. refl })
   go false out =
-      rw (none_from plic off 1 31 (after plic) (λ s low high is. absurd (grind (arith, nat_tests))))
+      rw (none_from off 1 31 after (λ s low high is. absurd (grind (arith, nat_tests))))
       (others plic off)
 
 -- ---- loads and stores by the register at the offset
 
 module _ (plic : PlicState) (off : ℕ) (aligned : off % 4 ≡ 0) where
-  pub loads : load_value plic off ≡ option_map_or (word_at plic) (register_at off) 0
-  unfolding load_value
-  loads = by (find (λ r. off == r.offset) (rows plic)) (register_at off) (same plic off aligned) where
-    by : (r : Option Row) (register : Option PlicReg) → Same plic r register
-        → (unwrap_or r (row off 0 plic (λ word. plic))).word ≡ option_map_or (word_at plic) register 0
+  abbrev nowhere : Register PlicState
+  nowhere = register (λ p. 0) (λ p word. p)
+
+  abbrev found : Option (ℕ × Register PlicState) → Register PlicState
+  found row = option_map_or (λ row. row.1) row nowhere
+
+  pub loads : (at off).word plic ≡ option_map_or (word_at plic) (reg_at off) 0
+  unfolding at
+  loads = by (find (λ r. off == r.0) registers) (reg_at off) (same plic off aligned) where
+    by : (r : Option (ℕ × Register PlicState)) (reg : Option PlicReg) → Same plic r reg
+        → (found r).word plic ≡ option_map_or (word_at plic) reg 0
     by None None s = refl
-    by (Some r) (Some register) s = s.word
-    by None (Some register) s = absurd s
+    by (Some r) (Some reg) s = s.word
+    by None (Some reg) s = absurd s
     by (Some r) None s = absurd s
 
-  pub loaded : after_load plic off ≡ option_map_or (after_reading plic) (register_at off) plic
-  unfolding after_load
-  loaded = by (find (λ r. off == r.offset) (rows plic)) (register_at off) (same plic off aligned) where
-    by : (r : Option Row) (register : Option PlicReg) → Same plic r register
-        → (unwrap_or r (row off 0 plic (λ word. plic))).loaded ≡ option_map_or (after_reading plic) register plic
+  pub loaded : (at off).loaded plic ≡ option_map_or (after_reading plic) (reg_at off) plic
+  unfolding at
+  loaded = by (find (λ r. off == r.0) registers) (reg_at off) (same plic off aligned) where
+    by : (r : Option (ℕ × Register PlicState)) (reg : Option PlicReg) → Same plic r reg
+        → (found r).loaded plic ≡ option_map_or (after_reading plic) reg plic
     by None None s = refl
-    by (Some r) (Some register) s = s.loaded
-    by None (Some register) s = absurd s
+    by (Some r) (Some reg) s = s.loaded
+    by None (Some reg) s = absurd s
     by (Some r) None s = absurd s
 
-  pub stores : (word : ℕ) → stored plic off word ≡ option_map_or (λ r. with_word plic r word) (register_at off) plic
-  unfolding stored
-  stores word = by (find (λ r. off == r.offset) (rows plic)) (register_at off) (same plic off aligned) where
-    by : (r : Option Row) (register : Option PlicReg) → Same plic r register
-        → (unwrap_or r (row off 0 plic (λ word. plic))).stored word
-        ≡ option_map_or (λ r. with_word plic r word) register plic
+  pub stores : (word : ℕ) → (at off).stored plic word
+      ≡ option_map_or (λ r. with_word plic r word) (reg_at off) plic
+  unfolding at
+  stores word = by (find (λ r. off == r.0) registers) (reg_at off) (same plic off aligned) where
+    by : (r : Option (ℕ × Register PlicState)) (reg : Option PlicReg) → Same plic r reg
+        → (found r).stored plic word ≡ option_map_or (λ r. with_word plic r word) reg plic
     by None None s = refl
-    by (Some r) (Some register) s = s.stored word
-    by None (Some register) s = absurd s
+    by (Some r) (Some reg) s = s.stored word
+    by None (Some reg) s = absurd s
     by (Some r) None s = absurd s
 
 pub ruleset accesses = (loads, loaded, stores)

@@ -4,7 +4,8 @@ use Rattle.std.specs.Prelude.{ℕ, ◌+◌, ◌-◌, if◌then◌else◌, [], �
 use Rattle.std.specs.FinSet.{contains}
 use Rattle.rv_plic.specs.declared.gateway.Change.{Change}
 use Rattle.rv_plic.specs.declared.gateway.Change.TheVariants.{OneMore, OneLess}
-use Rattle.rv_plic.specs.Edges.{Edges, one_more}
+use Rattle.rv_plic.specs.Gateways.{one_more}
+use Rattle.rv_plic.specs.GatewayState.{Edges}
 use Rattle.rv_plic.specs.Sources.{Sources}
 
 -- the count with one edge less, unless it is 0

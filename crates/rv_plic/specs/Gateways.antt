@@ -1,53 +1,86 @@
 -- To audit: public contracts cite this.
--- Interrupt gateways (PLIC Specification 1.0, "Interrupt Gateways"). A gateway turns the line of its source
--- into requests, and forwards no other request until the one before is completed. Sources 1 to 23 ask as long
--- as their line is high; each rise of the line of one from 24 on is pending until it is forwarded.
-use Rattle.std.specs.Prelude.{ℕ, Bool, ◌&&◌, not, if◌then◌else◌, filter}
+-- The state of the interrupt controller, and its interrupt gateways (PLIC Specification 1.0, "Interrupt
+-- Gateways"). A gateway turns the line of its source into requests, and forwards no other request until the
+-- one before is completed. Sources 1 to 23 ask as long as their line is high. Sources 24 to 31 are
+-- triggered by edges: each rise of their line is pending until it is forwarded (a gateway may count the
+-- edges that come before the request of an earlier one is completed).
+use Rattle.std.specs.Prelude.{ℕ, Bool, ◌+◌, ◌-◌, ◌&&◌, not, nat_lt, nat_le, if◌then◌else◌, List, length, map, slice_index, slice_set, replicate, filter}
+use Rattle.std.specs.List.{range_with_len}
 use Rattle.std.specs.FinSet.{empty, insert, remove, union, difference, contains, from_list}
 use Rattle.rv_plic.specs.Sources.{sources, Sources}
-use Rattle.rv_plic.specs.Edges.{Edges, none_waits, is_by_edge, edges_of, some_wait, after_rise, taken}
 
--- the sources whose line is high, those whose request is outstanding, and the pending edges
-pub record GatewayState : Type 0 where
+-- the sources whose line is high; the number of pending edges of each source from 24 on; the sources whose
+-- request is outstanding; the pending and the enabled sources; the priority of each source by its number;
+-- the threshold
+pub record PlicState : Type 0 where
   pub high : Sources
+  pub edges : List ℕ
   pub outstanding : Sources
-  pub edges : Edges
+  pub pending : Sources
+  pub enabled : Sources
+  pub priorities : List ℕ
+  pub threshold : ℕ
 
--- the gateways at reset
-abbrev pub all_low : GatewayState
-all_low = record { high = empty; outstanding = empty; edges = none_waits }
+-- the controller at reset
+abbrev pub reset : PlicState
+reset = record {
+  high = empty;
+  edges = replicate 8 0;
+  outstanding = empty;
+  pending = empty;
+  enabled = empty;
+  priorities = replicate 32 0;
+  threshold = 0;
+}
 
--- the gateways after the line of a source is set to a level: it rises where it was low and becomes high
-abbrev pub with_line : GatewayState → ℕ → Bool → GatewayState
-with_line gateways source level =
-    record gateways {
-      high = if level then insert gateways.high source else remove gateways.high source;
-      edges = if level && not (contains gateways.high source) then after_rise gateways.edges source
-          else gateways.edges;
+-- ---- edges
+-- whether a source is triggered by edges
+abbrev pub is_by_edge : ℕ → Bool
+is_by_edge source = nat_le 24 source
+
+-- the number of pending edges of a source: 0 for one that is triggered by its level
+abbrev pub edges_of : List ℕ → ℕ → ℕ
+edges_of edges source = if is_by_edge source then slice_index edges (source - 24) else 0
+
+-- whether edges are pending, of a count of 32 bits
+abbrev pub some_wait : ℕ → Bool
+some_wait count = nat_lt 0 count && nat_le count 4294967295
+
+-- a count with one edge more, unless it is full
+abbrev pub one_more : ℕ → ℕ
+one_more count = if nat_lt count 4294967295 then count + 1 else count
+
+-- the counts after one edge of each source of a set is taken
+unfoldable pub taken : Sources → List ℕ → List ℕ
+taken sources edges =
+    map (λ s. if contains sources s then edges_of edges s - 1 else edges_of edges s)
+    (range_with_len 24 (length edges))
+
+-- ---- lines and requests
+-- the controller after the line of a source is set to a level: it rises where it was low and becomes high
+abbrev pub with_line : PlicState → ℕ → Bool → PlicState
+with_line plic source level =
+    record plic {
+      high = if level then insert plic.high source else remove plic.high source;
+      edges = if is_by_edge source && level && not (contains plic.high source)
+          then slice_set plic.edges (source - 24) (one_more (edges_of plic.edges source)) else plic.edges;
     }
 
--- whether a source asks for a request: one triggered by edges while an edge is pending, any other while its
--- line is high
-abbrev pub asks : Sources → Edges → ℕ → Bool
-asks high edges source = if is_by_edge source then some_wait (edges_of edges source) else contains high source
-
--- the sources that ask
-unfoldable pub asking_sources : Sources → Edges → Sources
-asking_sources high edges = from_list (filter (asks high edges) sources)
+-- the sources that ask for a request: those triggered by edges while an edge is pending, any other while
+-- its line is high
+unfoldable pub asking_sources : Sources → List ℕ → Sources
+asking_sources high edges =
+    from_list (filter (λ s. if is_by_edge s then some_wait (edges_of edges s) else contains high s) sources)
 
 -- the sources with a request to forward: those that ask, and have no request that is outstanding or pending
-abbrev pub requests : GatewayState → Sources → Sources
-requests gateways pending =
-    difference (difference (asking_sources gateways.high gateways.edges) gateways.outstanding) pending
+abbrev pub requests : PlicState → Sources
+requests plic = difference (difference (asking_sources plic.high plic.edges) plic.outstanding) plic.pending
 
--- the gateways after they forwarded their requests
-abbrev pub after_requests : GatewayState → Sources → GatewayState
-after_requests gateways pending =
-    record gateways {
-      outstanding = union gateways.outstanding (requests gateways pending);
-      edges = taken (requests gateways pending) gateways.edges;
+-- the controller after each gateway with a request has forwarded it
+abbrev pub forwarded : PlicState → PlicState
+forwarded plic =
+    record plic {
+      edges = taken (requests plic) plic.edges;
+      outstanding = union plic.outstanding (requests plic);
+      pending = union plic.pending (requests plic);
     }
-
--- the gateways after the request of a source is completed
-abbrev pub after_completion : GatewayState → ℕ → GatewayState
-after_completion gateways source = record gateways { outstanding = remove gateways.outstanding source }

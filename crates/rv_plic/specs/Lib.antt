@@ -2,8 +2,8 @@ pub mod AboveThreshold
 pub mod Best
 pub mod Changes
 pub mod Codes
-pub mod Edges
 pub mod Gateways
+pub mod GatewayState
 pub mod Plic
 pub mod Registers
 pub mod Sources

@@ -2,14 +2,9 @@
 -- Requests that are taken back after they were forwarded.
 use Rattle.std.specs.FinSet.{difference}
 use Rattle.rv_plic.specs.Changes.{changed}
-use Rattle.rv_plic.specs.Edges.{one_more}
-use Rattle.rv_plic.specs.Gateways.{GatewayState, requests}
-use Rattle.rv_plic.specs.Plic.{PlicState}
+use Rattle.rv_plic.specs.Gateways.{PlicState, one_more}
+use Rattle.rv_plic.specs.GatewayState.{GatewayState}
 use Rattle.rv_plic.specs.Sources.{Sources}
-
--- the sources with a request to forward
-abbrev pub ready : PlicState → Sources
-ready plic = requests plic.gateways plic.pending
 
 -- the gateways before they forwarded the requests of these sources: each edge that was taken is given back
 abbrev pub withdrawn_gateways : GatewayState → Sources → GatewayState
@@ -23,6 +18,7 @@ withdrawn_gateways gateways sources =
 abbrev pub withdrawn : PlicState → Sources → PlicState
 withdrawn plic sources =
     record plic {
-      gateways = withdrawn_gateways plic.gateways sources;
+      outstanding = difference plic.outstanding sources;
+      edges = changed one_more sources 24 plic.edges;
       pending = difference plic.pending sources;
     }

@@ -1,7 +1,8 @@
 //! Pending edges: rises of lines that have not been forwarded as requests yet.
 ghost use Rattle.std.specs.Prelude.{◌≡◌, ◌-◌, ◌≤◌, ℕ, false, IsFalse, slice_set};
 ghost use Rattle.std.specs.FinSet as set;
-ghost use Rattle.rv_plic.specs.Edges.{none_waits, is_by_edge, edges_of};
+ghost use Rattle.rv_plic.specs.Gateways.{is_by_edge, edges_of};
+ghost use Rattle.rv_plic.specs.GatewayState.{none_waits};
 
 use crate::Source;
 use crate::set::SourceSet;
@@ -18,7 +19,7 @@ pub struct Edges {
 
 impl Model for Edges {
     ghost use Rattle.std.specs.Prelude.{◌≡◌, length};
-    ghost use Rattle.rv_plic.specs.Edges.{Edges};
+    ghost use Rattle.rv_plic.specs.GatewayState.{Edges};
 
     ghost Value = { Edges };
 

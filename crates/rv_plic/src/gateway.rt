@@ -1,9 +1,9 @@
 //! Interrupt gateways, which turn the lines of sources into requests.
 ghost use Rattle.std.specs.Prelude.{◌≡◌, ◌-◌, ◌≤◌, true, false, slice_set};
 ghost use Rattle.std.specs.FinSet as set;
-ghost use Rattle.rv_plic.specs.Edges.{edges_of};
+ghost use Rattle.rv_plic.specs.Gateways.{edges_of};
 ghost use Rattle.rv_plic.specs.Changes.{changed, count_after};
-ghost use Rattle.rv_plic.specs.Gateways.{all_low, with_line, requests, after_requests, after_completion};
+ghost use Rattle.rv_plic.specs.GatewayState.{all_low, gateways_with_line, gateway_requests, after_requests, after_completion};
 ghost use Rattle.rv_plic.specs.Withdrawn.{withdrawn_gateways};
 
 use crate::Source;
@@ -26,7 +26,8 @@ pub struct Gateways {
 impl Model for Gateways {
     ghost use Rattle.std.specs.Prelude.{◌≡◌};
     ghost use Rattle.rv_plic.specs.Codes.{gateway_code};
-    ghost use Rattle.rv_plic.specs.Gateways.{GatewayState, asking_sources};
+    ghost use Rattle.rv_plic.specs.Gateways.{asking_sources};
+    ghost use Rattle.rv_plic.specs.GatewayState.{GatewayState};
 
     ghost Value = { GatewayState };
 
@@ -88,7 +89,7 @@ impl Gateways {
 
     /// Sets the level of a source's line. A rise of one of the sources 24 to 31 is counted as a pending edge.
     pub fn set_line(&mut self, source: Source, high: bool)
-        ensures { self.new ≡ with_line self.old source high }
+        ensures { self.new ≡ gateways_with_line self.old source high }
     {
         if high {
             self.raise(source);
@@ -100,7 +101,7 @@ impl Gateways {
     /// Returns the sources whose gateways have a request to forward, where those of `pending` are pending
     /// already.
     pub fn requests(&self, pending: SourceSet) -> SourceSet
-        ensures { result ≡ requests self.now pending }
+        ensures { result ≡ gateway_requests self.now pending }
     {
         self.asking.difference(self.outstanding).difference(pending)
     }
@@ -109,7 +110,7 @@ impl Gateways {
     /// and returns the sources of these requests.
     #[tactic(auto, using(crate::proofs::Counts::less_taken))]
     pub fn forward(&mut self, pending: SourceSet) -> SourceSet
-        ensures value { result ≡ requests self.old pending }
+        ensures value { result ≡ gateway_requests self.old pending }
         ensures after { self.new ≡ after_requests self.old pending }
     {
         let requests = self.requests(pending);
@@ -136,7 +137,7 @@ impl Gateways {
     /// Sets the line of a source high. If it was low, that is an edge.
     #[tactic(auto, using(crate::proofs::AskingSources::lines))]
     fn raise(&mut self, source: Source)
-        ensures { self.new ≡ with_line self.old source true }
+        ensures { self.new ≡ gateways_with_line self.old source true }
     {
         let rises = !self.high.contains(source.number() as u32);
         self.high.insert(source);
@@ -151,7 +152,7 @@ impl Gateways {
     /// Sets the line of a source low.
     #[tactic(auto, using(crate::proofs::AskingSources::lines))]
     fn lower(&mut self, source: Source)
-        ensures { self.new ≡ with_line self.old source false }
+        ensures { self.new ≡ gateways_with_line self.old source false }
     {
         self.high.remove(source);
         if !is_by_edge(source) {

@@ -1,11 +1,11 @@
 //! The interrupt controller.
 ghost use Rattle.std.specs.Prelude.{◌≡◌, ◌%◌, ◌<◌, ◌&&◌, nat_lt, slice_index, slice_set, unwrap_or};
 ghost use Rattle.std.specs.FinSet as set;
-ghost use Rattle.rv_plic.specs.Edges.{edges_of};
 ghost use Rattle.rv_plic.specs.AboveThreshold.{sources_above};
 ghost use Rattle.rv_plic.specs.Best.{IsBest, IsBestBelow};
+ghost use Rattle.rv_plic.specs.Gateways.{PlicState, edges_of, reset, with_line, forwarded};
 ghost use Rattle.rv_plic.specs.Gateways as spec;
-ghost use Rattle.rv_plic.specs.Plic.{PlicState, reset, with_line, forwarded, best, is_notified, claimed, completed, load_value, after_load, stored};
+ghost use Rattle.rv_plic.specs.Plic.{best, is_notified, claimed, completed, at};
 ghost use Rattle.rv_plic.specs.Registers.{word_at, with_word};
 
 use crate::Source;
@@ -33,31 +33,33 @@ impl Model for Plic {
     ghost use Rattle.std.specs.Prelude.{◌≡◌};
     ghost use Rattle.rv_plic.specs.AboveThreshold.{sources_above};
     ghost use Rattle.rv_plic.specs.Codes.{plic_code};
-    ghost use Rattle.rv_plic.specs.Gateways.{requests};
-    ghost use Rattle.rv_plic.specs.Plic.{PlicState};
+    ghost use Rattle.rv_plic.specs.Gateways.{PlicState, requests};
+    ghost use Rattle.rv_plic.specs.GatewayState.{gateways_of, gateway_requests};
 
     ghost Value = { PlicState };
 
     ghost coded = { plic_code };
 
     ghost view = { λ p. record {
-      gateways = p.gateways;
+      high = p.gateways.high;
+      edges = p.gateways.edges;
+      outstanding = p.gateways.outstanding;
       pending = p.pending;
       enabled = p.enabled;
       priorities = p.priorities;
       threshold = p.threshold;
     } };
 
-    ghost invariant = { λ p. (requests p.gateways p.pending ≡ p.ready) × (sources_above p.priorities p.threshold ≡ p.above) };
+    ghost invariant = { λ p. (gateway_requests p.gateways p.pending ≡ p.ready) × (sources_above p.priorities p.threshold ≡ p.above) };
 
     ghost inverse = { λ p. record {
-      gateways = p.gateways;
+      gateways = gateways_of p;
       pending = p.pending;
       enabled = p.enabled;
       priorities = p.priorities;
       threshold = p.threshold;
       above = sources_above p.priorities p.threshold;
-      ready = requests p.gateways p.pending;
+      ready = requests p;
     } };
 
     ghost inverse_ok = { λ p h i. record {
@@ -101,14 +103,14 @@ impl Plic {
     /// Returns how many edges of a source are pending: the rises of its line that have not been forwarded
     /// yet. It is 0 for the sources 1 to 23, which are triggered by their level.
     pub fn edges(&self, source: Source) -> u32
-        ensures { result ≡ edges_of self.now.gateways.edges source }
+        ensures { result ≡ edges_of self.now.edges source }
     {
         self.gateways.edges(source)
     }
 
     /// Returns whether the line of a source is high.
     pub fn is_high(&self, source: Source) -> bool
-        ensures { result ≡ set.contains self.now.gateways.high source }
+        ensures { result ≡ set.contains self.now.high source }
     {
         self.gateways.is_high(source)
     }
@@ -116,14 +118,14 @@ impl Plic {
     /// Returns whether a request of a source is outstanding: forwarded, and not completed yet. It is pending
     /// until it is claimed.
     pub fn is_outstanding(&self, source: Source) -> bool
-        ensures { result ≡ set.contains self.now.gateways.outstanding source }
+        ensures { result ≡ set.contains self.now.outstanding source }
     {
         self.gateways.is_outstanding(source)
     }
 
     /// Returns the sources whose gateways have a request to forward.
     pub fn ready(&self) -> SourceSet
-        ensures { result ≡ spec.requests self.now.gateways self.now.pending }
+        ensures { result ≡ spec.requests self.now }
     {
         self.ready
     }
@@ -154,7 +156,7 @@ impl Plic {
     #[tactic(auto, using(crate::proofs::Forwarding::withdrawn_forwarded))]
     pub fn withdraw(&mut self, requests: SourceSet)
         ensures { (before : PlicState) → self.old ≡ forwarded before
-            → requests ≡ spec.requests before.gateways before.pending → self.new ≡ before }
+            → requests ≡ spec.requests before → self.new ≡ before }
     {
         self.gateways.withdraw(requests);
         self.pending = self.pending.difference(requests);
@@ -167,8 +169,8 @@ impl Plic {
     pub fn load(&mut self, off: u32) -> u32
         requires aligned { off % 4 ≡ 0 }
         requires within { off < 0x4000000 }
-        ensures value { result ≡ load_value self.old off }
-        ensures after { self.new ≡ after_load self.old off }
+        ensures value { result ≡ (at off).word self.old }
+        ensures after { self.new ≡ (at off).loaded self.old }
     {
         match PlicReg::at(off) {
             Some(PlicReg::Claim) => self.claim(),
@@ -182,7 +184,7 @@ impl Plic {
     pub fn peek(&self, off: u32) -> u32
         requires aligned { off % 4 ≡ 0 }
         requires within { off < 0x4000000 }
-        ensures { result ≡ load_value self.now off }
+        ensures { result ≡ (at off).word self.now }
     {
         match PlicReg::at(off) {
             Some(reg) => self.read(reg),
@@ -195,7 +197,7 @@ impl Plic {
     pub fn store(&mut self, off: u32, word: u32)
         requires aligned { off % 4 ≡ 0 }
         requires within { off < 0x4000000 }
-        ensures { self.new ≡ stored self.old off word }
+        ensures { self.new ≡ (at off).stored self.old word }
     {
         if let Some(reg) = PlicReg::at(off) {
             self.write(reg, word);
@@ -265,7 +267,7 @@ impl Plic {
     #[tactic(auto, using(crate::proofs::Best::best_rules))]
     fn claim(&mut self) -> u32
         ensures value { result ≡ unwrap_or (best self.old) 0 }
-        ensures after { self.new ≡ claimed self.old (best self.old) }
+        ensures after { self.new ≡ claimed self.old }
     {
         match self.best() {
             Some(source) => {

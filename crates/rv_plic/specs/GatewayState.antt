@@ -1,0 +1,63 @@
+-- Not to audit: private contracts alone cite this.
+-- The part of the controller that its gateways keep.
+use Rattle.std.specs.Prelude.{ℕ, Bool, ◌-◌, ◌&&◌, not, if◌then◌else◌, List, slice_set, replicate}
+use Rattle.std.specs.FinSet.{empty, insert, remove, union, difference, contains}
+use Rattle.rv_plic.specs.Sources.{Sources}
+use Rattle.rv_plic.specs.Gateways.{PlicState, is_by_edge, edges_of, some_wait, one_more, taken, asking_sources}
+
+-- the number of pending edges of each source from 24 on
+abbrev pub Edges : Type 0
+Edges = List ℕ
+
+-- no edge is pending
+abbrev pub none_waits : Edges
+none_waits = replicate 8 0
+
+-- the largest count
+abbrev pub most : ℕ
+most = 4294967295
+
+-- the sources whose line is high, those whose request is outstanding, and the pending edges
+pub record GatewayState : Type 0 where
+  pub high : Sources
+  pub outstanding : Sources
+  pub edges : Edges
+
+-- the gateways of a controller
+abbrev pub gateways_of : PlicState → GatewayState
+gateways_of plic = record { high = plic.high; outstanding = plic.outstanding; edges = plic.edges }
+
+-- the gateways at reset
+abbrev pub all_low : GatewayState
+all_low = record { high = empty; outstanding = empty; edges = none_waits }
+
+-- the gateways after the line of a source is set to a level
+abbrev pub gateways_with_line : GatewayState → ℕ → Bool → GatewayState
+gateways_with_line gateways source level =
+    record gateways {
+      high = if level then insert gateways.high source else remove gateways.high source;
+      edges = if is_by_edge source && level && not (contains gateways.high source)
+          then slice_set gateways.edges (source - 24) (one_more (edges_of gateways.edges source))
+          else gateways.edges;
+    }
+
+-- whether a source asks for a request
+abbrev pub asks : Sources → Edges → ℕ → Bool
+asks high edges source = if is_by_edge source then some_wait (edges_of edges source) else contains high source
+
+-- the sources with a request to forward, where those of a set are pending
+abbrev pub gateway_requests : GatewayState → Sources → Sources
+gateway_requests gateways pending =
+    difference (difference (asking_sources gateways.high gateways.edges) gateways.outstanding) pending
+
+-- the gateways after they forwarded their requests
+abbrev pub after_requests : GatewayState → Sources → GatewayState
+after_requests gateways pending =
+    record gateways {
+      outstanding = union gateways.outstanding (gateway_requests gateways pending);
+      edges = taken (gateway_requests gateways pending) gateways.edges;
+    }
+
+-- the gateways after the request of a source is completed
+abbrev pub after_completion : GatewayState → ℕ → GatewayState
+after_completion gateways source = record gateways { outstanding = remove gateways.outstanding source }
