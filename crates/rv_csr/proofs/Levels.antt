@@ -64,7 +64,7 @@ nothing_loaded pmp addr h =
 
 nothing_stored : (pmp : PmpState) (addr word : ℕ) → addr / 2 ^ 8 % 4 ≡ 0
     → protection.store pmp addr word ≡ None
-unfolding protection.store
+unfolding protection.store protection.load
 nothing_stored pmp addr word h =
     rw (
       other_range addr 0x3 0xA0 0xA3 h refl (omega arith) (omega arith),
@@ -90,7 +90,7 @@ may_read-from_write addr mode h = both (may_read addr mode) (not (addr / 2 ^ 10 
   both false b e = cc
 
 pub no_store : (old : PmpState) (addr word : ℕ) (new : PmpState) (mode : Mode) (result : Option Unit)
-    → may_write addr mode ≡ true → mode ≡ User → protection.Stores old addr word new result → result ≡ None
+    → may_write addr mode ≡ true → mode ≡ User → protection.Changes (protection.store old addr word) old new result → result ≡ None
 no_store old addr word new mode (Some done) may user stores =
     let none = nothing_stored old addr word
     (level_0 addr (rw user at (may_read-from_write addr mode may))) in

@@ -1,6 +1,6 @@
 -- The table of the registers says what the cases by register say.
 use Rattle.std.proofs.Common.{◌≡◌, ℕ, zero, suc, ◌+◌, ◌-◌, ◌*◌, ◌==◌, Bool, true, false, cond, List, [], ◌∷◌, ◌++◌, map, length, Option, Some, None, refl, ap, sym, subst, ◌∙◌, arith, nat_lt, nat_le}
-use Rattle.std.specs.Prelude.{◌&&◌, ◌||◌, find, if◌then◌else◌, codes}
+use Rattle.std.specs.Prelude.{◌&&◌, ◌||◌, not, find, if◌then◌else◌, codes}
 use Rattle.std.specs.List.{list_any, range_with_len}
 use Rattle.std.specs.Option.{option_map, option_or}
 use Rattle.std.proofs.lemmas.Bool.Decides.{nat_tests}
@@ -8,10 +8,11 @@ use Rattle.std.proofs.lemmas.List.Folds.{list_any-append}
 use Rattle.rv_isa.specs.Names.{csr_names, numbered}
 use Rattle.rv_isa.specs.declared.InterruptLines.{InterruptLines}
 use Rattle.rv_pmp.specs.Pmp as protection
-use Rattle.rv_pmp.specs.Pmp.{PmpState, is_config, is_address, config_word, entry_at, written}
+use Rattle.rv_pmp.specs.Pmp.{PmpState, config_word, entry_at, written}
+use Rattle.rv_pmp.specs.Registers.{is_config, is_address}
 use Rattle.rv_pmp.specs.declared.mode.Mode.{Mode}
 use Rattle.rv_csr.specs.State.{CsrState}
-use Rattle.rv_csr.specs.Registers.{Row, table, ignored, number_of, row_at, read, write, may_read, may_write}
+use Rattle.rv_csr.specs.Registers.{Row, table, number_of, read, write, may_read, may_write}
 use Rattle.rv_csr.specs.RegisterCases.{is_from_to, is_zero, register_at, value_of, with_value, with_value_at}
 use Rattle.rv_csr.specs.RegisterCases as cases
 use Rattle.rv_csr.specs.declared.register.Register.{Register}
@@ -144,7 +145,7 @@ named_zero addr f300 f301 f304 f305 f340 f341 f342 f343 f344 fB00 fB02 fB80 fB82
 zero_found : (addr : ℕ) (names : List (List ℕ × ℕ)) (b : Bool)
     → list_any (λ named. addr == named.1) names ≡ b
     → Same (find (λ row. addr == row.number)
-    (map (λ named. record { number = named.1; value = λ s lines. 0; written = ignored }) names))
+    (map (λ named. record { number = named.1; value = λ s lines. 0; written = λ s w. s }) names))
     (if b then Some Zero else None)
 zero_found addr [] true is = absurd cc
 zero_found addr [] false is = tt
@@ -152,11 +153,11 @@ zero_found addr (n ∷ ns) b is = by (addr == n.1) b is (zero_found addr ns b) w
   by : (here b : Bool) → (here || list_any (λ named. addr == named.1) ns) ≡ b
       → (list_any (λ named. addr == named.1) ns ≡ b
       → Same (find (λ row. addr == row.number)
-      (map (λ named. record { number = named.1; value = λ s lines. 0; written = ignored }) ns))
+      (map (λ named. record { number = named.1; value = λ s lines. 0; written = λ s w. s }) ns))
       (if b then Some Zero else None))
-      → Same (cond here (Some (record { number = n.1; value = λ s lines. 0; written = ignored }))
+      → Same (cond here (Some (record { number = n.1; value = λ s lines. 0; written = λ s w. s }))
       (find (λ row. addr == row.number)
-      (map (λ named. record { number = named.1; value = λ s lines. 0; written = ignored }) ns)))
+      (map (λ named. record { number = named.1; value = λ s lines. 0; written = λ s w. s }) ns)))
       (if b then Some Zero else None)
   by true true is later = record { value = λ s lines. refl; written = λ s word. refl }
   by true false is later = absurd cc
@@ -215,6 +216,10 @@ unfolding number_of csr_names
 number_minstreth = refl
 
 pub ruleset counter_numbers = (number_mcycle, number_minstret)
+
+-- the row of a number, of which the first counts
+unfoldable pub row_at : ℕ → Option Row
+row_at addr = find (λ row. addr == row.number) table
 
 same : (addr : ℕ) → is_config addr ≡ false → is_address addr ≡ false → Same (row_at addr) (register_at addr)
 unfolding table register_at row_at
@@ -326,18 +331,20 @@ pub writes : (state : CsrState) (addr word : ℕ)
     → option_or (option_map (λ pmp. record state { pmp = pmp }) (protection.store state.pmp addr word))
     (option_map (λ row. row.written state word) (row_at addr))
     ≡ with_value_at state addr word (register_at addr)
-unfolding protection.store
+unfolding protection.store protection.load
 writes state addr word =
     go (is_config addr) refl (is_address addr) refl
     ∙ sym (as_given (register_at addr))
   where
+    after : PmpState
+    after = record { entries = map (written state.pmp addr word) (range_with_len 0 (length state.pmp.entries)) }
+
     stored : Bool → Bool → Option CsrState
     stored a b =
         option_map (λ (pmp : PmpState). record state { pmp = pmp })
-        (if a || b
-        then Some (record {
-          entries = map (written state.pmp addr word) (range_with_len 0 (length state.pmp.entries));
-        }) else None)
+        (option_map (λ (value : ℕ). after)
+        (if a then Some (config_word state.pmp (4 * (addr - 0x3A0)))
+        else (if b then Some (entry_at state.pmp (addr - 0x3B0)).address else None)))
 
     of_register : Register → CsrState
     of_register register = with_value state register word
@@ -359,16 +366,22 @@ writes state addr word =
 
 -- ---- a read and a write by the register at the address
 
+if_not : {A : Type 0} (b : Bool) (x y : A) → (if not b then x else y) ≡ (if b then y else x)
+if_not true x y = refl
+if_not false x y = refl
+
 pub read_by_cases : (state : CsrState) (addr : ℕ) (mode : Mode) (lines : InterruptLines)
     → read state addr mode lines
     ≡ (if may_read addr mode then cases.value_at state lines addr (register_at addr) else None)
-unfolding read
+unfolding read row_at
 read_by_cases state addr mode lines =
-    ap (λ value. if may_read addr mode then value else None) (values state lines addr)
+    if_not (may_read addr mode) _ _
+    ∙ ap (λ value. if may_read addr mode then value else None) (values state lines addr)
 
 pub write_by_cases : (state : CsrState) (addr : ℕ) (mode : Mode) (word : ℕ)
     → write state addr mode word
     ≡ (if may_write addr mode then with_value_at state addr word (register_at addr) else None)
-unfolding write
+unfolding write row_at
 write_by_cases state addr mode word =
-    ap (λ after. if may_write addr mode then after else None) (writes state addr word)
+    if_not (may_write addr mode) _ _
+    ∙ ap (λ after. if may_write addr mode then after else None) (writes state addr word)

@@ -1,4 +1,5 @@
 pub mod Interruptible
+pub mod Later
 pub mod RegisterCases
 pub mod Registers
 pub mod State

@@ -1,12 +1,14 @@
 -- The control registers by cases: the register at an address, its value, and the state after a write to it.
 -- Not to audit: private contracts alone cite this. proofs/ proves that it is what the table says.
-use Rattle.std.specs.Prelude.{ℕ, ◌+◌, ◌%◌, ◌/◌, ◌^◌, Bool, ◌==◌, ◌&&◌, ◌||◌, nat_le, if◌then◌else◌, Option, Some, None}
+use Rattle.std.specs.Prelude.{ℕ, ◌+◌, ◌%◌, ◌/◌, ◌^◌, Bool, ◌==◌, ◌&&◌, ◌||◌, nat_le, if◌then◌else◌, [], ◌∷◌, find, unwrap_or, Option, Some, None}
 use Rattle.std.specs.Option.{option_map}
 use Rattle.rv_base.specs.Halves.{with_low, with_high}
 use Rattle.rv_isa.specs.declared.InterruptLines.{InterruptLines}
 use Rattle.rv_pmp.specs.Pmp as protection
+use Rattle.rv_pmp.specs.declared.mode.Mode.{Mode}
+use Rattle.rv_pmp.specs.declared.mode.Mode.TheVariants.{User, Machine}
 use Rattle.rv_csr.specs.State.{CsrState}
-use Rattle.rv_csr.specs.Registers.{status_word, with_status, lines_word, lines_of, aligned}
+use Rattle.rv_csr.specs.Registers.{level, status_word, with_status, lines_word, word_lines, aligned}
 use Rattle.rv_csr.specs.declared.register.Register.{Register}
 use Rattle.rv_csr.specs.declared.register.Register.TheVariants.{Mstatus, Misa, Mie, Mtvec, Mscratch, Mepc, Mcause, Mtval, Mip, Mcycle, Mcycleh, Minstret, Minstreth, Zero}
 
@@ -22,6 +24,10 @@ is_zero addr =
     (addr == 0x306) || ((addr == 0x30A) || ((addr == 0x310) || ((addr == 0x31A) || ((addr == 0x320)
     || (is_from_to 0xF11 0xF15 addr || (is_from_to 0x323 0x33F addr
     || (is_from_to 0xB03 0xB1F addr || is_from_to 0xB83 0xB9F addr)))))))
+
+-- the mode of a field of MPP, which keeps the old mode if the field is no mode
+unfoldable pub mode_kept : Mode → ℕ → Mode
+mode_kept old field = unwrap_or (find (λ mode. field == level mode) (User ∷ Machine ∷ [])) old
 
 -- the register at an address, if there is one that isn't of physical memory protection
 unfoldable pub register_at : ℕ → Option Register
@@ -47,37 +53,33 @@ abbrev pub value_of : CsrState → InterruptLines → Register → ℕ
 value_of state lines Mstatus = status_word state.mstatus
 value_of state lines Misa = 0x40101100
 value_of state lines Mie = lines_word state.mie
-value_of state lines Mtvec = state.trap.mtvec
-value_of state lines Mscratch = state.trap.mscratch
-value_of state lines Mepc = state.trap.mepc
-value_of state lines Mcause = state.trap.mcause
-value_of state lines Mtval = state.trap.mtval
+value_of state lines Mtvec = state.mtvec
+value_of state lines Mscratch = state.mscratch
+value_of state lines Mepc = state.mepc
+value_of state lines Mcause = state.mcause
+value_of state lines Mtval = state.mtval
 value_of state lines Mip = lines_word lines
-value_of state lines Mcycle = state.counters.mcycle % 2 ^ 32
-value_of state lines Mcycleh = state.counters.mcycle / 2 ^ 32
-value_of state lines Minstret = state.counters.minstret % 2 ^ 32
-value_of state lines Minstreth = state.counters.minstret / 2 ^ 32
+value_of state lines Mcycle = state.mcycle % 2 ^ 32
+value_of state lines Mcycleh = state.mcycle / 2 ^ 32
+value_of state lines Minstret = state.minstret % 2 ^ 32
+value_of state lines Minstreth = state.minstret / 2 ^ 32
 value_of state lines Zero = 0
 
 -- the state after a write to a register
 abbrev pub with_value : CsrState → Register → ℕ → CsrState
 with_value state Mstatus word = record state { mstatus = with_status state.mstatus word }
 with_value state Misa word = state
-with_value state Mie word = record state { mie = lines_of word }
-with_value state Mtvec word = record state { trap = record state.trap { mtvec = aligned word + word % 2 } }
-with_value state Mscratch word = record state { trap = record state.trap { mscratch = word } }
-with_value state Mepc word = record state { trap = record state.trap { mepc = aligned word } }
-with_value state Mcause word = record state { trap = record state.trap { mcause = word } }
-with_value state Mtval word = record state { trap = record state.trap { mtval = word } }
+with_value state Mie word = record state { mie = word_lines word }
+with_value state Mtvec word = record state { mtvec = aligned word + word % 2 }
+with_value state Mscratch word = record state { mscratch = word }
+with_value state Mepc word = record state { mepc = aligned word }
+with_value state Mcause word = record state { mcause = word }
+with_value state Mtval word = record state { mtval = word }
 with_value state Mip word = state
-with_value state Mcycle word =
-    record state { counters = record state.counters { mcycle = with_low state.counters.mcycle word } }
-with_value state Mcycleh word =
-    record state { counters = record state.counters { mcycle = with_high state.counters.mcycle word } }
-with_value state Minstret word =
-    record state { counters = record state.counters { minstret = with_low state.counters.minstret word } }
-with_value state Minstreth word =
-    record state { counters = record state.counters { minstret = with_high state.counters.minstret word } }
+with_value state Mcycle word = record state { mcycle = with_low state.mcycle word }
+with_value state Mcycleh word = record state { mcycle = with_high state.mcycle word }
+with_value state Minstret word = record state { minstret = with_low state.minstret word }
+with_value state Minstreth word = record state { minstret = with_high state.minstret word }
 with_value state Zero word = state
 
 -- the value at an address, and the state after a write there, by the register at the address

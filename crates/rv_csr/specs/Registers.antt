@@ -2,7 +2,7 @@
 -- which modes may do either.
 -- RISC-V Privileged Architecture 20211203, section 2.1 for the addresses and 3.1 for the registers.
 -- To audit: public contracts cite this.
-use Rattle.std.specs.Prelude.{◌≡◌, ℕ, ◌+◌, ◌*◌, ◌/◌, ◌%◌, ◌^◌, Bool, false, ◌==◌, ◌&&◌, ◌||◌, not, nat_le, if◌then◌else◌, List, [], ◌∷◌, ◌++◌, map, codes, find, unwrap_or, Option, Some, None}
+use Rattle.std.specs.Prelude.{ℕ, ◌+◌, ◌*◌, ◌/◌, ◌%◌, ◌^◌, Bool, false, ◌==◌, ◌&&◌, ◌||◌, not, nat_le, if◌then◌else◌, List, [], ◌∷◌, map, codes, find, unwrap_or, Option, None}
 use Rattle.std.specs.Option.{option_map, option_map_or, option_or}
 use Rattle.rv_base.specs.Tables.{lookup}
 use Rattle.rv_base.specs.Halves.{with_low, with_high}
@@ -13,9 +13,7 @@ use Rattle.rv_pmp.specs.Pmp as protection
 use Rattle.rv_pmp.specs.declared.mode.Mode.{Mode}
 use Rattle.rv_pmp.specs.declared.mode.Mode.TheVariants.{User, Machine}
 use Rattle.rv_csr.specs.State.{CsrState}
-use Rattle.rv_csr.specs.declared.counters.Counters.{Counters}
 use Rattle.rv_csr.specs.declared.mstatus.Mstatus.{Mstatus}
-use Rattle.rv_csr.specs.declared.trap.TrapRegisters.{TrapRegisters}
 
 -- ---- the addresses
 
@@ -43,16 +41,12 @@ unfoldable pub status_word : Mstatus → ℕ
 status_word s =
     truth s.mie * 2 ^ 3 + truth s.mpie * 2 ^ 7 + level s.mpp * 2 ^ 11 + truth s.mprv * 2 ^ 17 + truth s.tw * 2 ^ 21
 
--- the mode of a field of MPP, which keeps the old mode if the field is no mode
-unfoldable pub mode_kept : Mode → ℕ → Mode
-mode_kept old field = unwrap_or (find (λ mode. field == level mode) (User ∷ Machine ∷ [])) old
-
--- mstatus after a write
+-- mstatus after a write. MPP stays as it is where its field is no mode
 unfoldable pub with_status : Mstatus → ℕ → Mstatus
 with_status old word = record {
   mie = flag word 3;
   mpie = flag word 7;
-  mpp = mode_kept old.mpp (word / 2 ^ 11 % 4);
+  mpp = unwrap_or (find (λ mode. word / 2 ^ 11 % 4 == level mode) (User ∷ Machine ∷ [])) old.mpp;
   mprv = flag word 17;
   tw = flag word 21;
 }
@@ -61,8 +55,8 @@ with_status old word = record {
 unfoldable pub lines_word : InterruptLines → ℕ
 lines_word lines = truth lines.software * 2 ^ 3 + truth lines.timer * 2 ^ 7 + truth lines.external * 2 ^ 11
 
-unfoldable pub lines_of : ℕ → InterruptLines
-lines_of word = record { software = flag word 3; timer = flag word 7; external = flag word 11 }
+unfoldable pub word_lines : ℕ → InterruptLines
+word_lines word = record { software = flag word 3; timer = flag word 7; external = flag word 11 }
 
 -- a word without its two lowest bits
 abbrev pub aligned : ℕ → ℕ
@@ -84,68 +78,41 @@ pub record Row : Type 0 where
 abbrev pub row : List ℕ → (CsrState → InterruptLines → ℕ) → (CsrState → ℕ → CsrState) → Row
 row name value written = record { number = number_of name; value = value; written = written }
 
--- a write that changes nothing, one to a register of traps, and one to a counter
-abbrev pub ignored : CsrState → ℕ → CsrState
-ignored state word = state
-
-abbrev pub to_trap : (TrapRegisters → ℕ → TrapRegisters) → CsrState → ℕ → CsrState
-to_trap write state word = record state { trap = write state.trap word }
-
-abbrev pub to_counter : (Counters → ℕ → Counters) → CsrState → ℕ → CsrState
-to_counter write state word = record state { counters = write state.counters word }
-
--- the registers, but for those of physical memory protection and those that read 0. misa says RV32I with M and
--- user mode; mtvec has no bit 1
+-- the registers, but for those of physical memory protection. misa says RV32I with M and user mode; mtvec
+-- has no bit 1. A register with no other row, as mcounteren, reads 0, and a write to it changes nothing
 unfoldable pub table : List Row
 table =
     row (codes "mstatus") (λ s lines. status_word s.mstatus) (λ s w. record s { mstatus = with_status s.mstatus w })
-    ∷ row (codes "misa") (λ s lines. 0x40101100) ignored
-    ∷ row (codes "mie") (λ s lines. lines_word s.mie) (λ s w. record s { mie = lines_of w })
-    ∷ row (codes "mtvec") (λ s lines. s.trap.mtvec) (to_trap (λ t w. record t { mtvec = aligned w + w % 2 }))
-    ∷ row (codes "mscratch") (λ s lines. s.trap.mscratch) (to_trap (λ t w. record t { mscratch = w }))
-    ∷ row (codes "mepc") (λ s lines. s.trap.mepc) (to_trap (λ t w. record t { mepc = aligned w }))
-    ∷ row (codes "mcause") (λ s lines. s.trap.mcause) (to_trap (λ t w. record t { mcause = w }))
-    ∷ row (codes "mtval") (λ s lines. s.trap.mtval) (to_trap (λ t w. record t { mtval = w }))
-    ∷ row (codes "mip") (λ s lines. lines_word lines) ignored
-    ∷ row (codes "mcycle") (λ s lines. s.counters.mcycle % 2 ^ 32)
-    (to_counter (λ c w. record c { mcycle = with_low c.mcycle w }))
-    ∷ row (codes "mcycleh") (λ s lines. s.counters.mcycle / 2 ^ 32)
-    (to_counter (λ c w. record c { mcycle = with_high c.mcycle w }))
-    ∷ row (codes "minstret") (λ s lines. s.counters.minstret % 2 ^ 32)
-    (to_counter (λ c w. record c { minstret = with_low c.minstret w }))
-    ∷ row (codes "minstreth") (λ s lines. s.counters.minstret / 2 ^ 32)
-    (to_counter (λ c w. record c { minstret = with_high c.minstret w }))
-    ∷ []
-
--- a row for each name. A register with no other row, as mcounteren, reads 0, and a write to it changes nothing
-abbrev pub zeros : List Row
-zeros = map (λ named. record { number = named.1; value = λ s lines. 0; written = ignored }) csr_names
-
--- the row of a number, of which the first counts
-unfoldable pub row_at : ℕ → Option Row
-row_at addr = find (λ row. addr == row.number) (table ++ zeros)
+    ∷ row (codes "misa") (λ s lines. 0x40101100) (λ s w. s)
+    ∷ row (codes "mie") (λ s lines. lines_word s.mie) (λ s w. record s { mie = word_lines w })
+    ∷ row (codes "mtvec") (λ s lines. s.mtvec) (λ s w. record s { mtvec = aligned w + w % 2 })
+    ∷ row (codes "mscratch") (λ s lines. s.mscratch) (λ s w. record s { mscratch = w })
+    ∷ row (codes "mepc") (λ s lines. s.mepc) (λ s w. record s { mepc = aligned w })
+    ∷ row (codes "mcause") (λ s lines. s.mcause) (λ s w. record s { mcause = w })
+    ∷ row (codes "mtval") (λ s lines. s.mtval) (λ s w. record s { mtval = w })
+    ∷ row (codes "mip") (λ s lines. lines_word lines) (λ s w. s)
+    ∷ row (codes "mcycle") (λ s lines. s.mcycle % 2 ^ 32) (λ s w. record s { mcycle = with_low s.mcycle w })
+    ∷ row (codes "mcycleh") (λ s lines. s.mcycle / 2 ^ 32) (λ s w. record s { mcycle = with_high s.mcycle w })
+    ∷ row (codes "minstret") (λ s lines. s.minstret % 2 ^ 32) (λ s w. record s { minstret = with_low s.minstret w })
+    ∷ row (codes "minstreth") (λ s lines. s.minstret / 2 ^ 32) (λ s w. record s { minstret = with_high s.minstret w })
+    ∷ map (λ named. record { number = named.1; value = λ s lines. 0; written = λ s w. s }) csr_names
 
 -- ---- reads and writes: physical memory protection has the first word about an address
 
--- the value that a mode reads at an address, while the interrupt lines have these levels; None if it may not
+-- the value that a mode reads at an address, while the interrupt lines have these levels; None if it may not,
+-- or no register is there
 unfoldable pub read : CsrState → ℕ → Mode → InterruptLines → Option ℕ
 read state addr mode lines =
-    if may_read addr mode
-    then option_or (protection.load state.pmp addr) (option_map (λ row. row.value state lines) (row_at addr))
-    else None
+    if not (may_read addr mode) then None
+    else option_or (protection.load state.pmp addr)
+    (option_map (λ row. row.value state lines) (find (λ row. addr == row.number) table))
 
--- the state after a mode's write at an address; None if it may not
+-- the state after a mode's write at an address; None if it may not, or no register is there
 unfoldable pub write : CsrState → ℕ → Mode → ℕ → Option CsrState
 write state addr mode word =
-    if may_write addr mode
-    then option_or (option_map (λ pmp. record state { pmp = pmp }) (protection.store state.pmp addr word))
-    (option_map (λ row. row.written state word) (row_at addr))
-    else None
-
--- the result of a write, and the state after it: unchanged if the mode may not write
-abbrev pub Writes : CsrState → ℕ → Mode → ℕ → CsrState → Option Unit → Type 0
-Writes old addr mode word new (Some done) = write old addr mode word ≡ Some new
-Writes old addr mode word new None = (write old addr mode word ≡ None) × (new ≡ old)
+    if not (may_write addr mode) then None
+    else option_or (option_map (λ pmp. record state { pmp = pmp }) (protection.store state.pmp addr word))
+    (option_map (λ row. row.written state word) (find (λ row. addr == row.number) table))
 
 -- ---- the counters
 
@@ -154,21 +121,12 @@ Writes old addr mode word new None = (write old addr mode word ≡ None) × (new
 abbrev pub wrote_half : ℕ → Option ℕ → Bool
 wrote_half low wrote = option_map_or (λ addr. (addr == low) || (addr == low + 0x80)) wrote false
 
--- a counter that has counted more
-abbrev pub counted_on : ℕ → ℕ → ℕ
-counted_on count more = (count + more) % 2 ^ 64
-
--- the counters after a step: mcycle grows in each, minstret if an instruction retired; but a counter that the
--- instruction wrote a half of keeps what was written
-unfoldable pub counted : Counters → Bool → Option ℕ → Counters
-counted counters retired wrote = record {
-  mcycle = if wrote_half (number_of (codes "mcycle")) wrote then counters.mcycle
-      else counted_on counters.mcycle 1;
+-- the state after a step is counted: mcycle grows in each, minstret if an instruction retired; but a
+-- counter that the instruction wrote a half of keeps what was written
+abbrev pub counted : CsrState → Bool → Option ℕ → CsrState
+counted state retired wrote = record state {
+  mcycle = if wrote_half (number_of (codes "mcycle")) wrote then state.mcycle
+      else (state.mcycle + 1) % 2 ^ 64;
   minstret = if retired && not (wrote_half (number_of (codes "minstret")) wrote)
-      then counted_on counters.minstret 1 else counters.minstret;
+      then (state.minstret + 1) % 2 ^ 64 else state.minstret;
 }
-
--- the counters after a number of steps whose instructions all retired, and wrote neither of them
-abbrev pub later : Counters → ℕ → Counters
-later counters steps =
-    record { mcycle = counted_on counters.mcycle steps; minstret = counted_on counters.minstret steps }

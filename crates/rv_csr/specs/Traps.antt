@@ -19,15 +19,12 @@ interrupts =
     (0x8000000B, λ lines. lines.external) ∷ (0x80000003, λ lines. lines.software)
     ∷ (0x80000007, λ lines. lines.timer) ∷ []
 
--- the cause of the first interrupt whose line is high and which is enabled
-abbrev pub first_enabled : InterruptLines → InterruptLines → Option ℕ
-first_enabled lines enables =
-    option_map (λ found. found.0) (find (λ interrupt. interrupt.1 lines && interrupt.1 enables) interrupts)
-
--- the cause of the interrupt that is taken in a mode, if any: in machine mode none unless MIE is set
+-- the cause of the interrupt that is taken in a mode, if any: the first whose line is high and which is
+-- enabled; in machine mode none unless MIE is set
 unfoldable pub pending : CsrState → Mode → InterruptLines → Option ℕ
 pending state mode lines =
-    if is_machine mode && not state.mstatus.mie then None else first_enabled lines state.mie
+    if is_machine mode && not state.mstatus.mie then None
+    else option_map (λ first. first.0) (find (λ i. i.1 lines && i.1 state.mie) interrupts)
 
 -- ---- trap entry and return
 
@@ -36,28 +33,26 @@ pending state mode lines =
 unfoldable pub entered : CsrState → ℕ → ℕ → ℕ → Mode → CsrState
 entered state cause epc tval mode = record state {
   mstatus = record state.mstatus { mie = false; mpie = state.mstatus.mie; mpp = mode };
-  trap = record state.trap { mepc = aligned epc; mcause = cause; mtval = tval };
+  mepc = aligned epc;
+  mcause = cause;
+  mtval = tval;
 }
 
 -- the address of the trap handler: the base of mtvec, or, for an interrupt in vectored mode, the base plus 4
 -- times its code
 unfoldable pub trap_pc : CsrState → ℕ → ℕ
 trap_pc state cause =
-    let base = aligned state.trap.mtvec in
-    if (state.trap.mtvec % 2 == 1) && nat_le (2 ^ 31) cause
-    then (base + 4 * (cause - 2 ^ 31)) % 2 ^ 32 else base
+    if (state.mtvec % 2 == 1) && nat_le (2 ^ 31) cause
+    then (aligned state.mtvec + 4 * (cause - 2 ^ 31)) % 2 ^ 32 else aligned state.mtvec
 
 -- the state after the return from a trap: MIE becomes MPIE, MPIE 1, and MPP user mode; MPRV is cleared unless
 -- the return is to machine mode
 unfoldable pub left : CsrState → CsrState
-left state = record state {
-  mstatus = record state.mstatus {
-    mie = state.mstatus.mpie;
-    mpie = true;
-    mpp = User;
-    mprv = state.mstatus.mprv && is_machine state.mstatus.mpp;
-  };
-}
+left state =
+    let old = state.mstatus in
+    record state {
+      mstatus = record old { mie = old.mpie; mpie = true; mpp = User; mprv = old.mprv && is_machine old.mpp };
+    }
 
 -- the mode whose permissions loads and stores have: MPP if MPRV is set, else the mode itself
 abbrev pub data_mode : CsrState → Mode → Mode

@@ -2,21 +2,19 @@
 ghost use Rattle.std.specs.Prelude.{◌≡◌, ℕ, ◌+◌, ◌%◌, ◌^◌, ◌<◌, ◌≤◌, true, false, None, is_some};
 ghost use Rattle.rv_csr.specs.RegisterCases.{value_of, with_value};
 ghost use Rattle.rv_csr.specs.Interruptible.{any_enabled};
-ghost use Rattle.rv_csr.specs.Registers.{Writes};
+ghost use Rattle.rv_csr.specs.Later.{later};
 ghost use Rattle.rv_csr.specs.Registers as registers;
 ghost use Rattle.rv_csr.specs.State.{reset};
 ghost use Rattle.rv_csr.specs.Traps as traps;
 ghost use Rattle.rv_isa.specs.Width.{bytes_of};
 ghost use Rattle.rv_isa.specs.declared.op.Width.{Width};
 ghost use Rattle.rv_isa.specs.declared.InterruptLines.{InterruptLines};
-ghost use Rattle.rv_pmp.specs.Pmp.{grants};
+ghost use Rattle.rv_pmp.specs.Pmp.{Changes, grants};
 ghost use Rattle.rv_pmp.specs.declared.mode.Mode.{Mode};
 ghost use Rattle.rv_pmp.specs.declared.mode.Mode.TheVariants.{User};
 
-use crate::counters::Counters;
-use crate::mstatus::{Mstatus, lines_of, lines_word};
-use crate::register::{Register, may_read, may_write};
-use crate::trap::TrapRegisters;
+use crate::mstatus::{Mstatus, lines_word, word_lines};
+use crate::register::{Register, may_read, may_write, wrote_half};
 use rv_base::{high_word, low_word, with_high_word, with_low_word};
 use rv_isa::{InterruptLines, Width};
 use rv_pmp::{Access, Mode, Pmp, Span};
@@ -29,15 +27,34 @@ const TIMER_INTERRUPT: u32 = 0x80000007;
 /// The cause of an external interrupt: code 11.
 const EXTERNAL_INTERRUPT: u32 = 0x8000000B;
 
+/// The address of mcycle.
+const MCYCLE: u16 = 0xB00;
+/// The address of minstret.
+const MINSTRET: u16 = 0xB02;
+
 /// The control registers of machine mode, with physical memory protection.
 ///
 /// mepc is always a multiple of 4.
 #[derive(Drop)]
 pub struct Csrs {
     mstatus: Mstatus,
+    /// The interrupts that are enabled.
     mie: InterruptLines,
-    trap: TrapRegisters,
-    counters: Counters,
+    /// The address of the trap handler, and in the lowest bit whether each interrupt has a handler of its
+    /// own.
+    mtvec: u32,
+    /// A word for the trap handler.
+    mscratch: u32,
+    /// The address of the instruction that trapped.
+    mepc: u32,
+    /// The cause of the trap.
+    mcause: u32,
+    /// The address or the word that the cause is about, or 0.
+    mtval: u32,
+    /// The number of steps.
+    mcycle: u64,
+    /// The number of instructions that retired.
+    minstret: u64,
     pmp: Pmp,
 }
 
@@ -50,12 +67,17 @@ impl Model for Csrs {
     ghost view = { λ c. record {
       mstatus = c.mstatus;
       mie = c.mie;
-      trap = c.trap;
-      counters = c.counters;
+      mtvec = c.mtvec;
+      mscratch = c.mscratch;
+      mepc = c.mepc;
+      mcause = c.mcause;
+      mtval = c.mtval;
+      mcycle = c.mcycle;
+      minstret = c.minstret;
       pmp = c.pmp;
     } };
 
-    ghost invariant = { λ c. c.trap.mepc % 4 ≡ 0 };
+    ghost invariant = { λ c. c.mepc % 4 ≡ 0 };
 }
 
 impl Csrs {
@@ -76,18 +98,32 @@ impl Csrs {
                 timer: false,
                 external: false,
             },
-            trap: TrapRegisters {
-                mtvec: 0,
-                mscratch: 0,
-                mepc: 0,
-                mcause: 0,
-                mtval: 0,
-            },
-            counters: Counters {
-                mcycle: 0,
-                minstret: 0,
-            },
+            mtvec: 0,
+            mscratch: 0,
+            mepc: 0,
+            mcause: 0,
+            mtval: 0,
+            mcycle: 0,
+            minstret: 0,
             pmp: Pmp::new(),
+        }
+    }
+
+    /// Returns a copy of the registers.
+    pub fn copy(&self) -> Csrs
+        ensures { result ≡ self.now }
+    {
+        Csrs {
+            mstatus: self.mstatus,
+            mie: self.mie,
+            mtvec: self.mtvec,
+            mscratch: self.mscratch,
+            mepc: self.mepc,
+            mcause: self.mcause,
+            mtval: self.mtval,
+            mcycle: self.mcycle,
+            minstret: self.minstret,
+            pmp: self.pmp.copy(),
         }
     }
 
@@ -115,16 +151,16 @@ impl Csrs {
             Register::Mstatus => self.mstatus.word(),
             Register::Misa => 0x40101100,
             Register::Mie => lines_word(self.mie),
-            Register::Mtvec => self.trap.mtvec,
-            Register::Mscratch => self.trap.mscratch,
-            Register::Mepc => self.trap.mepc,
-            Register::Mcause => self.trap.mcause,
-            Register::Mtval => self.trap.mtval,
+            Register::Mtvec => self.mtvec,
+            Register::Mscratch => self.mscratch,
+            Register::Mepc => self.mepc,
+            Register::Mcause => self.mcause,
+            Register::Mtval => self.mtval,
             Register::Mip => lines_word(lines),
-            Register::Mcycle => low_word(self.counters.mcycle),
-            Register::Mcycleh => high_word(self.counters.mcycle),
-            Register::Minstret => low_word(self.counters.minstret),
-            Register::Minstreth => high_word(self.counters.minstret),
+            Register::Mcycle => low_word(self.mcycle),
+            Register::Mcycleh => high_word(self.mcycle),
+            Register::Minstret => low_word(self.minstret),
+            Register::Minstreth => high_word(self.minstret),
             Register::Zero => 0,
         }
     }
@@ -134,7 +170,7 @@ impl Csrs {
     /// read-only.
     #[tactic(auto, using(crate::proofs::Levels::no_store, crate::proofs::Table::write_by_cases))]
     pub fn write(&mut self, addr: u16, mode: Mode, value: u32) -> Option<()>
-        ensures written { Writes self.old addr mode value self.new result }
+        ensures written { Changes (registers.write self.old addr mode value) self.old self.new result }
         ensures user { mode ≡ User → result ≡ None }
     {
         if !may_write(addr, mode) {
@@ -155,22 +191,16 @@ impl Csrs {
     {
         match register {
             Register::Mstatus => self.mstatus = self.mstatus.with_word(value),
-            Register::Mie => self.mie = lines_of(value),
-            Register::Mtvec => self.trap.mtvec = value / 4 * 4 + value % 2,
-            Register::Mscratch => self.trap.mscratch = value,
-            Register::Mepc => self.trap.mepc = value / 4 * 4,
-            Register::Mcause => self.trap.mcause = value,
-            Register::Mtval => self.trap.mtval = value,
-            Register::Mcycle => self.counters.mcycle = with_low_word(self.counters.mcycle, value),
-            Register::Mcycleh => self.counters.mcycle = with_high_word(self.counters.mcycle, value),
-            Register::Minstret => self.counters.minstret = with_low_word(
-                self.counters.minstret,
-                value,
-            ),
-            Register::Minstreth => self.counters.minstret = with_high_word(
-                self.counters.minstret,
-                value,
-            ),
+            Register::Mie => self.mie = word_lines(value),
+            Register::Mtvec => self.mtvec = value / 4 * 4 + value % 2,
+            Register::Mscratch => self.mscratch = value,
+            Register::Mepc => self.mepc = value / 4 * 4,
+            Register::Mcause => self.mcause = value,
+            Register::Mtval => self.mtval = value,
+            Register::Mcycle => self.mcycle = with_low_word(self.mcycle, value),
+            Register::Mcycleh => self.mcycle = with_high_word(self.mcycle, value),
+            Register::Minstret => self.minstret = with_low_word(self.minstret, value),
+            Register::Minstreth => self.minstret = with_high_word(self.minstret, value),
             Register::Misa | Register::Mip | Register::Zero => (),
         }
     }
@@ -228,11 +258,11 @@ impl Csrs {
         self.mstatus.mpie = self.mstatus.mie;
         self.mstatus.mie = false;
         self.mstatus.mpp = mode;
-        self.trap.mepc = epc / 4 * 4;
-        self.trap.mcause = cause;
-        self.trap.mtval = tval;
-        let base = self.trap.mtvec / 4 * 4;
-        if self.trap.mtvec % 2 == 1 && cause >= 1 << 31 {
+        self.mepc = epc / 4 * 4;
+        self.mcause = cause;
+        self.mtval = tval;
+        let base = self.mtvec / 4 * 4;
+        if self.mtvec % 2 == 1 && cause >= 1 << 31 {
             base.wrapping_add(cause << 2)
         } else {
             base
@@ -245,7 +275,7 @@ impl Csrs {
     pub fn leave_trap(&mut self) -> (Mode, u32)
         ensures state { self.new ≡ traps.left self.old }
         ensures mode { result.0 ≡ self.old.mstatus.mpp }
-        ensures pc { result.1 ≡ self.old.trap.mepc }
+        ensures pc { result.1 ≡ self.old.mepc }
         ensures aligned { result.1 % 4 ≡ 0 }
         ensures user { result.0 ≡ User → self.new.mstatus.mprv ≡ false }
     {
@@ -254,7 +284,7 @@ impl Csrs {
         self.mstatus.mpie = true;
         self.mstatus.mpp = Mode::User;
         self.mstatus.mprv = self.mstatus.mprv && mode.is_machine();
-        (mode, self.trap.mepc)
+        (mode, self.mepc)
     }
 
     /// Returns the mode whose permissions loads and stores in a mode have: MPP if MPRV is set, else the mode
@@ -277,20 +307,27 @@ impl Csrs {
     }
 
     /// Counts a step. `retired` is whether its instruction retired, and `wrote` the address of the control
-    /// register that it wrote, if any.
+    /// register that it wrote, if any: a counter that the step wrote a half of keeps what was written.
+    #[tactic(auto, using(crate::proofs::Table::counter_numbers))]
     pub fn count(&mut self, retired: bool, wrote: Option<u16>)
-        ensures { self.new ≡ record self.old { counters = registers.counted self.old.counters retired wrote } }
+        ensures { self.new ≡ registers.counted self.old retired wrote }
     {
-        self.counters.count(retired, wrote);
+        if !wrote_half(MCYCLE, wrote) {
+            self.mcycle = self.mcycle.wrapping_add(1);
+        }
+        if retired && !wrote_half(MINSTRET, wrote) {
+            self.minstret = self.minstret.wrapping_add(1);
+        }
     }
 
     /// Counts a number of steps whose instructions all retired, and wrote neither counter.
     pub fn count_retired(&mut self, steps: u64)
-        ensures counted { self.new ≡ record self.old { counters = registers.later self.old.counters steps } }
-        ensures cycles { self.old.counters.mcycle < 2 ^ 64 }
-        ensures retired { self.old.counters.minstret < 2 ^ 64 }
+        ensures counted { self.new ≡ later self.old steps }
+        ensures cycles { self.old.mcycle < 2 ^ 64 }
+        ensures retired { self.old.minstret < 2 ^ 64 }
     {
-        self.counters.count_retired(steps);
+        self.mcycle = self.mcycle.wrapping_add(steps);
+        self.minstret = self.minstret.wrapping_add(steps);
     }
 
     /// Returns bytes within which protection grants user mode all accesses of a kind: those round the last

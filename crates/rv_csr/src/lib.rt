@@ -2,14 +2,10 @@
 //! RISC-V Privileged Architecture 20211203, chapters 2 and 3.
 #![tactic(auto)]
 
-mod counters;
 mod csrs;
 mod mstatus;
 mod register;
-mod trap;
 
-pub use counters::Counters;
 pub use csrs::Csrs;
 pub use mstatus::Mstatus;
 pub use register::Register;
-pub use trap::TrapRegisters;

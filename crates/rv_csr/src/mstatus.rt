@@ -1,7 +1,8 @@
 //! The fields of mstatus, and the bits of mie and mip. Privileged Architecture 20211203, sections 3.1.6 and
 //! 3.1.9.
 ghost use Rattle.std.specs.Prelude.{◌≡◌, ◌<◌, ◌≤◌, ◌^◌};
-ghost use Rattle.rv_csr.specs.Registers.{flag, level, mode_kept, with_status, status_word};
+ghost use Rattle.rv_csr.specs.Registers.{flag, level, with_status, status_word};
+ghost use Rattle.rv_csr.specs.RegisterCases.{mode_kept};
 ghost use Rattle.rv_csr.specs.Registers as spec;
 
 use rv_isa::InterruptLines;
@@ -36,7 +37,7 @@ impl Mstatus {
     }
 
     /// Returns the fields after a write of `word`. MPP stays as it is if the word's field is no mode.
-    #[tactic(auto, unfolding(crate::specs::Registers::with_status))]
+    #[tactic(auto, unfolding(crate::specs::Registers::with_status, crate::specs::RegisterCases::mode_kept))]
     pub(crate) fn with_word(&self, word: u32) -> Mstatus
         ensures { result ≡ with_status self.now word }
     {
@@ -62,7 +63,7 @@ pub(crate) fn mode_level(mode: Mode) -> u32
 }
 
 /// Returns the mode of a field of two bits, or `old` if it is no mode.
-#[tactic(auto, unfolding(crate::specs::Registers::mode_kept))]
+#[tactic(auto, unfolding(crate::specs::RegisterCases::mode_kept))]
 fn mode_of(old: Mode, field: u32) -> Mode
     ensures { result ≡ mode_kept old field }
 {
@@ -90,9 +91,9 @@ pub(crate) fn lines_word(lines: InterruptLines) -> u32
 }
 
 /// Decodes the bits of mie.
-#[tactic(auto, unfolding(crate::specs::Registers::lines_of))]
-pub(crate) fn lines_of(word: u32) -> InterruptLines
-    ensures { result ≡ spec.lines_of word }
+#[tactic(auto, unfolding(crate::specs::Registers::word_lines))]
+pub(crate) fn word_lines(word: u32) -> InterruptLines
+    ensures { result ≡ spec.word_lines word }
 {
     InterruptLines {
         software: is_set(word, 3),

@@ -1,13 +1,13 @@
 -- The entries after a write.
 use Rattle.std.proofs.Common.{◌≡◌, ◌≢◌, ℕ, zero, suc, ◌+◌, ◌<◌, ◌≤◌, ◌==◌, ◌/◌, ◌%◌, Bool, true, false, List, length, get_or, refl}
-use Rattle.std.specs.Prelude.{IsTrue, slice_set, if◌then◌else◌, ◌&&◌}
+use Rattle.std.specs.Prelude.{IsTrue, [], ◌∷◌, slice_index_or, slice_set, if◌then◌else◌, ◌&&◌}
 use Rattle.std.proofs.lemmas.Option.{slice_get-get_or, slice_get_past}
 use Rattle.std.proofs.lemmas.List.Elements.{All-set, All-get_or}
 use Rattle.rv_pmp.specs.declared.entry.Entry.{Entry}
-use Rattle.rv_pmp.specs.declared.entry.Matching.TheVariants.{Napot}
-use Rattle.rv_pmp.specs.Entry.{matching_of, configured, addressed}
-use Rattle.rv_pmp.specs.Pmp.{AllReadable}
-use Rattle.rv_pmp.specs.Registers.{changed_at, with_config, with_address, starts_locked}
+use Rattle.rv_pmp.specs.declared.entry.Matching.TheVariants.{Off, Tor, Na4, Napot}
+use Rattle.rv_pmp.specs.Entry.{configured, addressed}
+use Rattle.rv_pmp.specs.ActiveEntries.{AllReadable}
+use Rattle.rv_pmp.specs.Registers.{matching_of, changed_at, with_config, with_address, starts_locked}
 
 -- the way to match of the values from 3 on
 pub matching_rest : (code : ℕ) → code ≢ 0 → code ≢ 1 → code ≢ 2 → matching_of code ≡ Napot
@@ -35,7 +35,7 @@ configured-readable e byte h = go e.locked where
     writable = (byte % 2 == 1) && (byte / 2 % 2 == 1);
     executable = byte / 4 % 2 == 1;
     locked = byte / 128 % 2 == 1;
-    matching = matching_of (byte / 8 % 4);
+    matching = slice_index_or (Off ∷ Tor ∷ Na4 ∷ Napot ∷ []) (byte / 8 % 4) Napot;
   }
 
   go : (b : Bool) → IsTrue (if b then e else fields).writable → IsTrue (if b then e else fields).readable

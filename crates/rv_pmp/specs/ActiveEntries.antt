@@ -1,7 +1,7 @@
 -- The entries that match addresses, with their spans, and the decision by them: what the code keeps beside
 -- the registers.
 -- Not to audit: private contracts alone cite this.
-use Rattle.std.specs.Prelude.{◌≡◌, ℕ, ◌&&◌, if◌then◌else◌, Bool, true, false, Option, Some, None, List, [], ◌∷◌}
+use Rattle.std.specs.Prelude.{◌≡◌, ℕ, ◌&&◌, if◌then◌else◌, Bool, true, false, IsTrue, Option, Some, None, List, [], ◌∷◌, All}
 use Rattle.std.specs.List.{list_any}
 use Rattle.rv_pmp.specs.declared.entry.Entry.{Entry}
 use Rattle.rv_pmp.specs.declared.entry.Matching.{Matching}
@@ -11,7 +11,6 @@ use Rattle.rv_pmp.specs.declared.permission_cache.PermissionCache.{PermissionCac
 use Rattle.rv_pmp.specs.declared.access.Access.{Access}
 use Rattle.rv_pmp.specs.declared.mode.Mode.{Mode}
 use Rattle.rv_pmp.specs.Entry.{entry_grants}
-use Rattle.rv_pmp.specs.Pmp.{AllReadable}
 use Rattle.rv_pmp.specs.Span.{holds, meets, span_of}
 use Rattle.rv_pmp.specs.PermissionCache.{AreGranted}
 
@@ -39,6 +38,10 @@ actives_from lower [] = []
 actives_from lower (entry ∷ entries) =
     if is_matching entry.matching then active_of lower entry ∷ actives_from entry.address entries
     else actives_from entry.address entries
+
+-- every entry that permits stores permits loads
+abbrev pub AllReadable : List Entry → Type 0
+AllReadable entries = All (λ entry. IsTrue entry.writable → IsTrue entry.readable) entries
 
 -- the values that are kept beside the entries are those that the entries give
 pub record IsConsistent (entries : List Entry) (actives : List ActiveEntry) (any_on any_locked : Bool)

@@ -15,15 +15,12 @@ use Rattle.rv_pmp.specs.Mode.{is_machine}
 -- ---- the configuration byte: R in bit 0, W in bit 1, X in bit 2, A in bits 4 and 3, L in bit 7; bits 6 and
 -- 5 are zero
 
--- the value of the field A, and the way to match that a value stands for
+-- the value of the field A
 abbrev pub matching_code : Matching → ℕ
 matching_code Off = 0
 matching_code Tor = 1
 matching_code Na4 = 2
 matching_code Napot = 3
-
-unfoldable pub matching_of : ℕ → Matching
-matching_of code = slice_index_or (Off ∷ Tor ∷ Na4 ∷ Napot ∷ []) code Napot
 
 -- the configuration byte as it is read
 unfoldable pub config_byte : Entry → ℕ
@@ -41,7 +38,7 @@ configured entry byte =
       writable = (byte % 2 == 1) && (byte / 2 % 2 == 1);
       executable = byte / 4 % 2 == 1;
       locked = byte / 128 % 2 == 1;
-      matching = matching_of (byte / 8 % 4);
+      matching = slice_index_or (Off ∷ Tor ∷ Na4 ∷ Napot ∷ []) (byte / 8 % 4) Napot;
     }
 
 -- the entry after a write to its address register, unless it is locked

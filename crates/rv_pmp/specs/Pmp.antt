@@ -1,9 +1,9 @@
 -- Physical memory protection: its registers, and what they grant. RISC-V Privileged Architecture 20211203,
 -- section 3.7.1.
 -- To audit: public contracts cite this.
-use Rattle.std.specs.Prelude.{◌≡◌, ℕ, zero, suc, ◌+◌, ◌-◌, ◌*◌, ◌/◌, ◌%◌, ◌^◌, Bool, false, ◌==◌, ◌&&◌, ◌||◌, not, nat_le, if◌then◌else◌, IsTrue, List, replicate, All, find, length, map, slice_index_or, Option, Some, None}
+use Rattle.std.specs.Prelude.{◌≡◌, ℕ, zero, suc, ◌+◌, ◌-◌, ◌*◌, ◌/◌, ◌%◌, ◌^◌, Bool, false, ◌==◌, ◌&&◌, not, nat_le, if◌then◌else◌, List, replicate, find, length, map, slice_index_or, Option, Some, None}
 use Rattle.std.specs.List.{list_any, list_all, range_with_len, sum_by}
-use Rattle.std.specs.Option.{option_map_or}
+use Rattle.std.specs.Option.{option_map, option_map_or}
 use Rattle.rv_pmp.specs.declared.access.Access.{Access}
 use Rattle.rv_pmp.specs.declared.mode.Mode.{Mode}
 use Rattle.rv_pmp.specs.declared.entry.Entry.{Entry}
@@ -18,25 +18,11 @@ pub record PmpState : Type 0 where
 -- an entry that matches nothing
 abbrev pub off_entry : Entry
 off_entry =
-    record {
-      address = 0;
-      readable = false;
-      writable = false;
-      executable = false;
-      locked = false;
-      matching = Off;
-    }
+    record { address = 0; readable = false; writable = false; executable = false; locked = false; matching = Off }
 
 -- the registers after a reset: sixteen entries
 abbrev pub reset : PmpState
 reset = record { entries = replicate 16 off_entry }
-
--- every entry that permits stores permits loads
-abbrev pub AllReadable : List Entry → Type 0
-AllReadable entries = All (λ entry. IsTrue entry.writable → IsTrue entry.readable) entries
-
-abbrev pub WritableIsReadable : PmpState → Type 0
-WritableIsReadable pmp = AllReadable pmp.entries
 
 -- ---- which accesses are granted
 
@@ -65,15 +51,8 @@ grants pmp mode access first count =
     option_map_or (λ n. list_all (matches pmp n) bytes && entry_grants (entry_at pmp n) mode access)
     (decides pmp bytes) (is_machine mode)
 
--- ---- the registers: pmpcfg0 to pmpcfg3 at 0x3A0 to 0x3A3, each with the configuration bytes of four entries,
--- low byte first; and pmpaddr0 to pmpaddr15 at 0x3B0 to 0x3BF
-
--- whether a configuration register is at an address, and whether an address register is
-abbrev pub is_config : ℕ → Bool
-is_config addr = nat_le 0x3A0 addr && nat_le addr 0x3A3
-
-abbrev pub is_address : ℕ → Bool
-is_address addr = nat_le 0x3B0 addr && nat_le addr 0x3BF
+-- ---- the registers: pmpcfg0 to pmpcfg3 at 0x3A0 to 0x3A3, each with the configuration bytes of four
+-- entries, low byte first; and pmpaddr0 to pmpaddr15 at 0x3B0 to 0x3BF
 
 -- the value of the configuration register of four entries from one on
 abbrev pub config_word : PmpState → ℕ → ℕ
@@ -82,8 +61,8 @@ config_word pmp first = sum_by (λ i. config_byte (entry_at pmp (first + i)) * 2
 -- the value that a read at an address gives, if a register is there
 unfoldable pub load : PmpState → ℕ → Option ℕ
 load pmp addr =
-    if is_config addr then Some (config_word pmp (4 * (addr - 0x3A0)))
-    else (if is_address addr then Some (entry_at pmp (addr - 0x3B0)).address else None)
+    if nat_le 0x3A0 addr && nat_le addr 0x3A3 then Some (config_word pmp (4 * (addr - 0x3A0)))
+    else (if nat_le 0x3B0 addr && nat_le addr 0x3BF then Some (entry_at pmp (addr - 0x3B0)).address else None)
 
 -- whether an entry is locked and its region begins at the address of the entry before
 unfoldable pub is_locked_top : PmpState → ℕ → Bool
@@ -100,11 +79,10 @@ written pmp addr word n =
 -- the registers after a write of a word at an address, if a register is there
 unfoldable pub store : PmpState → ℕ → ℕ → Option PmpState
 store pmp addr word =
-    if is_config addr || is_address addr
-    then Some (record { entries = map (written pmp addr word) (range_with_len 0 (length pmp.entries)) })
-    else None
+    option_map (λ value. record { entries = map (written pmp addr word) (range_with_len 0 (length pmp.entries)) })
+    (load pmp addr)
 
--- the result of a write at an address, and the registers after it: None if no register is there
-abbrev pub Stores : PmpState → ℕ → ℕ → PmpState → Option Unit → Type 0
-Stores old addr word new (Some done) = store old addr word ≡ Some new
-Stores old addr word new None = (store old addr word ≡ None) × (new ≡ old)
+-- the result of a change that may be refused, and the state after it: the old one where it is refused
+abbrev pub Changes : {A : Type 0} → Option A → A → A → Option Unit → Type 0
+Changes after old new (Some done) = after ≡ Some new
+Changes after old new None = (after ≡ None) × (new ≡ old)

@@ -1,10 +1,10 @@
 //! The registers of protection, and what they grant.
-ghost use Rattle.std.specs.Prelude.{◌≡◌, ℕ, ◌+◌, ◌-◌, ◌^◌, ◌<◌, ◌≤◌, true};
+ghost use Rattle.std.specs.Prelude.{◌≡◌, All, IsTrue, ℕ, ◌+◌, ◌-◌, ◌^◌, ◌<◌, ◌≤◌, true};
 ghost use Rattle.std.specs.List.{list_any};
 ghost use Rattle.rv_isa.specs.Width.{bytes_of};
 ghost use Rattle.rv_isa.specs.declared.op.Width.{Width};
-ghost use Rattle.rv_pmp.specs.ActiveEntries.{some_on, some_locked, actives_from, decision};
-ghost use Rattle.rv_pmp.specs.Pmp.{PmpState, reset, grants, load, AllReadable, WritableIsReadable, Stores};
+ghost use Rattle.rv_pmp.specs.ActiveEntries.{AllReadable, some_on, some_locked, actives_from, decision};
+ghost use Rattle.rv_pmp.specs.Pmp.{PmpState, reset, grants, load, store, Changes};
 ghost use Rattle.rv_pmp.specs.Registers.{config_at, with_config, with_address, with_word, starts_locked};
 ghost use Rattle.rv_pmp.specs.Registers as spec;
 ghost use Rattle.rv_pmp.specs.WidestSpan.{AreForward, IsWidestSpan};
@@ -54,9 +54,16 @@ impl Pmp {
     /// Creates the registers as they are after a reset: all zero, so that no entry protects anything.
     pub fn new() -> Pmp
         ensures reset { result ≡ reset }
-        ensures readable { WritableIsReadable result }
+        ensures readable { All (λ entry. IsTrue entry.writable → IsTrue entry.readable) result.entries }
     {
         Pmp::of([Entry::OFF; ENTRIES])
+    }
+
+    /// Returns a copy of the registers.
+    pub fn copy(&self) -> Pmp
+        ensures { result ≡ self.now }
+    {
+        Pmp::of(self.entries)
     }
 
     /// Computes all that is kept beside the entries, with an empty permission cache.
@@ -86,8 +93,8 @@ impl Pmp {
     /// if no register of protection is there.
     #[tactic(auto, using(crate::proofs::Registers::writes))]
     pub fn write_csr(&mut self, addr: u16, value: u32) -> Option<()>
-        ensures stored { Stores self.old addr value self.new result }
-        ensures readable { WritableIsReadable self.new }
+        ensures stored { Changes (store self.old addr value) self.old self.new result }
+        ensures readable { All (λ entry. IsTrue entry.writable → IsTrue entry.readable) self.new.entries }
     {
         let mut entries = self.entries;
         let register = PmpRegister::at(addr)?;
