@@ -1,18 +1,21 @@
 -- Loads, stores and fetches read and write only their own bytes of the memory. Each law compares a bus with
 -- the same bus over another memory of the same size.
-use Rattle.std.proofs.Common.{◌≡◌, ◌≢◌, ℕ, zero, suc, ◌+◌, ◌-◌, ◌≤◌, ◌<◌, List, [], ◌∷◌, slice_get, slice_index, slice_set, length, Option, Some, None, Bool, true, false, nat_le, if◌then◌else◌, arith, inl, inr, refl, sym, ap, subst, ◌∙◌}
+use Rattle.std.proofs.Common.{◌≡◌, ◌≢◌, ℕ, zero, suc, ◌+◌, ◌-◌, ◌≤◌, ◌<◌, List, [], ◌∷◌, slice_get, slice_index, slice_set, length, Option, Some, None, Bool, true, false, nat_le, nat_lt, if◌then◌else◌, arith, inl, inr, refl, sym, ap, subst, ◌∙◌}
+use Rattle.std.specs.Prelude.{◌&&◌}
+use Rattle.std.specs.Option.{option_map}
 use Rattle.std.proofs.lemmas.Bool.{le-leb, leb-true, cases_eq, cases_lt}
 use Rattle.std.proofs.lemmas.Grind.{get_or-set_at}
 use Rattle.std.proofs.lemmas.List.{set_past, get_or-set_other}
 use Rattle.rv_base.specs.Limits.{ram_base}
 use Rattle.rv_isa.specs.declared.op.Width.{Width}
-use Rattle.rv_isa.specs.declared.op.Width.TheVariants.{Four}
 use Rattle.rv_isa.specs.Width.{bytes_of}
 use Rattle.rv_ram.specs.Bytes.{value_at, put}
 use Rattle.rv_bus.specs.State.{BusState}
 use Rattle.rv_bus.specs.Locations.{location_of}
-use Rattle.rv_bus.specs.Access.{fetch_at, fetch, load, load_at, after_load, after_load_at, store, store_at, ram_byte}
+use Rattle.rv_bus.specs.Access.{fetch, load, store, ram_byte}
+use Rattle.rv_bus.specs.AtLocation.{load_at, store_at}
 use Rattle.rv_bus.proofs.Others.{byte_put}
+use Rattle.rv_bus.proofs.Rows.{at_location}
 use Rattle.rv_bus.proofs.Windows.{each_location}
 use Rattle.rv_ram.proofs.Put.{length_put}
 use Rattle.rv_ram.proofs.Value.{same_value}
@@ -51,41 +54,47 @@ same_index (x ∷ one) (y ∷ other) (suc k) same = same_index one other k same
 
 -- ---- loads and fetches
 
--- a load of the same bytes returns the same value
+-- what a load gives, over another memory
+abbrev pub with_ram_after : List ℕ → Option (ℕ × BusState) → Option (ℕ × BusState)
+with_ram_after ram loaded = option_map (λ (r : ℕ × BusState). (r.0, with_ram r.1 ram)) loaded
+
+-- a load of the same bytes returns the same value, and the devices after it don't depend on the memory
 pub same_load : (b : BusState) (ram : List ℕ) (a : ℕ) (w : Width) → length ram ≡ length b.ram
     → (ram_base ≤ a → SameBytes b.ram ram (a - ram_base) (bytes_of w))
-    → load (with_ram b ram) a w ≡ load b a w
-unfolding load
+    → load (with_ram b ram) a w ≡ with_ram_after ram (load b a w)
 same_load b ram a w size same =
-    ap (λ n. load_at (with_ram b ram) (location_of n a w) w) size
-    ∙ each_location (λ p. load_at (with_ram b ram) p w ≡ load_at b p w) (length b.ram) a w
-    (λ above. ap Some (same_number b.ram ram (a - ram_base) (bytes_of w) (same above))) refl (λ off. refl) (λ off. refl)
-    (λ reg. refl) refl
+    (at_location (with_ram b ram) a w).load
+    ∙ ap (λ n. load_at (with_ram b ram) (location_of n a w) w) size
+    ∙ each_location (λ p. load_at (with_ram b ram) p w ≡ with_ram_after ram (load_at b p w)) (length b.ram) a w
+    (λ above. ap (λ (v : ℕ). Some (v, with_ram b ram)) (same_number b.ram ram (a - ram_base) (bytes_of w) (same above)))
+    refl (λ off. refl) (λ off. refl) (λ reg. refl) refl
+    ∙ ap (with_ram_after ram) (sym (at_location b a w).load)
 
--- the devices after a load don't depend on the memory
-pub same_after_load : (b : BusState) (ram : List ℕ) (a : ℕ) (w : Width) → length ram ≡ length b.ram
-    → after_load (with_ram b ram) a w ≡ with_ram (after_load b a w) ram
-unfolding after_load
-same_after_load b ram a w size =
-    ap (λ n. after_load_at (with_ram b ram) (location_of n a w)) size
-    ∙ each_location (λ p. after_load_at (with_ram b ram) p ≡ with_ram (after_load_at b p) ram)
-    (length b.ram) a w
-    (λ above. refl) refl (λ reg. refl) (λ off. refl) (λ reg. refl) refl
+-- a load leaves the memory
+abbrev pub KeepsMemory : BusState → Option (ℕ × BusState) → Type 0
+KeepsMemory b None = Unit {0}
+KeepsMemory b (Some r) = r.1.ram ≡ b.ram
 
-pub memory_after_load : (b : BusState) (a : ℕ) (w : Width) → (after_load b a w).ram ≡ b.ram
-unfolding after_load
+pub memory_after_load : (b : BusState) (a : ℕ) (w : Width) → KeepsMemory b (load b a w)
 memory_after_load b a w =
-    each_location (λ p. (after_load_at b p).ram ≡ b.ram) (length b.ram) a w (λ above. refl) refl (λ off. refl)
-    (λ off. refl) (λ reg. refl) refl
+    subst (KeepsMemory b) (sym (at_location b a w).load)
+    (each_location (λ p. KeepsMemory b (load_at b p w)) (length b.ram) a w (λ above. refl) refl (λ off. refl)
+    (λ off. refl) (λ reg. refl) tt)
 
 pub same_fetch : (one other : List ℕ) (a : ℕ) → length other ≡ length one
     → (ram_base ≤ a → SameBytes one other (a - ram_base) 4) → fetch other a ≡ fetch one a
 unfolding fetch
 same_fetch one other a size same =
-    ap (λ n. fetch_at other (location_of n a Four)) size
-    ∙ each_location (λ p. fetch_at other p ≡ fetch_at one p) (length one) a Four
-    (λ above. ap Some (same_number one other (a - ram_base) 4 (same above))) refl (λ off. refl)
-    (λ off. refl) (λ reg. refl) refl
+    ap (λ n. if nat_le ram_base a && nat_lt (a - ram_base) n then Some (value_at other (a - ram_base) 4) else None)
+    size
+    ∙ by (nat_le ram_base a) (nat_lt (a - ram_base) (length one)) refl
+  where
+    by : (t u : Bool) → nat_le ram_base a ≡ t
+        → (if t && u then Some (value_at other (a - ram_base) 4) else None)
+        ≡ (if t && u then Some (value_at one (a - ram_base) 4) else None)
+    by true true is = ap Some (same_number one other (a - ram_base) 4 (same (leb-true ram_base a is)))
+    by true false is = refl
+    by false u is = refl
 
 -- ---- stores
 
@@ -155,9 +164,11 @@ memory_store b ram a v w size above = record {
 
 pub same_store : (b : BusState) (ram : List ℕ) (a v : ℕ) (w : Width) → length ram ≡ length b.ram
     → BothStore b ram a w (store b a w v) (store (with_ram b ram) a w v)
-unfolding store
 same_store b ram a v w size =
-    subst (λ n. BothStore b ram a w (store_at b (location_of (length b.ram) a w) w v)
+    subst (λ x. BothStore b ram a w x (store (with_ram b ram) a w v)) (sym ((at_location b a w).store v))
+    (subst (λ y. BothStore b ram a w (store_at b (location_of (length b.ram) a w) w v) y)
+    (sym ((at_location (with_ram b ram) a w).store v))
+    (subst (λ n. BothStore b ram a w (store_at b (location_of (length b.ram) a w) w v)
     (store_at (with_ram b ram) (location_of n a w) w v)) (sym size)
     (each_location (λ p. BothStore b ram a w (store_at b p w v) (store_at (with_ram b ram) p w v))
     (length b.ram) a w
@@ -166,7 +177,7 @@ same_store b ram a v w size =
     (λ reg. device_store b ram a w _ size refl)
     (λ off. device_store b ram a w _ size refl)
     (λ reg. device_store b ram a w _ size refl)
-    tt)
+    tt)))
 
 -- ---- a byte at an address
 

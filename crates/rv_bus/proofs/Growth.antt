@@ -1,11 +1,14 @@
--- A store for which room may have to be made goes into the memory or to the transmit register, and is no fault.
-use Rattle.std.proofs.Common.{◌≡◌, ℕ, true, refl}
+-- A store for which room may have to be made goes into the memory or to the transmit register, and is no
+-- fault.
+use Rattle.std.proofs.Common.{◌≡◌, ◌∙◌, ℕ, true, ap, refl}
 use Rattle.std.specs.Prelude.{is_some}
 use Rattle.rv_isa.specs.declared.op.Width.{Width}
 use Rattle.rv_mmio.specs.declared.serial.SerialReg.TheVariants.{Tx, Rx, Status}
 use Rattle.rv_bus.specs.State.{BusState}
-use Rattle.rv_bus.specs.Access.{is_written, location, store, store_at, writes}
+use Rattle.rv_bus.specs.Access.{store, writes}
+use Rattle.rv_bus.specs.AtLocation.{is_written, location, store_at}
 use Rattle.rv_bus.specs.Room.{wants_room, wants_room_at}
+use Rattle.rv_bus.proofs.Rows as rows
 use Rattle.rv_bus.specs.declared.locations.Location.{Location}
 use Rattle.rv_bus.specs.declared.locations.Location.TheVariants.{Ram, Halt, Timer, Plic, Serial, Nowhere}
 
@@ -21,6 +24,9 @@ at_location b v w (Plic off) is = absurd cc
 at_location b v w Nowhere is = absurd cc
 
 pub room_stores : (b : BusState) (a v : ℕ) (w : Width) → wants_room b a w v ≡ true
-    → (writes b a w ≡ true) × (is_some (store b a w v) ≡ true)
-unfolding wants_room writes store
-room_stores b a v w is = at_location b v w (location b a w) is
+    → (writes b a ≡ true) × (is_some (store b a w v) ≡ true)
+unfolding wants_room
+room_stores b a v w is =
+    let at = at_location b v w (location b a w) is in
+    let row = rows.at_location b a w in
+    (row.writes ∙ at.0, ap is_some (row.store v) ∙ at.1)

@@ -1,5 +1,7 @@
 -- A store leaves the bytes and the words that it doesn't write to as they were.
-use Rattle.std.proofs.Common.{◌≡◌, ◌≢◌, ℕ, zero, suc, ◌+◌, ◌-◌, ◌*◌, ◌/◌, ◌%◌, ◌<◌, List, slice_index, slice_set, Some, arith, refl, ap, ◌∙◌}
+use Rattle.std.proofs.Common.{◌≡◌, ◌≢◌, ℕ, zero, suc, ◌+◌, ◌-◌, ◌*◌, ◌/◌, ◌%◌, ◌<◌, List, slice_index, slice_set, Some, None, Bool, true, false, nat_le, nat_lt, arith, refl, ap, ◌∙◌}
+use Rattle.std.specs.Prelude.{◌&&◌, if◌then◌else◌}
+use Rattle.std.proofs.lemmas.Bool.{and_parts, leb-true}
 use Rattle.std.proofs.lemmas.Grind.{elements}
 use Rattle.rv_base.specs.Limits.{ram_base}
 use Rattle.rv_isa.specs.declared.op.Width.{Width}
@@ -8,9 +10,7 @@ use Rattle.rv_isa.specs.Width.{bytes_of}
 use Rattle.rv_ram.specs.Bytes.{put, value_at}
 use Rattle.rv_ram.proofs.Put.{length_put}
 use Rattle.rv_ram.proofs.Value.{same_value}
-use Rattle.rv_bus.specs.Locations.{location_of}
-use Rattle.rv_bus.specs.Access.{fetch, fetch_at}
-use Rattle.rv_bus.proofs.Windows.{each_location}
+use Rattle.rv_bus.specs.Access.{fetch, in_memory}
 
 -- a write of one byte leaves another as it was
 other : (bs : List ℕ) (i x j : ℕ) → j ≢ i → slice_index (slice_set bs i x) j ≡ slice_index bs j
@@ -42,8 +42,14 @@ pub fetch_put : (ram : List ℕ) (off addr a v : ℕ) (w : Width) → off % byte
     → a % 4 ≡ 0 → a ≢ addr / 4 * 4 → fetch (put ram off (bytes_of w) v) a ≡ fetch ram a
 unfolding fetch
 fetch_put ram off addr a v w al e s n =
-    ap (λ len. fetch_at (put ram off (bytes_of w) v) (location_of len a Four))
-    (length_put ram off (bytes_of w) v)
-    ∙ each_location (λ p. fetch_at (put ram off (bytes_of w) v) p ≡ fetch_at ram p) _ a Four
-    (λ above. ap Some (other_word ram off v (a - ram_base) w al (omega arith) (λ q. n (omega arith)))) refl
-    (λ reg. refl) (λ off. refl) (λ reg. refl) refl
+    ap (λ len. if nat_le ram_base a && nat_lt (a - ram_base) len
+    then Some (value_at (put ram off (bytes_of w) v) (a - ram_base) 4) else None) (length_put ram off (bytes_of w) v)
+    ∙ by (in_memory ram a) refl
+  where
+    by : (t : Bool) → in_memory ram a ≡ t
+        → (if t then Some (value_at (put ram off (bytes_of w) v) (a - ram_base) 4) else None)
+        ≡ (if t then Some (value_at ram (a - ram_base) 4) else None)
+    by true is =
+        let above = leb-true ram_base a ((and_parts (nat_le ram_base a) _ is).0) in
+        ap Some (other_word ram off v (a - ram_base) w al (omega arith) (λ q. n (omega (arith, above))))
+    by false is = refl

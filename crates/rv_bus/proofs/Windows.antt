@@ -10,14 +10,14 @@ use Rattle.rv_mmio.specs.declared.serial.SerialReg.{SerialReg}
 use Rattle.rv_mmio.specs.declared.serial.SerialReg.TheVariants.{Tx, Rx, Status}
 use Rattle.rv_mmio.specs.declared.timer.TimerReg.{TimerReg}
 use Rattle.rv_mmio.specs.declared.timer.TimerReg.TheVariants.{Msip, MtimecmpLow, MtimecmpHigh, MtimeLow, MtimeHigh}
-use Rattle.rv_bus.specs.Locations.{location_of, register, takes, window}
+use Rattle.rv_bus.specs.Locations.{devices, location_in, location_of, register, takes, window}
 use Rattle.rv_bus.specs.Routes.{device_of, of_width, route_of}
 use Rattle.rv_bus.specs.declared.locations.Location.{Location}
 use Rattle.rv_bus.specs.declared.locations.Location.TheVariants.{Ram, Halt, Timer, Plic, Serial, Nowhere}
 
 -- ---- whether a window has an address
 
-abbrev has : ℕ → ℕ → ℕ → Bool
+abbrev pub has : ℕ → ℕ → ℕ → Bool
 has first size a = nat_le first a && nat_lt (a - first) size
 
 under : (first size a : ℕ) → a < first → has first size a ≡ false
@@ -47,7 +47,7 @@ by_end first size end a is =
     let high = ltb-true a end p.1 in
     and_from _ _ p.0 (lt-ltb (a - first) size (omega (arith, low, high))))
 
-one_address : (first a : ℕ) → has first 1 a ≡ (a == first)
+pub one_address : (first a : ℕ) → has first 1 a ≡ (a == first)
 one_address first a =
     iff (has first 1 a) (a == first)
     (λ t. let p = within first 1 a t in eq-eqb a first (omega (arith, p.0, p.1)))
@@ -128,15 +128,11 @@ at_register : (P : Location → Type 0) (a : ℕ) (w : Width) (address narrowest
 at_register P a w address narrowest p q here later =
     either P (takes (register address narrowest p) a w) p q (λ t. here) later
 
-pub each_location : (P : Location → Type 0) (size a : ℕ) (w : Width)
-    → (ram_base ≤ a → P (Ram (a - ram_base))) → P Halt → ((reg : TimerReg) → P (Timer reg))
+pub each_device : (P : Location → Type 0) (a : ℕ) (w : Width) → P Halt → ((reg : TimerReg) → P (Timer reg))
     → ((off : ℕ) → P (Plic off)) → ((reg : SerialReg) → P (Serial reg)) → P Nowhere
-    → P (location_of size a w)
-unfolding location_of
-each_location P size a w ram halt timer plic serial nowhere =
-    either P (takes (window ram_base size 1 (λ off. Ram off)) a w) (Ram (a - ram_base)) _
-    (λ t. ram (leb-true ram_base a ((and_parts (nat_le ram_base a) _ ((and_parts (nat_le 1 (bytes_of w)) _ t).1)).0)))
-    (at_register P a w 0x10000000 1 (Serial Tx) _ (serial Tx)
+    → P (location_in devices a w)
+each_device P a w halt timer plic serial nowhere =
+    at_register P a w 0x10000000 1 (Serial Tx) _ (serial Tx)
     (at_register P a w 0x10000004 1 (Serial Rx) _ (serial Rx)
     (at_register P a w 0x10000008 1 (Serial Status) _ (serial Status)
     (at_register P a w 0x00100000 4 Halt _ halt
@@ -146,4 +142,14 @@ each_location P size a w ram halt timer plic serial nowhere =
     (at_register P a w 0x0200bff8 4 (Timer MtimeLow) _ (timer MtimeLow)
     (at_register P a w 0x0200bffc 4 (Timer MtimeHigh) _ (timer MtimeHigh)
     (either P (takes (window 0x0c000000 0x4000000 4 (λ off. Plic off)) a w) (Plic (a - 0x0c000000)) Nowhere
-    (λ t. plic (a - 0x0c000000)) nowhere))))))))))
+    (λ t. plic (a - 0x0c000000)) nowhere)))))))))
+
+pub each_location : (P : Location → Type 0) (size a : ℕ) (w : Width)
+    → (ram_base ≤ a → P (Ram (a - ram_base))) → P Halt → ((reg : TimerReg) → P (Timer reg))
+    → ((off : ℕ) → P (Plic off)) → ((reg : SerialReg) → P (Serial reg)) → P Nowhere
+    → P (location_of size a w)
+unfolding location_of
+each_location P size a w ram halt timer plic serial nowhere =
+    either P (takes (window ram_base size 1 (λ off. Ram off)) a w) (Ram (a - ram_base)) _
+    (λ t. ram (leb-true ram_base a ((and_parts (nat_le ram_base a) _ ((and_parts (nat_le 1 (bytes_of w)) _ t).1)).0)))
+    (each_device P a w halt timer plic serial nowhere)

@@ -1,8 +1,9 @@
 pub mod State
+pub mod Table
+pub mod Access
 pub mod Locations
+pub mod AtLocation
 pub mod Routes
 pub mod Within
-pub mod Access
-pub mod Stores
 pub mod Room
 pub mod Ticks

@@ -1,6 +1,5 @@
--- To audit: public contracts cite this.
--- The address table (docs/BOARD.md). Accesses are at multiples of their width, so that all bytes of one to the
--- memory or the interrupt controller are there. Every other access is a fault.
+-- Not to audit: private contracts alone cite this. proofs/ proves that it is what the address table says.
+-- The locations of the address table.
 use Rattle.std.specs.Prelude.{ℕ, ◌-◌, ◌&&◌, Bool, nat_lt, nat_le, if◌then◌else◌, List, [], ◌∷◌}
 use Rattle.rv_base.specs.Limits.{ram_base}
 use Rattle.rv_isa.specs.declared.op.Width.{Width}
@@ -26,11 +25,10 @@ window first size narrowest location =
 abbrev pub register : ℕ → ℕ → Location → Window
 register address narrowest location = window address 1 narrowest (λ off. location)
 
--- the windows, where the memory has `size` bytes
-abbrev pub windows : ℕ → List Window
-windows size =
-    window ram_base size 1 (λ off. Ram off)
-    ∷ register 0x10000000 1 (Serial Tx)
+-- the windows of the devices
+abbrev pub devices : List Window
+devices =
+    register 0x10000000 1 (Serial Tx)
     ∷ register 0x10000004 1 (Serial Rx)
     ∷ register 0x10000008 1 (Serial Status)
     ∷ register 0x00100000 4 Halt
@@ -41,6 +39,10 @@ windows size =
     ∷ register 0x0200bffc 4 (Timer MtimeHigh)
     ∷ window 0x0c000000 0x4000000 4 (λ off. Plic off)
     ∷ []
+
+-- the windows, where the memory has `size` bytes
+abbrev pub windows : ℕ → List Window
+windows size = window ram_base size 1 (λ off. Ram off) ∷ devices
 
 -- whether a window takes an access of a width at an address
 abbrev pub takes : Window → ℕ → Width → Bool

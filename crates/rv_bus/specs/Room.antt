@@ -5,7 +5,7 @@ use Rattle.rv_isa.specs.declared.op.Width.{Width}
 use Rattle.rv_ram.specs.Pages.{wants_page}
 use Rattle.rv_mmio.specs.Room as console
 use Rattle.rv_bus.specs.State.{BusState}
-use Rattle.rv_bus.specs.Access.{location}
+use Rattle.rv_bus.specs.AtLocation.{location}
 use Rattle.rv_bus.specs.declared.locations.Location.{Location}
 use Rattle.rv_bus.specs.declared.locations.Location.TheVariants.{Ram, Serial}
 

@@ -1,10 +1,12 @@
 -- Not to audit: only the calls by which a tick is undone cite this, and their clauses say what they restore.
--- What is kept of the bus to undo a tick.
+-- A tick, and what is kept of the bus to undo it.
 use Rattle.std.specs.Prelude.{ℕ}
 use Rattle.rv_plic.specs.Gateways.{requests}
 use Rattle.rv_plic.specs.Plic.{PlicState}
+use Rattle.rv_plic.specs.Plic as plic
 use Rattle.rv_plic.specs.Sources.{Sources}
 use Rattle.rv_mmio.specs.Timer.{TimerState}
+use Rattle.rv_mmio.specs.Timer as timer
 use Rattle.rv_bus.specs.State.{BusState}
 
 -- the timer and the interrupt controller, which a tick changes
@@ -19,4 +21,8 @@ pub record TickState : Type 0 where
 
 -- the part of the bus that the next tick changes
 abbrev pub next_tick : BusState → TickState
-next_tick b = record { time = b.timer.time; requests = requests b.plic.gateways b.plic.pending }
+next_tick b = record { time = b.timer.time; requests = requests b.plic }
+
+-- the bus after a tick
+abbrev pub ticked : BusState → BusState
+ticked b = record b { timer = timer.ticked b.timer; plic = plic.forwarded b.plic }

@@ -1,5 +1,6 @@
 //! The bus over a memory.
-ghost use Rattle.std.specs.Prelude.{◌≡◌, ◌≢◌, ◌+◌, ◌*◌, ◌/◌, ◌%◌, ◌^◌, ◌<◌, ◌≤◌, ℕ, true, false, length, IfErr};
+ghost use Rattle.std.specs.Prelude.{◌≡◌, ◌≢◌, ◌+◌, ◌*◌, ◌/◌, ◌%◌, ◌^◌, ◌<◌, ◌≤◌, ℕ, true, false, length, Some, None, IfOk, IfErr, OnOk, OnErr};
+ghost use Rattle.std.specs.Result.{result_ok};
 ghost use Rattle.rv_isa.specs.Width.{bytes_of};
 ghost use Rattle.rv_base.specs.Limits.{ram_base};
 ghost use Rattle.rv_ram.specs.Bytes.{put, value_at};
@@ -7,11 +8,13 @@ ghost use Rattle.rv_ram.specs.Table.{HasPages};
 ghost use Rattle.rv_ram.specs.Pages.{is_zero_page};
 ghost use Rattle.rv_mmio.specs.Serial as serial;
 ghost use Rattle.rv_bus.specs.State.{BusState, reset};
-ghost use Rattle.rv_bus.specs.Access.{location, load, after_load, fetch, low_bits, ram_byte, ticked, lines_of, with_line, received};
+ghost use Rattle.rv_plic.specs.Plic as plic;
+ghost use Rattle.rv_mmio.specs.Timer as timer;
+ghost use Rattle.rv_bus.specs.Access.{load, store, writes, fetch, ram_byte, lines_of};
+ghost use Rattle.rv_bus.specs.AtLocation.{IsFor, location};
 ghost use Rattle.rv_bus.specs.Within.{IsWithin};
-ghost use Rattle.rv_bus.specs.Stores.{Stores, Answers};
 ghost use Rattle.rv_bus.specs.Room.{wants_room};
-ghost use Rattle.rv_bus.specs.Ticks.{next_tick};
+ghost use Rattle.rv_bus.specs.Ticks.{next_tick, ticked};
 ghost use Rattle.rv_bus.specs.declared.bus.StoreRefusal.TheVariants as refusal;
 
 use crate::locations::{Location, find_location};
@@ -19,7 +22,8 @@ use rv_base::{NoMemory, RAM_BASE};
 use rv_isa::{InterruptLines, Width};
 use rv_mmio::{Halt, Serial, SerialReg, Timer};
 use rv_plic::{Plic, Source, SourceSet};
-use rv_ram::ByteMemory;
+use rv_ram::{ByteMemory, PagedRam};
+use std::alloc::Global;
 use std::marker::Model;
 
 /// The error of an access for which the address table has no location.
@@ -145,16 +149,16 @@ impl<M: ByteMemory> Bus<M> {
     fn location(&self, addr: u32, width: Width) -> Location
         requires { addr % bytes_of width ≡ 0 }
         ensures location { result ≡ location self.now addr width }
+        ensures is { IsFor self.now addr width result }
         ensures within { IsWithin (length self.now.ram) addr width result }
     {
         find_location(self.ram.size(), addr, width)
     }
 
     /// Fetches the word at an address that is a multiple of 4. Only the memory can be fetched from.
-    #[tactic(auto, unfolding(crate::specs::Access::fetch))]
     pub fn fetch(&self, addr: u32) -> Result<u32, BusFault>
         requires { addr % 4 ≡ 0 }
-        ensures { Answers result (fetch self.now.ram addr) }
+        ensures { result_ok result ≡ fetch self.now.ram addr }
     {
         match self.location(addr, Width::Four) {
             Location::Ram(off) => Ok(self.ram.read_word(off)),
@@ -165,13 +169,11 @@ impl<M: ByteMemory> Bus<M> {
     /// Loads a value, extended with zeros, from an address that is a multiple of its width. A load of the
     /// receive register takes the byte, one of the status register clears the overrun, and one of the claim
     /// register claims; a faulting load changes nothing.
-    #[tactic(auto, unfolding(crate::specs::Access::load, crate::specs::Access::after_load))]
     pub fn load(&mut self, addr: u32, width: Width) -> Result<u32, BusFault>
         requires { addr % bytes_of width ≡ 0 }
-        ensures value { Answers result (load self.old addr width) }
-        ensures after { self.new ≡ after_load self.old addr width }
+        ensures ok { IfOk result (λ v. load self.old addr width ≡ Some (v, self.new)) }
+        ensures fault { OnErr result ((load self.old addr width ≡ None) × (self.new ≡ self.old)) }
         ensures ram { self.new.ram ≡ self.old.ram }
-        ensures fault { IfErr result (λ _. self.new ≡ self.old) }
     {
         match self.location(addr, width) {
             Location::Ram(off) => Ok(self.load_ram(off, width)),
@@ -210,8 +212,8 @@ impl<M: ByteMemory> Bus<M> {
 
     /// Loads a register of the serial port: the low bytes of its word.
     fn load_serial(&mut self, register: SerialReg, width: Width) -> u32
-        ensures value { result ≡ low_bits (serial.load_value self.old.serial register) width }
-        ensures after { self.new ≡ record self.old { serial = serial.after_load self.old.serial register } }
+        ensures value { result ≡ (serial.at register).word self.old.serial % 256 ^ bytes_of width }
+        ensures after { self.new ≡ record self.old { serial = (serial.at register).loaded self.old.serial } }
     {
         let word = self.serial.load(register);
         match width {
@@ -225,10 +227,13 @@ impl<M: ByteMemory> Bus<M> {
     /// changes nothing. It may be out of memory only where room has to be made: for a page of the memory that
     /// has only zeros, where something else is stored, or in the console where it has none, which is at most
     /// once in 4096 bytes.
-    #[tactic(auto, using(crate::proofs::Others::fetch_put), unfolding(crate::specs::Access::store, crate::specs::Access::writes, crate::specs::Room::wants_room))]
+    #[tactic(auto, using(crate::proofs::Others::fetch_put), unfolding(crate::specs::Room::wants_room))]
     pub fn store(&mut self, addr: u32, width: Width, value: u32) -> Result<(), StoreRefusal>
         requires { addr % bytes_of width ≡ 0 }
-        ensures stores { Stores self.old addr width value self.new result }
+        ensures ok { OnOk result (store self.old addr width value ≡ Some self.new) }
+        ensures err { OnErr result (self.new ≡ self.old) }
+        ensures fault { IfErr result (λ e. e ≡ refusal.Fault → store self.old addr width value ≡ None) }
+        ensures memory { IfErr result (λ e. e ≡ refusal.NoMemory → writes self.old addr ≡ true) }
         ensures room { IfErr result (λ e. e ≡ refusal.NoMemory → wants_room self.old addr width value ≡ true) }
         ensures others { (a : ℕ) → a % 4 ≡ 0 → a ≢ addr / 4 * 4 → fetch self.new.ram a ≡ fetch self.old.ram a }
     {
@@ -273,7 +278,10 @@ impl<M: ByteMemory> Bus<M> {
 
     /// Advances the time by one tick, and forwards the requests of the interrupt controller's gateways.
     pub fn tick(&mut self)
-        ensures { self.new ≡ ticked self.old }
+        ensures { self.new ≡ record self.old {
+          timer = timer.ticked self.old.timer;
+          plic = plic.forwarded self.old.plic;
+        } }
     {
         self.timer.tick();
         self.plic.forward();
@@ -302,14 +310,14 @@ impl<M: ByteMemory> Bus<M> {
 
     /// Sets the level of an interrupt source's line.
     pub fn set_line(&mut self, source: Source, high: bool)
-        ensures { self.new ≡ with_line self.old source high }
+        ensures { self.new ≡ record self.old { plic = plic.with_line self.old.plic source high } }
     {
         self.plic.set_line(source, high);
     }
 
     /// Receives a byte at the serial port.
     pub fn receive(&mut self, byte: u8)
-        ensures { self.new ≡ received self.old byte }
+        ensures { self.new ≡ record self.old { serial = serial.received self.old.serial byte } }
     {
         self.serial.receive(byte);
     }
@@ -383,5 +391,26 @@ impl<M: ByteMemory> Bus<M> {
         ensures { result.now ≡ self.now.serial }
     {
         &self.serial
+    }
+}
+
+impl Bus<PagedRam> {
+    /// Returns a copy of the memory and the devices.
+    ///
+    /// # Errors
+    ///
+    /// `NoMemory` if memory runs out.
+    pub fn try_clone(&self, alloc: Global) -> Result<Bus<PagedRam>, NoMemory>
+        ensures { IfOk result (λ bus. bus ≡ self.now) }
+    {
+        let ram = self.ram.try_clone(alloc)?;
+        let serial = self.serial.try_clone(alloc)?;
+        Ok(Bus {
+            ram,
+            timer: self.timer,
+            plic: self.plic,
+            serial,
+            halt: self.halt,
+        })
     }
 }

@@ -1,0 +1,173 @@
+-- The rows of the address table do what the accesses at their locations do.
+use Rattle.std.proofs.Common.{◌≡◌, ℕ, ◌-◌, ◌==◌, nat_le, nat_lt, Bool, true, false, List, [], ◌∷◌, Option, Some, None, refl, sym, ap, subst, ◌∙◌}
+use Rattle.std.specs.Prelude.{◌&&◌, ◌||◌, if◌then◌else◌, drop, find, length}
+use Rattle.std.specs.Option.{option_map}
+use Rattle.rv_base.specs.Limits.{ram_base}
+use Rattle.rv_isa.specs.Width.{bytes_of}
+use Rattle.rv_isa.specs.declared.op.Width.{Width}
+use Rattle.rv_isa.specs.declared.op.Width.TheVariants.{One, Two, Four}
+use Rattle.rv_ram.specs.Bytes.{value_at}
+use Rattle.rv_mmio.specs.declared.serial.SerialReg.{SerialReg}
+use Rattle.rv_mmio.specs.declared.serial.SerialReg.TheVariants.{Tx, Rx, Status}
+use Rattle.rv_mmio.specs.declared.timer.TimerReg.{TimerReg}
+use Rattle.rv_mmio.specs.declared.timer.TimerReg.TheVariants.{Msip, MtimecmpLow, MtimecmpHigh, MtimeLow, MtimeHigh}
+use Rattle.rv_bus.specs.State.{BusState}
+use Rattle.rv_bus.specs.Table.{Window, serial_window, timer_window, window_at, windows}
+use Rattle.rv_bus.specs.Access.{load, store, writes, fetch, in_memory}
+use Rattle.rv_bus.specs.Locations as locations
+use Rattle.rv_bus.specs.Locations.{devices, location_in, location_of, takes}
+use Rattle.rv_bus.specs.AtLocation.{IsFor, location, load_at, store_at, is_written, fetch_at}
+use Rattle.rv_bus.specs.declared.locations.Location.{Location}
+use Rattle.rv_bus.specs.declared.locations.Location.TheVariants.{Ram, Timer, Serial}
+use Rattle.rv_bus.proofs.Windows.{each_device, one_address}
+
+module _ (b : BusState) (a : ℕ) (w : Width) where
+  -- whether a row takes the access
+  abbrev has_access : Window → Bool
+  has_access x = nat_le x.narrowest (bytes_of w) && (nat_le x.first a && nat_lt (a - x.first) x.size)
+
+  -- a row, or none, that does what the accesses at a location do
+  record IsRow (x : Option Window) (p : Location) : Type 0 where
+    load : option_map (λ (x : Window). x.loaded (a - x.first)) x ≡ load_at b p w
+    store : (v : ℕ) → option_map (λ (x : Window). x.stored (a - x.first) v) x ≡ store_at b p w v
+
+  row : (t : Bool) (x y : Option Window) (p q : Location) → IsRow x p → IsRow y q
+      → IsRow (if t then x else y) (if t then p else q)
+  row true x y p q here later = here
+  row false x y p q here later = later
+
+  -- a row that takes the accesses that a window of locations takes
+  record IsPair (x : Window) (y : locations.Window) : Type 0 where
+    same : has_access x ≡ takes y a w
+    row : IsRow (Some x) (y.location (a - y.first))
+
+  abbrev ArePairs : List Window → List locations.Window → Type 0
+  ArePairs [] [] = Unit {0}
+  ArePairs [] (y ∷ ys) = ⊥
+  ArePairs (x ∷ xs) [] = ⊥
+  ArePairs (x ∷ xs) (y ∷ ys) = IsPair x y × ArePairs xs ys
+
+  rows_of : (xs : List Window) (ys : List locations.Window) → ArePairs xs ys
+      → IsRow (find has_access xs) (location_in ys a w)
+  rows_of [] [] p = record { load = refl; store = λ v. refl }
+  rows_of [] (y ∷ ys) p = absurd p
+  rows_of (x ∷ xs) [] p = absurd p
+  rows_of (x ∷ xs) (y ∷ ys) p =
+      subst (λ t. IsRow (find has_access (x ∷ xs)) (if t then y.location (a - y.first) else location_in ys a w))
+      p.0.same
+      (row (has_access x) (Some x) (find has_access xs) (y.location (a - y.first)) (location_in ys a w) p.0.row
+      (rows_of xs ys p.1))
+
+  serial_pair : (address : ℕ) (reg : SerialReg)
+      → IsPair (serial_window b w address reg) (locations.register address 1 (Serial reg))
+  serial_pair address reg = record { same = refl; row = record { load = refl; store = λ v. refl } }
+
+  timer_pair : (address : ℕ) (reg : TimerReg)
+      → IsPair (timer_window b address reg) (locations.register address 4 (Timer reg))
+  timer_pair address reg = record { same = refl; row = record { load = refl; store = λ v. refl } }
+
+  rows : IsRow (window_at b a w) (location b a w)
+  unfolding location_of
+  rows =
+      rows_of (windows b w) (locations.windows (length b.ram)) (
+        record { same = refl; row = record { load = refl; store = λ v. refl } },
+        (
+          serial_pair 0x10000000 Tx,
+          (
+            serial_pair 0x10000004 Rx,
+            (
+              serial_pair 0x10000008 Status,
+              (
+                record { same = refl; row = record { load = refl; store = λ v. refl } },
+                (
+                  timer_pair 0x02000000 Msip,
+                  (
+                    timer_pair 0x02004000 MtimecmpLow,
+                    (
+                      timer_pair 0x02004004 MtimecmpHigh,
+                      (
+                        timer_pair 0x0200bff8 MtimeLow,
+                        (
+                          timer_pair 0x0200bffc MtimeHigh,
+                          (record { same = refl; row = record { load = refl; store = λ v. refl } }, tt),
+                        ),
+                      ),
+                    ),
+                  ),
+                ),
+              ),
+            ),
+          ),
+        ),
+      )
+
+  -- ---- the memory and the transmit register
+
+  by_memory : location b a w ≡ (if in_memory b.ram a then Ram (a - ram_base) else location_in devices a w)
+  unfolding location_of
+  by_memory = by w where
+    by : (w : Width) → location b a w ≡ (if in_memory b.ram a then Ram (a - ram_base) else location_in devices a w)
+    by One = refl
+    by Two = refl
+    by Four = refl
+
+  fetched : (t : Bool) (p : Location) → fetch_at b.ram p ≡ None
+      → (if t then Some (value_at b.ram (a - ram_base) 4) else None)
+      ≡ fetch_at b.ram (if t then Ram (a - ram_base) else p)
+  fetched true p none = refl
+  fetched false p none = sym none
+
+  fetches : fetch b.ram a ≡ fetch_at b.ram (location b a w)
+  unfolding fetch
+  fetches =
+      fetched (in_memory b.ram a) (location_in devices a w)
+      (each_device (λ p. fetch_at b.ram p ≡ None) a w refl (λ reg. refl) (λ off. refl) (λ reg. refl) refl)
+      ∙ ap (fetch_at b.ram) (sym by_memory)
+
+  abbrev others : Location
+  others = location_in (drop 1 devices) a w
+
+  by_transmit : location_in devices a w ≡ (if a == 0x10000000 then Serial Tx else others)
+  by_transmit = by w where
+    by : (w : Width) → location_in devices a w ≡ (if a == 0x10000000 then Serial Tx else location_in (drop 1 devices) a w)
+    by One = rw (one_address 0x10000000 a) refl
+    by Two = rw (one_address 0x10000000 a) refl
+    by Four = rw (one_address 0x10000000 a) refl
+
+  neither : (t : Bool) (p q : Location) → is_written p ≡ false → is_written q ≡ false
+      → is_written (if t then p else q) ≡ false
+  neither true p q e f = e
+  neither false p q e f = f
+
+  abbrev NoneWritten : List locations.Window → Type 0
+  NoneWritten [] = Unit {0}
+  NoneWritten (y ∷ ys) = (is_written (y.location (a - y.first)) ≡ false) × NoneWritten ys
+
+  none_written : (ys : List locations.Window) → NoneWritten ys → is_written (location_in ys a w) ≡ false
+  none_written [] n = refl
+  none_written (y ∷ ys) n =
+      neither (takes y a w) (y.location (a - y.first)) (location_in ys a w) n.0 (none_written ys n.1)
+
+  no_others : is_written others ≡ false
+  no_others = none_written (drop 1 devices) (refl, (refl, (refl, (refl, (refl, (refl, (refl, (refl, (refl, tt)))))))))
+
+  writing : (t u : Bool) (p : Location) → is_written p ≡ false
+      → (t || u) ≡ is_written (if t then Ram (a - ram_base) else (if u then Serial Tx else p))
+  writing true u p none = refl
+  writing false true p none = refl
+  writing false false p none = sym none
+
+  written : writes b a ≡ is_written (location b a w)
+  unfolding writes
+  written =
+      writing (in_memory b.ram a) (a == 0x10000000) others no_others
+      ∙ ap (λ p. is_written (if in_memory b.ram a then Ram (a - ram_base) else p)) (sym by_transmit)
+      ∙ ap is_written (sym by_memory)
+
+  pub at_location : IsFor b a w (location b a w)
+  unfolding load store
+  at_location =
+      record { load = rows.load; store = rows.store; writes = written; fetch = fetches }
+
+  pub is_for : (p : Location) → p ≡ location b a w → IsFor b a w p
+  is_for p is = subst (IsFor b a w) (sym is) at_location
