@@ -1,7 +1,7 @@
 -- A step for which room may have to be made retires a store into the memory or to the transmit register.
 use Rattle.std.proofs.Common.{◌≡◌, ℕ, ◌%◌, ◌==◌, Bool, true, false, Option, Some, None, Result, Ok, Err, refl}
 use Rattle.std.specs.Prelude.{◌&&◌, if◌then◌else◌, is_some}
-use Rattle.std.specs.Option.{option_and_then, option_map_or}
+use Rattle.std.specs.Option.{option_map_or}
 use Rattle.std.specs.Result.{is_ok, result_ok}
 use Rattle.std.proofs.lemmas.Bool.{and_parts, and_from}
 use Rattle.rv_isa.specs.Width.{bytes_of}
@@ -13,9 +13,10 @@ use Rattle.rv_bus.specs.State.{BusState}
 use Rattle.rv_bus.specs.Access as bus
 use Rattle.rv_bus.proofs.Growth.{room_stores}
 use Rattle.rv_hart.specs.State.{Machine}
-use Rattle.rv_hart.specs.Effect.{may_access, plus, reg, store_effect, stored}
-use Rattle.rv_hart.specs.EffectParts.{misaligned_store, refused_store, store_result}
+use Rattle.rv_hart.specs.Effect.{execute, plus, reg}
+use Rattle.rv_hart.specs.EffectParts.{misaligned_store, refused_store, store_effect, store_result, may_access}
 use Rattle.rv_hart.specs.Room.{attempt_grows, may_grow, store_grows, wants_room}
+use Rattle.rv_hart.specs.Step as step
 use Rattle.rv_hart.specs.Step.{fetched, ticked, tries, writes}
 use Rattle.rv_hart.specs.declared.trap.Trap.{Trap}
 
@@ -29,7 +30,7 @@ retires m addr true false after p q r = absurd cc
 retires m addr false granted after p q r = absurd cc
 
 stores : (m : Machine) (w : Width) (addr v : ℕ) → store_grows m w addr v ≡ true
-    → (is_ok (store_effect m w addr v) && bus.writes m.bus addr w) ≡ true
+    → (is_ok (store_effect m w addr v) && bus.writes m.bus addr) ≡ true
 unfolding store_grows store_effect
 stores m w addr v is =
     let a = and_parts (addr % bytes_of w == 0) _ is in
@@ -38,22 +39,13 @@ stores m w addr v is =
     and_from _ _ (retires m addr (addr % bytes_of w == 0) (may_access m Write addr w) (bus.store m.bus addr w v) a.0 b.0 s.1)
     s.0
 
-written : (m : Machine) (addr : ℕ) (w : Width) (retires : Bool) → (retires && bus.writes m.bus addr w) ≡ true
-    → option_map_or (λ (at : ℕ × Width). bus.writes m.bus at.0 at.1) (if retires then Some (addr, w) else None) false ≡ true
-written m addr w true is = is
-written m addr w false is = absurd cc
-
-writing : (k : Kind) (m : Machine) → may_grow k m ≡ true
-    → option_map_or (λ (at : ℕ × Width). bus.writes m.bus at.0 at.1) (stored k m) false ≡ true
-unfolding may_grow stored
-writing (Store w source base offset) m is =
-    let addr = plus (reg m base) offset in
-    written m addr w (is_ok (store_effect m w addr (reg m source))) (stores m w addr (reg m source) is)
+writing : (k : Kind) (m : Machine) → may_grow k m ≡ true → step.stores k m ≡ true
+unfolding may_grow execute store_effect
+writing (Store w source base offset) m is = stores m w (plus (reg m base) offset) (reg m source) is
 writing k m is = absurd cc
 
 by_fetch : (m : Machine) (f : Result Kind Trap) → attempt_grows m f ≡ true
-    → option_map_or (λ (at : ℕ × Width). bus.writes m.bus at.0 at.1) (option_and_then (λ k. stored k m) (result_ok f)) false
-    ≡ true
+    → option_map_or (λ k. step.stores k m) (result_ok f) false ≡ true
 by_fetch m (Ok k) is = writing k m is
 by_fetch m (Err t) is = absurd cc
 

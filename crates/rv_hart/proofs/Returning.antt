@@ -6,10 +6,10 @@ use Rattle.rv_isa.specs.declared.kind.Kind.TheVariants.{Mret}
 use Rattle.rv_pmp.specs.declared.mode.Mode.TheVariants as mode
 use Rattle.rv_csr.specs.Traps.{entered, left}
 use Rattle.rv_hart.specs.State.{Machine}
-use Rattle.rv_hart.specs.Effect.{Effect, effect, return_effect, csr_written}
-use Rattle.rv_hart.specs.Step.{step, tries, ticked, fetched, attempt, finished, counts, enter, outcome_of}
-use Rattle.rv_hart.specs.EffectParts.{trap_step}
-use Rattle.rv_hart.specs.Laws.{IsBack, TrapsReturn}
+use Rattle.rv_hart.specs.Effect.{Effect, csr_written, effect, execute}
+use Rattle.rv_hart.specs.Step.{step, tries, ticked, fetched, attempt, finished, counts, enter}
+use Rattle.rv_hart.specs.EffectParts.{branch_effect, exchange_effect, jump_effect, load_effect, outcome_of, return_effect, store_effect, trap_step}
+use Rattle.rv_hart.specs.Laws.{IsBack}
 use Rattle.rv_hart.specs.declared.trap.Trap.{Trap}
 use Rattle.rv_hart.specs.declared.trap.Outcome.{Outcome}
 use Rattle.rv_hart.specs.declared.trap.Outcome.TheVariants.{Retired, Trapped, Halted}
@@ -42,10 +42,10 @@ tried m (Ok j) k is = let same : j ≡ k = cc in ap (λ x. attempt m (Ok x)) sam
 tried m (Err t) k is = absurd cc
 
 abbrev returned : Machine → Machine
-returned m = record m { csrs = left m.csrs; mode = m.csrs.mstatus.mpp; pc = m.csrs.trap.mepc }
+returned m = record m { csrs = left m.csrs; mode = m.csrs.mstatus.mpp; pc = m.csrs.mepc }
 
 returns : (m : Machine) → m.mode ≡ mode.Machine → effect Mret m ≡ Ok (returned m)
-unfolding effect return_effect
+unfolding execute jump_effect branch_effect load_effect store_effect exchange_effect return_effect
 returns m machine = ap (return_effect m) machine
 
 leaves : (m : Machine) → m.mode ≡ mode.Machine → tries m ≡ Some Mret
@@ -75,7 +75,8 @@ leads_back m handler t is mret =
     ∙ ap (λ h. counts (returned (ticked h)) true (csr_written Mret)) is in
     subst (IsBack m) (sym stepped) (back m t)
 
-pub traps_return : TrapsReturn
+pub traps_return : (m : Machine) (cause epc tval : ℕ) → (step m).1 ≡ Trapped cause epc tval
+    → tries (step m).0 ≡ Some Mret → IsBack m (step (step m).0).0
 unfolding step
 traps_return m cause epc tval trapped mret =
     let entered : Enters (ticked m) (step m).0 (Trapped cause epc tval)

@@ -12,10 +12,10 @@ use Rattle.rv_isa.specs.declared.kind.Kind.TheVariants.{Jal, Jalr, Branch, Load,
 use Rattle.rv_pmp.specs.Mode.{is_machine}
 use Rattle.rv_pmp.specs.declared.access.Access.TheVariants.{Read, Write}
 use Rattle.rv_bus.specs.State.{BusState}
-use Rattle.rv_bus.specs.Access.{load, after_load, store}
+use Rattle.rv_bus.specs.Access.{load, store}
 use Rattle.rv_hart.specs.State as state
-use Rattle.rv_hart.specs.Effect.{Effect, effect, jump, branch, load_effect, store_effect, load_value, may_access, csr_effect, return_effect, wait_effect, at_next, with_result, plus, next, reg, require, with_reg}
-use Rattle.rv_hart.specs.EffectParts.{load_result, misaligned_load, misaligned_store, refused_load, refused_store, store_result}
+use Rattle.rv_hart.specs.Effect.{Effect, effect, execute, load_value, plus, reg, require}
+use Rattle.rv_hart.specs.EffectParts.{at_next, branch_effect, exchange_effect, jump_effect, load_effect, load_result, misaligned_load, misaligned_store, next, refused_load, refused_store, registers_with, return_effect, store_effect, store_result, wait_effect, with_result, may_access}
 
 -- a fact of the machine after an instruction that retires
 abbrev pub IfRetired : (state.Machine → Type 0) → Effect → Type 0
@@ -30,14 +30,14 @@ module _ (m : state.Machine) (P : state.Machine → Type 0)
   checked one cause tval true in_mode still = same one in_mode still
   checked one cause tval false in_mode still = tt
 
-  jumps : (rd target : ℕ) → IfRetired P (jump m rd target)
-  unfolding jump
+  jumps : (rd target : ℕ) → IfRetired P (jump_effect m rd target)
+  unfolding jump_effect
   jumps rd target =
-      checked (record m { registers = with_reg m.registers rd (next m.pc); pc = target }) 0 target
+      checked (record m { registers = registers_with m.registers rd (next m.pc); pc = target }) 0 target
       (target % 4 == 0) refl refl
 
-  branches : (taken : Bool) (target : ℕ) → IfRetired P (branch m taken target)
-  unfolding branch
+  branches : (taken : Bool) (target : ℕ) → IfRetired P (branch_effect m taken target)
+  unfolding branch_effect
   branches true target = checked (record m { pc = target }) 0 target (target % 4 == 0) refl refl
   branches false target = same (at_next m) refl refl
 
@@ -48,19 +48,17 @@ module _ (m : state.Machine) (P : state.Machine → Type 0)
   accesses true false x refused misaligned done r s = r
   accesses false granted x refused misaligned done r s = s
 
-  loaded : (op : LoadOp) (rd addr : ℕ) (after : BusState) (v : Option ℕ)
-      → IfRetired P (load_result m op rd addr after v)
-  loaded op rd addr after None = tt
-  loaded op rd addr after (Some v) =
-      same (with_result (record m { bus = after }) rd (load_value op v)) refl refl
+  loaded : (op : LoadOp) (rd addr : ℕ) (r : Option (ℕ × BusState)) → IfRetired P (load_result m op rd addr r)
+  loaded op rd addr None = tt
+  loaded op rd addr (Some r) = same (with_result (record m { bus = r.1 }) rd (load_value op r.0)) refl refl
 
   loads : (op : LoadOp) (rd addr : ℕ) → IfRetired P (load_effect m op rd addr)
   unfolding load_effect
   loads op rd addr =
       let w = load_width op in
       accesses (addr % bytes_of w == 0) (may_access m Read addr w)
-      (load_result m op rd addr (after_load m.bus addr w) (load m.bus addr w)) (refused_load addr)
-      (misaligned_load addr) (loaded op rd addr (after_load m.bus addr w) (load m.bus addr w)) tt tt
+      (load_result m op rd addr (load m.bus addr w)) (refused_load addr)
+      (misaligned_load addr) (loaded op rd addr (load m.bus addr w)) tt tt
 
   stored : (addr : ℕ) (after : Option BusState) → IfRetired P (store_result m addr after)
   stored addr None = tt
@@ -74,10 +72,10 @@ module _ (m : state.Machine) (P : state.Machine → Type 0)
       (stored addr (store m.bus addr w v)) tt tt
 
   pub rows : ((k : Kind) (op : CsrOp) (field operand rd csr : ℕ)
-      → IfRetired P (csr_effect k m op field operand rd csr))
+      → IfRetired P (exchange_effect k m op field operand rd csr))
       → IfRetired P (return_effect m m.mode)
       → (k : Kind) → IfRetired P (effect k m)
-  unfolding effect wait_effect
+  unfolding execute jump_effect branch_effect load_effect store_effect exchange_effect return_effect wait_effect
   rows registers returns (Jal rd offset) = jumps rd (plus m.pc offset)
   rows registers returns (Jalr rd base offset) = jumps rd (plus (reg m base) offset / 2 * 2)
   rows registers returns (Branch cond rs1 rs2 offset) =

@@ -10,10 +10,10 @@ use Rattle.rv_csr.specs.Traps.{entered}
 use Rattle.rv_csr.proofs.Levels.{nothing_read}
 use Rattle.rv_bus.specs.Access.{lines_of}
 use Rattle.rv_hart.specs.State.{Machine}
-use Rattle.rv_hart.specs.Effect.{Effect, effect, csr_effect, return_effect, csr_written}
-use Rattle.rv_hart.specs.EffectParts.{exchange_result, trap_step}
-use Rattle.rv_hart.specs.Laws.{ChangesByTrap, UserChangesByTraps}
-use Rattle.rv_hart.specs.Step.{step, ticked, fetched, attempt, finished, counts, enter, outcome_of}
+use Rattle.rv_hart.specs.Effect.{Effect, effect, csr_written}
+use Rattle.rv_hart.specs.EffectParts.{exchange_effect, exchange_result, outcome_of, return_effect, trap_step}
+use Rattle.rv_hart.specs.Laws.{ChangesByTrap}
+use Rattle.rv_hart.specs.Step.{step, ticked, fetched, attempt, finished, counts, enter}
 use Rattle.rv_hart.specs.declared.trap.Trap.{Trap}
 use Rattle.rv_hart.proofs.Rows.{IfRetired, rows}
 
@@ -24,8 +24,8 @@ IsAlike m new = (new.mode ≡ m.mode) × (new.csrs ≡ m.csrs)
 module _ (m : Machine) (user : m.mode ≡ mode.User) where
   -- no control register can be read
   registers : (k : Kind) (op : CsrOp) (field operand rd csr : ℕ)
-      → IfRetired (IsAlike m) (csr_effect k m op field operand rd csr)
-  unfolding csr_effect
+      → IfRetired (IsAlike m) (exchange_effect k m op field operand rd csr)
+  unfolding exchange_effect
   registers k op field operand rd csr =
       subst (λ old. IfRetired (IsAlike m) (exchange_result k m op field operand rd csr old)) (sym none) tt
     where
@@ -45,9 +45,9 @@ module _ (m : Machine) (user : m.mode ≡ mode.User) where
   traps : (t : Trap) → ChangesByTrap m (trap_step m t).0 (trap_step m t).1
   unfolding counts enter
   traps t =
-      let made = counted (entered m.csrs t.cause m.pc t.tval m.mode).counters false None in (
+      let made = counted (entered m.csrs t.cause m.pc t.tval m.mode) false None in (
         refl,
-        ap (λ (d : Mode). record (entered m.csrs t.cause m.pc t.tval d) { counters = made }) user,
+        ap (λ (d : Mode). record (entered m.csrs t.cause m.pc t.tval d) { mcycle = made.mcycle; minstret = made.minstret }) user,
       )
 
   settled : (wrote halt : Option ℕ) (new : Machine) → IsAlike m new
@@ -55,11 +55,17 @@ module _ (m : Machine) (user : m.mode ≡ mode.User) where
   unfolding counts
   settled wrote None new alike = (
     alike.0 ∙ user,
-    ap (λ (s : CsrState). record s { counters = counted new.csrs.counters true wrote }) alike.1,
+    ap (λ (s : CsrState). record s {
+      mcycle = (counted new.csrs true wrote).mcycle;
+      minstret = (counted new.csrs true wrote).minstret;
+    }) alike.1,
   )
   settled wrote (Some code) new alike = (
     alike.0 ∙ user,
-    ap (λ (s : CsrState). record s { counters = counted new.csrs.counters true wrote }) alike.1,
+    ap (λ (s : CsrState). record s {
+      mcycle = (counted new.csrs true wrote).mcycle;
+      minstret = (counted new.csrs true wrote).minstret;
+    }) alike.1,
   )
 
   settles : (wrote : Option ℕ) (e : Effect) → IfRetired (IsAlike m) e
@@ -72,6 +78,6 @@ module _ (m : Machine) (user : m.mode ≡ mode.User) where
   attempts (Err t) = traps t
 
 -- one step
-pub user_changes : UserChangesByTraps
+pub user_changes : (m : Machine) → m.mode ≡ mode.User → ChangesByTrap m (step m).0 (step m).1
 unfolding step
 user_changes m user = attempts (ticked m) user (fetched (ticked m))

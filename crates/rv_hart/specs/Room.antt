@@ -8,7 +8,8 @@ use Rattle.rv_isa.specs.declared.kind.Kind.TheVariants.{Store}
 use Rattle.rv_pmp.specs.declared.access.Access.TheVariants as access
 use Rattle.rv_bus.specs.Room as bus
 use Rattle.rv_hart.specs.State.{Machine}
-use Rattle.rv_hart.specs.Effect.{may_access, plus, reg}
+use Rattle.rv_hart.specs.Effect.{plus, reg}
+use Rattle.rv_hart.specs.EffectParts.{may_access}
 use Rattle.rv_hart.specs.Step.{fetched, ticked}
 use Rattle.rv_hart.specs.declared.trap.Trap.{Trap}
 

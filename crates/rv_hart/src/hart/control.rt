@@ -2,8 +2,10 @@
 ghost use Rattle.std.specs.Prelude.{◌≡◌};
 ghost use Rattle.rv_isa.specs.Word as spec;
 ghost use Rattle.rv_isa.specs.declared.kind.Kind.{Kind};
-ghost use Rattle.rv_csr.specs.Registers.{Writes};
-ghost use Rattle.rv_hart.specs.Effect.{reg, csr_effect, return_effect, wait_effect};
+ghost use Rattle.rv_csr.specs.Registers as registers;
+ghost use Rattle.rv_pmp.specs.Pmp.{Changes};
+ghost use Rattle.rv_hart.specs.Effect.{reg};
+ghost use Rattle.rv_hart.specs.EffectParts.{exchange_effect, return_effect, wait_effect};
 ghost use Rattle.rv_hart.specs.StepParts.{Does};
 
 use super::Hart;
@@ -41,7 +43,7 @@ impl<M: ByteMemory, C: Decoded> Hart<M, C> {
         rs1: Reg,
         csr: u16,
     ) -> Result<(), Trap>
-        ensures { Does self.old self.new result (csr_effect instr self.old.machine op rs1 (reg self.old.machine rs1) rd csr) }
+        ensures { Does self.old self.new result (exchange_effect instr self.old.machine op rs1 (reg self.old.machine rs1) rd csr) }
     {
         let exchange = Exchange {
             op,
@@ -64,7 +66,7 @@ impl<M: ByteMemory, C: Decoded> Hart<M, C> {
         number: u8,
         csr: u16,
     ) -> Result<(), Trap>
-        ensures { Does self.old self.new result (csr_effect instr self.old.machine op number number rd csr) }
+        ensures { Does self.old self.new result (exchange_effect instr self.old.machine op number number rd csr) }
     {
         let exchange = Exchange {
             op,
@@ -80,10 +82,10 @@ impl<M: ByteMemory, C: Decoded> Hart<M, C> {
     /// Reads a control register into `rd`, and writes it. Out of line, so that other instructions pay nothing
     /// for it.
     #[inline(never)]
-    #[tactic(auto, unfolding(crate::specs::Effect::csr_effect))]
+    #[tactic(auto, unfolding(crate::specs::EffectParts::exchange_effect))]
     fn exchange(&mut self, instr: Instr, exchange: Exchange) -> Result<(), Trap>
         ensures { Does self.old self.new result
-            (csr_effect instr self.old.machine exchange.op exchange.field exchange.operand exchange.rd exchange.csr) }
+            (exchange_effect instr self.old.machine exchange.op exchange.field exchange.operand exchange.rd exchange.csr) }
     {
         let Some(old) = self.csrs.read(exchange.csr, self.mode, self.bus.lines()) else {
             return Err(illegal_instruction(instr));
@@ -102,7 +104,8 @@ impl<M: ByteMemory, C: Decoded> Hart<M, C> {
     /// Writes a control register, and computes the shortcuts anew. Returns None, and changes nothing, if the
     /// mode may not write it.
     fn write_csr(&mut self, addr: u16, value: u32) -> Option<()>
-        ensures written { Writes self.old.machine.csrs addr self.old.machine.mode value self.new.machine.csrs result }
+        ensures written { Changes (registers.write self.old.machine.csrs addr self.old.machine.mode value)
+            self.old.machine.csrs self.new.machine.csrs result }
         ensures machine { self.new.machine ≡ record self.old.machine { csrs = self.new.machine.csrs } }
         ensures cache { self.new.cache ≡ self.old.cache }
     {
@@ -113,7 +116,7 @@ impl<M: ByteMemory, C: Decoded> Hart<M, C> {
     }
 
     /// Returns from a trap, which only machine mode may do. `word` is the word of MRET.
-    #[tactic(auto, unfolding(crate::specs::Effect::return_effect))]
+    #[tactic(auto, unfolding(crate::specs::EffectParts::return_effect))]
     pub(super) fn leave_trap(&mut self, word: u32) -> Result<(), Trap>
         requires { word ≡ spec.word Kind.Mret }
         ensures { Does self.old self.new result (return_effect self.old.machine self.old.machine.mode) }
@@ -137,7 +140,7 @@ impl<M: ByteMemory, C: Decoded> Hart<M, C> {
 
     /// Waits for an interrupt, which ends at once. In user mode TW makes it illegal. `word` is the word of
     /// WFI.
-    #[tactic(auto, unfolding(crate::specs::Effect::wait_effect))]
+    #[tactic(auto, unfolding(crate::specs::EffectParts::wait_effect))]
     pub(super) fn wait(&mut self, word: u32) -> Result<(), Trap>
         requires { word ≡ spec.word Kind.Wfi }
         ensures { Does self.old self.new result (wait_effect self.old.machine) }

@@ -1,0 +1,37 @@
+//! Copies of a hart.
+ghost use Rattle.std.specs.Prelude.{◌≡◌, ℕ, None, IfOk};
+ghost use Rattle.rv_hart.specs.Coherent.{Coherent};
+
+use super::Hart;
+use rv_base::NoMemory;
+use rv_cache::Decoded;
+use rv_ram::PagedRam;
+use std::alloc::Global;
+
+impl<C: Decoded> Hart<PagedRam, C> {
+    /// Returns a copy of the hart, with its memory and devices, over a decoded cache of its own that is
+    /// empty.
+    ///
+    /// # Errors
+    ///
+    /// `NoMemory` if memory runs out.
+    #[tactic(auto, unfolding(crate::specs::Coherent::Coherent))]
+    pub fn try_clone<D: Decoded>(
+        &self,
+        alloc: Global,
+        cache: D,
+    ) -> Result<Hart<PagedRam, D>, NoMemory>
+        requires { (a : ℕ) → D.noted cache a ≡ None }
+        ensures { IfOk result (λ hart. hart.machine ≡ self.now.machine) }
+    {
+        Ok(Hart {
+            registers: self.registers,
+            pc: self.pc,
+            mode: self.mode,
+            csrs: self.csrs.copy(),
+            bus: self.bus.try_clone(alloc)?,
+            cache,
+            shortcuts: self.shortcuts,
+        })
+    }
+}
