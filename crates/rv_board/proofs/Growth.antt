@@ -3,7 +3,8 @@ use Rattle.std.proofs.Common.{◌≡◌, ℕ, true, List, Option, Some, None}
 use Rattle.std.specs.Prelude.{slice_get}
 use Rattle.rv_hart.proofs.Growth as hart
 use Rattle.rv_board.specs.State.{BoardState}
-use Rattle.rv_board.specs.Move.{writes, writes_by}
+use Rattle.rv_board.specs.Move.{writes}
+use Rattle.rv_board.specs.MoveParts.{writes_by}
 use Rattle.rv_board.specs.Room.{NextWantsRoom, RoomIsWritten, wants_room, wants_room_by}
 use Rattle.rv_board.specs.declared.event.Event.{Event}
 use Rattle.rv_board.specs.declared.event.Event.TheVariants.{Step, Line, Rx}
@@ -19,7 +20,9 @@ by_halt (Some code) b (Rx byte) is = absurd cc
 
 pub room_writes : RoomIsWritten
 unfolding wants_room writes
-room_writes b e is = by_halt b.machine.bus.halt b e is
+room_writes b Step is = by_halt b.machine.bus.halt b Step is
+room_writes b (Line source high) is = by_halt b.machine.bus.halt b (Line source high) is
+room_writes b (Rx byte) is = by_halt b.machine.bus.halt b (Rx byte) is
 
 -- the next event of a list
 pub next_writes : (new : BoardState) (events : List Event) (done : ℕ) → NextWantsRoom new events done

@@ -1,12 +1,11 @@
 -- An image in a memory of zeros.
-use Rattle.std.proofs.Common.{◌≡◌, ℕ, zero, suc, ◌+◌, ◌%◌, ◌<◌, ◌≤◌, ◌++◌, List, [], ◌∷◌, length, take, drop, set, get_or, refl, sym, ap, ◌∙◌, add-one, arith}
+use Rattle.std.proofs.Common.{◌≡◌, ℕ, zero, suc, ◌+◌, ◌-◌, ◌%◌, ◌<◌, ◌≤◌, ◌++◌, List, [], ◌∷◌, length, take, drop, set, get_or, refl, sym, ap, ◌∙◌, add-one, arith}
 use Rattle.rv_ram.specs.Bytes.{put, zeros}
 use Rattle.rv_ram.proofs.Put.{put_byte}
 use Rattle.rv_ram.proofs.Zeros.{drop_zeros}
-use Rattle.rv_board.specs.Boot.{ram_with}
 
 pub image_over : (image ram : List ℕ) → ram ≡ zeros (length ram)
-    → image ++ drop (length image) ram ≡ ram_with image (length ram)
+    → image ++ drop (length image) ram ≡ image ++ zeros (length ram - length image)
 image_over image ram e =
     ap (λ bs. image ++ bs) (ap (drop (length image)) e ∙ drop_zeros (length image) (length ram))
 

@@ -1,14 +1,15 @@
 -- Locked entries of protection, which no event changes.
-use Rattle.std.proofs.Common.{◌≡◌, ◌∙◌, ℕ, ◌+◌, ◌*◌, ◌/◌, ◌%◌, ◌^◌, ◌==◌, Bool, true, false, [], ◌∷◌, length, Option, Some, None, Result, Ok, Err, refl, sym, ap, subst, nat_lt}
-use Rattle.std.specs.Prelude.{if◌then◌else◌, ◌&&◌, not}
+use Rattle.std.proofs.Common.{◌≡◌, ◌∙◌, ℕ, List, ◌+◌, ◌*◌, ◌/◌, ◌%◌, ◌^◌, ◌==◌, Bool, true, false, [], ◌∷◌, length, Option, Some, None, Result, Ok, Err, refl, sym, ap, subst, nat_lt}
+use Rattle.std.specs.Prelude.{if◌then◌else◌, ◌&&◌, not, slice_index_or}
 use Rattle.std.specs.Option.{option_map}
 use Rattle.rv_isa.specs.declared.kind.Kind.{Kind}
 use Rattle.rv_isa.specs.declared.op.CsrOp.{CsrOp}
-use Rattle.rv_pmp.specs.Entry.{matching_code, matching_of, configured, addressed}
+use Rattle.rv_pmp.specs.Entry.{matching_code, configured, addressed}
 use Rattle.rv_pmp.specs.Pmp as protection
 use Rattle.rv_pmp.specs.Pmp.{PmpState, entry_at, is_locked_top, written}
 use Rattle.rv_pmp.proofs.Registers.{stored_entry}
 use Rattle.rv_pmp.specs.declared.entry.Entry.{Entry}
+use Rattle.rv_pmp.specs.declared.entry.Matching.TheVariants.{Off, Tor, Na4, Napot}
 use Rattle.rv_pmp.specs.declared.mode.Mode.{Mode}
 use Rattle.rv_pmp.specs.declared.mode.Mode.TheVariants as mode
 use Rattle.rv_csr.specs.State.{CsrState}
@@ -20,15 +21,15 @@ use Rattle.rv_csr.specs.declared.register.Register.{Register}
 use Rattle.rv_csr.specs.declared.register.Register.TheVariants.{Mstatus}
 use Rattle.rv_bus.specs.Access.{lines_of}
 use Rattle.rv_hart.specs.State.{Machine}
-use Rattle.rv_hart.specs.Effect.{Effect, effect, csr_effect, csr_value, csr_written, is_write, return_effect, with_result}
-use Rattle.rv_hart.specs.EffectParts.{exchange_result, write_result, trap_step}
+use Rattle.rv_hart.specs.Effect.{Effect, effect, csr_value, csr_written, is_write}
+use Rattle.rv_hart.specs.EffectParts.{exchange_effect, exchange_result, return_effect, trap_step, with_result, write_result}
 use Rattle.rv_hart.specs.Step.{step, ticked, fetched, attempt, finished, counts, enter}
 use Rattle.rv_hart.specs.declared.trap.Trap.{Trap}
 use Rattle.rv_hart.proofs.Rows.{IfRetired, rows}
-use Rattle.rv_board.specs.State.{BoardState, halted_of}
-use Rattle.rv_board.specs.Agreement.{pmp_of}
-use Rattle.rv_board.specs.Laws.{KeepsLocked, LockedStay}
-use Rattle.rv_board.specs.Move.{happens, moved, run}
+use Rattle.rv_board.specs.State.{BoardState, halted_of, pmp_of}
+use Rattle.rv_board.specs.Laws.{KeepsLocked}
+use Rattle.rv_board.specs.Move.{moved, run}
+use Rattle.rv_board.specs.MoveParts.{happens}
 use Rattle.rv_board.specs.declared.event.Event.{Event}
 use Rattle.rv_board.specs.declared.event.Event.TheVariants.{Step, Line, Rx}
 
@@ -64,7 +65,7 @@ module _ (e : Entry) (byte word : ℕ) where
     writable = (byte % 2 == 1) && (byte / 2 % 2 == 1);
     executable = byte / 4 % 2 == 1;
     locked = byte / 128 % 2 == 1;
-    matching = matching_of (byte / 8 % 4);
+    matching = slice_index_or (Off ∷ Tor ∷ Na4 ∷ Napot ∷ []) (byte / 8 % 4) Napot;
   }
 
   configured_locked : e.locked ≡ true → configured e byte ≡ e
@@ -166,8 +167,8 @@ module _ (m : Machine) where
       subst (λ (s : CsrState). KeepsLocked m.csrs.pmp s.pmp) (sym same) (kept m.csrs.pmp)
 
   registers : (k : Kind) (op : CsrOp) (field operand rd csr : ℕ)
-      → IfRetired (KeptFrom m) (csr_effect k m op field operand rd csr)
-  unfolding csr_effect
+      → IfRetired (KeptFrom m) (exchange_effect k m op field operand rd csr)
+  unfolding exchange_effect
   registers k op field operand rd csr = by (read m.csrs csr m.mode (lines_of m.bus)) where
     after : (old : ℕ) (wrote : Option CsrState)
         → write m.csrs csr m.mode (csr_value op old operand) ≡ wrote
@@ -219,7 +220,7 @@ happened None b Step = steps b.machine
 happened None b (Line source high) = kept (pmp_of b)
 happened None b (Rx byte) = kept (pmp_of b)
 
-pub locked_stay : LockedStay
+pub locked_stay : (b : BoardState) (events : List Event) → KeepsLocked (pmp_of b) (pmp_of (run b events))
 unfolding moved
 locked_stay b [] = kept (pmp_of b)
 locked_stay b (e ∷ es) =

@@ -1,11 +1,12 @@
 -- The board at reset.
 -- To audit: public contracts cite this.
-use Rattle.std.specs.Prelude.{ℕ, ◌*◌, ◌-◌, ◌&&◌, nat_le, nat_lt, not, if◌then◌else◌, List, [], ◌++◌, length, Option, Some, None}
+use Rattle.std.specs.Prelude.{ℕ, Bool, ◌*◌, ◌-◌, ◌&&◌, nat_le, nat_lt, not, List, [], ◌∷◌, ◌++◌, length, Option, find}
+use Rattle.std.specs.Option.{option_map}
 use Rattle.rv_ram.specs.Bytes.{zeros}
-use Rattle.rv_cache.specs.Noted.{is_slot_count}
+use Rattle.rv_cache.specs.SlotCount.{is_slot_count}
 use Rattle.rv_bus.specs.State as bus
 use Rattle.rv_hart.specs.Step as hart
-use Rattle.rv_board.specs.State.{BoardState}
+use Rattle.rv_board.specs.BoardState.{BoardState}
 use Rattle.rv_board.specs.declared.event.BootFault.{BootFault}
 use Rattle.rv_board.specs.declared.event.BootFault.TheVariants.{BadPages, BadSlots, ImageTooLarge}
 
@@ -13,19 +14,14 @@ use Rattle.rv_board.specs.declared.event.BootFault.TheVariants.{BadPages, BadSlo
 -- applies
 unfoldable pub boot_fault : ℕ → ℕ → ℕ → Option BootFault
 boot_fault size pages slots =
-    if not (nat_le 1 pages && nat_le pages 4096) then Some BadPages
-    else (if not (is_slot_count slots) then Some BadSlots
-    else (if nat_lt (4096 * pages) size then Some ImageTooLarge
-    else None))
+    option_map (λ (row : Bool × BootFault). row.1) (find (λ row. row.0)
+    ((not (nat_le 1 pages && nat_le pages 4096), BadPages) ∷ (not (is_slot_count slots), BadSlots)
+    ∷ (nat_lt (4096 * pages) size, ImageTooLarge) ∷ []))
 
--- the image at the front of `size` bytes, followed by zeros
-abbrev pub ram_with : List ℕ → ℕ → List ℕ
-ram_with image size = image ++ zeros (size - length image)
-
--- the board at reset over `size` bytes of memory
+-- the board at reset over `size` bytes of memory: the image, followed by zeros
 unfoldable pub start_over : List ℕ → ℕ → BoardState
 start_over image size =
-    record { machine = hart.start (bus.reset (ram_with image size)); traps = []; steps = 0 }
+    record { machine = hart.start (bus.reset (image ++ zeros (size - length image))); traps = []; steps = 0 }
 
 -- the board at reset over `pages` pages of memory
 abbrev pub start : List ℕ → ℕ → BoardState

@@ -1,13 +1,13 @@
 -- The board after events.
 -- To audit: public contracts cite this.
-use Rattle.std.specs.Prelude.{◌≡◌, ◌<◌, ℕ, Bool, true, false, ◌+◌, ◌%◌, ◌^◌, List, [], ◌∷◌, ◌++◌, length, take, slice_get, Option, Some, None}
+use Rattle.std.specs.Prelude.{◌≡◌, ◌<◌, ℕ, Bool, true, false, ◌&&◌, if◌then◌else◌, ◌+◌, ◌%◌, ◌^◌, List, [], ◌∷◌, ◌++◌, fold, length, take, slice_get, is_none, is_some, Some}
 use Rattle.circular_buffer.specs.Buffer.{keep_last}
 use Rattle.rv_hart.specs.State.{Machine}
 use Rattle.rv_hart.specs.Step.{step, with_line, receive}
 use Rattle.rv_hart.specs.Step as hart
 use Rattle.rv_hart.specs.declared.trap.Outcome.{Outcome}
 use Rattle.rv_hart.specs.declared.trap.Outcome.TheVariants.{Trapped}
-use Rattle.rv_board.specs.State.{BoardState}
+use Rattle.rv_board.specs.BoardState.{BoardState}
 use Rattle.rv_board.specs.declared.event.Event.{Event}
 use Rattle.rv_board.specs.declared.event.Event.TheVariants.{Step, Line, Rx}
 use Rattle.rv_board.specs.declared.event.TrapRecord.{TrapRecord}
@@ -22,33 +22,24 @@ with_trap ts outcome = ts
 abbrev pub after_step : BoardState → Machine × Outcome → BoardState
 after_step b (m, o) = record { machine = m; traps = with_trap b.traps o; steps = (b.steps + 1) % 2 ^ 64 }
 
--- what the next step of a board does, unless it has halted
-abbrev pub step_outcome : BoardState → Outcome
-step_outcome b = (step b.machine).1
+-- the board after an event that happens to it
+abbrev pub with_event : BoardState → Event → BoardState
+with_event b Step = after_step b (step b.machine)
+with_event b (Line source high) = record b { machine = with_line b.machine source high }
+with_event b (Rx byte) = record b { machine = receive b.machine byte }
 
--- the board after an event, by its halt code: a halted board stays as it is
-abbrev pub happens : Option ℕ → BoardState → Event → BoardState
-happens (Some code) b e = b
-happens None b Step = after_step b (step b.machine)
-happens None b (Line source high) = record b { machine = with_line b.machine source high }
-happens None b (Rx byte) = record b { machine = receive b.machine byte }
-
--- the board after an event
+-- the board after an event: a halted board stays as it is
 unfoldable pub moved : BoardState → Event → BoardState
-moved b e = happens b.machine.bus.halt b e
-
-abbrev pub writes_by : Option ℕ → BoardState → Event → Bool
-writes_by None b Step = hart.writes b.machine
-writes_by halt b e = false
+moved b e = if is_some b.machine.bus.halt then b else with_event b e
 
 -- whether an event is a step that retires a store into the memory or to the transmit register
 unfoldable pub writes : BoardState → Event → Bool
-writes b e = writes_by b.machine.bus.halt b e
+writes b Step = is_none b.machine.bus.halt && hart.writes b.machine
+writes b e = false
 
 -- the board after events, one after another
 abbrev pub run : BoardState → List Event → BoardState
-run b [] = b
-run b (e ∷ es) = run (moved b e) es
+run b es = fold moved b es
 
 -- a run was refused: the new board is the old one after the first `done` events, and the next event is a step
 -- that writes

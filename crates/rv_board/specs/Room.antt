@@ -1,5 +1,5 @@
--- Events for which room may have to be made: steps that retire a store into a page of the memory that has only
--- zeros, or to a console that may have no room left.
+-- Events for which room may have to be made: steps that retire a store into a page of the memory that has
+-- only zeros, or to a console that may have no room left.
 -- Not to audit: only the clauses `room` cite this, which say where an event may be refused.
 use Rattle.std.specs.Prelude.{◌≡◌, ℕ, Bool, true, false, List, slice_get, Option, Some, None}
 use Rattle.rv_hart.specs.Room as hart

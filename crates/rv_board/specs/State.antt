@@ -1,20 +1,12 @@
--- The state of a board.
--- To audit: public contracts cite this.
-use Rattle.std.specs.Prelude.{ℕ, List, Option}
+-- Parts of a board.
+-- Not to audit: proofs and private contracts alone cite these. Public ones name the fields.
+use Rattle.std.specs.Prelude.{ℕ, Bool, ◌||◌, List, Option}
+use Rattle.rv_pmp.specs.Pmp.{PmpState, grants}
+use Rattle.rv_pmp.specs.declared.access.Access.TheVariants.{Read, Write, Execute}
 use Rattle.rv_pmp.specs.declared.mode.Mode.{Mode}
-use Rattle.rv_pmp.specs.declared.mode.Mode.TheVariants.{Machine}
-use Rattle.rv_csr.specs.Registers.{read}
-use Rattle.rv_bus.specs.Access.{ram_byte, lines_of}
-use Rattle.rv_hart.specs.State as hart
-use Rattle.rv_board.specs.declared.event.TrapRecord.{TrapRecord}
-
--- the machine, the last traps, oldest first, and the number of steps
-pub record BoardState : Type 0 where
-  pub machine : hart.Machine
-  pub traps : List TrapRecord
-  pub steps : ℕ
-
--- ---- what can be read of a board
+use Rattle.rv_pmp.specs.declared.mode.Mode.TheVariants.{User}
+use Rattle.rv_bus.specs.Access.{ram_byte}
+pub use Rattle.rv_board.specs.BoardState.{BoardState, csr_of}
 
 abbrev pub pc_of : BoardState → ℕ
 pc_of b = b.machine.pc
@@ -22,12 +14,23 @@ pc_of b = b.machine.pc
 abbrev pub mode_of : BoardState → Mode
 mode_of b = b.machine.mode
 
--- a control register, as machine mode reads it
-abbrev pub csr_of : BoardState → ℕ → Option ℕ
-csr_of b addr = read b.machine.csrs addr Machine (lines_of b.machine.bus)
-
 abbrev pub byte_of : BoardState → ℕ → Option ℕ
 byte_of b a = ram_byte b.machine.bus.ram a
 
 abbrev pub halted_of : BoardState → Option ℕ
 halted_of b = b.machine.bus.halt
+
+-- the bytes of the memory, and the registers of protection
+abbrev pub memory_of : BoardState → List ℕ
+memory_of b = b.machine.bus.ram
+
+abbrev pub pmp_of : BoardState → PmpState
+pmp_of b = b.machine.csrs.pmp
+
+-- whether protection lets user mode read or execute the byte at an address, and whether it lets it write
+-- there
+abbrev pub user_sees : PmpState → ℕ → Bool
+user_sees pmp addr = grants pmp User Read addr 1 || grants pmp User Execute addr 1
+
+abbrev pub user_writes : PmpState → ℕ → Bool
+user_writes pmp addr = grants pmp User Write addr 1
