@@ -14,11 +14,11 @@ use Rattle.std.proofs.Math.Seq.{drop-cons}
 use Rattle.std.proofs.lemmas.List.Folds.{list_all_at, list_all_more}
 use Rattle.rv_tokens.specs.declared.token.Token.{Token}
 use Rattle.rv_tokens.specs.declared.token.Token.TheVariants.{Character, High, Low}
-use Rattle.rv_tokens.specs.Literals.{longest, character, spelled, is_plain_in_character}
-use Rattle.rv_tokens.specs.Tokens.{is_name_byte, word, token_of, token_in, begins_with_name_byte, may_precede, front}
-use Rattle.rv_tokens.specs.Partial.{sign, half}
+use Rattle.rv_tokens.specs.Literals.{longest, spelled}
+use Rattle.rv_tokens.specs.Tokens.{is_name_byte, word, token_of, token_in, front}
+use Rattle.rv_tokens.specs.Partial.{begins_with_name_byte, may_precede, sign, half, character}
 use Rattle.rv_tokens.proofs.Signs.{token_is}
-use Rattle.rv_tokens.proofs.Bools.{and_left, and_right, below_of}
+use Rattle.rv_tokens.proofs.Bools.{and_left, and_right}
 use Rattle.rv_tokens.proofs.Spellings.{spelled_long}
 use Rattle.rv_tokens.proofs.Longest.{longest_above, longest_none, longest_at}
 
@@ -69,18 +69,39 @@ names_meet : (text rest : List ℕ) → is_name_byte (get_or text (length text -
     → begins_with_name_byte rest ≡ true → may_precede text rest ≡ false
 names_meet text rest h k = rw (h, k) refl
 
-pub kept_in : (line : List ℕ) (m : ℕ) → may_precede (take m line) (drop m line) ≡ true
+either_way : (s : Bool) (o : Option Token) → cond s None o ≡ cond (not s) o None
+either_way true o = refl
+either_way false o = refl
+
+pub at_front : (text : List ℕ) (n : ℕ) → get_or (drop n text) 0 0 ≡ get_or text n 0
+at_front text n = let e : n + 0 ≡ n = omega arith in get_or-drop n text 0 0 ∙ ap (λ k. get_or text k 0) e
+
+pub none_in : (line : List ℕ) (m : ℕ) → token_of (take m line) ≡ None → token_in line m ≡ None
+unfolding token_in
+none_in line m h =
+    rw h (either_none (is_name_byte (get_or line (m - 1) 0) && is_name_byte (get_or line m 0)))
+
+-- the token of the first bytes of a line, by what they may precede
+pub token_in_is : (line : List ℕ) (n : ℕ) → n ≤ length line
+    → token_in line n ≡ cond (may_precede (take n line) (drop n line)) (token_of (take n line)) None
+unfolding token_in
+token_in_is line zero le =
+    none_in line 0 (token_is []) ∙ sym (rw (token_is []) (either_none (may_precede [] line)))
+token_in_is line (suc n) le =
+    let len : length (take (suc n) line) ≡ suc n = omega (arith, length-take (suc n) line) in
+    let index : suc n - 1 ≡ n = omega arith in
+    let last : get_or (take (suc n) line) (length (take (suc n) line) - 1) 0 ≡ get_or line n 0 =
+    rw (len, index) (get_or-take (suc n) line n 0 (omega arith)) in
+    rw (index, last, at_front line (suc n))
+    (either_way (is_name_byte (get_or line n 0) && is_name_byte (get_or line (suc n) 0)) (token_of (take (suc n) line)))
+
+pub kept_in : (line : List ℕ) (m : ℕ) → m ≤ length line → may_precede (take m line) (drop m line) ≡ true
     → token_in line m ≡ token_of (take m line)
-unfolding token_in
-kept_in line m h = rw h refl
+kept_in line m le h = rw (token_in_is line m le, h) refl
 
-lost_in : (line : List ℕ) (m : ℕ) → may_precede (take m line) (drop m line) ≡ false → token_in line m ≡ None
-unfolding token_in
-lost_in line m h = rw h refl
-
-none_in : (line : List ℕ) (m : ℕ) → token_of (take m line) ≡ None → token_in line m ≡ None
-unfolding token_in
-none_in line m h = rw h (either_none (may_precede (take m line) (drop m line)))
+lost_in : (line : List ℕ) (m : ℕ) → m ≤ length line → may_precede (take m line) (drop m line) ≡ false
+    → token_in line m ≡ None
+lost_in line m le h = rw (token_in_is line m le, h) refl
 
 other_step : (n b : ℕ) (t : Bool) → (b == n) ≡ t → (b ≡ n → t ≡ false) → t ≡ false
 other_step n b true e h = h (grind (arith, nat_tests))
@@ -108,23 +129,10 @@ token_of_word (b ∷ c ∷ bs) long h =
     let first : is_name_byte b ≡ true = and_left (is_name_byte b) (list_all is_name_byte (c ∷ bs)) h in
     token_is (b ∷ c ∷ bs) ∙ rw (other 34 b refl first, other 39 b refl first, other 37 b refl first, h) refl
 
-begins_at : (rest : List ℕ) → begins_with_name_byte rest ≡ true
-    → (0 < length rest) × (is_name_byte (get_or rest 0 0) ≡ true)
-begins_at rest h = (
-  below_of 0 (length rest)
-      (and_left (nat_lt 0 (length rest)) (is_name_byte (get_or rest 0 0)) h),
-  and_right
-      (nat_lt 0 (length rest)) (is_name_byte (get_or rest 0 0)) h,
-)
-
-stops_step : (rest : List ℕ) (t : Bool) → begins_with_name_byte rest ≡ t
-    → (0 < length rest → is_name_byte (get_or rest 0 0) ≡ false) → t ≡ false
-stops_step rest true e h = let p = begins_at rest e in absurd (false≢true (sym (h p.0) ∙ p.1))
-stops_step rest false e h = refl
-
 stops : (rest : List ℕ) → (0 < length rest → is_name_byte (get_or rest 0 0) ≡ false)
     → begins_with_name_byte rest ≡ false
-stops rest h = stops_step rest (begins_with_name_byte rest) refl h
+stops [] h = refl
+stops (b ∷ bs) h = h (omega arith)
 
 word_above : (line : List ℕ) (m n : ℕ) → n < m → 1 < m → m ≤ length line
     → is_name_byte (get_or line 0 0) ≡ true → is_name_byte (get_or line n 0) ≡ false → token_in line m ≡ None
@@ -143,11 +151,8 @@ word_at line n some within all ends =
     let len : length (take n line) ≡ n = omega (arith, length-take n line) in
     let end : 0 < length (drop n line) → is_name_byte (get_or (drop n line) 0 0) ≡ false =
     λ more. rw (get_or-drop, add-zero) (ends (omega (arith, length-drop n line))) in
-    kept_in line n (no_name_follows (take n line) (drop n line) (stops (drop n line) end))
+    kept_in line n within (no_name_follows (take n line) (drop n line) (stops (drop n line) end))
     ∙ token_of_word (take n line) (omega arith) all
-
-begins_with : (b : ℕ) (bs : List ℕ) → is_name_byte b ≡ true → begins_with_name_byte (b ∷ bs) ≡ true
-begins_with b bs h = let p : nat_lt 0 (length (b ∷ bs)) ≡ true = grind (arith, nat_tests) in rw (p, h) refl
 
 word_shorter : (line : List ℕ) (m n : ℕ) → 0 < m → m < n → n ≤ length line
     → list_all is_name_byte (take n line) ≡ true → token_in line m ≡ None
@@ -156,9 +161,9 @@ word_shorter line m n some lt within all =
     let last : get_or (take m line) (length (take m line) - 1) 0 ≡ get_or line (m - 1) 0 =
     rw len (get_or-take m line (m - 1) 0 (omega arith)) in
     let f : drop m line ≡ get_or line m 0 ∷ drop (suc m) line = drop-cons line m 0 (omega arith) in
-    lost_in line m
+    lost_in line m (omega arith)
     (names_meet (take m line) (drop m line) (rw last (name_byte_at line (m - 1) n (omega arith) within all))
-    (rw f (begins_with (get_or line m 0) (drop (suc m) line) (name_byte_at line m n lt within all))))
+    (rw f (name_byte_at line m n lt within all)))
 
 word_below : (line : List ℕ) (m n : ℕ) → 0 < m → m ≤ n → n ≤ length line
     → list_all is_name_byte (take n line) ≡ true → word (take n line) ≡ None
@@ -206,7 +211,7 @@ token_of_other (a ∷ []) long h s c p = absurd (omega arith)
 token_of_other (a ∷ b ∷ bs) long h s c p = token_is (a ∷ b ∷ bs) ∙ rw (s, c, p, h) refl
 
 sign_at : (b : ℕ) (bs : List ℕ) → is_name_byte b ≡ false → token_in (b ∷ bs) 1 ≡ sign b
-sign_at b bs h = kept_in (b ∷ bs) 1 (no_name_last (b ∷ []) bs h) ∙ token_of_sign b h
+sign_at b bs h = kept_in (b ∷ bs) 1 (omega arith) (no_name_last (b ∷ []) bs h) ∙ token_of_sign b h
 
 sign_above : (line : List ℕ) (m : ℕ) → 1 < m → m ≤ length line → is_name_byte (get_or line 0 0) ≡ false
     → (get_or line 0 0 == 34) ≡ false → (get_or line 0 0 == 39) ≡ false → (get_or line 0 0 == 37) ≡ false
@@ -286,9 +291,8 @@ half_kept_by text rest false false e f =
 
 half_in : (line : List ℕ) → 2 < length line → get_or line 0 0 ≡ 37
     → token_in line 3 ≡ cond (begins_with_name_byte (drop 3 line)) None (half (take 3 line))
-unfolding token_in
 half_in line long e =
-    rw (half_of line 3 (omega arith) (omega arith) e)
+    rw (token_in_is line 3 (omega arith), half_of line 3 (omega arith) (omega arith) e)
     (half_kept_by (take 3 line) (drop 3 line) (bytes_eq (take 3 line) (codes "%hi"))
     (bytes_eq (take 3 line) (codes "%lo")) refl refl)
 
@@ -344,11 +348,10 @@ character_kept xs rest false e = rw (character_open xs e) (either_none (may_prec
 
 pub character_in : (line : List ℕ) (m : ℕ) → 0 < m → m ≤ length line → get_or line 0 0 ≡ 39
     → token_in line m ≡ option_map (λ n. Character n) (character (take m line))
-unfolding token_in
 character_in line m some le e =
     let len : length (take m line) ≡ m = omega (arith, length-take m line) in
     let first : get_or (take m line) 0 0 ≡ 39 = get_or-take m line 0 0 some ∙ e in
-    rw (token_of_character (take m line) (omega arith) first)
+    rw (token_in_is line m le, token_of_character (take m line) (omega arith) first)
     (character_kept (take m line) (drop m line) _ refl)
 
 between_none : (c : Bool) (f : List ℕ → Option ℕ) (ys : List ℕ) → f ys ≡ None
@@ -364,7 +367,7 @@ character_long xs long =
     let len : length inside ≡ length xs - 2 =
     omega (arith, length-drop 1 (take (length xs - 1) xs), length-take (length xs - 1) xs) in
     between_none (nat_lt 1 (length xs) && ((get_or xs 0 0 == 39) && (get_or xs (length xs - 1) 0 == 39)))
-    (spelled is_plain_in_character) inside (spelled_long is_plain_in_character inside (omega arith))
+    (spelled 39) inside (spelled_long 39 inside (omega arith))
 
 pub character_within : (line : List ℕ) (n : ℕ) → n ≤ length line → ((m : ℕ) → n < m → m ≤ length line → 6 < m)
     → get_or line 0 0 ≡ 39 → longest (token_in line) n ≡ front line

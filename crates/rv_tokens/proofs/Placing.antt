@@ -1,13 +1,14 @@
--- Where tokens stand, token by token; and the tokens of a line with their places, as both.
+-- Where tokens stand, token by token; and the tokens and the places of a line by where its tokens begin.
 use Rattle.std.proofs.Common.{◌≡◌, ℕ, zero, suc, ◌-◌, ◌<◌, Bool, true, false, List, [], ◌∷◌, length, drop, get_or, refl, ap, ◌∙◌, arith}
-use Rattle.std.specs.Prelude.{Option, Some, None, Result, Ok, Err, pred, map, slice_get}
-use Rattle.std.specs.Option.{option_map_or}
+use Rattle.std.specs.Prelude.{Option, Some, None, Result, Ok, Err, pred, is_none, slice_get}
+use Rattle.std.specs.List.{filter_map, find}
+use Rattle.std.specs.Option.{option_map, option_map_or}
 use Rattle.rv_base.specs.Words.{is_blank}
 use Rattle.rv_tokens.specs.declared.place.Place.{Place}
 use Rattle.rv_tokens.specs.declared.fault.LineFault.{LineFault}
 use Rattle.rv_tokens.specs.declared.token.Token.{Token}
 use Rattle.rv_tokens.specs.Partial.{tokens_after, places_after, with_tokens}
-use Rattle.rv_tokens.specs.Tokens.{front, is_comment, cut, places}
+use Rattle.rv_tokens.specs.Tokens.{front, is_comment, fault_at, starts, places}
 
 places_drop : (total : ℕ) (line : List ℕ) (n : ℕ) → places_after total line n ≡ places_after total (drop n line) 0
 unfolding places_after
@@ -27,46 +28,51 @@ place_after total (b ∷ bs) t (suc n) zero h e f g k m = absurd (omega arith)
 place_after total (b ∷ bs) t (suc n) (suc i) h e f g k m =
     let is : suc i - 1 ≡ i = omega arith in rw (e, f, g, is) (ap (λ ps. slice_get ps i) (places_drop total bs n))
 
--- ---- tokens with their places are both
+-- ---- tokens and places by where tokens begin
 
--- the tokens, unless there is a fault
-abbrev pub without_places : List (Token × Place) × Option LineFault → Result (List Token) LineFault
-without_places found = option_map_or (λ fault. Err fault) found.1 (Ok (map (λ t. t.0) found.0))
+-- the tokens that begin these rests, unless none begins one of them
+abbrev tokens_by : List (List ℕ) → Result (List Token) LineFault
+tokens_by rests = option_map_or (λ rest. Err (fault_at (get_or rest 0 0))) (find (λ rest. is_none (front rest)) rests)
+    (Ok (filter_map (λ rest. option_map (λ found. found.0) (front rest)) rests))
 
-one_token : (t : Token) (p : Place) (ts : List (Token × Place)) (o : Option LineFault)
-    → with_tokens (t ∷ []) (without_places (ts, o)) ≡ without_places ((t, p) ∷ ts, o)
-one_token t p ts None = refl
-one_token t p ts (Some fault) = refl
+abbrev places_by : ℕ → List (List ℕ) → List Place
+places_by total rests =
+    filter_map (λ rest. option_map (λ found. record { column = total - length rest; len = found.1 }) (front rest)) rests
+
+one_token : (t : Token) (o : Option (List ℕ)) (ts : List Token)
+    → with_tokens (t ∷ []) (option_map_or (λ rest. Err (fault_at (get_or rest 0 0))) o (Ok ts))
+    ≡ option_map_or (λ rest. Err (fault_at (get_or rest 0 0))) o (Ok (t ∷ ts))
+one_token t None ts = refl
+one_token t (Some rest) ts = refl
 
 both_at : (total b : ℕ) (bs : List ℕ) (s c : Bool) (o : Option (Token × ℕ)) → is_blank b ≡ s
     → is_comment (b ∷ bs) ≡ c → front (b ∷ bs) ≡ o
-    → ((n : ℕ) → (tokens_after bs n ≡ without_places (cut total bs n))
-    × (places_after total bs n ≡ map (λ t. t.1) (cut total bs n).0))
-    → (tokens_after (b ∷ bs) 0 ≡ without_places (cut total (b ∷ bs) 0))
-    × (places_after total (b ∷ bs) 0 ≡ map (λ t. t.1) (cut total (b ∷ bs) 0).0)
-unfolding cut tokens_after places_after
+    → ((n : ℕ) → (tokens_after bs n ≡ tokens_by (starts bs n)) × (places_after total bs n ≡ places_by total (starts bs n)))
+    → (tokens_after (b ∷ bs) 0 ≡ tokens_by (starts (b ∷ bs) 0))
+    × (places_after total (b ∷ bs) 0 ≡ places_by total (starts (b ∷ bs) 0))
+unfolding starts tokens_after places_after
 both_at total b bs true c o e f g more = let h = more 0 in (rw e h.0, rw e h.1)
 both_at total b bs false true o e f g more = (rw (e, f) refl, rw (e, f) refl)
 both_at total b bs false false None e f g more = (rw (e, f, g) refl, rw (e, f, g) refl)
 both_at total b bs false false (Some (t, n)) e f g more =
     let h = more (pred n) in
     let p : Place = record { column = total - length (b ∷ bs); len = n } in
-    let found = cut total bs (pred n) in (
-      rw (e, f, g) (ap (with_tokens (t ∷ [])) h.0 ∙ one_token t p found.0 found.1),
+    let rests = starts bs (pred n) in (
+      rw (e, f, g) (ap (with_tokens (t ∷ [])) h.0 ∙ one_token t (find (λ rest. is_none (front rest)) rests) _),
       rw (e, f, g) (ap (λ ps. p ∷ ps) h.1),
     )
 
-both : (total : ℕ) (line : List ℕ) (n : ℕ) → (tokens_after line n ≡ without_places (cut total line n))
-    × (places_after total line n ≡ map (λ t. t.1) (cut total line n).0)
-unfolding cut tokens_after places_after
+both : (total : ℕ) (line : List ℕ) (n : ℕ) → (tokens_after line n ≡ tokens_by (starts line n))
+    × (places_after total line n ≡ places_by total (starts line n))
+unfolding starts tokens_after places_after
 both total [] zero = (refl, refl)
 both total [] (suc n) = (refl, refl)
 both total (b ∷ bs) (suc n) = both total bs n
 both total (b ∷ bs) zero =
     both_at total b bs (is_blank b) (is_comment (b ∷ bs)) (front (b ∷ bs)) refl refl refl (λ n. both total bs n)
 
-pub tokens_are : (total : ℕ) (line : List ℕ) → tokens_after line 0 ≡ without_places (cut total line 0)
-tokens_are total line = (both total line 0).0
+pub tokens_are : (line : List ℕ) → tokens_after line 0 ≡ tokens_by (starts line 0)
+tokens_are line = (both 0 line 0).0
 
 pub places_are : (line : List ℕ) → places_after (length line) line 0 ≡ places line
 places_are line = (both (length line) line 0).1

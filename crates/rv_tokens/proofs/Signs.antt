@@ -12,9 +12,10 @@ use Rattle.std.proofs.lemmas.Slice.Eq.{bytes_eq-Decides}
 use Rattle.rv_base.specs.Tables.{lookup}
 use Rattle.rv_tokens.specs.declared.token.Token.{Token}
 use Rattle.rv_tokens.specs.declared.token.Token.TheVariants.{Character, Text}
-use Rattle.rv_tokens.specs.Literals.{prefixes, letters, has_leading_zero, number_in, number, short_decimal, character, string, between}
+use Rattle.rv_base.specs.Numbers.{number_in}
+use Rattle.rv_tokens.specs.Literals.{prefixes, letters, has_leading_zero, number, short_decimal, between}
 use Rattle.rv_tokens.specs.Tokens.{is_name_byte, local, word, signs, token_of}
-use Rattle.rv_tokens.specs.Partial.{has_prefix, letter_escape, sign, half}
+use Rattle.rv_tokens.specs.Partial.{has_prefix, letter_escape, sign, half, character, string}
 
 same_by : (a b : ℕ) (s t : Bool) → (a == b) ≡ s → (b == a) ≡ t → (s && true) ≡ t
 same_by a b true true e f = refl
@@ -88,7 +89,7 @@ base_by true false false true B = refl
 base_by true false false false true = refl
 base_by true false false false false = refl
 
-swapped : (a b : ℕ) → (a == b) ≡ (b == a)
+pub swapped : (a b : ℕ) → (a == b) ≡ (b == a)
 swapped a b = sym (and-true (a == b)) ∙ same_byte a b
 
 base_is : (a b : ℕ) (ds : List ℕ) → lookup (a ∷ b ∷ []) prefixes
@@ -106,29 +107,29 @@ based false false f o = refl
 
 -- a number, by the tests of its prefix
 pub number_is : (text : List ℕ) → number text
-    ≡ cond (has_prefix 120 88 text) (number_in 16 (drop 2 text))
-    (cond (has_prefix 98 66 text) (number_in 2 (drop 2 text))
-    (cond (has_leading_zero text) (number_in 8 (drop 1 text)) (number_in 10 text)))
+    ≡ cond (has_prefix 120 88 text) (number_in 16 0xffffffff (drop 2 text))
+    (cond (has_prefix 98 66 text) (number_in 2 0xffffffff (drop 2 text))
+    (cond (has_leading_zero text) (number_in 8 0xffffffff (drop 1 text)) (number_in 10 0xffffffff text)))
 unfolding number
 number_is [] = refl
 number_is (a ∷ []) = rw (no_more (48 == a)) refl
 number_is (a ∷ b ∷ ds) =
     rw (base_is a b ds)
-    (based (has_prefix 120 88 (a ∷ b ∷ ds)) (has_prefix 98 66 (a ∷ b ∷ ds)) (λ base. number_in base ds) _)
+    (based (has_prefix 120 88 (a ∷ b ∷ ds)) (has_prefix 98 66 (a ∷ b ∷ ds)) (λ base. number_in base 0xffffffff ds) _)
 
-pub number_hex : (text : List ℕ) → has_prefix 120 88 text ≡ true → number text ≡ number_in 16 (drop 2 text)
+pub number_hex : (text : List ℕ) → has_prefix 120 88 text ≡ true → number text ≡ number_in 16 0xffffffff (drop 2 text)
 number_hex text h = rw (number_is text, h) refl
 
 pub number_binary : (text : List ℕ) → has_prefix 120 88 text ≡ false → has_prefix 98 66 text ≡ true
-    → number text ≡ number_in 2 (drop 2 text)
+    → number text ≡ number_in 2 0xffffffff (drop 2 text)
 number_binary text h k = rw (number_is text, h, k) refl
 
 pub number_octal : (text : List ℕ) → has_prefix 120 88 text ≡ false → has_prefix 98 66 text ≡ false
-    → has_leading_zero text ≡ true → number text ≡ number_in 8 (drop 1 text)
+    → has_leading_zero text ≡ true → number text ≡ number_in 8 0xffffffff (drop 1 text)
 number_octal text h k l = rw (number_is text, h, k, l) refl
 
 pub number_decimal : (text : List ℕ) → has_prefix 120 88 text ≡ false → has_prefix 98 66 text ≡ false
-    → has_leading_zero text ≡ false → number text ≡ number_in 10 text
+    → has_leading_zero text ≡ false → number text ≡ number_in 10 0xffffffff text
 number_decimal text h k l = rw (number_is text, h, k, l) refl
 
 -- what stands after the first n bytes, as a part of the text
@@ -173,7 +174,7 @@ unfolding string character
 single_rest b s t e f = sign_is b
 
 single : (b : ℕ) (w : Bool) → is_name_byte b ≡ w → token_of (b ∷ []) ≡ token_by (b ∷ [])
-unfolding token_of
+unfolding token_of character string
 single b true e = rw e refl
 single b false e = rw e (single_rest b (b == 34) (b == 39) refl refl)
 
@@ -210,7 +211,7 @@ no_sign b c bs h =
 
 many : (b c : ℕ) (bs : List ℕ) (s t u w : Bool) → (b == 34) ≡ s → (b == 39) ≡ t → (b == 37) ≡ u
     → list_all is_name_byte (b ∷ c ∷ bs) ≡ w → token_of (b ∷ c ∷ bs) ≡ token_by (b ∷ c ∷ bs)
-unfolding token_of
+unfolding token_of character string
 many b c bs true t u w e f g h =
     let same : b ≡ 34 = grind (arith, nat_tests) in
     rw (same, not_character 34 (c ∷ bs) refl, no_sign 34 c bs refl)

@@ -3,7 +3,7 @@ use Rattle.std.proofs.Common.{◌≡◌, ℕ, zero, suc, ◌<◌, ◌≤◌, Boo
 use Rattle.std.specs.Prelude.{Option, None, Some}
 use Rattle.std.specs.Bool.{◌==◌}
 use Rattle.std.specs.Option.{option_map}
-use Rattle.rv_tokens.specs.Literals.{longest, escape, spelled, is_plain_in_string, first_byte, bytes_after, bytes_of}
+use Rattle.rv_tokens.specs.Literals.{longest, escape, spelled, first_byte, bytes_after, string_bytes}
 use Rattle.rv_tokens.proofs.Longest.{longest_above, longest_found}
 
 cond_none : (b : Bool) → ◌≡◌ {A = Option ℕ} (cond b None None) None
@@ -11,47 +11,47 @@ cond_none true = refl
 cond_none false = refl
 
 -- the text of a byte has at most four bytes
-pub spelled_long : (plain : ℕ → Bool) (text : List ℕ) → 4 < length text → spelled plain text ≡ None
+pub spelled_long : (quote : ℕ) (text : List ℕ) → 4 < length text → spelled quote text ≡ None
 unfolding spelled escape
-spelled_long plain [] h = absurd (omega arith)
-spelled_long plain (a ∷ []) h = absurd (omega arith)
-spelled_long plain (a ∷ b ∷ []) h = absurd (omega arith)
-spelled_long plain (a ∷ b ∷ c ∷ []) h = absurd (omega arith)
-spelled_long plain (a ∷ b ∷ c ∷ d ∷ []) h = absurd (omega arith)
-spelled_long plain (a ∷ b ∷ c ∷ d ∷ e ∷ bs) h = cond_none (a == 92)
+spelled_long quote [] h = absurd (omega arith)
+spelled_long quote (a ∷ []) h = absurd (omega arith)
+spelled_long quote (a ∷ b ∷ []) h = absurd (omega arith)
+spelled_long quote (a ∷ b ∷ c ∷ []) h = absurd (omega arith)
+spelled_long quote (a ∷ b ∷ c ∷ d ∷ []) h = absurd (omega arith)
+spelled_long quote (a ∷ b ∷ c ∷ d ∷ e ∷ bs) h = cond_none (a == 92)
 
 -- the byte that the first n bytes of a text spell in a string
 abbrev pub string_byte_in : List ℕ → ℕ → Option ℕ
-string_byte_in text n = spelled is_plain_in_string (take n text)
+string_byte_in text n = spelled 34 (take n text)
 
 pub first_byte_within : (text : List ℕ) (n : ℕ) → n ≤ length text
     → ((m : ℕ) → n < m → m ≤ length text → 4 < m) → longest (string_byte_in text) n ≡ first_byte text
 first_byte_within text n le long =
     sym (longest_above (string_byte_in text) n (length text) le (λ m p q.
     let l : length (take m text) ≡ m = omega (arith, length-take m text) in
-    spelled_long is_plain_in_string (take m text) (omega (arith, l, long m p q))))
+    spelled_long 34 (take m text) (omega (arith, l, long m p q))))
 
 -- ---- the bytes of a string
 
-pub bytes_after_drop : (text : List ℕ) (n : ℕ) → bytes_after text n ≡ bytes_of (drop n text)
+pub bytes_after_drop : (text : List ℕ) (n : ℕ) → bytes_after text n ≡ string_bytes (drop n text)
 unfolding bytes_after
 bytes_after_drop [] zero = refl
 bytes_after_drop [] (suc n) = refl
 bytes_after_drop (b ∷ bs) zero = refl
 bytes_after_drop (b ∷ bs) (suc n) = bytes_after_drop bs n
 
-pub bytes_of_end : (text : List ℕ) → length text ≡ 0 → bytes_of text ≡ Some []
+pub bytes_of_end : (text : List ℕ) → length text ≡ 0 → string_bytes text ≡ Some []
 unfolding bytes_after
 bytes_of_end [] h = refl
 bytes_of_end (b ∷ bs) h = absurd (omega arith)
 
-pub bytes_of_none : (text : List ℕ) → 0 < length text → first_byte text ≡ None → bytes_of text ≡ None
+pub bytes_of_none : (text : List ℕ) → 0 < length text → first_byte text ≡ None → string_bytes text ≡ None
 unfolding bytes_after
 bytes_of_none [] some e = absurd (omega arith)
 bytes_of_none (b ∷ bs) some e = rw e refl
 
 pub bytes_of_some : (text : List ℕ) (x n : ℕ) → first_byte text ≡ Some (x, n)
-    → bytes_of text ≡ option_map (λ cs. x ∷ cs) (bytes_of (drop n text))
+    → string_bytes text ≡ option_map (λ cs. x ∷ cs) (string_bytes (drop n text))
 unfolding bytes_after
 bytes_of_some [] x n e =
     let l = longest_found (string_byte_in []) 0 n x e in absurd (omega (arith, l.some, l.within))
@@ -67,10 +67,10 @@ one_more done x (Some cs) = ap (λ ys. Some ys) (sym (append_assoc done (x ∷ [
 
 -- one more byte of a string
 pub append_more : (done all text : List ℕ) (x n : ℕ) → first_byte text ≡ Some (x, n)
-    → option_map (λ cs. done ++ cs) (bytes_of text) ≡ Some all
-    → option_map (λ cs. (done ++ x ∷ []) ++ cs) (bytes_of (drop n text)) ≡ Some all
+    → option_map (λ cs. done ++ cs) (string_bytes text) ≡ Some all
+    → option_map (λ cs. (done ++ x ∷ []) ++ cs) (string_bytes (drop n text)) ≡ Some all
 append_more done all text x n e h =
-    sym (one_more done x (bytes_of (drop n text)))
+    sym (one_more done x (string_bytes (drop n text)))
     ∙ (ap (option_map (λ cs. done ++ cs)) (sym (bytes_of_some text x n e)) ∙ h)
 
 some_same : (xs ys : List ℕ) → Some xs ≡ Some ys → xs ≡ ys
@@ -78,7 +78,7 @@ some_same xs ys h = cc
 
 -- the end of a string
 pub append_end : (done all text : List ℕ) → first_byte text ≡ None
-    → option_map (λ cs. done ++ cs) (bytes_of text) ≡ Some all → done ≡ all
+    → option_map (λ cs. done ++ cs) (string_bytes text) ≡ Some all → done ≡ all
 append_end done all [] e h =
     sym (append-nil done)
     ∙ some_same (done ++ []) all (ap (option_map (λ cs. done ++ cs)) (sym (bytes_of_end [] refl)) ∙ h)

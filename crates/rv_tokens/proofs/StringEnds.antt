@@ -1,7 +1,6 @@
 -- The end of a string.
 use Rattle.std.proofs.Common.{◌≡◌, ℕ, zero, suc, ◌+◌, ◌-◌, ◌<◌, ◌≤◌, Bool, true, false, cond, List, [], ◌∷◌, length, take, drop, get_or, refl, sym, ap, ◌∙◌, arith, length-take, length-drop, get_or-take, get_or-drop}
 use Rattle.std.specs.Prelude.{Option, None, Some, option_and_then, nat_lt, is_some}
-use Rattle.std.specs.List.{list_all}
 use native.Mathlib.Decide.{dec_lt}
 use Prim.{yes, no}
 use Rattle.std.specs.Bool.{◌==◌}
@@ -11,45 +10,41 @@ use Rattle.std.proofs.lemmas.Bool.Decides.{nat_tests}
 use Rattle.std.proofs.lemmas.List.{take-take, drop-take, drop-drop}
 use Rattle.std.proofs.lemmas.List.Folds.{list_all_at}
 use Rattle.std.proofs.Math.Seq.{drop-cons}
-use Rattle.rv_base.specs.Numbers.{hex_digit}
 use Rattle.rv_tokens.specs.declared.token.Token.{Token}
 use Rattle.rv_tokens.specs.declared.token.Token.TheVariants.{Text}
-use Rattle.rv_tokens.specs.Literals.{longest, is_digit, number_in, byte_in, escape, spelled, is_plain_in_string, between, first_byte, bytes_after, bytes_of, string}
-use Rattle.rv_tokens.specs.Tokens.{token_of, token_in, may_precede, front}
+use Rattle.rv_base.specs.Numbers.{hex_digit, number_in}
+use Rattle.rv_tokens.specs.Literals.{longest, escape, spelled, between, first_byte, bytes_after, string_bytes}
+use Rattle.rv_tokens.specs.Tokens.{token_of, token_in, front}
+use Rattle.rv_tokens.specs.Partial.{may_precede, is_digit, string}
 use Rattle.rv_tokens.proofs.Signs.{token_is}
-use Rattle.rv_tokens.proofs.Front.{kept_in, no_name_last}
+use Rattle.rv_tokens.proofs.Front.{kept_in, no_name_last, token_in_is}
 use Rattle.rv_tokens.proofs.Digits.{number_in_is}
 use Rattle.rv_tokens.proofs.Longest.{longest_is, longest_found, longest_missing, longest_none}
 use Rattle.rv_tokens.proofs.Spellings.{string_byte_in, bytes_of_none, bytes_of_some}
 
 -- ---- no quote stands in an escape, except right after the `\`
 
-byte_digits : (base : ℕ) (ds : List ℕ) (o : Option ℕ) (b : ℕ) → number_in base ds ≡ o
-    → option_and_then (λ n. cond (nat_lt n 256) (Some n) None) o ≡ Some b → list_all (is_digit base) ds ≡ true
-byte_digits base ds None b e h = absurd cc
-byte_digits base ds (Some n) b e h = let p = number_in_is base ds n e in p.0
-
-no_quote : (base : ℕ) (ds : List ℕ) (b i : ℕ) → byte_in base ds ≡ Some b → i < length ds → get_or ds i 0 ≡ 34
-    → ⊥
+no_quote : (base : ℕ) (ds : List ℕ) (b i : ℕ) → base ≤ 16 → number_in base 255 ds ≡ Some b → i < length ds
+    → get_or ds i 0 ≡ 34 → ⊥
 unfolding hex_digit
-no_quote base ds b i h lt q =
-    let digit : is_digit base (get_or ds i 0) ≡ false = rw q refl in
-    false≢true
-    (sym (list_all_at (is_digit base) ds i 0 lt digit) ∙ byte_digits base ds (number_in base ds) b refl h)
+no_quote base ds b i low h lt q =
+    let digit : is_digit base (get_or ds i 0) ≡ false = rw q (grind (arith, nat_tests, low)) in
+    let all = number_in_is base 255 ds b h in
+    false≢true (sym (list_all_at (is_digit base) ds i 0 lt digit) ∙ all.0)
 
 hex_quote : (c d e b i : ℕ) (t : Bool) → (c == 120) ≡ t
-    → cond t (byte_in 16 (d ∷ e ∷ [])) (byte_in 8 (c ∷ d ∷ e ∷ [])) ≡ Some b → i < 3
+    → cond t (number_in 16 255 (d ∷ e ∷ [])) (number_in 8 255 (c ∷ d ∷ e ∷ [])) ≡ Some b → i < 3
     → get_or (c ∷ d ∷ e ∷ []) i 0 ≡ 34 → ⊥
 hex_quote c d e b zero true x h lt q = let f : c ≡ 120 = grind (arith, nat_tests) in omega (arith, f, q)
-hex_quote c d e b (suc i) true x h lt q = no_quote 16 (d ∷ e ∷ []) b i h (omega arith) q
-hex_quote c d e b i false x h lt q = no_quote 8 (c ∷ d ∷ e ∷ []) b i h (omega arith) q
+hex_quote c d e b (suc i) true x h lt q = no_quote 16 (d ∷ e ∷ []) b i (omega arith) h (omega arith) q
+hex_quote c d e b i false x h lt q = no_quote 8 (c ∷ d ∷ e ∷ []) b i (omega arith) h (omega arith) q
 
 escape_quote : (cs : List ℕ) (b i : ℕ) → 1 < length cs → escape cs ≡ Some b → i < length cs
     → get_or cs i 0 ≡ 34 → ⊥
 unfolding escape
 escape_quote [] b i long h lt q = omega arith
 escape_quote (c ∷ []) b i long h lt q = omega arith
-escape_quote (c ∷ d ∷ []) b i long h lt q = no_quote 8 (c ∷ d ∷ []) b i h lt q
+escape_quote (c ∷ d ∷ []) b i long h lt q = no_quote 8 (c ∷ d ∷ []) b i (omega arith) h lt q
 escape_quote (c ∷ d ∷ e ∷ []) b i long h lt q = hex_quote c d e b i (c == 120) refl h lt q
 escape_quote (c ∷ d ∷ e ∷ f ∷ fs) b i long h lt q = absurd cc
 
@@ -58,34 +53,34 @@ cond_some true o b h = (refl, h)
 cond_some false o b h = absurd cc
 
 -- before a quote within the spelling of a byte there is only a `\`
-before_quote : (plain : ℕ → Bool) (s : List ℕ) (b j : ℕ) → spelled plain s ≡ Some b → 0 < j → j < length s
+before_quote : (quote : ℕ) (s : List ℕ) (b j : ℕ) → spelled quote s ≡ Some b → 0 < j → j < length s
     → get_or s j 0 ≡ 34 → take j s ≡ 92 ∷ []
 unfolding spelled
-before_quote plain [] b j h some lt q = absurd (omega arith)
-before_quote plain (a ∷ []) b j h some lt q = absurd (omega arith)
-before_quote plain (a ∷ c ∷ []) b j h some lt q =
+before_quote quote [] b j h some lt q = absurd (omega arith)
+before_quote quote (a ∷ []) b j h some lt q = absurd (omega arith)
+before_quote quote (a ∷ c ∷ []) b j h some lt q =
     let p = cond_some (a == 92) (escape (c ∷ [])) b h in
     let e : j ≡ 1 = omega arith in
     let f : a ≡ 92 = grind (arith, nat_tests, p.0) in
     rw (e, f) refl
-before_quote plain (a ∷ c ∷ d ∷ ds) b zero h some lt q = absurd (omega arith)
-before_quote plain (a ∷ c ∷ d ∷ ds) b (suc j) h some lt q =
+before_quote quote (a ∷ c ∷ d ∷ ds) b zero h some lt q = absurd (omega arith)
+before_quote quote (a ∷ c ∷ d ∷ ds) b (suc j) h some lt q =
     let p = cond_some (a == 92) (escape (c ∷ d ∷ ds)) b h in
     absurd (escape_quote (c ∷ d ∷ ds) b j (omega arith) p.1 (omega arith) q)
 
-lone_backslash : bytes_of (92 ∷ []) ≡ None
+lone_backslash : string_bytes (92 ∷ []) ≡ None
 unfolding bytes_after longest spelled
 lone_backslash = refl
 
 -- the text of a byte that is cut off before a quote isn't the text of any bytes
 cut_quote : (t : List ℕ) (b k j : ℕ) → first_byte t ≡ Some (b, k) → 0 < j → j < k → get_or t j 0 ≡ 34
-    → bytes_of (take j t) ≡ None
+    → string_bytes (take j t) ≡ None
 cut_quote t b k j e some lt q =
     let l = longest_found (string_byte_in t) (length t) k b e in
     let len : length (take k t) ≡ k = omega (arith, length-take k t, l.within) in
     let at : get_or (take k t) j 0 ≡ 34 = get_or-take k t j 0 lt ∙ q in
     let front : take j (take k t) ≡ 92 ∷ [] =
-    before_quote is_plain_in_string (take k t) b j l.is some (omega (arith, len)) at in
+    before_quote 34 (take k t) b j l.is some (omega (arith, len)) at in
     let same : take j t ≡ 92 ∷ [] = sym (take-take j k t (omega arith)) ∙ front in
     rw same lone_backslash
 
@@ -125,19 +120,19 @@ drop_of_take k j t le =
     let e : k + (j - k) ≡ j = omega arith in ap (λ n. drop k (take n t)) (sym e) ∙ drop-take k (j - k) t
 
 goes_step : (t : List ℕ) (b k j : ℕ) → first_byte t ≡ Some (b, k) → k ≤ j → j ≤ length t
-    → is_some (bytes_of (take j t)) ≡ is_some (bytes_of (take (j - k) (drop k t)))
+    → is_some (string_bytes (take j t)) ≡ is_some (string_bytes (take (j - k) (drop k t)))
 goes_step t b k j e le within =
     ap is_some (bytes_of_some (take j t) b k (first_byte_take t b k j e le within))
-    ∙ (is_some_map (λ cs. b ∷ cs) (bytes_of (drop k (take j t)))
-    ∙ ap (λ s. is_some (bytes_of s)) (drop_of_take k j t le))
+    ∙ (is_some_map (λ cs. b ∷ cs) (string_bytes (drop k (take j t)))
+    ∙ ap (λ s. is_some (string_bytes s)) (drop_of_take k j t le))
 
 -- ---- the search for the end
 
 pub record IsScanned (text : List ℕ) (i : ℕ) : Type 0 where
   pub within : i ≤ length text
-  pub none_before : (m : ℕ) → m < i → get_or text m 0 ≡ 34 → bytes_of (take m text) ≡ None
+  pub none_before : (m : ℕ) → m < i → get_or text m 0 ≡ 34 → string_bytes (take m text) ≡ None
   pub goes_on : (m : ℕ) → i ≤ m → m ≤ length text
-      → is_some (bytes_of (take m text)) ≡ is_some (bytes_of (take (m - i) (drop i text)))
+      → is_some (string_bytes (take m text)) ≡ is_some (string_bytes (take (m - i) (drop i text)))
 
 pub scanned_none : (text : List ℕ) → IsScanned text 0
 scanned_none text = record {
@@ -152,14 +147,14 @@ module _ (text : List ℕ) (i : ℕ) (so : IsScanned text i) where
 
   -- a prefix that ends within the next byte
   before_next : (b k m : ℕ) → (get_or text i 0 ≡ 34 → ⊥) → first_byte (drop i text) ≡ Some (b, k) → i ≤ m
-      → m < i + k → m < length text → get_or text m 0 ≡ 34 → bytes_of (take m text) ≡ None
+      → m < i + k → m < length text → get_or text m 0 ≡ 34 → string_bytes (take m text) ≡ None
   before_next b k m test e le lt within q = elim (dec_lt i m) [
     | yes more ↦
         (let at : get_or (drop i text) (m - i) 0
         ≡ 34 = (let f : i + (m - i) ≡ m = omega arith in get_or-drop i text (m - i) 0
         ∙ (ap (λ n. get_or text n 0) f ∙ q)) in
         let none = cut_quote (drop i text) b k (m - i) e (omega arith) (omega arith) at in
-        none_of (bytes_of (take m text)) (so.goes_on m le (omega arith) ∙ ap is_some none))
+        none_of (string_bytes (take m text)) (so.goes_on m le (omega arith) ∙ ap is_some none))
     | no less ↦
         (let same : m ≡ i = omega arith in
         let f : get_or text i 0 ≡ 34 = rw same at q in
@@ -183,13 +178,13 @@ module _ (text : List ℕ) (i : ℕ) (so : IsScanned text i) where
             (let f : (m - i) - k ≡ m - (i + k) = omega arith in
             so.goes_on m (omega arith) q
             ∙ (goes_step (drop i text) b k (m - i) e (omega arith) (omega (arith, drop_length))
-            ∙ (ap (λ n. is_some (bytes_of (take n (drop k (drop i text))))) f
-            ∙ ap (λ s. is_some (bytes_of (take (m - (i + k)) s))) (drop-drop k i text))));
+            ∙ (ap (λ n. is_some (string_bytes (take n (drop k (drop i text))))) f
+            ∙ ap (λ s. is_some (string_bytes (take (m - (i + k)) s))) (drop-drop k i text))));
       }
 
 -- ---- the string at the front of a line
 
-quote_spells : (zs : List ℕ) → spelled is_plain_in_string (34 ∷ zs) ≡ None
+quote_spells : (zs : List ℕ) → spelled 34 (34 ∷ zs) ≡ None
 unfolding spelled
 quote_spells [] = refl
 quote_spells (c ∷ cs) = refl
@@ -210,18 +205,18 @@ quoted_between ys n len =
     rw (e, f, g) refl
 
 quoted_cond : (t : Bool) (ys : List ℕ)
-    → ◌≡◌ {A = Option Token} (option_map (λ s. Text s) (option_and_then bytes_of (cond t (Some ys) None)))
-    (cond t (option_map (λ s. Text s) (bytes_of ys)) None)
+    → ◌≡◌ {A = Option Token} (option_map (λ s. Text s) (option_and_then string_bytes (cond t (Some ys) None)))
+    (cond t (option_map (λ s. Text s) (string_bytes ys)) None)
 quoted_cond true ys = refl
 quoted_cond false ys = refl
 
 token_of_string : (ys : List ℕ) (n : ℕ) → length ys ≡ suc n
-    → token_of (34 ∷ ys) ≡ cond (get_or ys n 0 == 34) (option_map (λ s. Text s) (bytes_of (take n ys))) None
+    → token_of (34 ∷ ys) ≡ cond (get_or ys n 0 == 34) (option_map (λ s. Text s) (string_bytes (take n ys))) None
 unfolding string
 token_of_string [] n len = absurd (omega arith)
 token_of_string (c ∷ cs) n len =
     token_is (34 ∷ c ∷ cs)
-    ∙ ap (λ o. option_map (λ s. Text s) (option_and_then bytes_of o)) (quoted_between (c ∷ cs) n len)
+    ∙ ap (λ o. option_map (λ s. Text s) (option_and_then string_bytes o)) (quoted_between (c ∷ cs) n len)
     ∙ quoted_cond (get_or (c ∷ cs) n 0 == 34) (take n (c ∷ cs))
 
 text_open : (may : Bool) → ◌≡◌ {A = Option Token} (cond may None None) None
@@ -239,8 +234,7 @@ text_kept xs rest c false o e f = text_open (may_precede xs rest)
 
 string_in : (text : List ℕ) (m : ℕ) → m < length text
     → token_in (34 ∷ text) (suc (suc m))
-    ≡ cond (get_or text m 0 == 34) (option_map (λ s. Text s) (bytes_of (take m text))) None
-unfolding token_in
+    ≡ cond (get_or text m 0 == 34) (option_map (λ s. Text s) (string_bytes (take m text))) None
 string_in text m lt =
     let len : length (take (suc m) text) ≡ suc m = omega (arith, length-take (suc m) text) in
     let last : get_or (take (suc m) text) m 0 ≡ get_or text m 0 =
@@ -249,12 +243,12 @@ string_in text m lt =
     let index : length (34 ∷ take (suc m) text) - 1 ≡ suc m = omega (arith, len) in
     let end : get_or (34 ∷ take (suc m) text) (length (34 ∷ take (suc m) text) - 1) 0 ≡ get_or text m 0 =
     rw index last in
-    rw (token_of_string (take (suc m) text) m len, last, front)
+    rw (token_in_is (34 ∷ text) (suc (suc m)) (omega arith), token_of_string (take (suc m) text) m len, last, front)
     (text_kept (34 ∷ take (suc m) text) (drop (suc m) text) (get_or text m 0) (get_or text m 0 == 34)
-    (bytes_of (take m text)) end refl)
+    (string_bytes (take m text)) end refl)
 
 lone_quote : (text : List ℕ) → token_in (34 ∷ text) 1 ≡ None
-lone_quote text = kept_in (34 ∷ text) 1 (no_name_last (34 ∷ []) text refl) ∙ token_is (34 ∷ [])
+lone_quote text = kept_in (34 ∷ text) 1 (omega arith) (no_name_last (34 ∷ []) text refl) ∙ token_is (34 ∷ [])
 
 cond_none : (t : Bool) (o : Option (List ℕ)) → (t ≡ true → o ≡ None)
     → ◌≡◌ {A = Option Token} (cond t (option_map (λ s. Text s) o) None) None
@@ -262,25 +256,25 @@ cond_none true o h = rw (h refl) refl
 cond_none false o h = refl
 
 -- if no quote at m ends the string, the line doesn't begin with a string of m + 2 bytes
-not_here : (text : List ℕ) (m : ℕ) → m < length text → (get_or text m 0 ≡ 34 → bytes_of (take m text) ≡ None)
+not_here : (text : List ℕ) (m : ℕ) → m < length text → (get_or text m 0 ≡ 34 → string_bytes (take m text) ≡ None)
     → token_in (34 ∷ text) (suc (suc m)) ≡ None
 not_here text m lt h =
     string_in text m lt
-    ∙ cond_none (get_or text m 0 == 34) (bytes_of (take m text)) (λ t. h (grind (arith, nat_tests, t)))
+    ∙ cond_none (get_or text m 0 == 34) (string_bytes (take m text)) (λ t. h (grind (arith, nat_tests, t)))
 
 -- no string goes on past the quote at n
 past_quote : (text : List ℕ) (n m : ℕ) → IsScanned text n → n < length text → get_or text n 0 ≡ 34 → n < m
-    → m < length text → bytes_of (take m text) ≡ None
+    → m < length text → string_bytes (take m text) ≡ None
 past_quote text n m so lt q more within =
     let e : drop n text ≡ get_or text n 0 ∷ drop (suc n) text = drop-cons text n 0 lt in
     let f : drop n text ≡ 34 ∷ drop (suc n) text = rw q at e in
     let len : length (take (m - n) (drop n text)) ≡ m - n =
     omega (arith, length-take (m - n) (drop n text), length-drop n text) in
-    let none : bytes_of (take (m - n) (drop n text)) ≡ None =
+    let none : string_bytes (take (m - n) (drop n text)) ≡ None =
     bytes_of_none (take (m - n) (drop n text)) (omega (arith, len))
     (first_byte_take_none (drop n text) (m - n) (rw f (first_byte_quote (drop (suc n) text)))
     (omega (arith, length-drop n text))) in
-    none_of (bytes_of (take m text)) (so.goes_on m (omega arith) (omega arith) ∙ ap is_some none)
+    none_of (string_bytes (take m text)) (so.goes_on m (omega arith) (omega arith) ∙ ap is_some none)
 
 above_string : (text : List ℕ) (n m : ℕ) → IsScanned text n → n < length text → get_or text n 0 ≡ 34
     → suc (suc n) < m → m ≤ length (34 ∷ text) → token_in (34 ∷ text) m ≡ None
@@ -291,7 +285,7 @@ above_string text n (suc (suc m)) so lt q more within =
 
 -- the string that ends with the quote at n
 pub front_string : (text s : List ℕ) (n : ℕ) → IsScanned text n → n < length text → get_or text n 0 ≡ 34
-    → bytes_of (take n text) ≡ Some s → front (34 ∷ text) ≡ Some (Text s, suc (suc n))
+    → string_bytes (take n text) ≡ Some s → front (34 ∷ text) ≡ Some (Text s, suc (suc n))
 front_string text s n so lt q e =
     longest_is (token_in (34 ∷ text)) (length (34 ∷ text)) (suc (suc n)) (Text s) (record {
       some = omega arith;
@@ -301,19 +295,19 @@ front_string text s n so lt q e =
     })
 
 -- the text before the quote is that of some bytes
-pub scanned_some : (text : List ℕ) (n : ℕ) → IsScanned text n → is_some (bytes_of (take n text)) ≡ true
+pub scanned_some : (text : List ℕ) (n : ℕ) → IsScanned text n → is_some (string_bytes (take n text)) ≡ true
 unfolding bytes_after
 scanned_some text n so = so.goes_on n (omega arith) so.within ∙ (let e : n - n ≡ 0 = omega arith in rw e refl)
 
 nowhere : (text : List ℕ) (m : ℕ)
-    → ((k : ℕ) → k < length text → get_or text k 0 ≡ 34 → bytes_of (take k text) ≡ None) → 0 < m
+    → ((k : ℕ) → k < length text → get_or text k 0 ≡ 34 → string_bytes (take k text) ≡ None) → 0 < m
     → m ≤ length (34 ∷ text) → token_in (34 ∷ text) m ≡ None
 nowhere text zero h some le = absurd (omega arith)
 nowhere text (suc zero) h some le = lone_quote text
 nowhere text (suc (suc m)) h some le = not_here text m (omega arith) (h m (omega arith))
 
 front_open : (text : List ℕ)
-    → ((k : ℕ) → k < length text → get_or text k 0 ≡ 34 → bytes_of (take k text) ≡ None)
+    → ((k : ℕ) → k < length text → get_or text k 0 ≡ 34 → string_bytes (take k text) ≡ None)
     → front (34 ∷ text) ≡ None
 front_open text h = longest_none (token_in (34 ∷ text)) (length (34 ∷ text)) (λ m p q. nowhere text m h p q)
 
@@ -323,7 +317,7 @@ front_unended text n so end = front_open text (λ k p q. so.none_before k (omega
 
 past_bad : (text : List ℕ) (n k : ℕ) → IsScanned text n → (get_or text n 0 ≡ 34 → ⊥)
     → first_byte (drop n text) ≡ None → n ≤ k → k < length text → get_or text k 0 ≡ 34
-    → bytes_of (take k text) ≡ None
+    → string_bytes (take k text) ≡ None
 past_bad text n k so test e le lt q = elim (dec_lt n k) [
   | yes more ↦
       (let len : length (take (k - n) (drop n text))
@@ -331,7 +325,7 @@ past_bad text n k so test e le lt q = elim (dec_lt n k) [
       let none =
       bytes_of_none (take (k - n) (drop n text)) (omega (arith, len))
       (first_byte_take_none (drop n text) (k - n) e (omega (arith, length-drop n text))) in
-      none_of (bytes_of (take k text)) (so.goes_on k le (omega arith) ∙ ap is_some none))
+      none_of (string_bytes (take k text)) (so.goes_on k le (omega arith) ∙ ap is_some none))
   | no less ↦
       (let same : k ≡ n = omega arith in let f : get_or text n 0 ≡ 34 = rw same at q in absurd (test f))
 ]
@@ -348,6 +342,3 @@ front_bad text n so test e =
 pub begins_quoted : (line : List ℕ) → 0 < length line → get_or line 0 0 ≡ 34 → line ≡ 34 ∷ drop 1 line
 begins_quoted [] some e = absurd (omega arith)
 begins_quoted (b ∷ bs) some e = rw e refl
-
-pub at_front : (text : List ℕ) (n : ℕ) → get_or (drop n text) 0 0 ≡ get_or text n 0
-at_front text n = let e : n + 0 ≡ n = omega arith in get_or-drop n text 0 0 ∙ ap (λ k. get_or text k 0) e

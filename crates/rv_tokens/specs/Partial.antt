@@ -1,13 +1,14 @@
--- What the lexer asks of a byte or a short text, each by tests in their order; and the tokens of a line, and their
--- places, each by a recursion of its own.
--- The language is this project's own: docs/ASSEMBLER.md.
+-- What the lexer asks of a byte or a short text, each by tests in their order; and the tokens of a line, and
+-- their places, each by a recursion of its own. The language is this project's own: docs/ASSEMBLER.md.
 -- Not to audit: private contracts alone cite this.
-use Rattle.std.specs.Prelude.{ℕ, zero, suc, pred, ◌-◌, Bool, ◌&&◌, ◌||◌, List, [], ◌∷◌, ◌++◌, length, if◌then◌else◌, ◌==◌, nat_lt, Option, Some, None, slice_index, codes, Result, Ok, Err}
+use Rattle.std.specs.Prelude.{ℕ, zero, suc, pred, ◌-◌, Bool, not, ◌&&◌, ◌||◌, List, [], ◌∷◌, ◌++◌, length, if◌then◌else◌, ◌==◌, nat_lt, Option, Some, None, option_and_then, slice_index, codes, Result, Ok, Err}
 use Rattle.std.specs.Str.{bytes_eq}
 use Rattle.rv_base.specs.Words.{is_blank}
 use Rattle.rv_tokens.specs.declared.place.Place.{Place}
 use Rattle.rv_tokens.specs.declared.fault.LineFault.{LineFault}
-use Rattle.rv_tokens.specs.Tokens.{front, is_comment, fault_at}
+use Rattle.rv_base.specs.Numbers.{digit_value}
+use Rattle.rv_tokens.specs.Literals.{spelled, between, string_bytes}
+use Rattle.rv_tokens.specs.Tokens.{is_name_byte, front, is_comment, fault_at}
 use Rattle.rv_tokens.specs.declared.token.Token.{Token}
 use Rattle.rv_tokens.specs.declared.token.Token.TheVariants.{Comma, Open, Close, Plus, Minus, Colon, At, High, Low}
 
@@ -45,6 +46,27 @@ abbrev pub half : List ℕ → Option Token
 half text =
     if bytes_eq text (codes "%hi") then Some High
     else (if bytes_eq text (codes "%lo") then Some Low else None)
+
+abbrev pub begins_with_name_byte : List ℕ → Bool
+begins_with_name_byte rest = is_name_byte (slice_index rest 0)
+
+-- whether a token of this text may precede the rest: no name byte directly follows one
+abbrev pub may_precede : List ℕ → List ℕ → Bool
+may_precede text rest = not (is_name_byte (slice_index text (length text - 1)) && begins_with_name_byte rest)
+
+-- ---- numbers, characters and strings
+
+-- whether a byte is a digit in a base of at most 16
+abbrev pub is_digit : ℕ → ℕ → Bool
+is_digit base b = nat_lt (digit_value b) base
+
+-- the byte of a character with its quotes
+unfoldable pub character : List ℕ → Option ℕ
+character text = option_and_then (spelled 39) (between 39 text)
+
+-- the bytes of a string with its quotes
+unfoldable pub string : List ℕ → Option (List ℕ)
+string text = option_and_then string_bytes (between 34 text)
 
 -- ---- the tokens of a line, and their places
 

@@ -1,8 +1,8 @@
 -- The spelling of tokens, and the tokens of a line.
 -- To audit: public contracts cite this.
 -- The language is this project's own: docs/ASSEMBLER.md.
-use Rattle.std.specs.Prelude.{ℕ, zero, suc, pred, ◌-◌, Bool, not, ◌&&◌, ◌||◌, List, [], ◌∷◌, length, take, drop, map, if◌then◌else◌, ◌==◌, nat_le, nat_lt, Option, Some, None, Result, Ok, Err, slice_index, codes}
-use Rattle.std.specs.List.{list_all}
+use Rattle.std.specs.Prelude.{ℕ, zero, suc, pred, ◌-◌, Bool, ◌&&◌, ◌||◌, List, [], ◌∷◌, length, take, map, if◌then◌else◌, ◌==◌, nat_eq, nat_le, nat_lt, option_and_then, Option, Some, None, is_none, Result, Ok, Err, slice_index, codes}
+use Rattle.std.specs.List.{filter_map, find, list_all, starts_with}
 use Rattle.std.specs.Option.{option_map, option_map_or, option_or}
 use Rattle.std.specs.Char.{is_ascii_digit, is_ascii_alphabetic}
 use Rattle.rv_base.specs.Limits.{line_limit}
@@ -14,7 +14,7 @@ use Rattle.rv_tokens.specs.declared.token.Token.{Token}
 use Rattle.rv_tokens.specs.declared.token.Token.TheVariants.{Name, Digits, Number, Local, Character, Text, Comma, Open, Close, Plus, Minus, Colon, At, High, Low}
 use Rattle.rv_tokens.specs.declared.fault.LineFault.{LineFault}
 use Rattle.rv_tokens.specs.declared.fault.LineFault.TheVariants.{BadByte, LineTooLong, Syntax}
-use Rattle.rv_tokens.specs.Literals.{longest, number, short_decimal, character, string}
+use Rattle.rv_tokens.specs.Literals.{longest, number, short_decimal, between, spelled, string_bytes}
 
 -- ---- the spelling of a token
 
@@ -52,21 +52,16 @@ signs =
 unfoldable pub token_of : List ℕ → Option Token
 token_of text =
     if list_all is_name_byte text then word text
-    else option_or (option_map (λ s. Text s) (string text))
-    (option_or (option_map (λ n. Character n) (character text)) (lookup text signs))
-
-abbrev pub begins_with_name_byte : List ℕ → Bool
-begins_with_name_byte rest = nat_lt 0 (length rest) && is_name_byte (slice_index rest 0)
-
--- whether a token of this text may precede the rest: no name byte directly follows one
-abbrev pub may_precede : List ℕ → List ℕ → Bool
-may_precede text rest = not (is_name_byte (slice_index text (length text - 1)) && begins_with_name_byte rest)
+    else option_or (option_map (λ s. Text s) (option_and_then string_bytes (between 34 text)))
+    (option_or (option_map (λ b. Character b) (option_and_then (spelled 39) (between 39 text))) (lookup text signs))
 
 -- ---- the tokens of a line
 
--- the token that the first n bytes of a line spell, if it may precede the others
+-- the token that the first n bytes of a line spell: no name byte directly follows one
 unfoldable pub token_in : List ℕ → ℕ → Option Token
-token_in line n = if may_precede (take n line) (drop n line) then token_of (take n line) else None
+token_in line n =
+    if is_name_byte (slice_index line (n - 1)) && is_name_byte (slice_index line n) then None
+    else token_of (take n line)
 
 -- the longest token at the front of a line, and its length
 abbrev pub front : List ℕ → Option (Token × ℕ)
@@ -74,38 +69,31 @@ front line = longest (token_in line) (length line)
 
 -- a comment begins with `#` or `//`
 abbrev pub is_comment : List ℕ → Bool
-is_comment line =
-    (slice_index line 0 == 35)
-    || (nat_lt 1 (length line) && ((slice_index line 0 == 47) && (slice_index line 1 == 47)))
+is_comment line = starts_with nat_eq line (codes "#") || starts_with nat_eq line (codes "//")
 
 -- the fault at a byte where no token begins
 abbrev pub fault_at : ℕ → LineFault
 fault_at b = if (b == 9) || (nat_le 32 b && nat_le b 126) then Syntax else BadByte
 
--- a token in front of others
-abbrev pub with_token : Token × Place → List (Token × Place) × Option LineFault → List (Token × Place) × Option LineFault
-with_token t ts = (t ∷ ts.0, ts.1)
-
--- The tokens in the rest of a line of `total` bytes, after the first n bytes of the rest, from left to right, each
--- with its place; and the fault at the first byte at which none begins.
-unfoldable pub cut : ℕ → List ℕ → ℕ → List (Token × Place) × Option LineFault
-cut total [] n = ([], None)
-cut total (b ∷ bs) (suc n) = cut total bs n
-cut total (b ∷ bs) zero =
-    if is_blank b then cut total bs zero
-    else (if is_comment (b ∷ bs) then ([], None)
-    else (elim (front (b ∷ bs)) as (λ _. List (Token × Place) × Option LineFault) [
-      | None ↦ ([], Some (fault_at b))
-      | Some (t, n) ↦ with_token (t, record { column = total - length (b ∷ bs); len = n }) (cut total bs (pred n))
-    ]))
+-- The rests of a line, after its first n bytes, at which its tokens begin, from left to right; and last the
+-- rest at which none does, if there is one.
+unfoldable pub starts : List ℕ → ℕ → List (List ℕ)
+starts [] n = []
+starts (b ∷ bs) (suc n) = starts bs n
+starts (b ∷ bs) zero =
+    if is_blank b then starts bs zero
+    else (if is_comment (b ∷ bs) then []
+    else (b ∷ bs) ∷ option_map_or (λ found. starts bs (pred found.1)) (front (b ∷ bs)) [])
 
 -- the places of the tokens of a line
 abbrev pub places : List ℕ → List Place
-places line = map (λ t. t.1) (cut (length line) line 0).0
+places line =
+    filter_map (λ rest. option_map (λ found. record { column = length line - length rest; len = found.1 }) (front rest))
+    (starts line 0)
 
 -- the tokens of a line of at most 1,024 bytes
 unfoldable pub tokens : List ℕ → Result (List Token) LineFault
 tokens line =
     if nat_lt line_limit (length line) then Err LineTooLong
-    else option_map_or (λ fault. Err fault) (cut (length line) line 0).1
-    (Ok (map (λ t. t.0) (cut (length line) line 0).0))
+    else option_map_or (λ rest. Err (fault_at (slice_index rest 0))) (find (λ rest. is_none (front rest)) (starts line 0))
+    (Ok (filter_map (λ rest. option_map (λ found. found.0) (front rest)) (starts line 0)))

@@ -1,30 +1,32 @@
 //! Numbers, characters and strings.
 ghost use Rattle.std.specs.Prelude.{◌≡◌, ◌<◌, ◌≤◌, IfSome, length};
-ghost use Rattle.rv_tokens.specs.Literals.{digit_value, is_digit, number_in, has_leading_zero, number, short_decimal, byte_in, escape, escaped, spelled, is_plain_in_character, is_plain_in_string, character, first_byte};
-ghost use Rattle.rv_tokens.specs.Partial.{has_prefix, letter_escape};
+ghost use Rattle.rv_base.specs.Numbers.{digit_value, number_in};
+ghost use Rattle.rv_tokens.specs.Literals.{has_leading_zero, number, short_decimal, escape, spelled, is_plain, first_byte};
+ghost use Rattle.rv_tokens.specs.Partial.{character, has_prefix, is_digit, letter_escape};
 
 use rv_base::hex_digit;
 
-/// Returns the value of a digit, or 0 for any other byte.
+/// Returns the value of a digit, or 16 for any other byte.
 fn digit_value(b: u8) -> u8
     ensures is { result ≡ digit_value b }
-    ensures below { result < 16 }
+    ensures most { result ≤ 16 }
 {
-    hex_digit(b).unwrap_or(0)
+    hex_digit(b).unwrap_or(16)
 }
 
 /// Returns whether a byte is a digit in a base of at most 16.
 fn is_digit(base: u64, b: u8) -> bool
     ensures { result ≡ is_digit base b }
 {
-    hex_digit(b).is_some_and(|value| u64::from(value) < base)
+    u64::from(digit_value(b)) < base
 }
 
-/// Reads a number in a base: one or more digits whose value fits into 32 bits.
-fn number_in(base: u64, digits: &[u8]) -> Option<u32>
+/// Reads a number in a base: one or more digits of a value no more than this.
+fn number_in(base: u64, most: u32, digits: &[u8]) -> Option<u32>
     requires low { 1 ≤ base }
     requires high { base ≤ 16 }
-    ensures { result ≡ number_in base digits.now }
+    ensures value { result ≡ number_in base most digits.now }
+    ensures small { IfSome result (λ n. n ≤ most) }
 {
     if digits.is_empty() {
         return None;
@@ -35,7 +37,7 @@ fn number_in(base: u64, digits: &[u8]) -> Option<u32>
             return None;
         }
         sum = base * sum + u64::from(digit_value(*b));
-        if sum > u64::from(u32::MAX) {
+        if sum > u64::from(most) {
             return None;
         }
     }
@@ -62,13 +64,13 @@ pub fn number(text: &[u8]) -> Option<u32>
     ensures { result ≡ number text.now }
 {
     if has_prefix(b'x', b'X', text) {
-        number_in(16, &text[2..])
+        number_in(16, u32::MAX, &text[2..])
     } else if has_prefix(b'b', b'B', text) {
-        number_in(2, &text[2..])
+        number_in(2, u32::MAX, &text[2..])
     } else if has_leading_zero(text) {
-        number_in(8, &text[1..])
+        number_in(8, u32::MAX, &text[1..])
     } else {
-        number_in(10, text)
+        number_in(10, u32::MAX, text)
     }
 }
 
@@ -77,10 +79,10 @@ pub fn number(text: &[u8]) -> Option<u32>
 pub fn short_decimal(text: &[u8]) -> Option<u16>
     ensures { result ≡ short_decimal text.now }
 {
-    if text.len() > 4 || has_leading_zero(text) {
+    if has_leading_zero(text) {
         return None;
     }
-    let n = number_in(10, text)?;
+    let n = number_in(10, 9999, text)?;
     Some(n as u16)
 }
 
@@ -103,12 +105,10 @@ fn letter_escape(b: u8) -> Option<u8>
 fn byte_in(base: u64, digits: &[u8]) -> Option<u8>
     requires low { 1 ≤ base }
     requires high { base ≤ 16 }
-    ensures { result ≡ byte_in base digits.now }
+    ensures { result ≡ number_in base 255 digits.now }
 {
-    match number_in(base, digits) {
-        Some(n) if n < 256 => Some(n as u8),
-        _ => None,
-    }
+    let n = number_in(base, 255, digits)?;
+    Some(n as u8)
 }
 
 /// Reads an escape without its `\`: a letter, `x` and two hexadecimal digits, or one to three octal digits.
@@ -124,59 +124,34 @@ fn escape(text: &[u8]) -> Option<u8>
     }
 }
 
-/// Returns whether a byte stands for itself in a character.
-fn is_plain_in_character(b: u8) -> bool
-    ensures { result ≡ is_plain_in_character b }
+/// Returns whether a byte stands for itself between two quotes.
+fn is_plain(quote: u8, b: u8) -> bool
+    ensures { result ≡ is_plain quote b }
 {
-    (0x20..=0x7E).contains(&b) && b != b'\'' && b != b'\\'
+    ((b >= 0x20 && b <= 0x7E) || (quote == b'"' && (b == b'\t' || b >= 0x80)))
+        && b != quote
+        && b != b'\\'
 }
 
-/// Returns whether a byte stands for itself in a string.
-fn is_plain_in_string(b: u8) -> bool
-    ensures { result ≡ is_plain_in_string b }
-{
-    (b == b'\t' || (b >= 0x20 && b <= 0x7E) || b >= 0x80) && b != b'"' && b != b'\\'
-}
-
-/// Reads an escape with its `\`.
-fn escape_sequence(text: &[u8]) -> Option<u8>
-    ensures { result ≡ escaped text.now }
+/// Reads the text of a byte between two quotes: the byte itself, or an escape.
+#[tactic(auto, unfolding(crate::specs::Literals::spelled))]
+fn byte_between(quote: u8, text: &[u8]) -> Option<u8>
+    ensures { result ≡ spelled quote text.now }
 {
     match text {
+        [b] => is_plain(quote, *b).then_some(*b),
         [b'\\', rest @ ..] => escape(rest),
         _ => None,
     }
 }
 
-/// Reads the text of a byte in a character: the byte itself, or an escape.
-#[tactic(auto, unfolding(crate::specs::Literals::spelled))]
-fn byte_in_character(text: &[u8]) -> Option<u8>
-    ensures { result ≡ spelled is_plain_in_character text.now }
-{
-    match text {
-        [b] => is_plain_in_character(*b).then_some(*b),
-        _ => escape_sequence(text),
-    }
-}
-
-/// Reads the text of a byte in a string: the byte itself, or an escape.
-#[tactic(auto, unfolding(crate::specs::Literals::spelled))]
-fn byte_in_string(text: &[u8]) -> Option<u8>
-    ensures { result ≡ spelled is_plain_in_string text.now }
-{
-    match text {
-        [b] => is_plain_in_string(*b).then_some(*b),
-        _ => escape_sequence(text),
-    }
-}
-
 /// Reads a character with its quotes, as the byte that it stands for.
-#[tactic(auto, unfolding(crate::specs::Literals::character))]
+#[tactic(auto, unfolding(crate::specs::Partial::character))]
 pub fn character(text: &[u8]) -> Option<u8>
     ensures { result ≡ character text.now }
 {
     if text.len() > 1 && text[0] == b'\'' && text[text.len() - 1] == b'\'' {
-        byte_in_character(&text[1..text.len() - 1])
+        byte_between(b'\'', &text[1..text.len() - 1])
     } else {
         None
     }
@@ -191,7 +166,7 @@ pub fn first_byte(text: &[u8]) -> Option<(u8, usize)>
 {
     let mut n = text.len().min(4);
     while n > 0 {
-        if let Some(b) = byte_in_string(&text[..n]) {
+        if let Some(b) = byte_between(b'"', &text[..n]) {
             return Some((b, n));
         }
         n -= 1;

@@ -3,8 +3,8 @@ ghost use Rattle.std.specs.Prelude.{◌≡◌, ◌==◌, IfOk, IsTrue, ◌<◌, 
 ghost use Rattle.std.specs.List.{list_all};
 ghost use Rattle.rv_tokens.specs.Faults.{Gives};
 ghost use Rattle.rv_tokens.specs.Parts.{IsCutInto, OneCut};
-ghost use Rattle.rv_tokens.specs.Partial.{sign, half, tokens_after};
-ghost use Rattle.rv_tokens.specs.Tokens.{is_name_start, is_name_byte, local, word, front, is_comment, begins_with_name_byte, fault_at, tokens};
+ghost use Rattle.rv_tokens.specs.Partial.{begins_with_name_byte, sign, half, tokens_after};
+ghost use Rattle.rv_tokens.specs.Tokens.{is_name_start, is_name_byte, local, word, front, is_comment, fault_at, tokens};
 
 use crate::literal::{character, first_byte, number, short_decimal};
 use crate::token::{Text, Token};
@@ -105,15 +105,17 @@ fn word_len(line: &[u8]) -> usize
 fn begins_with_name_byte(rest: &[u8]) -> bool
     ensures { result ≡ begins_with_name_byte rest.now }
 {
-    !rest.is_empty() && is_name_byte(rest[0])
+    match rest {
+        [first, ..] => is_name_byte(*first),
+        [] => false,
+    }
 }
 
 /// Returns whether a comment begins here, with `#` or `//`.
 pub fn is_comment(line: &[u8]) -> bool
-    requires { 0 < length line.now }
     ensures { result ≡ is_comment line.now }
 {
-    line[0] == b'#' || (line.len() > 1 && line[0] == b'/' && line[1] == b'/')
+    line.starts_with(b"#") || line.starts_with(b"//")
 }
 
 /// Returns the fault at a byte where no token begins.

@@ -23,23 +23,23 @@ pub struct Text<'a> {
 impl<'a> Model for Text<'a> {
     ghost use Rattle.std.specs.Prelude.{List, [], ℕ, IsTrue, is_some};
     ghost use Rattle.std.specs.Option.{unwrap_or};
-    ghost use Rattle.rv_tokens.specs.Literals.{bytes_of};
+    ghost use Rattle.rv_tokens.specs.Literals.{string_bytes};
 
     ghost Value = { List ℕ };
 
-    ghost view = { λ text. unwrap_or (bytes_of text.spelling.now) [] };
+    ghost view = { λ text. unwrap_or (string_bytes text.spelling.now) [] };
 
-    ghost invariant = { λ text. IsTrue (is_some (bytes_of text.spelling.now)) };
+    ghost invariant = { λ text. IsTrue (is_some (string_bytes text.spelling.now)) };
 }
 
 impl<'a> Text<'a> {
     ghost use Rattle.std.specs.Prelude.{◌≡◌, ◌++◌, length, IsTrue, is_some, Some, OnOk};
-    ghost use Rattle.rv_tokens.specs.Literals.{bytes_of};
+    ghost use Rattle.rv_tokens.specs.Literals.{string_bytes};
 
     /// Makes a string of the text between its quotes.
     pub(crate) fn new(spelling: &'a [u8]) -> Self
-        requires { IsTrue (is_some (bytes_of spelling.now)) }
-        ensures { bytes_of spelling.now ≡ Some result }
+        requires { IsTrue (is_some (string_bytes spelling.now)) }
+        ensures { string_bytes spelling.now ≡ Some result }
     {
         Text { spelling }
     }

@@ -17,7 +17,7 @@ pub loop-n-preserved : goal.loop-n-preserved
 loop-n-preserved c = (
   omega arith,
   sym (longest_less (string_byte_in c.args.text.now) c.loop-n.n c.loop-n-test.true
-      (sym c.byte_in_string.ensures ∙ c.in_default.is)) ∙ c.loop-n.invariant.1,
+      (sym c.byte_between.ensures ∙ c.in_default.is)) ∙ c.loop-n.invariant.1,
 )
 
 pub returns-clause-longest : goal.returns-clause-longest

@@ -1,8 +1,7 @@
 use Rattle.std.proofs.Common.{◌≡◌, cond, true, false, sym, ap, ◌∙◌, drop, take, arith, rules}
 use Rattle.std.specs.Prelude.{Some, None}
 use Rattle.std.specs.Option.{option_map}
-use Rattle.rv_tokens.specs.Tokens.{begins_with_name_byte}
-use Rattle.rv_tokens.specs.Partial.{half}
+use Rattle.rv_tokens.specs.Partial.{begins_with_name_byte, half}
 use Rattle.rv_tokens.proofs.Front.{front_short, front_half, half_none}
 use Rattle.rv_tokens.proofs.scan.half_front.Goals as goal
 

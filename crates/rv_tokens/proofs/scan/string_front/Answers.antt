@@ -1,8 +1,9 @@
 use Rattle.std.proofs.Common.{refl, rules, ◌≡◌, ◌∷◌, ◌+◌, suc, take, get_or, sym, ap, ◌∙◌, arith}
 use Rattle.std.specs.Prelude.{Some}
-use Rattle.rv_tokens.specs.Literals.{bytes_of, first_byte}
+use Rattle.rv_tokens.specs.Literals.{string_bytes, first_byte}
 use Rattle.rv_tokens.specs.Tokens.{front}
-use Rattle.rv_tokens.proofs.StringEnds.{scanned_some, scanned_more, front_string, front_bad, front_unended, begins_quoted, at_front}
+use Rattle.rv_tokens.proofs.StringEnds.{scanned_some, scanned_more, front_string, front_bad, front_unended, begins_quoted}
+use Rattle.rv_tokens.proofs.Front.{at_front}
 use Rattle.rv_tokens.proofs.scan.string_front.Goals as goal
 
 pub new-requires : goal.new-requires
@@ -18,8 +19,8 @@ returns-then-rest-eq34 c =
     let at : get_or c.split_at.result.1.now c.loop-n.n 0 ≡ 34 =
     sym (at_front c.split_at.result.1.now c.loop-n.n)
     ∙ (ap (λ s. get_or s 0 0) (sym c.split_at-in-loop-n.ensures.back) ∙ c.if-rest-eq34.true) in
-    let spelling : bytes_of (take c.loop-n.n c.split_at.result.1.now) ≡ Some c.new.result =
-    ap bytes_of (sym c.split_at-in-loop-n.ensures.front) ∙ c.new.ensures in
+    let spelling : string_bytes (take c.loop-n.n c.split_at.result.1.now) ≡ Some c.new.result =
+    ap string_bytes (sym c.split_at-in-loop-n.ensures.front) ∙ c.new.ensures in
     let n : suc (suc c.loop-n.n) ≡ c.loop-n.n + 2 = omega arith in
     let e = front_string c.split_at.result.1.now c.new.result c.loop-n.n c.loop-n.invariant c.loop-n-test.true
     at spelling in
