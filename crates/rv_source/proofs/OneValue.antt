@@ -1,12 +1,13 @@
 -- Expressions as a grammar: the tokens of one have one reading.
-use Rattle.std.proofs.Common.{◌≡◌, Bool, false, List, [], ◌∷◌, ◌++◌, refl, subst, append_assoc}
+use Rattle.std.proofs.Common.{◌≡◌, Bool, false, not, List, [], ◌∷◌, ◌++◌, refl, subst, append_assoc}
 use Rattle.std.specs.Prelude.{map, Option, Some, None}
+use Rattle.std.specs.Bool.{beq}
 use Rattle.std.proofs.lemmas.List.{append-nil}
 use Rattle.rv_source.specs.declared.expression.Term.{Term}
 use Rattle.rv_source.specs.declared.expression.Atom.{Atom}
 use Rattle.rv_source.specs.declared.terms.Piece.{Piece}
 use Rattle.rv_source.specs.declared.terms.Piece.TheVariants as p
-use Rattle.rv_source.specs.Expressions.{IsSum, Alone, Signed, OneSign, TwoSigns, OneValue, further, piece_of, sum, term, times, value, with_term}
+use Rattle.rv_source.specs.Expressions.{IsSum, Alone, Signed, OneSign, TwoSigns, OneValue, further, piece_of, sum, term, expression, with_term}
 
 -- ---- a sum of the grammar is what `sum` reads
 
@@ -22,7 +23,7 @@ further_more [] qs ts us e f = let is : [] ≡ ts = cc in rw (← is) f
 further_more (p.Sign s ∷ p.Atom x ∷ ps) qs ts us e f =
     front_more s x (further ps) (further (ps ++ qs)) ts us e (λ vs i. further_more ps qs vs us i f)
 further_more (p.Sign s ∷ p.Sign r ∷ p.Atom x ∷ ps) qs ts us e f =
-    front_more (times s r) x (further ps) (further (ps ++ qs)) ts us e (λ vs i. further_more ps qs vs us i f)
+    front_more (not (beq s r)) x (further ps) (further (ps ++ qs)) ts us e (λ vs i. further_more ps qs vs us i f)
 further_more (p.Sign s ∷ p.Sign r ∷ p.Sign q ∷ ps) qs ts us e f = cc
 further_more (p.Sign s ∷ p.Sign r ∷ p.Other ∷ ps) qs ts us e f = cc
 further_more (p.Sign s ∷ p.Sign r ∷ []) qs ts us e f = cc
@@ -50,7 +51,7 @@ reads _ _ (Alone x) = refl
 reads _ _ (Signed s x) = refl
 reads _ _ (OneSign ps ts s x h) = sum_more ps (p.Sign s ∷ p.Atom x ∷ []) ts (term s x ∷ []) (reads ps ts h) refl
 reads _ _ (TwoSigns ps ts s r x h) =
-    sum_more ps (p.Sign s ∷ p.Sign r ∷ p.Atom x ∷ []) ts (term (times s r) x ∷ []) (reads ps ts h) refl
+    sum_more ps (p.Sign s ∷ p.Sign r ∷ p.Atom x ∷ []) ts (term (not (beq s r)) x ∷ []) (reads ps ts h) refl
 
 -- ---- what `sum` reads is a sum of the grammar
 
@@ -68,13 +69,13 @@ grows ps (p.Sign s ∷ p.Atom x ∷ qs) ts us h e =
     (subst (λ ws. IsSum ((ps ++ p.Sign s ∷ p.Atom x ∷ []) ++ qs) ws) (append_assoc ts (term s x ∷ []) vs)
     (grows (ps ++ p.Sign s ∷ p.Atom x ∷ []) qs (ts ++ term s x ∷ []) vs (OneSign ps ts s x h) i)))
 grows ps (p.Sign s ∷ p.Sign r ∷ p.Atom x ∷ qs) ts us h e =
-    front_of (times s r) x (further qs) us
+    front_of (not (beq s r)) x (further qs) us
     (λ vs. IsSum (ps ++ p.Sign s ∷ p.Sign r ∷ p.Atom x ∷ qs) (ts ++ vs)) e
-    (λ vs i. subst (λ rs. IsSum rs (ts ++ term (times s r) x ∷ vs))
+    (λ vs i. subst (λ rs. IsSum rs (ts ++ term (not (beq s r)) x ∷ vs))
     (append_assoc ps (p.Sign s ∷ p.Sign r ∷ p.Atom x ∷ []) qs)
     (subst (λ ws. IsSum ((ps ++ p.Sign s ∷ p.Sign r ∷ p.Atom x ∷ []) ++ qs) ws)
-    (append_assoc ts (term (times s r) x ∷ []) vs)
-    (grows (ps ++ p.Sign s ∷ p.Sign r ∷ p.Atom x ∷ []) qs (ts ++ term (times s r) x ∷ []) vs
+    (append_assoc ts (term (not (beq s r)) x ∷ []) vs)
+    (grows (ps ++ p.Sign s ∷ p.Sign r ∷ p.Atom x ∷ []) qs (ts ++ term (not (beq s r)) x ∷ []) vs
     (TwoSigns ps ts s r x h) i)))
 grows ps (p.Sign s ∷ p.Sign r ∷ p.Sign q ∷ qs) ts us h e = absurd (cc)
 grows ps (p.Sign s ∷ p.Sign r ∷ p.Other ∷ qs) ts us h e = absurd (cc)
@@ -97,5 +98,5 @@ is_sum (p.Sign s ∷ []) ts e = absurd (cc)
 is_sum (p.Other ∷ ps) ts e = absurd (cc)
 
 pub has_one_value : OneValue
-unfolding value
+unfolding expression
 has_one_value ts terms = (reads (map piece_of ts) terms, is_sum (map piece_of ts) terms)

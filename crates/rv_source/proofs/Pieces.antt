@@ -8,7 +8,8 @@ use Rattle.std.specs.List.{position_or_len, position, slice_split, onto_first}
 use Rattle.std.proofs.lemmas.Bool.Decides.{nat_tests}
 use Rattle.rv_tokens.specs.declared.token.Token.{Token}
 use Rattle.rv_source.specs.declared.operand.Operand.{Operand}
-use Rattle.rv_source.specs.Operands.{is_comma, operand, operands}
+use Rattle.rv_source.specs.Operands.{is_comma, operands}
+use Rattle.rv_source.specs.Partial.{operand}
 
 abbrev pub pieces : List Token → List (List Token)
 pieces ts = slice_split is_comma ts

@@ -9,10 +9,10 @@ use Rattle.std.specs.Option.{ok_or}
 use Rattle.rv_isa.specs.declared.op.Operation.{Operation}
 use Rattle.rv_isa.specs.declared.kind.Kind.{Kind}
 use Rattle.rv_isa.specs.declared.kind.Kind.TheVariants.{Lui}
-use Rattle.rv_tokens.specs.declared.fault.LineFault.TheVariants.{BadOperands}
+use Rattle.rv_tokens.specs.declared.fault.LineFault.TheVariants.{UnknownWord, BadOperands}
 use Rattle.rv_source.specs.declared.operand.Operand.{Operand}
-use Rattle.rv_source.specs.Partial.{has_dot}
-use Rattle.rv_source.specs.Table.{Row, directives, first_fit, fitted, of_kind, is_marker, markers, of_word, pseudo_instructions, words}
+use Rattle.rv_source.specs.Partial.{first_fit, fitted_or, has_dot, is_marker, of_word, words}
+use Rattle.rv_source.specs.Table.{Row, directives, of_kind, markers, pseudo_instructions}
 
 first_bytes : (x y : ℕ) → (x == 46) ≡ true → (y == 46) ≡ false → (x == y) ≡ false
 first_bytes x y e f = grind (arith, nat_tests)
@@ -100,7 +100,7 @@ no_marker word e = none_among word markers refl e
 -- ---- operations
 
 pub has_rows : (op : Operation) (k : Kind) (xs : List Operand) →
-    fitted xs (of_kind op k) ≡ ok_or (first_fit xs (of_kind op k)) BadOperands
+    fitted_or UnknownWord xs (of_kind op k) ≡ ok_or (first_fit xs (of_kind op k)) BadOperands
 unfolding of_kind
 has_rows op (Lui _ _) xs = refl
 has_rows op k xs = refl

@@ -3,6 +3,7 @@
 -- The language is this project's own: docs/ASSEMBLER.md.
 use Rattle.std.specs.Prelude.{◌≡◌, ◌↔◌, ℕ, Bool, true, false, not, List, [], ◌∷◌, ◌++◌, map, Option, Some, None, if◌then◌else◌, codes}
 use Rattle.std.specs.Option.{option_map}
+use Rattle.std.specs.Bool.{beq}
 use Rattle.std.specs.Str.{bytes_eq}
 use Rattle.rv_tokens.specs.declared.token.Token.{Token}
 use Rattle.rv_tokens.specs.declared.token.Token.TheVariants as t
@@ -16,23 +17,16 @@ use Rattle.rv_source.specs.declared.terms.Piece.TheVariants as p
 abbrev pub is_symbol : List ℕ → Bool
 is_symbol name = not (bytes_eq name (codes "."))
 
-abbrev pub name_atom : List ℕ → Atom
-name_atom name = if is_symbol name then a.Symbol name else a.Here
-
 -- what a token is in an expression: a sign, which may be a minus, an atom, or neither
 abbrev pub piece_of : Token → Piece
 piece_of t.Plus = p.Sign false
 piece_of t.Minus = p.Sign true
-piece_of (t.Name name) = p.Atom (name_atom name)
+piece_of (t.Name name) = p.Atom (if is_symbol name then a.Symbol name else a.Here)
 piece_of (t.Digits n) = p.Atom (a.Number n)
 piece_of (t.Number n) = p.Atom (a.Number n)
 piece_of (t.Character b) = p.Atom (a.Character b)
 piece_of (t.Local n direction) = p.Atom (a.Local n direction)
 piece_of _ = p.Other
-
--- whether two signs together are a minus
-abbrev pub times : Bool → Bool → Bool
-times sign other = if sign then not other else other
 
 abbrev pub term : Bool → Atom → Term
 term sign atom = record { negative = sign; atom = atom }
@@ -41,11 +35,12 @@ term sign atom = record { negative = sign; atom = atom }
 abbrev pub with_term : Bool → Atom → Option (List Term) → Option (List Term)
 with_term sign atom terms = option_map (λ ts. term sign atom ∷ ts) terms
 
--- the terms after the first: each has one sign or two before it
+-- the terms after the first: each has a sign before it, or two, which together are a minus if just one of
+-- them is
 unfoldable pub further : List Piece → Option (List Term)
 further [] = Some []
 further (p.Sign s ∷ p.Atom x ∷ ps) = with_term s x (further ps)
-further (p.Sign s ∷ p.Sign r ∷ p.Atom x ∷ ps) = with_term (times s r) x (further ps)
+further (p.Sign s ∷ p.Sign r ∷ p.Atom x ∷ ps) = with_term (not (beq s r)) x (further ps)
 further _ = None
 
 -- a sum: a term with no sign or one before it, and further terms
@@ -55,8 +50,8 @@ sum (p.Sign s ∷ p.Atom x ∷ ps) = with_term s x (further ps)
 sum _ = None
 
 -- E: the expression that the tokens as a whole spell
-unfoldable pub value : List Token → Option (List Term)
-value ts = sum (map piece_of ts)
+unfoldable pub expression : List Token → Option (List Term)
+expression ts = sum (map piece_of ts)
 
 -- The same as a grammar: a sum is an atom with one sign or none, or a sum, one sign or two, and an atom.
 pub data IsSum : List Piece → List Term → Type 0 where
@@ -65,8 +60,8 @@ pub data IsSum : List Piece → List Term → Type 0 where
   OneSign : (ps : List Piece) (ts : List Term) (s : Bool) (x : Atom) → IsSum ps ts
       → IsSum (ps ++ p.Sign s ∷ p.Atom x ∷ []) (ts ++ term s x ∷ [])
   TwoSigns : (ps : List Piece) (ts : List Term) (s r : Bool) (x : Atom) → IsSum ps ts
-      → IsSum (ps ++ p.Sign s ∷ p.Sign r ∷ p.Atom x ∷ []) (ts ++ term (times s r) x ∷ [])
+      → IsSum (ps ++ p.Sign s ∷ p.Sign r ∷ p.Atom x ∷ []) (ts ++ term (not (beq s r)) x ∷ [])
 
--- tokens are exactly the sum that `value` says, and no sum where it says none
+-- tokens are exactly the sum that `expression` says, and no sum where it says none
 abbrev pub OneValue : Type 0
-OneValue = (ts : List Token) (terms : List Term) → IsSum (map piece_of ts) terms ↔ (value ts ≡ Some terms)
+OneValue = (ts : List Token) (terms : List Term) → IsSum (map piece_of ts) terms ↔ (expression ts ≡ Some terms)

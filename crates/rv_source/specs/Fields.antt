@@ -19,8 +19,6 @@ use Rattle.rv_source.specs.declared.operand.Operand.{Operand}
 use Rattle.rv_source.specs.declared.field.Fields.{Fields}
 use Rattle.rv_source.specs.declared.row.Role.{Role}
 use Rattle.rv_source.specs.declared.row.Role.TheVariants as r
-use Rattle.rv_source.specs.declared.row.Given.{Given}
-use Rattle.rv_source.specs.declared.row.Given.TheVariants as g
 use Rattle.rv_source.specs.Operands.{terms_of}
 
 -- ---- operands in their roles
@@ -34,22 +32,18 @@ symbol_of (a.Symbol name) = Some name
 symbol_of _ = None
 
 -- the name that an operand is
-abbrev pub name : Operand → Option (List ℕ)
-name x = option_and_then symbol_of (atom_alone x)
+abbrev pub name_alone : Operand → Option (List ℕ)
+name_alone x = option_and_then symbol_of (atom_alone x)
 
--- the register that it names
-abbrev pub register : Operand → Option ℕ
-register x = option_and_then (λ name. lookup name register_names) (name x)
+-- what a table of names has for it
+abbrev pub entry_in : {A : Type 0} → List (List ℕ × A) → Operand → Option A
+entry_in table x = option_and_then (λ n. lookup n table) (name_alone x)
 
--- control registers have numbers of twelve bits
+-- the control register of a name, or of a number of twelve bits
 abbrev pub csr_of : Atom → Option ℕ
 csr_of (a.Symbol name) = lookup name csr_names
 csr_of (a.Number n) = if nat_lt n 4096 then Some n else None
 csr_of _ = None
-
--- the control register that an operand is, by its name or its number
-abbrev pub csr : Operand → Option ℕ
-csr x = option_and_then csr_of (atom_alone x)
 
 -- the sets of accesses, each with the sum of i 8, o 4, r 2 and w 1
 unfoldable pub fence_sets : List (List ℕ × ℕ)
@@ -58,46 +52,34 @@ fence_sets =
     ∷ (codes "orw", 7) ∷ (codes "i", 8) ∷ (codes "iw", 9) ∷ (codes "ir", 10) ∷ (codes "irw", 11) ∷ (codes "io", 12)
     ∷ (codes "iow", 13) ∷ (codes "ior", 14) ∷ (codes "iorw", 15) ∷ []
 
--- the set of accesses that an operand names
-abbrev pub set : Operand → Option ℕ
-set x = option_and_then (λ name. lookup name fence_sets) (name x)
-
--- a value without a base, or its upper or lower part if that may be
-abbrev pub is_value : Bool → Bool → Form → Bool
-is_value high low (f.Value Whole e None) = true
-is_value high low (f.Value High e None) = high
-is_value high low (f.Value Low e None) = low
-is_value high low _ = false
-
-abbrev pub is_text : Form → Bool
-is_text (f.Text bytes) = true
-is_text _ = false
+-- whether a role takes a form: a string; or a value without a base, whole or the part that its role also
+-- takes
+abbrev pub takes : Role → Form → Bool
+takes r.Text (f.Text bytes) = true
+takes r.Text _ = false
+takes r.Imm (f.Value Low e None) = true
+takes r.Upper (f.Value High e None) = true
+takes role (f.Value Whole e None) = true
+takes role _ = false
 
 -- the register of a base
 abbrev pub base : Form → Option ℕ
 base (f.Value part e (Some name)) = lookup name register_names
 base _ = None
 
--- the fields with an operand whose value is waited for, if it fits
-abbrev pub value_in : Bool → Operand → Fields → Option Fields
-value_in fits x fields = if fits then Some (record fields { value = Some x }) else None
-
--- the fields with an operand in its role
+-- the fields with an operand in its role; the value of the last roles is waited for
 unfoldable pub put : Role → Operand → Fields → Option Fields
-put r.Rd x fields = option_map (λ n. record fields { rd = n }) (register x)
-put r.Rs1 x fields = option_map (λ n. record fields { rs1 = n }) (register x)
-put r.Rs2 x fields = option_map (λ n. record fields { rs2 = n }) (register x)
-put r.Both x fields = option_map (λ n. record fields { rd = n; rs1 = n }) (register x)
-put r.Imm x fields = value_in (is_value false true x.form) x fields
-put r.Upper x fields = value_in (is_value true false x.form) x fields
-put r.Value x fields = value_in (is_value false false x.form) x fields
+put r.Rd x fields = option_map (λ n. record fields { rd = n }) (entry_in register_names x)
+put r.Rs1 x fields = option_map (λ n. record fields { rs1 = n }) (entry_in register_names x)
+put r.Rs2 x fields = option_map (λ n. record fields { rs2 = n }) (entry_in register_names x)
+put r.Both x fields = option_map (λ n. record fields { rd = n; rs1 = n }) (entry_in register_names x)
+put r.Csr x fields = option_map (λ n. record fields { csr = n }) (option_and_then csr_of (atom_alone x))
+put r.Before x fields = option_map (λ n. record fields { before = n }) (entry_in fence_sets x)
+put r.After x fields = option_map (λ n. record fields { after = n }) (entry_in fence_sets x)
 put r.Memory x fields = option_map (λ n. record fields { rs1 = n; value = Some x }) (base x.form)
-put r.Csr x fields = option_map (λ n. record fields { csr = n }) (csr x)
-put r.Before x fields = option_map (λ n. record fields { before = n }) (set x)
-put r.After x fields = option_map (λ n. record fields { after = n }) (set x)
-put r.Symbol x fields = value_in (is_some (name x)) x fields
-put r.Second x fields = if is_value false false x.form then Some (record fields { second = Some x }) else None
-put r.Text x fields = value_in (is_text x.form) x fields
+put r.Symbol x fields = option_map (λ n. record fields { value = Some x }) (name_alone x)
+put r.Second x fields = if takes r.Second x.form then Some (record fields { second = Some x }) else None
+put role x fields = if takes role x.form then Some (record fields { value = Some x }) else None
 
 -- the fields with as many operands as there are roles, each in its role
 unfoldable pub in_roles : List Role → List Operand → Fields → Option Fields
@@ -105,29 +87,19 @@ in_roles [] [] fields = Some fields
 in_roles (role ∷ roles) (x ∷ xs) fields = option_and_then (in_roles roles xs) (put role x fields)
 in_roles _ _ fields = None
 
--- fields with two registers and an immediate that are given; a fence orders all before all after it
-abbrev pub start : ℕ → ℕ → ℤ → Fields
-start rd rs1 imm = record {
-  rd = rd;
-  rs1 = rs1;
+-- the fields before operands are read, but for what a row gives; a fence orders all before all after it
+abbrev pub zeros : Fields
+zeros = record {
+  rd = 0;
+  rs1 = 0;
   rs2 = 0;
-  imm = imm;
+  imm = pos 0;
   csr = 0;
   before = 15;
   after = 15;
   value = None;
   second = None;
 }
-
--- the fields before operands are read
-abbrev pub given : Given → Fields
-given g.Zeros = start 0 0 (pos 0)
-given g.Link = start 1 0 (pos 0)
-given g.Return = start 0 1 (pos 0)
-given g.Call = start 1 1 (pos 0)
-given g.Tail = start 0 6 (pos 0)
-given g.One = start 0 0 (pos 1)
-given g.Ones = start 0 0 (negsuc 0)
 
 -- ---- instructions
 

@@ -1,12 +1,15 @@
 -- The rows of the program's tables, and labels that are read.
 -- Not to audit: private contracts alone cite this.
-use Rattle.std.specs.Prelude.{ℕ, Bool, false, List, [], ◌∷◌, ◌++◌, ◌==◌, map, Option, Some, option_and_then, Result, if◌then◌else◌}
-use Rattle.std.specs.Option.{option_map, ok_or}
+use Rattle.std.specs.Prelude.{ℕ, pos, negsuc, Bool, false, List, [], ◌∷◌, ◌++◌, ◌==◌, length, map, slice_get, Option, Some, None, option_and_then, Result, if◌then◌else◌}
+use Rattle.std.specs.List.{filter_map, list_any}
+use Rattle.std.specs.Option.{option_map, option_map_or, ok_or}
+use Rattle.std.specs.Str.{bytes_eq}
 use Rattle.std.specs.Borrow.{Bor}
 use Rattle.rv_tokens.specs.declared.token.Token.{Token}
 use Rattle.rv_tokens.specs.declared.fault.LineFault.{LineFault}
 use Rattle.rv_tokens.specs.declared.fault.LineFault.TheVariants.{BadOperands}
-use Rattle.rv_source.specs.Operands.{is_nothing}
+use Rattle.rv_source.specs.Expressions.{is_symbol}
+use Rattle.rv_source.specs.Operands.{is_nothing, form_of}
 use Rattle.rv_source.specs.declared.operand.Operand.{Operand}
 use Rattle.rv_source.specs.declared.statement.Statement.{Statement}
 use Rattle.rv_source.specs.declared.line.Label.{Label}
@@ -15,22 +18,70 @@ use Rattle.rv_source.specs.declared.row.Row.TheVariants as row
 use Rattle.rv_source.specs.declared.row.Way.{Way}
 use Rattle.rv_source.specs.declared.row.Way.TheVariants as way
 use Rattle.rv_source.specs.declared.row.Template.TheVariants as t
-use Rattle.rv_source.specs.declared.row.Given.TheVariants.{Link}
+use Rattle.rv_source.specs.declared.row.Given.{Given}
+use Rattle.rv_source.specs.declared.row.Given.TheVariants as g
+use Rattle.rv_source.specs.declared.statement.Statement.TheVariants as s
+use Rattle.rv_source.specs.declared.expression.Atom.{Atom}
+use Rattle.rv_source.specs.declared.expression.Atom.TheVariants as a
+use Rattle.rv_isa.specs.declared.kind.Kind.{Kind}
 use Rattle.rv_isa.specs.declared.op.Operation.{Operation}
 use Rattle.rv_source.specs.declared.field.Fields.{Fields}
 use Rattle.rv_source.specs.declared.row.Role.{Role}
-use Rattle.rv_source.specs.Fields.{put}
-use Rattle.rv_source.specs.Table.{Row, These, Each, first_fit, near, far}
+use Rattle.rv_source.specs.Fields.{put, name_alone, zeros}
+use Rattle.rv_source.specs.Table.{Row, These, Each, meant, near, far, pseudo_instructions, directives, markers}
+use Rattle.rv_source.specs.Reading.{labels_of, body_of}
+use Rattle.rv_source.specs.Written.{Written as Line}
+
+-- ---- operands
+
+-- an operand that begins at token n of its line
+abbrev pub operand : ℕ → List Token → Option Operand
+operand n ts = option_map (λ form. record { first = n; count = length ts; form = form }) (form_of ts)
+
+-- what a name is in an expression
+abbrev pub name_atom : List ℕ → Atom
+name_atom name = if is_symbol name then a.Symbol name else a.Here
+
+-- ---- rows
+
+-- the fields before operands are read
+abbrev pub given : Given → Fields
+given g.Zeros = zeros
+given g.Link = record zeros { rd = 1 }
+given g.Return = record zeros { rs1 = 1 }
+given g.Call = record zeros { rd = 1; rs1 = 1 }
+given g.Tail = record zeros { rs1 = 6 }
+given g.One = record zeros { imm = pos 1 }
+given g.Ones = record zeros { imm = negsuc 0 }
+
+-- an instruction, which may wait for a value
+abbrev pub waiting : Kind → Option Operand → Statement
+waiting kind value = option_map_or (λ x. s.WithValue kind x) value (s.Instruction kind)
+
+-- a name and its value
+abbrev pub constant : Fields → Option Statement
+constant f = option_and_then (λ n. option_map (λ x. s.Constant n x) f.second) (option_and_then name_alone f.value)
+
+-- the rows of a word in a table, the statement of the first row that takes the operands, and all rows of
+-- words
+abbrev pub of_word : List ℕ → List (List ℕ × Row) → List Row
+of_word word rows = filter_map (λ row. if bytes_eq row.0 word then Some row.1 else None) rows
+
+abbrev pub first_fit : List Operand → List Row → Option Statement
+first_fit xs rows = slice_get (filter_map (λ row. meant row xs) rows) 0
+
+abbrev pub words : List (List ℕ × Row)
+words = pseudo_instructions ++ directives
 
 -- a row of the program, as a row of the language
 abbrev pub row_of : Written → Row
-row_of (row.These roles template fields) = These roles.now template fields
+row_of (row.These roles template fields) = These roles.now template (given fields)
 row_of (row.Each role template) = Each role template
 
 -- the row of an operation that is written in a way
 abbrev pub row_by : Operation → Way → Row
 row_by op (way.Near roles) = near op roles.now
-row_by op (way.Link roles) = These roles.now (t.Near op) Link
+row_by op (way.Link roles) = These roles.now (t.Near op) (record zeros { rd = 1 })
 row_by op (way.Far roles) = far op roles.now
 
 -- a table of the program, with its words as bytes
@@ -57,3 +108,13 @@ with_labels labels read = option_map (λ p. (labels ++ p.0, p.1)) read
 
 abbrev pub left_after : List Label → Option (Bor (List Token)) → Option (List Label × List Token)
 left_after labels rest = option_map (λ ts. (labels, ts.now)) rest
+
+-- the labels of a line and what follows them, by its tokens
+abbrev pub line_of : List Token → Option Line
+line_of ts =
+    option_and_then (λ p. option_map (λ body. record { labels = p.0; body = body }) (body_of (length ts) p.1))
+    (labels_of ts)
+
+-- whether a word is a directive without effect
+abbrev pub is_marker : List ℕ → Bool
+is_marker word = list_any (λ marker. bytes_eq marker word) markers

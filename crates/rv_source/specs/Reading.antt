@@ -2,7 +2,9 @@
 -- To audit: public contracts cite this.
 -- The language is this project's own: docs/ASSEMBLER.md.
 use Rattle.std.specs.Prelude.{ℕ, ◌-◌, List, [], ◌∷◌, length, Option, Some, None, option_and_then, Result, Ok, if◌then◌else◌}
+use Rattle.std.specs.List.{list_any}
 use Rattle.std.specs.Option.{option_map, ok_or}
+use Rattle.std.specs.Str.{bytes_eq}
 use Rattle.rv_tokens.specs.declared.fault.LineFault.{LineFault}
 use Rattle.rv_tokens.specs.declared.fault.LineFault.TheVariants.{Syntax}
 use Rattle.rv_tokens.specs.declared.token.Token.{Token}
@@ -17,7 +19,7 @@ use Rattle.rv_source.specs.declared.statement.Statement.{Statement}
 use Rattle.rv_source.specs.declared.statement.Statement.TheVariants as s
 use Rattle.rv_source.specs.Expressions.{is_symbol}
 use Rattle.rv_source.specs.Operands.{operands_of}
-use Rattle.rv_source.specs.Table.{is_marker, meaning}
+use Rattle.rv_source.specs.Table.{markers, meaning}
 use Rattle.rv_source.specs.Written.{Written}
 
 -- ---- a line as written, or E1 to E3
@@ -39,18 +41,15 @@ labels_of ts = Some ([], ts)
 abbrev pub body_of : ℕ → List Token → Option Body
 body_of n [] = Some b.Nothing
 body_of n (Name word ∷ ts) =
-    if is_marker word then Some b.Marker
+    if list_any (λ marker. bytes_eq marker word) markers then Some b.Marker
     else option_map (λ xs. b.Word word xs) (operands_of (n - length ts) ts)
 body_of n _ = None
 
-abbrev pub line_of : List Token → Option Written
-line_of ts =
-    option_and_then (λ p. option_map (λ body. record { labels = p.0; body = body }) (body_of (length ts) p.1))
-    (labels_of ts)
-
 -- A fault in cutting the line into tokens takes precedence.
 unfoldable pub written : List ℕ → Result Written LineFault
-written line = tokens line >>= λ ts. ok_or (line_of ts) Syntax
+written line =
+    tokens line >>= λ ts. ok_or (labels_of ts) Syntax >>= λ p.
+    ok_or (body_of (length ts) p.1) Syntax >>= λ body. Ok (record { labels = p.0; body = body })
 
 -- ---- its statement, or E4 and E5
 

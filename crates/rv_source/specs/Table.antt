@@ -1,9 +1,9 @@
 -- The tables of the language, and the statement of a word with its operands.
 -- To audit: public contracts cite this.
 -- The language is this project's own: docs/ASSEMBLER.md.
-use Rattle.std.specs.Prelude.{ℕ, Bool, true, false, List, length, replicate, map, [], ◌∷◌, ◌++◌, Option, Some, None, option_and_then, if◌then◌else◌, Result, codes}
-use Rattle.std.specs.List.{list_any}
-use Rattle.std.specs.Option.{option_map, option_map_or, option_or, ok_or}
+use Rattle.std.specs.Prelude.{ℕ, Bool, true, false, List, length, replicate, map, slice_get, pos, negsuc, [], ◌∷◌, ◌++◌, Option, Some, None, option_and_then, if◌then◌else◌, Result, codes}
+use Rattle.std.specs.List.{filter_map}
+use Rattle.std.specs.Option.{option_map, option_map_or, ok_or}
 use Rattle.std.specs.Str.{bytes_eq}
 use Rattle.rv_isa.specs.Mnemonics.{named, blank}
 use Rattle.rv_isa.specs.declared.op.Operation.{Operation}
@@ -21,25 +21,15 @@ use Rattle.rv_source.specs.declared.row.Role.{Role}
 use Rattle.rv_source.specs.declared.row.Role.TheVariants as r
 use Rattle.rv_source.specs.declared.row.Template.{Template}
 use Rattle.rv_source.specs.declared.row.Template.TheVariants as t
-use Rattle.rv_source.specs.declared.row.Given.{Given}
-use Rattle.rv_source.specs.declared.row.Given.TheVariants as g
 use Rattle.rv_source.specs.Operands.{is_nothing, strings}
-use Rattle.rv_source.specs.Fields.{in_roles, given, instruction, name}
+use Rattle.rv_source.specs.Fields.{in_roles, zeros, instruction, name_alone}
 
 -- ---- the meaning of a row
 
--- an instruction, which may wait for a value
-abbrev pub waiting : Kind → Option Operand → Statement
-waiting kind None = s.Instruction kind
-waiting kind (Some x) = s.WithValue kind x
-
--- a name and its value
-abbrev pub constant : Fields → Option Statement
-constant f = option_and_then (λ n. option_map (λ x. s.Constant n x) f.second) (option_and_then name f.value)
-
 -- the statement of a template with these operands, which gave These fields
 unfoldable pub filled : Template → List Operand → Fields → Option Statement
-filled (t.Near op) xs f = Some (waiting (instruction op f) f.value)
+filled (t.Near op) xs f =
+    let kind = instruction op f in Some (option_map_or (λ x. s.WithValue kind x) f.value (s.Instruction kind))
 filled (t.Far op) xs f = option_map (λ x. s.Far f.rs1 (instruction op f) x) f.value
 filled t.Li xs f = option_map (λ x. s.Li f.rd x) f.value
 filled (t.Data width) xs f = Some (s.Data width xs)
@@ -47,40 +37,37 @@ filled (t.Text terminated) xs f = Some (s.Bytes (strings terminated xs))
 filled t.Space xs f = option_map (λ x. s.Space x f.second) f.value
 filled t.Align xs f = option_map (λ x. s.Align x) f.value
 filled t.Balign xs f = option_map (λ x. s.Balign x) f.value
-filled t.Constant xs f = constant f
+filled t.Constant xs f =
+    option_and_then (λ n. option_map (λ x. s.Constant n x) f.second) (option_and_then name_alone f.value)
 
 -- a row: as many operands as there are roles, each in its role; or one or more, all in one role
 pub data Row : Type 0 where
-  These : List Role → Template → Given → Row
+  These : List Role → Template → Fields → Row
   Each : Role → Template → Row
 
 -- the statement of a row with these operands, or None if it doesn't take them
 abbrev pub meant : Row → List Operand → Option Statement
-meant (These roles template fields) xs = option_and_then (filled template xs) (in_roles roles xs (given fields))
+meant (These roles template fields) xs = option_and_then (filled template xs) (in_roles roles xs fields)
 meant (Each role template) xs =
-    if is_nothing xs then None else option_and_then (filled template xs) (in_roles (replicate (length xs) role) xs (given g.Zeros))
-
--- the statement of the first row that takes the operands
-abbrev pub first_fit : List Operand → List Row → Option Statement
-first_fit xs [] = None
-first_fit xs (row ∷ rows) = option_or (meant row xs) (first_fit xs rows)
+    if is_nothing xs then None
+    else option_and_then (filled template xs) (in_roles (replicate (length xs) role) xs zeros)
 
 -- ---- the tables
 
 abbrev pub near : Operation → List Role → Row
-near op roles = These roles (t.Near op) g.Zeros
+near op roles = These roles (t.Near op) zeros
 
 abbrev pub far : Operation → List Role → Row
-far op roles = These roles (t.Far op) g.Zeros
+far op roles = These roles (t.Far op) zeros
 
 -- the rows of an operation, by its kind
 unfoldable pub of_kind : Operation → Kind → List Row
 of_kind op (k.Lui _ _) = near op (r.Rd ∷ r.Upper ∷ []) ∷ []
 of_kind op (k.Auipc _ _) = near op (r.Rd ∷ r.Value ∷ []) ∷ []
-of_kind op (k.Jal _ _) = near op (r.Rd ∷ r.Value ∷ []) ∷ These (r.Value ∷ []) (t.Near op) g.Link ∷ []
+of_kind op (k.Jal _ _) = near op (r.Rd ∷ r.Value ∷ []) ∷ These (r.Value ∷ []) (t.Near op) (record zeros { rd = 1 }) ∷ []
 of_kind op (k.Jalr _ _ _) =
     near op (r.Rd ∷ r.Rs1 ∷ []) ∷ near op (r.Rd ∷ r.Memory ∷ []) ∷ near op (r.Rd ∷ r.Rs1 ∷ r.Imm ∷ [])
-    ∷ These (r.Rs1 ∷ []) (t.Near op) g.Link ∷ []
+    ∷ These (r.Rs1 ∷ []) (t.Near op) (record zeros { rd = 1 }) ∷ []
 of_kind op (k.Branch _ _ _ _) = near op (r.Rs1 ∷ r.Rs2 ∷ r.Value ∷ []) ∷ []
 of_kind op (k.Load _ _ _ _) = near op (r.Rd ∷ r.Memory ∷ []) ∷ far op (r.Both ∷ r.Value ∷ []) ∷ []
 of_kind op (k.Store _ _ _ _) = near op (r.Rs2 ∷ r.Memory ∷ []) ∷ far op (r.Rs2 ∷ r.Value ∷ r.Rs1 ∷ []) ∷ []
@@ -100,9 +87,9 @@ unfoldable pub pseudo_instructions : List (List ℕ × Row)
 pseudo_instructions =
     (codes "nop", near o.Addi [])
     ∷ (codes "mv", near o.Addi (r.Rd ∷ r.Rs1 ∷ []))
-    ∷ (codes "not", These (r.Rd ∷ r.Rs1 ∷ []) (t.Near o.Xori) g.Ones)
+    ∷ (codes "not", These (r.Rd ∷ r.Rs1 ∷ []) (t.Near o.Xori) (record zeros { imm = negsuc 0 }))
     ∷ (codes "neg", near o.Sub (r.Rd ∷ r.Rs2 ∷ []))
-    ∷ (codes "seqz", These (r.Rd ∷ r.Rs1 ∷ []) (t.Near o.Sltiu) g.One)
+    ∷ (codes "seqz", These (r.Rd ∷ r.Rs1 ∷ []) (t.Near o.Sltiu) (record zeros { imm = pos 1 }))
     ∷ (codes "snez", near o.Sltu (r.Rd ∷ r.Rs2 ∷ []))
     ∷ (codes "sltz", near o.Slt (r.Rd ∷ r.Rs1 ∷ []))
     ∷ (codes "sgtz", near o.Slt (r.Rd ∷ r.Rs2 ∷ []))
@@ -118,7 +105,7 @@ pseudo_instructions =
     ∷ (codes "bleu", near o.Bgeu (r.Rs2 ∷ r.Rs1 ∷ r.Value ∷ []))
     ∷ (codes "j", near o.Jal (r.Value ∷ []))
     ∷ (codes "jr", near o.Jalr (r.Rs1 ∷ []))
-    ∷ (codes "ret", These [] (t.Near o.Jalr) g.Return)
+    ∷ (codes "ret", These [] (t.Near o.Jalr) (record zeros { rs1 = 1 }))
     ∷ (codes "csrr", near o.Csrrs (r.Rd ∷ r.Csr ∷ []))
     ∷ (codes "csrw", near o.Csrrw (r.Csr ∷ r.Rs1 ∷ []))
     ∷ (codes "csrs", near o.Csrrs (r.Csr ∷ r.Rs1 ∷ []))
@@ -126,9 +113,9 @@ pseudo_instructions =
     ∷ (codes "csrwi", near o.Csrrwi (r.Csr ∷ r.Value ∷ []))
     ∷ (codes "csrsi", near o.Csrrsi (r.Csr ∷ r.Value ∷ []))
     ∷ (codes "csrci", near o.Csrrci (r.Csr ∷ r.Value ∷ []))
-    ∷ (codes "li", These (r.Rd ∷ r.Value ∷ []) t.Li g.Zeros)
-    ∷ (codes "call", These (r.Value ∷ []) (t.Far o.Jalr) g.Call)
-    ∷ (codes "tail", These (r.Value ∷ []) (t.Far o.Jalr) g.Tail)
+    ∷ (codes "li", These (r.Rd ∷ r.Value ∷ []) t.Li zeros)
+    ∷ (codes "call", These (r.Value ∷ []) (t.Far o.Jalr) (record zeros { rd = 1; rs1 = 1 }))
+    ∷ (codes "tail", These (r.Value ∷ []) (t.Far o.Jalr) (record zeros { rs1 = 6 }))
     ∷ alike (codes "la" ∷ codes "lla" ∷ []) (far o.Addi (r.Both ∷ r.Value ∷ []))
 
 -- the directives that take operands
@@ -139,16 +126,13 @@ directives =
     ++ alike (codes ".byte" ∷ []) (Each r.Value (t.Data width.One))
     ++ alike (codes ".ascii" ∷ []) (Each r.Text (t.Text false))
     ++ alike (codes ".asciz" ∷ codes ".string" ∷ []) (Each r.Text (t.Text true))
-    ++ alike (codes ".space" ∷ codes ".skip" ∷ codes ".zero" ∷ []) (These (r.Value ∷ []) t.Space g.Zeros)
-    ++ alike (codes ".space" ∷ codes ".skip" ∷ codes ".zero" ∷ []) (These (r.Value ∷ r.Second ∷ []) t.Space g.Zeros)
-    ++ alike (codes ".align" ∷ codes ".p2align" ∷ []) (These (r.Value ∷ []) t.Align g.Zeros)
-    ++ alike (codes ".balign" ∷ []) (These (r.Value ∷ []) t.Balign g.Zeros)
-    ++ alike (codes ".equ" ∷ codes ".set" ∷ []) (These (r.Symbol ∷ r.Second ∷ []) t.Constant g.Zeros)
+    ++ alike (codes ".space" ∷ codes ".skip" ∷ codes ".zero" ∷ []) (These (r.Value ∷ []) t.Space zeros)
+    ++ alike (codes ".space" ∷ codes ".skip" ∷ codes ".zero" ∷ []) (These (r.Value ∷ r.Second ∷ []) t.Space zeros)
+    ++ alike (codes ".align" ∷ codes ".p2align" ∷ []) (These (r.Value ∷ []) t.Align zeros)
+    ++ alike (codes ".balign" ∷ []) (These (r.Value ∷ []) t.Balign zeros)
+    ++ alike (codes ".equ" ∷ codes ".set" ∷ []) (These (r.Symbol ∷ r.Second ∷ []) t.Constant zeros)
 
-abbrev pub words : List (List ℕ × Row)
-words = pseudo_instructions ++ directives
-
--- the directives without effect
+-- the directives without effect, which any tokens may follow
 unfoldable pub markers : List (List ℕ)
 markers =
     codes ".text" ∷ codes ".data" ∷ codes ".rodata" ∷ codes ".bss" ∷ codes ".section" ∷ codes ".globl"
@@ -157,23 +141,14 @@ markers =
 
 -- ---- the statement of a word
 
--- whether a word is a directive without effect, which any tokens may follow
-abbrev pub is_marker : List ℕ → Bool
-is_marker word = list_any (λ marker. bytes_eq marker word) markers
-
--- the rows of a word in a table
-abbrev pub of_word : List ℕ → List (List ℕ × Row) → List Row
-of_word word [] = []
-of_word word (row ∷ rows) = if bytes_eq row.0 word then row.1 ∷ of_word word rows else of_word word rows
-
 -- the rows of a word: of an operation, or of a pseudo-instruction or a directive
 abbrev pub rows_of : List ℕ → List Row
-rows_of word = option_map_or (λ op. of_kind op (blank op)) (named word) (of_word word words)
+rows_of word = option_map_or (λ op. of_kind op (blank op)) (named word)
+    (filter_map (λ row. if bytes_eq row.0 word then Some row.1 else None) (pseudo_instructions ++ directives))
 
--- the statement of the first of these rows that takes the operands; E4 if there are no rows, else E5
-abbrev pub fitted : List Operand → List Row → Result Statement LineFault
-fitted xs rows = ok_or (first_fit xs rows) (if is_nothing rows then UnknownWord else BadOperands)
-
--- the statement of a word with these operands
+-- the statement of a word with these operands: that of its first row that takes them; E4 if it has no row,
+-- else E5
 unfoldable pub meaning : List ℕ → List Operand → Result Statement LineFault
-meaning word xs = fitted xs (rows_of word)
+meaning word xs =
+    let rows = rows_of word in
+    ok_or (slice_get (filter_map (λ row. meant row xs) rows) 0) (if is_nothing rows then UnknownWord else BadOperands)

@@ -1,10 +1,10 @@
 //! Reads the operands of a row into the fields of an instruction.
-ghost use Rattle.std.specs.Prelude.{◌≡◌, ◌<◌, ◌≤◌, ◌^◌, Some, None, nat_lt, if◌then◌else◌};
+ghost use Rattle.std.specs.Prelude.{◌≡◌, ◌<◌, ◌≤◌, ◌^◌, Some, None, nat_lt, option_and_then, if◌then◌else◌};
 ghost use Rattle.std.specs.Option.{option_map};
 ghost use Rattle.rv_isa.specs.Number.{IsWithin};
-ghost use Rattle.rv_isa.specs.Names.{csr_names};
-ghost use Rattle.rv_source.specs.Fields.{atom_alone, base, csr, fence_sets, given, immediate, instruction, is_text, is_value, name, put, register, set, in_roles, start, value_in};
-ghost use Rattle.rv_source.specs.Partial.{in_role};
+ghost use Rattle.rv_isa.specs.Names.{csr_names, register_names};
+ghost use Rattle.rv_source.specs.Fields.{atom_alone, base, csr_of, fence_sets, immediate, entry_in, instruction, name_alone, put, in_roles, takes, zeros};
+ghost use Rattle.rv_source.specs.Partial.{given, in_role};
 ghost use Rattle.rv_base.specs.Tables.{lookup};
 
 use crate::row::{Given, Role};
@@ -99,8 +99,8 @@ fn atom_alone<'t, 'a>(operand: &'t Operand<'a>) -> Option<&'t Atom<'a>>
 }
 
 /// Returns the name that an operand is.
-pub fn name<'a>(operand: &Operand<'a>) -> Option<Name<'a>>
-    ensures { result ≡ name operand.now }
+pub fn name_alone<'a>(operand: &Operand<'a>) -> Option<Name<'a>>
+    ensures { result ≡ name_alone operand.now }
 {
     match atom_alone(operand) {
         Some(Atom::Symbol(name)) => Some(name.again()),
@@ -110,9 +110,9 @@ pub fn name<'a>(operand: &Operand<'a>) -> Option<Name<'a>>
 
 /// Returns the register that an operand names.
 fn register(operand: &Operand) -> Option<Reg>
-    ensures { result ≡ register operand.now }
+    ensures { result ≡ entry_in register_names operand.now }
 {
-    match name(operand) {
+    match name_alone(operand) {
         Some(name) => reg_named(name.bytes()),
         None => None,
     }
@@ -142,7 +142,7 @@ fn named(name: &Name) -> Option<Csr>
 
 /// Returns the control register that an operand is, by its name or its number.
 fn control_register(operand: &Operand) -> Option<Csr>
-    ensures { result ≡ csr operand.now }
+    ensures { result ≡ option_and_then csr_of (atom_alone operand.now) }
 {
     match atom_alone(operand) {
         Some(Atom::Symbol(name)) => named(name),
@@ -183,37 +183,32 @@ fn set_of(letters: &[u8]) -> Option<FenceSet>
 
 /// Returns the set of accesses that an operand names.
 fn set(operand: &Operand) -> Option<FenceSet>
-    ensures { result ≡ set operand.now }
+    ensures { result ≡ entry_in fence_sets operand.now }
 {
-    match name(operand) {
+    match name_alone(operand) {
         Some(name) => set_of(name.bytes()),
         None => None,
     }
 }
 
-/// Returns whether an operand is a value without a base, or one of these parts of it.
-fn is_value(high: bool, low: bool, operand: &Operand) -> bool
-    ensures { result ≡ is_value high low operand.now.form }
+/// Returns whether a role takes the form of an operand: a string; or a value without a base, whole or the
+/// part that its role also takes.
+fn takes(role: Role, operand: &Operand) -> bool
+    ensures { result ≡ takes role operand.now.form }
 {
     match &operand.form {
+        Form::Text(_) => matches!(role, Role::Text),
         Form::Value {
             part,
             base: None,
             ..
         } => match part {
-            Part::Whole => true,
-            Part::High => high,
-            Part::Low => low,
+            Part::Whole => !matches!(role, Role::Text),
+            Part::High => matches!(role, Role::Upper),
+            Part::Low => matches!(role, Role::Imm),
         },
         _ => false,
     }
-}
-
-/// Returns whether an operand is a string.
-fn is_text(operand: &Operand) -> bool
-    ensures { result ≡ is_text operand.now.form }
-{
-    matches!(&operand.form, Form::Text(_))
 }
 
 /// Returns the register of the base of an operand.
@@ -226,24 +221,6 @@ fn base(operand: &Operand) -> Option<Reg>
             ..
         } => reg_named(base.bytes()),
         _ => None,
-    }
-}
-
-/// Returns the fields with an operand whose value is waited for, if it fits.
-fn value_in<'t, 'a>(
-    fits: bool,
-    operand: &'t Operand<'a>,
-    fields: Fields<'t, 'a>,
-) -> Option<Fields<'t, 'a>>
-    ensures { result ≡ value_in fits operand.now fields.entry }
-{
-    if fits {
-        Some(Fields {
-            value: Some(Value::new(operand)),
-            ..fields
-        })
-    } else {
-        None
     }
 }
 
@@ -274,13 +251,6 @@ pub fn put<'t, 'a>(
             let rs1 = rd;
             Some(Fields { rd, rs1, ..fields })
         }
-        Role::Imm => value_in(is_value(false, true, operand), operand, fields),
-        Role::Upper => value_in(is_value(true, false, operand), operand, fields),
-        Role::Value => value_in(is_value(false, false, operand), operand, fields),
-        Role::Memory => {
-            let rs1 = base(operand)?;
-            value_in(true, operand, Fields { rs1, ..fields })
-        }
         Role::Csr => {
             let csr = control_register(operand)?;
             Some(Fields { csr, ..fields })
@@ -293,15 +263,34 @@ pub fn put<'t, 'a>(
             let after = set(operand)?;
             Some(Fields { after, ..fields })
         }
-        Role::Symbol => value_in(name(operand).is_some(), operand, fields),
+        Role::Memory => {
+            let rs1 = base(operand)?;
+            let value = Some(Value::new(operand));
+            Some(Fields {
+                rs1,
+                value,
+                ..fields
+            })
+        }
+        Role::Symbol => {
+            name_alone(operand)?;
+            let value = Some(Value::new(operand));
+            Some(Fields { value, ..fields })
+        }
         Role::Second => {
-            if !is_value(false, false, operand) {
+            if !takes(role, operand) {
                 return None;
             }
             let second = Some(Value::new(operand));
             Some(Fields { second, ..fields })
         }
-        Role::Text => value_in(is_text(operand), operand, fields),
+        Role::Imm | Role::Upper | Role::Value | Role::Text => {
+            if !takes(role, operand) {
+                return None;
+            }
+            let value = Some(Value::new(operand));
+            Some(Fields { value, ..fields })
+        }
     }
 }
 
@@ -348,17 +337,15 @@ pub fn in_role<'t, 'a>(
     }
 }
 
-/// Returns fields with two registers and an immediate that are given.
-fn start<'t, 'a>(rd: u8, rs1: u8, imm: i8) -> Fields<'t, 'a>
-    requires rd { rd < 32 }
-    requires rs1 { rs1 < 32 }
-    ensures { result ≡ start rd rs1 imm }
+/// Returns the fields before operands are read, but for what a row gives.
+fn zeros<'t, 'a>() -> Fields<'t, 'a>
+    ensures { result ≡ zeros }
 {
     Fields {
-        rd: Reg::of(rd),
-        rs1: Reg::of(rs1),
+        rd: Reg::of(0),
+        rs1: Reg::of(0),
         rs2: Reg::of(0),
-        imm,
+        imm: 0,
         csr: Csr(0),
         before: FenceSet(15),
         after: FenceSet(15),
@@ -371,14 +358,18 @@ fn start<'t, 'a>(rd: u8, rs1: u8, imm: i8) -> Fields<'t, 'a>
 pub fn given<'t, 'a>(fields: Given) -> Fields<'t, 'a>
     ensures { result ≡ given fields }
 {
+    let (rd, rs1) = (Reg::of(1), Reg::of(1));
     match fields {
-        Given::Zeros => start(0, 0, 0),
-        Given::Link => start(1, 0, 0),
-        Given::Return => start(0, 1, 0),
-        Given::Call => start(1, 1, 0),
-        Given::Tail => start(0, 6, 0),
-        Given::One => start(0, 0, 1),
-        Given::Ones => start(0, 0, -1),
+        Given::Zeros => zeros(),
+        Given::Link => Fields { rd, ..zeros() },
+        Given::Return => Fields { rs1, ..zeros() },
+        Given::Call => Fields { rd, rs1, ..zeros() },
+        Given::Tail => Fields {
+            rs1: Reg::of(6),
+            ..zeros()
+        },
+        Given::One => Fields { imm: 1, ..zeros() },
+        Given::Ones => Fields { imm: -1, ..zeros() },
     }
 }
 

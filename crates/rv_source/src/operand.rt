@@ -1,10 +1,11 @@
 //! Reads operands.
-ghost use Rattle.std.specs.Prelude.{◌≡◌, ◌<◌, ◌≤◌, ◌+◌, ◌++◌, ◌∷◌, [], length, IfOk, IfSome, Some, None, if◌then◌else◌};
+ghost use Rattle.std.specs.Prelude.{◌≡◌, ◌<◌, ◌≤◌, ◌+◌, ◌-◌, ◌++◌, ◌∷◌, [], drop, length, take, IfOk, IfSome, Some, None, if◌then◌else◌};
 ghost use Rattle.std.specs.Option.{option_map};
 ghost use Rattle.std.specs.List.{position, slice_split};
-ghost use Rattle.rv_source.specs.Operands.{base_of, but_last, enclosed, form_of, is_comma, last, low, offset, operand, operands, operands_of, plain, valued};
+ghost use Rattle.rv_source.specs.Operands.{base_of, enclosed, form_of, form_with, is_comma, operands, operands_of, valued};
+ghost use Rattle.rv_source.specs.Partial.{operand};
 
-use crate::terms::read_value;
+use crate::terms::read_expression;
 use crate::{Atom, Expression, Term};
 use rv_tokens::{Name, Text, Token};
 use std::alloc::{AllocError, Global};
@@ -71,94 +72,77 @@ fn enclosed<'t, 'a>(tokens: &'t [Token<'a>]) -> Option<&'t [Token<'a>]>
     }
 }
 
-/// Reads a part of the value that tokens spell.
+/// Reads a part of the value that tokens spell, with a base or none.
 fn read_part<'a>(
     alloc: Global,
     part: Part,
+    base: Option<Name<'a>>,
     tokens: Option<&[Token<'a>]>,
 ) -> Result<Option<Form<'a>>, AllocError>
     requires { IfSome tokens (λ ts. length ts.now ≤ 1024) }
-    ensures { IfOk result (λ f. f ≡ valued part (option_map (λ ts. ts.now) tokens.entry)) }
+    ensures { IfOk result (λ f. f ≡ valued part base.entry (option_map (λ ts. ts.now) tokens.entry)) }
 {
     let Some(tokens) = tokens else {
         return Ok(None);
     };
-    match read_value(alloc, tokens)? {
-        Some(sum) => {
-            let base = None;
-            Ok(Some(Form::Value { part, sum, base }))
-        }
+    match read_expression(alloc, tokens)? {
+        Some(sum) => Ok(Some(Form::Value { part, sum, base })),
         None => Ok(None),
+    }
+}
+
+/// Returns 0 with a base, if there is one.
+fn zero_with<'a>(alloc: Global, base: Option<Name<'a>>) -> Option<Form<'a>>
+    ensures { result ≡ form_with base.entry [] }
+{
+    base.as_ref()?;
+    let zero = Term {
+        negative: false,
+        atom: Atom::Number(0),
+    };
+    let part = Part::Whole;
+    let sum = Expression::new(zero, Vec::new(alloc));
+    Some(Form::Value { part, sum, base })
+}
+
+/// Reads an operand without its base, which it has or not.
+fn read_with<'a>(
+    alloc: Global,
+    base: Option<Name<'a>>,
+    tokens: &[Token<'a>],
+) -> Result<Option<Form<'a>>, AllocError>
+    requires { length tokens.now ≤ 1024 }
+    ensures { IfOk result (λ f. f ≡ form_with base.entry tokens.now) }
+{
+    let [first, rest @ ..] = tokens else {
+        return Ok(zero_with(alloc, base));
+    };
+    match first {
+        Token::Text(text) => {
+            if base.is_some() || !rest.is_empty() {
+                return Ok(None);
+            }
+            Ok(Some(Form::Text(text.again())))
+        }
+        Token::High => {
+            if base.is_some() {
+                return Ok(None);
+            }
+            read_part(alloc, Part::High, base, enclosed(rest))
+        }
+        Token::Low => read_part(alloc, Part::Low, base, enclosed(rest)),
+        _ => read_part(alloc, Part::Whole, base, Some(tokens)),
     }
 }
 
 /// Reads `(name)` at the end of tokens: returns the tokens before it, and the name.
 fn based<'t, 'a>(tokens: &'t [Token<'a>]) -> (&'t [Token<'a>], Option<Name<'a>>)
-    ensures front { result.0.now ≡ but_last 3 tokens.now }
-    ensures base { result.1 ≡ base_of (last 3 tokens.now) }
+    ensures front { result.0.now ≡ take (length tokens.now - 3) tokens.now }
+    ensures base { result.1 ≡ base_of (drop (length tokens.now - 3) tokens.now) }
     ensures shorter { length result.0.now ≤ length tokens.now }
 {
     let (front, last) = tokens.split_at(tokens.len().saturating_sub(3));
     (front, base(last))
-}
-
-/// Reads what follows `%lo`: `(E)`, or `(E)(name)`.
-fn read_low<'a>(alloc: Global, tokens: &[Token<'a>]) -> Result<Option<Form<'a>>, AllocError>
-    requires { length tokens.now ≤ 1024 }
-    ensures { IfOk result (λ f. f ≡ low tokens.now) }
-{
-    if let Some(form) = read_part(alloc, Part::Low, enclosed(tokens))? {
-        return Ok(Some(form));
-    }
-    let (front, base) = based(tokens);
-    if base.is_none() {
-        return Ok(None);
-    }
-    let Some(inner) = enclosed(front) else {
-        return Ok(None);
-    };
-    let part = Part::Low;
-    match read_value(alloc, inner)? {
-        Some(sum) => Ok(Some(Form::Value { part, sum, base })),
-        None => Ok(None),
-    }
-}
-
-/// Reads the value before a base: `E`, or 0 if nothing stands there.
-fn read_offset<'a>(
-    alloc: Global,
-    tokens: &[Token<'a>],
-) -> Result<Option<Expression<'a>>, AllocError>
-    requires { length tokens.now ≤ 1024 }
-    ensures { IfOk result (λ e. e ≡ offset tokens.now) }
-{
-    if !tokens.is_empty() {
-        return read_value(alloc, tokens);
-    }
-    let zero = Term {
-        negative: false,
-        atom: Atom::Number(0),
-    };
-    Ok(Some(Expression::new(zero, Vec::new(alloc))))
-}
-
-/// Reads `E`, `E(name)` or `(name)`.
-fn read_plain<'a>(alloc: Global, tokens: &[Token<'a>]) -> Result<Option<Form<'a>>, AllocError>
-    requires { length tokens.now ≤ 1024 }
-    ensures { IfOk result (λ f. f ≡ plain tokens.now) }
-{
-    if let Some(form) = read_part(alloc, Part::Whole, Some(tokens))? {
-        return Ok(Some(form));
-    }
-    let (front, base) = based(tokens);
-    if base.is_none() {
-        return Ok(None);
-    }
-    let part = Part::Whole;
-    match read_offset(alloc, front)? {
-        Some(sum) => Ok(Some(Form::Value { part, sum, base })),
-        None => Ok(None),
-    }
 }
 
 /// Reads the form of an operand.
@@ -167,15 +151,14 @@ fn read_form<'a>(alloc: Global, tokens: &[Token<'a>]) -> Result<Option<Form<'a>>
     requires { length tokens.now ≤ 1024 }
     ensures { IfOk result (λ f. f ≡ form_of tokens.now) }
 {
-    let [first, rest @ ..] = tokens else {
-        return Ok(None);
-    };
-    match first {
-        Token::Text(text) => Ok(rest.is_empty().then_some(Form::Text(text.again()))),
-        Token::High => read_part(alloc, Part::High, enclosed(rest)),
-        Token::Low => read_low(alloc, rest),
-        _ => read_plain(alloc, tokens),
+    if let Some(form) = read_with(alloc, None, tokens)? {
+        return Ok(Some(form));
     }
+    let (front, base) = based(tokens);
+    if base.is_none() {
+        return Ok(None);
+    }
+    read_with(alloc, base, front)
 }
 
 /// Reads an operand that begins at token `first` of its line, and appends it; false if the tokens aren't one.

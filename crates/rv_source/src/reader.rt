@@ -3,8 +3,8 @@ ghost use Rattle.std.specs.Prelude.{◌≡◌, ◌≤◌, length, IfOk, IfSome};
 ghost use Rattle.rv_tokens.specs.Faults.{Gives};
 ghost use Rattle.rv_tokens.specs.Parts.{IsCutInto};
 ghost use Rattle.rv_tokens.specs.Tokens.{tokens};
-ghost use Rattle.rv_source.specs.Partial.{left_after, with_labels};
-ghost use Rattle.rv_source.specs.Reading.{body_of, label_of, labels_of, line_of, written};
+ghost use Rattle.rv_source.specs.Partial.{left_after, line_of, with_labels};
+ghost use Rattle.rv_source.specs.Reading.{body_of, label_of, labels_of, written};
 
 use crate::line::{Body, Operands};
 use crate::operand::read_operands;

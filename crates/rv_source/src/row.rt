@@ -1,9 +1,9 @@
 //! The rows of the language's tables: what a word takes, and what it stands for.
 ghost use Rattle.std.specs.Prelude.{◌≡◌};
-ghost use Rattle.rv_source.specs.Partial.{row_by, row_of};
-ghost use Rattle.rv_source.specs.Table.{constant, filled, meant, waiting};
+ghost use Rattle.rv_source.specs.Partial.{constant, row_by, row_of, waiting};
+ghost use Rattle.rv_source.specs.Table.{filled, meant};
 
-use crate::field::{Fields, given, in_role, in_roles, instruction, name};
+use crate::field::{Fields, given, in_role, in_roles, instruction, name_alone};
 use crate::{Operand, Statement, Strings, Values};
 use rv_isa::{Instr, Operation, Width};
 
@@ -138,7 +138,7 @@ fn waiting<'t, 'a>(instr: Instr, value: Option<crate::Value<'t, 'a>>) -> Stateme
 fn constant<'t, 'a>(fields: Fields<'t, 'a>) -> Option<Statement<'t, 'a>>
     ensures { result ≡ constant fields.entry }
 {
-    let name = name(fields.value?.operand())?;
+    let name = name_alone(fields.value?.operand())?;
     let value = fields.second?;
     Some(Statement::Constant { name, value })
 }

@@ -1,6 +1,6 @@
 //! Statements: mnemonics and directives with their operands, before expressions are evaluated.
 ghost use Rattle.std.specs.Prelude.{◌≡◌, ◌++◌, OnOk, length, min};
-ghost use Rattle.rv_source.specs.Operands.{bytes_of, strings};
+ghost use Rattle.rv_source.specs.Operands.{text_of, strings};
 
 use crate::{Form, Operand};
 use rv_isa::{Instr, Reg, Width};
@@ -71,7 +71,7 @@ impl<'t, 'a> Values<'t, 'a> {
 
 /// Returns the number of bytes of an operand that is a string.
 fn text_len(operand: &Operand) -> usize
-    ensures { result ≡ length (bytes_of operand.now) }
+    ensures { result ≡ length (text_of operand.now) }
 {
     match &operand.form {
         Form::Text(text) => text.len(),
@@ -81,7 +81,7 @@ fn text_len(operand: &Operand) -> usize
 
 /// Appends the bytes of an operand that is a string.
 fn append_text(operand: &Operand, out: &mut Vec<u8>) -> Result<(), AllocError>
-    ensures { OnOk result (out.new.items ≡ out.old.items ++ bytes_of operand.now) }
+    ensures { OnOk result (out.new.items ≡ out.old.items ++ text_of operand.now) }
 {
     match &operand.form {
         Form::Text(text) => text.append_to(out),

@@ -3,8 +3,9 @@ ghost use Rattle.std.specs.Prelude.{◌≡◌, map};
 ghost use Rattle.std.specs.List.{list_any};
 ghost use Rattle.std.specs.Str.{bytes_eq};
 ghost use Rattle.rv_isa.specs.Mnemonics.{blank};
-ghost use Rattle.rv_source.specs.Partial.{fitted_or, has_dot, row_by, rows};
-ghost use Rattle.rv_source.specs.Table.{first_fit, fitted, is_marker, meaning, of_kind, of_word, words};
+ghost use Rattle.rv_tokens.specs.declared.fault.LineFault.TheVariants.{UnknownWord};
+ghost use Rattle.rv_source.specs.Partial.{first_fit, fitted_or, has_dot, is_marker, of_word, row_by, rows, words};
+ghost use Rattle.rv_source.specs.Table.{meaning, of_kind};
 
 use crate::row::Role::{After, Before, Both, Csr, Imm, Memory, Rd, Rs1, Rs2, Upper, Value};
 use crate::row::Way::{self, Far, Link, Near};
@@ -113,7 +114,7 @@ fn of_other_word<'t, 'a>(
     word: &[u8],
     operands: &'t [Operand<'a>],
 ) -> Result<Statement<'t, 'a>, LineFault>
-    ensures { result ≡ fitted operands.now (of_word word.now words) }
+    ensures { result ≡ fitted_or UnknownWord operands.now (of_word word.now words) }
 {
     if has_dot(word) {
         let rows = from_word(&DIRECTIVES, word);

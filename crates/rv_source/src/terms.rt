@@ -1,7 +1,8 @@
 //! Reads expressions.
 ghost use Rattle.std.specs.Prelude.{◌≡◌, ◌<◌, ◌≤◌, ◌+◌, ◌++◌, ◌∷◌, Some, None, IfOk, length, map, if◌then◌else◌};
 ghost use Rattle.std.specs.Option.{option_map};
-ghost use Rattle.rv_source.specs.Expressions.{OneValue, is_symbol, name_atom, piece_of, times, further, value};
+ghost use Rattle.rv_source.specs.Expressions.{OneValue, is_symbol, piece_of, further, expression};
+ghost use Rattle.rv_source.specs.Partial.{name_atom};
 
 use crate::{Atom, Expression, Term};
 use rv_tokens::{Name, Token};
@@ -54,13 +55,6 @@ fn piece_of<'a>(token: &Token<'a>) -> Piece<'a>
     }
 }
 
-/// Returns whether two signs together are a minus: two that are minus cancel.
-fn times(sign: bool, other: bool) -> bool
-    ensures { result ≡ times sign other }
-{
-    if sign { !other } else { other }
-}
-
 /// Reads the terms after the first, each with a sign or two before it, and appends them; false if the tokens
 /// aren't that.
 #[tactic(auto, using(crate::proofs::Sums::further_more), unfolding(crate::specs::Expressions::further))]
@@ -92,7 +86,7 @@ fn read_further<'a>(out: &mut Vec<Term<'a>>, tokens: &[Token<'a>]) -> Result<boo
             let Piece::Atom(atom) = piece_of(third) else {
                 return Ok(false);
             };
-            let negative = times(minus, other);
+            let negative = minus != other;
             out.push(Term { negative, atom })?;
             read_further(out, rest)
         }
@@ -118,13 +112,13 @@ fn read_sum<'a>(
 }
 
 /// Reads the tokens as a whole as an expression.
-#[tactic(auto, unfolding(crate::specs::Expressions::value, crate::specs::Expressions::sum))]
-pub fn read_value<'a>(
+#[tactic(auto, unfolding(crate::specs::Expressions::expression, crate::specs::Expressions::sum))]
+pub fn read_expression<'a>(
     alloc: Global,
     tokens: &[Token<'a>],
 ) -> Result<Option<Expression<'a>>, AllocError>
     requires { length tokens.now ≤ 1024 }
-    ensures { IfOk result (λ e. e ≡ value tokens.now) }
+    ensures { IfOk result (λ e. e ≡ expression tokens.now) }
 {
     let [first, rest @ ..] = tokens else {
         return Ok(None);
@@ -158,7 +152,7 @@ pub fn read_value<'a>(
     }
 }
 
-/// A law: tokens have at most one reading as a sum of terms, and `read_value` gives it.
+/// A law: tokens have at most one reading as a sum of terms, and `read_expression` gives it.
 pub fn one_value()
     ensures { OneValue }
 {}
