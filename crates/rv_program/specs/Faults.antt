@@ -8,35 +8,20 @@ use Rattle.rv_program.specs.declared.fault.FaultKind.{FaultKind}
 use Rattle.rv_program.specs.declared.fault.FaultKind.TheVariants.{BadByte, LineTooLong, Syntax, UnknownWord, BadOperands, DuplicateSymbol, NotConstant, Misplaced, TooLarge, Undefined, OutOfRange, OutOfMemory}
 use Rattle.rv_program.specs.declared.fault.AsmFault.{AsmFault}
 
--- the number of each kind of fault
-abbrev pub number_of : FaultKind → ℕ
-number_of BadByte = 1
-number_of LineTooLong = 2
-number_of Syntax = 3
-number_of UnknownWord = 4
-number_of BadOperands = 5
-number_of DuplicateSymbol = 6
-number_of NotConstant = 7
-number_of Misplaced = 8
-number_of TooLarge = 9
-number_of Undefined = 10
-number_of OutOfRange = 11
-number_of OutOfMemory = 12
-
--- the name of each kind of fault
-abbrev pub name_of : FaultKind → List ℕ
-name_of BadByte = codes "BadByte"
-name_of LineTooLong = codes "LineTooLong"
-name_of Syntax = codes "Syntax"
-name_of UnknownWord = codes "UnknownWord"
-name_of BadOperands = codes "BadOperands"
-name_of DuplicateSymbol = codes "DuplicateSymbol"
-name_of NotConstant = codes "NotConstant"
-name_of Misplaced = codes "Misplaced"
-name_of TooLarge = codes "TooLarge"
-name_of Undefined = codes "Undefined"
-name_of OutOfRange = codes "OutOfRange"
-name_of OutOfMemory = codes "OutOfMemory"
+-- the number and the name of each kind of fault
+abbrev pub title_of : FaultKind → ℕ × List ℕ
+title_of BadByte = (1, codes "BadByte")
+title_of LineTooLong = (2, codes "LineTooLong")
+title_of Syntax = (3, codes "Syntax")
+title_of UnknownWord = (4, codes "UnknownWord")
+title_of BadOperands = (5, codes "BadOperands")
+title_of DuplicateSymbol = (6, codes "DuplicateSymbol")
+title_of NotConstant = (7, codes "NotConstant")
+title_of Misplaced = (8, codes "Misplaced")
+title_of TooLarge = (9, codes "TooLarge")
+title_of Undefined = (10, codes "Undefined")
+title_of OutOfRange = (11, codes "OutOfRange")
+title_of OutOfMemory = (12, codes "OutOfMemory")
 
 -- a fault of this kind is out of memory, at line 0, or the fault that is meant
 abbrev pub FailsBy : {B : Type 0} → FaultKind → AsmFault → Result B AsmFault → Type 0

@@ -1,6 +1,6 @@
 //! The faults of a source.
 ghost use Rattle.std.specs.Prelude.{◌≡◌};
-ghost use Rattle.rv_program.specs.Faults.{number_of, name_of};
+ghost use Rattle.rv_program.specs.Faults.{title_of};
 
 use rv_tokens::LineFault;
 use std::alloc::{AllocError, AllocFailed};
@@ -37,7 +37,7 @@ pub enum FaultKind {
 impl FaultKind {
     /// Returns the number of the kind, as 3 of `E3`.
     pub fn number(self) -> u8
-        ensures { result ≡ number_of self }
+        ensures { result ≡ (title_of self).0 }
     {
         match self {
             FaultKind::BadByte => 1,
@@ -57,7 +57,7 @@ impl FaultKind {
 
     /// Returns the name of the kind, as `Syntax`.
     pub fn name(self) -> &'static str
-        ensures { result.now ≡ name_of self }
+        ensures { result.now ≡ (title_of self).1 }
     {
         match self {
             FaultKind::BadByte => "BadByte",
