@@ -1,9 +1,9 @@
--- What is said of all lines by lists of their numbers is the same by recursion on a number; and so is the nearest
--- local label.
+-- What is said of all lines by lists of their numbers is the same by recursion on a number; and so is the
+-- nearest local label.
 use Rattle.std.proofs.Common.{◌≡◌, ℕ, zero, suc, ◌+◌, Bool, true, false, cond, List, [], ◌∷◌, ◌++◌, length, refl, sym, ap, ◌∙◌, arith, append-nil, add-zero}
-use Rattle.std.specs.Prelude.{map, filter, not, Option, Some, None, slice_get, ◌&&◌, ◌==◌, nat_le, nat_lt, pos, Result, Ok, Err}
+use Rattle.std.specs.Prelude.{map, filter, not, Option, Some, None, slice_get, ◌&&◌, ◌==◌, nat_le, nat_lt, pos}
 use Rattle.std.specs.Option.{option_map, option_map_or, option_or, unwrap_or}
-use Rattle.std.specs.Result.{result_err, result_unwrap_or}
+use Rattle.std.specs.Result.{result_unwrap_or}
 use Rattle.std.specs.List.{flat_map, filter_map, cons_option, range_with_len, find, last_or}
 use Rattle.std.proofs.lemmas.Grind.{flat_map-append}
 use Rattle.std.proofs.lemmas.List.{map-append}
@@ -17,8 +17,8 @@ use Rattle.rv_program.specs.declared.fault.AsmFault.{AsmFault}
 use Rattle.rv_asm.specs.declared.locals.LocalLabel.{LocalLabel}
 use Rattle.rv_asm.specs.Symbols.{nearest}
 use Rattle.rv_asm.specs.Layout.{phase_two_fault}
-use Rattle.rv_asm.specs.Assembly.{all_said, assembled, fault_of, faults_in, line_bytes, phase_one_fault, phase_three_fault}
-use Rattle.rv_asm.specs.Counted.{first, joined, up_to, first_fault, first_of_phases, assembled_by, all_faults, unless_faulty, first_of, fault_in, nearest_after, nearest_before, nearest_address, label_before}
+use Rattle.rv_asm.specs.Assembly.{all_said, assembled, faults_in, first_faults, line_bytes, phase_one_fault}
+use Rattle.rv_asm.specs.Counted.{phase_three_fault, first, joined, up_to, first_fault, assembled_by, all_faults, unless_faulty, first_of, nearest_after, nearest_before, nearest_address, label_before}
 
 -- ---- numbers
 
@@ -83,46 +83,46 @@ firsts fault (suc n) =
     first_append (all_faults fault n) (option_map_or (λ kind. record { line = suc n; kind = kind } ∷ []) (fault n) [])
     ∙ rw (firsts fault n, first_listed n (fault n)) refl
 
-pub first_is : (faults : List AsmFault) → slice_get faults 0 ≡ first_of faults
+first_is : (faults : List AsmFault) → slice_get faults 0 ≡ first_of faults
 first_is [] = refl
 first_is (fault ∷ faults) = refl
 
-pub err_is : {A : Type 0} (r : Result A AsmFault) → result_err r ≡ fault_in r
-err_is (Ok x) = refl
-err_is (Err fault) = refl
-
-first_three : (one two three : List AsmFault) → slice_get (one ++ two ++ three) 0
-    ≡ option_or (first_of one) (option_or (first_of two) (first_of three))
-first_three [] two three = first_is (two ++ three) ∙ first_append two three
-first_three (fault ∷ one) two three = refl
-
-first_same : (fault : ℕ → Option FaultKind) (n : ℕ) → first_of (faults_in fault n) ≡ first_fault fault n
-first_same fault n = ap first_of (faults_are fault n) ∙ firsts fault n
-
-phases_are : (texts : List (List ℕ)) → fault_of texts ≡ first_of_phases texts
-phases_are texts =
-    let n = length texts in
-    first_three (faults_in (phase_one_fault texts) n) (faults_in (phase_two_fault (all_said texts)) n)
-    (faults_in (phase_three_fault (all_said texts)) n)
-    ∙ rw (
-      first_same (phase_one_fault texts) n,
-      first_same (phase_two_fault (all_said texts)) n,
-      first_same (phase_three_fault (all_said texts)) n,
-    ) refl
-
-pub assembled_is : (source : List ℕ) → assembled source ≡ assembled_by source
-unfolding assembled assembled_by
-assembled_is source =
-    let texts = lines source in
-    rw (phases_are texts, joined_is (λ k. result_unwrap_or (line_bytes (all_said texts) k) []) (length (all_said texts))) refl
-
-pub phases_found : (one two three : List AsmFault)
+phases_found : (one two three : List AsmFault)
     → unwrap_or (find (λ faults. not (is_nothing faults)) (one ∷ two ∷ three ∷ [])) []
     ≡ unless_faulty one (unless_faulty two three)
 phases_found (x ∷ one) two three = refl
 phases_found [] (x ∷ two) three = refl
 phases_found [] [] (x ∷ three) = refl
 phases_found [] [] [] = refl
+
+-- the faults of the first phase that has any, of which the first is the first of any phase
+module _ (one two three : ℕ → Option FaultKind) (n : ℕ) where
+  pub phases_are : first_faults (one ∷ two ∷ three ∷ []) n
+      ≡ unless_faulty (all_faults one n) (unless_faulty (all_faults two n) (all_faults three n))
+  phases_are =
+      phases_found (faults_in one n) (faults_in two n) (faults_in three n)
+      ∙ rw (faults_are one n, faults_are two n, faults_are three n) refl
+
+  first_unless : (xs ys : List AsmFault) → first_of (unless_faulty xs ys) ≡ option_or (first_of xs) (first_of ys)
+  first_unless [] ys = refl
+  first_unless (x ∷ xs) ys = refl
+
+  pub first_phase : slice_get (first_faults (one ∷ two ∷ three ∷ []) n) 0
+      ≡ option_or (first_fault one n) (option_or (first_fault two n) (first_fault three n))
+  first_phase =
+      first_is (first_faults (one ∷ two ∷ three ∷ []) n) ∙ ap first_of phases_are
+      ∙ first_unless (all_faults one n) (unless_faulty (all_faults two n) (all_faults three n))
+      ∙ rw (first_unless (all_faults two n) (all_faults three n), firsts one n, firsts two n, firsts three n) refl
+
+pub assembled_is : (source : List ℕ) → assembled source ≡ assembled_by source
+unfolding assembled assembled_by
+assembled_is source =
+    let texts = lines source in
+    let said = all_said texts in
+    rw (
+      first_phase (phase_one_fault texts) (phase_two_fault said) (phase_three_fault said) (length texts),
+      joined_is (λ k. result_unwrap_or (line_bytes said k) []) (length said),
+    ) refl
 
 -- ---- local labels
 

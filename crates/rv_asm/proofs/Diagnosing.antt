@@ -12,19 +12,18 @@ use Rattle.rv_program.specs.Program.{Assembly}
 use Rattle.rv_program.specs.declared.fault.FaultKind.{FaultKind}
 use Rattle.rv_program.specs.declared.fault.AsmFault.{AsmFault}
 use Rattle.rv_asm.specs.declared.diagnosis.Diagnosis.{Diagnosis}
-use Rattle.rv_asm.specs.Layout.{line_at, blank, address, phase_two_fault, definitions}
-use Rattle.rv_asm.specs.Assembly.{faults_in, phase_one_fault, phase_three_fault, all_said, assembled}
-use Rattle.rv_asm.specs.Counted.{joined, first, first_fault}
+use Rattle.rv_asm.specs.Layout.{line_at, blank, phase_two_fault, definitions}
+use Rattle.rv_asm.specs.Assembly.{first_faults, phase_one_fault, all_said, assembled}
+use Rattle.rv_asm.specs.Counted.{phase_three_fault, joined, first, first_fault, all_faults, unless_faulty, first_of, address}
 use Rattle.rv_asm.specs.Symbols.{Definitions}
 use Rattle.rv_asm.specs.Steps.{Known, start, known_before, stated, labelled, stated_bytes, laid_out}
-use Rattle.rv_asm.specs.Diagnosed.{new_labels, kept, faults_of, fault_of, LiesIn, Diagnoses}
-use Rattle.rv_asm.specs.Judged.{cleared, judged}
-use Rattle.rv_asm.specs.Counted.{all_faults, unless_faulty, first_of, fault_in, first_of_phases, assembled_by}
-use Rattle.rv_asm.proofs.Counting.{firsts, first_is, err_is, faults_are, phases_found, assembled_is}
-use Rattle.rv_asm.specs.Judged.{fault_on, known_after, IsFound, listed}
+use Rattle.rv_asm.specs.Diagnosed.{new_labels, kept, faults_of, fault_of}
+use Rattle.rv_asm.specs.Judged.{cleared, judged, LiesIn, Diagnoses, fault_on, known_after, IsFound, listed}
+use Rattle.rv_asm.proofs.Counting.{firsts, phases_are, first_phase}
 use Rattle.rv_asm.proofs.Labels.{IsUpTo}
 use Rattle.rv_asm.proofs.Laying.{phase_two_is, not_stated, up_to_before}
-use Rattle.rv_asm.proofs.Listed.{none_last, none_before}
+use Rattle.rv_base.specs.Limits.{ram_base, image_limit}
+use Rattle.rv_asm.proofs.Listed.{none_last, none_before, within_line}
 use Rattle.rv_asm.proofs.Reading.{IsAt, dropped, SoFar, is_before, read_line_at, known_is}
 use Rattle.rv_asm.proofs.Whole.{length-said}
 
@@ -49,7 +48,7 @@ module _ (texts : List (List ℕ)) (fault : ℕ → Option FaultKind) (k : ℕ) 
   more_by None more f e = rw (e, append-nil, f.kind, append-nil) so
   more_by (Some d) more f e =
       let at : d.line - 1 ≡ k = omega (arith, f.line) in
-      let here : LiesIn texts d = record { from = f.from; to = rw at f.to } in
+      let here : LiesIn texts d = (f.from, rw at f.to) in
       rw e (record {
         each = map-append fault_of ds (d ∷ []) ∙ rw (so.each, f.kind, one_by k d f.line) refl;
         places = All-push (LiesIn texts) ds d so.places here;
@@ -90,7 +89,7 @@ abbrev with_line : ℕ → Known → Said → Known
 with_line n s line = stated n (labelled n s line.labels) line.statement
 
 one_more : (xs : List Said) (n : ℕ) → known_before xs (suc n) ≡ with_line n (known_before xs n) (line_at xs n)
-unfolding address
+unfolding known_before
 one_more xs n = refl
 
 with_same : (n : ℕ) (s t : Known) (line other : Said) → s ≡ t → line ≡ other →
@@ -98,7 +97,7 @@ with_same : (n : ℕ) (s t : Known) (line other : Said) → s ≡ t → line ≡
 with_same n s t line other e f = rw (e, f) refl
 
 none_before_first : (xs ys : List Said) → known_before xs 0 ≡ known_before ys 0
-unfolding address
+unfolding known_before
 none_before_first xs ys = refl
 
 -- a line changes nothing that is known before it
@@ -134,13 +133,13 @@ later_line ls (suc n) k h =
     other_by (kept ls n) n k (cleared (kept ls n) n) (is_some (judged ls n)) (omega (arith, h))
     ∙ later_line ls n k (omega (arith, h))
 
-fault_is : (xs : List Said) (n : ℕ) → phase_two_fault xs n ≡ fault_on n (known_before xs n) (line_at xs n)
-unfolding fault_on
-fault_is xs n = phase_two_is xs n
+-- the address of line n isn't past the largest image
+abbrev IsWithin : List Said → ℕ → Type 0
+IsWithin xs n = address xs n ≤ ram_base + image_limit
 
-pub judged_is : (ls : List Said) (n : ℕ) → judged ls n ≡ fault_on n (known_before (kept ls n) n) (line_at ls n)
-judged_is ls n =
-    fault_is (kept ls n) n ∙ ap (fault_on n (known_before (kept ls n) n)) (later_line ls n n (omega arith))
+fault_is : (xs : List Said) (n : ℕ) → IsWithin xs n → phase_two_fault xs n ≡ fault_on n (known_before xs n) (line_at xs n)
+unfolding fault_on
+fault_is xs n within = phase_two_is xs n within
 
 after_faulty : (n : ℕ) (s : Known) (line : Said) → is_some (fault_on n s line) ≡ true →
     known_after n s line ≡ labelled n s (new_labels s.definitions.names line.labels)
@@ -152,10 +151,10 @@ after_right : (n : ℕ) (s : Known) (line : Said) → is_some (fault_on n s line
 unfolding known_after
 after_right n s line e = rw e refl
 
-known_by : (xs : List Said) (n : ℕ) (b : Bool) → n < length xs → is_some (phase_two_fault xs n) ≡ b →
+known_by : (xs : List Said) (n : ℕ) (b : Bool) → IsWithin xs n → n < length xs → is_some (phase_two_fault xs n) ≡ b →
     known_before (cond b (set xs n (cleared xs n)) xs) (suc n)
     ≡ known_after n (known_before xs n) (line_at xs n)
-known_by xs n true h e =
+known_by xs n true within h e =
     let line : Said = cleared xs n in
     let s : Known = known_before xs n in
     let here : line_at (set xs n line) n ≡ line = get_or-set_same xs n line blank h in
@@ -163,15 +162,40 @@ known_by xs n true h e =
     ∙ with_same n (known_before (set xs n line) n) s (line_at (set xs n line) n) line
     (known_other xs n line n (omega arith)) here
     ∙ not_stated n (labelled n s line.labels)
-    ∙ sym (after_faulty n s (line_at xs n) (sym (ap is_some (fault_is xs n)) ∙ e))
-known_by xs n false h e =
-    one_more xs n ∙ sym (after_right n (known_before xs n) (line_at xs n) (sym (ap is_some (fault_is xs n)) ∙ e))
+    ∙ sym (after_faulty n s (line_at xs n) (sym (ap is_some (fault_is xs n within)) ∙ e))
+known_by xs n false within h e =
+    one_more xs n ∙ sym (after_right n (known_before xs n) (line_at xs n) (sym (ap is_some (fault_is xs n within)) ∙ e))
+
+unfaulty : (o : Option FaultKind) → is_some o ≡ false → o ≡ None
+unfaulty None h = refl
+unfaulty (Some kind) h = absurd cc
+
+within_by : (xs : List Said) (n : ℕ) (b : Bool) → IsWithin xs n → n < length xs → is_some (phase_two_fault xs n) ≡ b →
+    IsWithin (cond b (set xs n (cleared xs n)) xs) (suc n)
+within_by xs n true within h e =
+    let s : Known = known_before xs n in
+    let is = known_by xs n true within h e ∙ after_faulty n s (line_at xs n) (sym (ap is_some (fault_is xs n within)) ∙ e) in
+    let at = ap (λ (k : Known). k.address) is in
+    rw at within
+within_by xs n false within h e = within_line xs n (unfaulty (phase_two_fault xs n) e)
+
+within_kept : (ls : List Said) (n : ℕ) → n ≤ length ls → IsWithin (kept ls n) n
+unfolding kept known_before
+within_kept ls zero h = omega arith
+within_kept ls (suc n) h =
+    within_by (kept ls n) n (is_some (judged ls n)) (within_kept ls n (omega (arith, h))) (rw (length_kept ls n) h) refl
+
+pub judged_is : (ls : List Said) (n : ℕ) → n < length ls →
+    judged ls n ≡ fault_on n (known_before (kept ls n) n) (line_at ls n)
+judged_is ls n h =
+    fault_is (kept ls n) n (within_kept ls n (omega (arith, h)))
+    ∙ ap (fault_on n (known_before (kept ls n) n)) (later_line ls n n (omega arith))
 
 pub known_kept : (ls : List Said) (n : ℕ) → n < length ls →
     known_before (kept ls (suc n)) (suc n) ≡ known_after n (known_before (kept ls n) n) (line_at ls n)
 unfolding kept
 known_kept ls n h =
-    known_by (kept ls n) n (is_some (judged ls n)) (rw (length_kept ls n) h) refl
+    known_by (kept ls n) n (is_some (judged ls n)) (within_kept ls n (omega (arith, h))) (rw (length_kept ls n) h) refl
     ∙ ap (known_after n (known_before (kept ls n) n)) (later_line ls n n (omega arith))
 
 -- ---- the first diagnosis
@@ -194,23 +218,10 @@ first_judged ls zero = refl
 first_judged ls (suc n) =
     same_by ls n (first_fault (judged ls) n) refl ∙ rw (first_judged ls n) refl
 
-first_unless : (xs ys : List AsmFault) → first_of (unless_faulty xs ys) ≡ option_or (first_of xs) (first_of ys)
-first_unless [] ys = refl
-first_unless (x ∷ xs) ys = refl
-
 fault_answered : (fault : Option AsmFault) (a : Assembly) →
-    fault_in (option_map_or (λ fault. Err fault) fault (Ok a)) ≡ fault
+    result_err (option_map_or (λ fault. Err fault) fault (Ok a)) ≡ fault
 fault_answered None a = refl
 fault_answered (Some fault) a = refl
-
-phases : (one two three : List AsmFault) → first_of (unless_faulty one (unless_faulty two three))
-    ≡ option_or (first_of one) (option_or (first_of two) (first_of three))
-phases one two three =
-    first_unless one (unless_faulty two three) ∙ ap (option_or (first_of one)) (first_unless two three)
-
-three_same : (one two three a b c : Option AsmFault) → one ≡ a → two ≡ b → three ≡ c →
-    option_or one (option_or two three) ≡ option_or a (option_or b c)
-three_same one two three a b c e f g = rw (e, f, g) refl
 
 -- the faults of each phase
 abbrev in_phase_one : List (List ℕ) → List AsmFault
@@ -225,33 +236,22 @@ in_phase_three texts = all_faults (phase_three_fault (all_said texts)) (length t
 all_are : (texts : List (List ℕ)) → faults_of texts
     ≡ unless_faulty (in_phase_one texts) (unless_faulty (in_phase_two texts) (in_phase_three texts))
 unfolding faults_of
-all_are texts =
-    let n = length texts in
-    phases_found (faults_in (phase_one_fault texts) n) (faults_in (judged (all_said texts)) n)
-    (faults_in (phase_three_fault (all_said texts)) n)
-    ∙ rw (
-      faults_are (phase_one_fault texts) n,
-      faults_are (judged (all_said texts)) n,
-      faults_are (phase_three_fault (all_said texts)) n,
-    ) refl
+all_are texts = phases_are (phase_one_fault texts) (judged (all_said texts)) (phase_three_fault (all_said texts)) (length texts)
 
-first_said : (source : List ℕ) → first_of (faults_of (lines source)) ≡ fault_in (assembled_by source)
-unfolding assembled_by
+first_said : (source : List ℕ) → slice_get (faults_of (lines source)) 0 ≡ result_err (assembled source)
+unfolding faults_of assembled
 first_said source =
     let texts : List (List ℕ) = lines source in
     let n = length texts in
     let ls : List Said = all_said texts in
-    ap first_of (all_are texts)
-    ∙ (phases (in_phase_one texts) (in_phase_two texts) (in_phase_three texts)
-    ∙ (three_same _ _ _ (first_fault (phase_one_fault texts) n) (first_fault (phase_two_fault ls) n)
-    (first_fault (phase_three_fault ls) n) (firsts (phase_one_fault texts) n)
-    (firsts (judged ls) n ∙ first_judged ls n) (firsts (phase_three_fault ls) n)
-    ∙ sym (fault_answered (first_of_phases texts) _)))
+    first_phase (phase_one_fault texts) (judged ls) (phase_three_fault ls) n
+    ∙ (rw (first_judged ls n) (sym (first_phase (phase_one_fault texts) (phase_two_fault ls) (phase_three_fault ls) n))
+    ∙ sym (fault_answered (slice_get (first_faults (phase_one_fault texts ∷ phase_two_fault ls ∷ phase_three_fault ls ∷ []) n) 0) _))
 
 -- ---- phases two and three, line by line
 
 pub known_begun : (ls : List Said) → known_before (kept ls 0) 0 ≡ start
-unfolding kept address
+unfolding kept known_before
 known_begun ls = refl
 
 pub kept_up_to : (ls : List Said) (n : ℕ) → IsUpTo n (known_before (kept ls n) n)
@@ -265,16 +265,19 @@ module _ (texts rest : List (List ℕ)) (n : ℕ) (so : SoFar texts rest n) (tex
   at_text : get_or texts n [] ≡ text
   at_text = (dropped texts n text after [] (sym so.left ∙ cut)).item
 
+  before : n < length (all_said texts)
+  before = rw (length-said texts) (is_before texts rest n so text after cut)
+
   module _ (known : s ≡ known_before (kept (all_said texts) n) n) where
     pub known_more : (new : Known) → new ≡ known_after n s line → new ≡ known_before (kept (all_said texts) (n + 1)) (n + 1)
     known_more new e =
-        rw add-one (e ∙ rw (known, ← at) (sym (known_kept (all_said texts) n (rw (length-said texts) (is_before texts rest n so text after cut)))))
+        rw add-one (e ∙ rw (known, ← at) (sym (known_kept (all_said texts) n before)))
 
     pub judged_more : (ds : List Diagnosis) → Diagnoses texts (all_faults (judged (all_said texts)) n) ds
         → (found : Option Diagnosis) (more : List Diagnosis) → IsFound n text (fault_on n s line) found
         → more ≡ ds ++ listed found → Diagnoses texts (all_faults (judged (all_said texts)) (n + 1)) more
     judged_more ds so_far found more f e =
-        let same : judged (all_said texts) n ≡ fault_on n s line = judged_is (all_said texts) n ∙ rw (known, ← at) refl in
+        let same : judged (all_said texts) n ≡ fault_on n s line = judged_is (all_said texts) n before ∙ rw (known, ← at) refl in
         found_more texts (judged (all_said texts)) n ds so_far text found more at_text (rw same f) e
 
   module _ (layout : laid_out (all_said texts) n ≡ Ok s) where
@@ -300,10 +303,7 @@ together : (source : List ℕ) (ds : List Diagnosis) → Diagnoses (lines source
     AreAll source ds
 together source ds all = record {
   all = all;
-  first =
-      first_is (map fault_of ds)
-      ∙ (ap first_of all.each
-      ∙ (first_said source ∙ (ap fault_in (sym (assembled_is source)) ∙ sym (err_is (assembled source)))));
+  first = ap (λ faults. slice_get faults 0) all.each ∙ first_said source;
 }
 
 some_by : (ds : List Diagnosis) (faults later : List AsmFault) → map fault_of ds ≡ faults → (ds ≡ [] → ⊥) →
@@ -348,7 +348,8 @@ module _ (source : List ℕ) (one : List Diagnosis)
           → known ≡ known_before (kept (all_said (lines source)) (length (lines source))) (length (lines source))
           → known.definitions ≡ definitions (all_said (lines source))
       symbols_are known e =
-          rw (e, kept_all (all_said (lines source)) (length (lines source)) first_none, length-said (lines source)) refl
+          rw (e, kept_all (all_said (lines source)) (length (lines source)) first_none)
+          (ap (λ n. (known_before (all_said (lines source)) n).definitions) (sym (length-said (lines source))))
 
 pub filled_by : (ds seen : List Diagnosis) (b : Bool) → seen ≡ ds → b ≡ (length seen == 0) → b ≡ false → ds ≡ [] → ⊥
 filled_by [] seen b s e h z =

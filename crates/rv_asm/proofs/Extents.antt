@@ -6,12 +6,11 @@ use Rattle.rv_source.specs.declared.statement.Statement.{Statement}
 use Rattle.rv_program.specs.declared.fault.FaultKind.{FaultKind}
 use Rattle.rv_program.specs.declared.fault.FaultKind.TheVariants.{DuplicateSymbol, NotConstant, Misplaced, TooLarge}
 use Rattle.rv_asm.specs.Symbols.{Definitions, operand_value}
-use Rattle.rv_asm.specs.Layout.{is_unknown}
 use Rattle.rv_asm.specs.Counted.{renames}
-use Rattle.rv_asm.specs.Listing.{size_of, is_instruction}
-use Rattle.rv_asm.specs.Constants.{IsKnown, always}
+use Rattle.rv_asm.specs.Listing.{row}
+use Rattle.rv_asm.specs.Constants.{IsKnown, is_unknown, is_instruction, size_of}
 use Rattle.rv_asm.specs.Steps.{image_end, free}
-use Rattle.rv_asm.proofs.Sizes.{same_size}
+use Rattle.rv_asm.proofs.Sizes.{size_is}
 
 above : (m n : ℕ) → m < n → nat_lt m n ≡ true
 above m n h = grind (arith, nat_tests)
@@ -34,16 +33,16 @@ module _ (ds : Definitions) (k here : ℕ) (statement : Statement) (c : ℤ)
     (is : IsKnown (operand_value ds k here) c statement) (new : renames ds.names statement ≡ false)
     (known : is_unknown (operand_value ds k here) statement ≡ false)
     (placed : (is_instruction statement && not (here % 4 == 0)) ≡ false) where
-  pub past : image_end < here + size_of (always c) here statement → free ds k here statement ≡ Err TooLarge
+  pub past : image_end < here + size_of c here statement → free ds k here statement ≡ Err TooLarge
   unfolding free
   past h =
-      let size = same_size (operand_value ds k here) c here statement is in
-      let test = above image_end (here + size_of (operand_value ds k here) here statement) (rw size h) in
+      let size = size_is (operand_value ds k here) c here statement is in
+      let test = above image_end (here + (row (operand_value ds k here) here statement).size) (rw size h) in
       last (renames ds.names statement) _ _ _ _ new known placed test
 
-  pub within : here + size_of (always c) here statement ≤ image_end → free ds k here statement ≡ Ok tt
+  pub within : here + size_of c here statement ≤ image_end → free ds k here statement ≡ Ok tt
   unfolding free
   within h =
-      let size = same_size (operand_value ds k here) c here statement is in
-      let test = below image_end (here + size_of (operand_value ds k here) here statement) (rw size h) in
+      let size = size_is (operand_value ds k here) c here statement is in
+      let test = below image_end (here + (row (operand_value ds k here) here statement).size) (rw size h) in
       last (renames ds.names statement) _ _ _ _ new known placed test

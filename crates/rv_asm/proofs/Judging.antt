@@ -3,7 +3,6 @@ use Rattle.std.proofs.Common.{◌≡◌, ℕ, ◌≤◌, Bool, true, false, cond
 use Rattle.std.specs.Prelude.{Option, None, Some, is_some, Result, Ok, Err}
 use Rattle.std.specs.Option.{option_map}
 use Rattle.std.specs.Result.{result_err}
-use Rattle.std.specs.Str.{bytes_eq}
 use Rattle.std.proofs.lemmas.List.{take_all}
 use Rattle.rv_source.specs.Reading.{Said, said, written, statement_of}
 use Rattle.rv_source.specs.Written.{Written}
@@ -15,15 +14,15 @@ use Rattle.rv_tokens.specs.declared.fault.LineFault.{LineFault}
 use Rattle.rv_program.specs.declared.fault.FaultKind.{FaultKind}
 use Rattle.rv_program.specs.declared.fault.FaultKind.TheVariants.{DuplicateSymbol, OutOfMemory}
 use Rattle.rv_program.specs.declared.fault.AsmFault.{AsmFault}
-use Rattle.rv_program.specs.Faults.{Fails, FailsBy, number_of}
+use Rattle.rv_program.specs.Faults.{Fails, FailsBy}
+use Rattle.rv_program.specs.Kept.{number_of}
 use Rattle.rv_asm.specs.declared.diagnosis.Diagnosis.{Diagnosis}
 use Rattle.rv_asm.specs.Symbols.{Definitions, value_of}
-use Rattle.rv_asm.specs.Counted.{relabels}
+use Rattle.rv_asm.specs.Counted.{relabels, fault_in}
 use Rattle.rv_asm.specs.Listing.{◌>>=◌}
 use Rattle.rv_asm.specs.Kept.{KindFails}
 use Rattle.rv_asm.specs.Steps.{Known, Item, labelled, newly_labelled, stated, free, after_statement, stated_bytes, at_line, appended, image_of, run, AddsOptional}
 use Rattle.rv_asm.specs.Diagnosed.{new_labels}
-use Rattle.rv_asm.specs.Counted.{fault_in}
 use Rattle.rv_asm.specs.Judged.{Keeps, IsUnreadBy, fault_stated, fault_on, known_after, IsFound, Judges}
 use Rattle.rv_asm.proofs.Reading.{unread_bind, fails_by, said_of, with_labels}
 use Rattle.rv_asm.proofs.Laying.{DefinesSame, same_front, same_more, more_labels, not_stated}

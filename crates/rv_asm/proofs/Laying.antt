@@ -1,7 +1,7 @@
 -- Laying out the lines, one by one.
-use Rattle.std.proofs.Common.{◌≡◌, ℕ, zero, suc, ◌≤◌, Bool, true, false, cond, List, [], ◌∷◌, ◌++◌, ℤ, pos, refl, sym, ◌∙◌, ap, arith, append-nil, append_assoc, add-zero}
-use Rattle.std.specs.Prelude.{Option, None, Some, is_some, Result, Ok, Err, OnOk, option_and_then, ◌||◌}
-use Rattle.std.specs.Option.{option_map, option_or}
+use Rattle.std.proofs.Common.{◌≡◌, ℕ, zero, suc, ◌+◌, ◌%◌, ◌==◌, ◌≤◌, Bool, true, false, cond, List, [], ◌∷◌, ◌++◌, ℤ, pos, refl, sym, ◌∙◌, ap, arith, append-nil, append_assoc, add-zero}
+use Rattle.std.specs.Prelude.{◌||◌, not, nat_lt, Option, None, Some, is_some, Result, Ok, Err, OnOk, option_and_then}
+use Rattle.std.specs.Option.{option_map, option_or, unwrap_or}
 use Rattle.std.specs.List.{All}
 use Rattle.std.specs.Str.{bytes_eq}
 use Rattle.std.proofs.lemmas.List.Elements.{All-nil, All-cons, All-append, All-weaker}
@@ -9,16 +9,20 @@ use Rattle.rv_source.specs.Reading.{Said}
 use Rattle.rv_source.specs.declared.line.Label.{Label}
 use Rattle.rv_source.specs.declared.line.Label.TheVariants as label
 use Rattle.rv_source.specs.declared.statement.Statement.{Statement}
-use Rattle.rv_source.specs.declared.statement.Statement.TheVariants as s
 use Rattle.rv_program.specs.declared.fault.FaultKind.{FaultKind}
-use Rattle.rv_program.specs.declared.fault.FaultKind.TheVariants.{DuplicateSymbol}
+use Rattle.rv_program.specs.declared.fault.FaultKind.TheVariants.{DuplicateSymbol, NotConstant, Misplaced, TooLarge}
 use Rattle.rv_program.specs.declared.fault.AsmFault.{AsmFault}
 use Rattle.rv_asm.specs.declared.locals.LocalLabel.{LocalLabel}
 use Rattle.rv_asm.specs.Symbols.{value_of}
-use Rattle.rv_asm.specs.Layout.{line_at, address, names, names_in, locals_in, values_on, redefines, statement_fault, phase_two_fault}
-use Rattle.rv_asm.specs.Counted.{relabels, renames, fault_stated_by, phase_two_by}
-use Rattle.rv_asm.specs.Listing.{◌>>=◌, Valuation, constant_in}
-use Rattle.rv_asm.specs.Counted.{first, first_fault}
+use Rattle.rv_base.specs.Limits.{ram_base, image_limit}
+use Rattle.rv_asm.specs.Layout.{line_at, known_on, row_at, names_in, locals_in, redefines, phase_two_fault}
+use Rattle.rv_asm.specs.Counted.{address, names, relabels, fault_stated_by, phase_two_by, first, first_fault}
+use Rattle.rv_asm.specs.Listing.{◌>>=◌, Row, row}
+use Rattle.rv_asm.proofs.Listed.{adds_none, within_limit}
+use Rattle.std.proofs.lemmas.Bool.Decides.{nat_tests}
+use Rattle.rv_source.specs.declared.statement.Statement.TheVariants.{Marker}
+use Rattle.rv_asm.specs.Kept.{Valuation}
+use Rattle.rv_asm.proofs.Sizes.{known_in, aligned, renamed}
 use Rattle.rv_asm.specs.Steps.{Known, run, values_of, labelled, newly_labelled, all_labelled, stated, free, after_statement, after_optional, after_line, at_line, unless, known_before, laid_out, extended, Item, Adds, AddsLine}
 use Rattle.rv_asm.proofs.Labels.{IsUpTo}
 
@@ -108,6 +112,11 @@ statement_added k known next line statement items new result e said adds =
     (labelled k known line.labels) next (rw (labels_are k known line.labels) at e) in
     on_ok result (λ (h : Adds k next statement items new). rw said (rw same at h)) adds
 
+-- no statement
+pub none_added : (k : ℕ) (known : Known) (line : Said) (items : List Item) → line.statement ≡ None →
+    AddsLine k known line items items
+none_added k known line items none = rw none (adds_none k (labelled k known line.labels) items)
+
 -- ---- one more line
 
 -- the result of a line: its fault, or the state after it
@@ -125,6 +134,7 @@ stated_by k known after (Some kind) = refl
 stated_by k known after None = refl
 
 pub not_stated : (k : ℕ) (known : Known) → stated k known None ≡ known
+unfolding row
 not_stated k known = rw (append-nil, add-zero) refl
 
 statement_is : (k : ℕ) (known : Known) (statement : Option Statement) →
@@ -165,47 +175,70 @@ pub same_front : (xs ys : List (List ℕ × ℤ)) (name : List ℕ) (v w : ℤ) 
 same_front xs ys name v w h other =
     front_by (bytes_eq other name) v w (value_of xs other) (value_of ys other) (h other)
 
-redefine : (xs ys : List (List ℕ × ℤ)) (here : ℕ) (ls : List Label) → DefinesSame xs ys →
-    redefines xs (names_in here ls) ≡ relabels ys ls
-redefine xs ys here [] h = refl
-redefine xs ys here (label.Name name ∷ ls) h =
-    let first = h name in
-    let more = redefine ((name, pos here) ∷ xs) ((name, pos 0) ∷ ys) here ls
-    (same_front xs ys name (pos here) (pos 0) h) in
-    rw (first, more) refl
-redefine xs ys here (label.Local number ∷ ls) h = redefine xs ys here ls h
+redefines_same : (xs ys ds : List (List ℕ × ℤ)) → DefinesSame xs ys → redefines xs ds ≡ redefines ys ds
+redefines_same xs ys [] h = refl
+redefines_same xs ys (d ∷ ds) h =
+    rw (h d.0, redefines_same (d ∷ xs) (d ∷ ys) ds (same_front xs ys d.0 d.1 d.1 h)) refl
 
-either_false : (b : Bool) → (b || false) ≡ b
-either_false true = refl
-either_false false = refl
+either_either : (a b c : Bool) → (a || (b || c)) ≡ ((a || b) || c)
+either_either true b c = refl
+either_either false b c = refl
 
-renamed : (known : List (List ℕ × ℤ)) (early : Valuation) (statement : Statement) →
-    redefines known (constant_in early statement) ≡ renames known statement
-renamed known early (s.Constant name x) = either_false (is_some (value_of known name))
-renamed known early statement = refl
+-- the names of labels, and others after them
+redefine : (xs ys zs : List (List ℕ × ℤ)) (here : ℕ) (ls : List Label) (ds : List (List ℕ × ℤ))
+    → DefinesSame xs ys → DefinesSame zs xs
+    → redefines xs (names_in here ls ++ ds) ≡ (relabels ys ls || redefines (zs ++ names_in here ls) ds)
+redefine xs ys zs here [] ds h g = rw append-nil (sym (redefines_same zs xs ds g))
+redefine xs ys zs here (label.Name name ∷ ls) ds h g =
+    let v = pos here in
+    let more = redefine ((name, v) ∷ xs) ((name, pos 0) ∷ ys) (zs ++ (name, v) ∷ []) here ls ds
+    (same_front xs ys name v (pos 0) h) (same_more zs xs v v name g) in
+    rw (h name, more, append_assoc) (either_either (is_some (value_of ys name)) (relabels ((name, pos 0) ∷ ys) ls)
+    (redefines (zs ++ (name, v) ∷ names_in here ls) ds))
+redefine xs ys zs here (label.Local number ∷ ls) ds h g = redefine xs ys zs here ls ds h g
 
-stated_same : (known : List (List ℕ × ℤ)) (early : Valuation) (here : ℕ) (statement : Option Statement) →
-    option_and_then (statement_fault known early here) statement
-    ≡ option_and_then (fault_stated_by known early here) statement
-stated_same known early here None = refl
-stated_same known early here (Some statement) = rw (renamed known early statement) refl
+-- a line without a statement has no fault but of its labels
+no_fault : (here : ℕ) → here ≤ ram_base + image_limit → nat_lt (ram_base + image_limit) (here + 0) ≡ false
+no_fault here h = grind (arith, nat_tests, h)
 
-pub phase_two_is : (lines : List Said) (n : ℕ) → phase_two_fault lines n ≡ phase_two_by lines n
+either_cond : {A : Type 0} (a b : Bool) (x y : A) → cond (a || b) x y ≡ cond a x (cond b x y)
+either_cond true b x y = refl
+either_cond false b x y = refl
+
+module _ (known : Known) (early : Valuation) (within : known.address ≤ ram_base + image_limit) where
+  abbrev fault_by_row : Row → Option FaultKind
+  fault_by_row r = cond (redefines known.definitions.names r.defines) (Some DuplicateSymbol)
+      (cond (not r.is_known) (Some NotConstant) (cond (not (known.address % r.alignment == 0)) (Some Misplaced)
+      (cond (nat_lt (ram_base + image_limit) (known.address + r.size)) (Some TooLarge) None)))
+
+  by_row : (statement : Option Statement) → fault_by_row (row early known.address (unwrap_or statement Marker))
+      ≡ option_and_then (fault_stated_by known.definitions.names early known.address) statement
+  unfolding row
+  by_row None = let e : known.address % 1 ≡ 0 = omega arith in rw (e, no_fault known.address within) refl
+  by_row (Some statement) = rw (
+    renamed early known.address known.definitions.names statement,
+    known_in early known.address statement,
+    aligned early known.address statement,
+  ) refl
+
+pub phase_two_is : (lines : List Said) (n : ℕ) → address lines n ≤ ram_base + image_limit →
+    phase_two_fault lines n ≡ phase_two_by lines n
 unfolding phase_two_fault
-phase_two_is lines n =
-    let line = line_at lines n in
-    let here = address lines n in
-    rw (
-      redefine (names lines n) (names lines n) here line.labels (λ name. refl),
-      stated_same (names lines n ++ names_in here line.labels) (values_on lines n) here line.statement,
-    ) refl
+phase_two_is lines n within =
+    let known = known_on lines n in
+    let r = row_at n known (line_at lines n).statement in
+    let same = names lines n in
+    rw (redefine same same same (address lines n) (line_at lines n).labels r.defines (λ name. refl) (λ name. refl))
+    (either_cond (relabels same (line_at lines n).labels) (redefines known.definitions.names r.defines) _ _
+    ∙ ap (cond (relabels same (line_at lines n).labels) (Some DuplicateSymbol))
+    (by_row known (values_of n known) within (line_at lines n).statement))
 
 extended_by : (lines : List Said) (n : ℕ) (fault : Option AsmFault) →
     first_fault (phase_two_fault lines) n ≡ fault →
     extended n (line_at lines n) (laid_out lines n) ≡ laid_out lines (suc n)
-unfolding laid_out first address
+unfolding laid_out first known_before
 extended_by lines n (Some fault) e = rw e refl
-extended_by lines n None e = rw (e, phase_two_is lines n) (line_is n (known_before lines n) (line_at lines n))
+extended_by lines n None e = rw (e, phase_two_is lines n (within_limit lines n e)) (line_is n (known_before lines n) (line_at lines n))
 
 pub extended_line : (lines : List Said) (n : ℕ) → extended n (line_at lines n) (laid_out lines n)
     ≡ laid_out lines (suc n)
@@ -221,7 +254,7 @@ locals_on k here (label.Local number ∷ ls) =
     (locals_in k here ls) (omega arith) (locals_on k here ls)
 
 pub up_to_before : (lines : List Said) (n : ℕ) → IsUpTo n (known_before lines n)
-unfolding address
+unfolding known_before
 up_to_before lines zero = All-nil (λ (d : LocalLabel). d.line ≤ 0)
 up_to_before lines (suc n) =
     All-append (λ (d : LocalLabel). d.line ≤ suc n) (known_before lines n).definitions.locals

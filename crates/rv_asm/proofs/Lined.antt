@@ -12,25 +12,21 @@ use Rattle.std.proofs.lemmas.List.Elements.{All-nil, All-push, All-weaker, All-g
 use Rattle.std.proofs.lemmas.List.Sorted.{IsNonDecreasingBy-push, IsNonDecreasingBy-short, IsNonDecreasingBy-from_default}
 use Rattle.rv_base.specs.Lines.{lines}
 use Rattle.rv_base.specs.Limits.{ram_base}
-use Rattle.rv_source.specs.Reading.{Said}
+use Rattle.rv_source.specs.Reading.{Said, said as said_of}
 use Rattle.rv_source.specs.declared.line.Label.{Label}
 use Rattle.rv_source.specs.declared.line.Label.TheVariants as label
 use Rattle.rv_program.specs.Program.{Assembly}
 use Rattle.rv_program.specs.declared.fault.FaultKind.{FaultKind}
 use Rattle.rv_program.specs.declared.fault.AsmFault.{AsmFault}
-use Rattle.rv_asm.specs.Layout.{line_at, address, definitions, phase_two_fault}
-use Rattle.rv_asm.specs.Assembly.{phase_one_fault, phase_three_fault, all_said, line_bytes, assembled}
-use Rattle.rv_asm.specs.Counted.{joined, first, first_fault, joined_bytes, assembled_by}
+use Rattle.rv_asm.specs.Layout.{line_at, definitions, phase_two_fault, labels_in}
+use Rattle.rv_asm.specs.Assembly.{phase_one_fault, all_said, line_bytes, assembled}
+use Rattle.rv_asm.specs.Counted.{phase_three_fault, address, joined, first, first_fault, joined_bytes, assembled_by, up_to, labels}
 use Rattle.rv_asm.proofs.Counting.{joined_is, up_to_is, assembled_is}
-use Rattle.rv_asm.specs.Lines.{Listed, listed, bytes_of, AreLinesOf}
-use Rattle.rv_asm.specs.Layout.{labels_in}
-use Rattle.rv_asm.specs.Counted.{up_to, labels}
-use Rattle.rv_asm.specs.Steps.{Known, laid_out, after_line}
-use Rattle.rv_asm.specs.Looked.{LabelsRise, LiesWhole}
-use Rattle.rv_source.specs.Reading.{said as said_of}
-use Rattle.rv_asm.proofs.Listed.{size_listed}
+use Rattle.rv_asm.specs.Lines.{Listed, listed, bytes_of}
+use Rattle.rv_asm.specs.Steps.{Known, known_before, laid_out, after_line}
+use Rattle.rv_asm.specs.Looked.{LabelsRise, LiesWhole, AreLinesOf}
+use Rattle.rv_asm.proofs.Listed.{size_listed, none_last, none_before}
 use Rattle.rv_asm.proofs.Whole.{length-said}
-use Rattle.rv_asm.proofs.Listed.{none_last, none_before}
 use Rattle.rv_asm.proofs.Reading.{SoFar, known_is, read_line_at, laid_out_more}
 
 -- ---- no fault
@@ -126,7 +122,7 @@ up_to_at f (suc n) i h = by (up_to_at f n i) (nat_lt n i) refl
 -- ---- addresses rise
 
 address_rises : (ls : List Said) (i d : ℕ) → address ls i ≤ address ls (i + d)
-unfolding address
+unfolding known_before
 address_rises ls i zero = rw add-zero (omega arith)
 address_rises ls i (suc d) = let h = address_rises ls i d in rw add-suc (omega (arith, h))
 
@@ -238,8 +234,8 @@ part_at f (suc n) k h = by (part_at f n k) (nat_lt k n) refl
 bytes_by : (image xs : List ℕ) (f : ℕ → List ℕ) (n k : ℕ) → image ≡ joined f n → k < n →
     nat_lt (suc k) (length xs) ≡ true → get_or xs k 0 - ram_base ≡ length (joined f k) →
     get_or xs (suc k) 0 - ram_base ≡ length (joined f (suc k)) →
-    cond (nat_lt 0 (suc k) && nat_lt (suc k) (length xs))
-    (slice_range image (get_or xs (suc k - 1) 0 - ram_base) (get_or xs (suc k) 0 - ram_base)) [] ≡ f k
+    option_map_or (λ a. slice_range image (a - ram_base) (get_or xs (suc k) 0 - ram_base))
+    (cond (nat_lt 0 (suc k) && nat_lt (suc k) (length xs)) (Some (get_or xs (suc k - 1) 0)) None) [] ≡ f k
 bytes_by image xs f n k i h t x y =
     let e : suc k - 1 ≡ k = omega arith in
     let z : nat_lt 0 (suc k) ≡ true = grind (arith, nat_tests) in
@@ -265,8 +261,7 @@ module _ (source : List ℕ) (a : Assembly) (ok : IsAccepted source a) where
 
   -- the image reaches from the base to the last address
   reaches : (k : ℕ) → k ≤ n → ram_base + length (joined image_of k) ≡ address said k
-  reaches k h = size_listed said (definitions said) k (none_below (phase_two_fault said) n k ok.two h)
-      (none_below (phase_three_fault said) n k ok.three h)
+  reaches k h = size_listed said (definitions said) k (none_below (phase_three_fault said) n k ok.three h)
 
   abbrev pub listing : Listed
   listing = record { assembly = a; addresses = up_to (address said) n; labels = labels said n }
@@ -284,7 +279,7 @@ module _ (source : List ℕ) (a : Assembly) (ok : IsAccepted source a) where
   count_is = length_up_to (address said) n
 
   pub lies_whole : LiesWhole listing
-  unfolding address
+  unfolding known_before
   lies_whole = record {
     some = omega (arith, count_is);
     first = address_at 0 (omega arith);

@@ -1,26 +1,21 @@
 -- The bytes of the lines, one by one, and their number.
-use Rattle.std.proofs.Common.{◌≡◌, ℕ, zero, suc, ◌+◌, ◌≤◌, Bool, true, false, cond, List, [], ◌∷◌, ◌++◌, length, ℤ, pos, refl, sym, ap, ◌∙◌, arith, append-nil, length-append}
-use Rattle.std.specs.Prelude.{Option, None, Some, Result, Ok, Err, option_and_then, not, ◌&&◌, ◌==◌, ◌%◌, nat_lt}
-use Rattle.std.specs.Option.{option_map, option_map_or, option_or, unwrap_or}
+use Rattle.std.proofs.Common.{◌≡◌, ℕ, zero, suc, ◌+◌, ◌≤◌, Bool, true, false, cond, List, [], ◌∷◌, ◌++◌, length, refl, sym, ap, ◌∙◌, arith, append-nil, length-append}
+use Rattle.std.specs.Prelude.{Option, None, Some, Result, Ok, Err, nat_lt}
+use Rattle.std.specs.Option.{unwrap_or, option_map, option_or}
 use Rattle.std.specs.Result.{result_err}
 use Rattle.std.proofs.lemmas.Bool.Decides.{nat_tests}
 use Rattle.rv_source.specs.Reading.{Said}
-use Rattle.rv_source.specs.declared.operand.Operand.{Operand}
 use Rattle.rv_source.specs.declared.statement.Statement.{Statement}
+use Rattle.rv_source.specs.declared.statement.Statement.TheVariants.{Marker}
 use Rattle.rv_program.specs.declared.fault.FaultKind.{FaultKind}
 use Rattle.rv_program.specs.declared.fault.FaultKind.TheVariants.{DuplicateSymbol, NotConstant, Misplaced, TooLarge}
 use Rattle.rv_program.specs.declared.fault.AsmFault.{AsmFault}
 use Rattle.rv_asm.specs.Symbols.{Definitions, operand_value}
 use Rattle.rv_base.specs.Limits.{ram_base, image_limit}
-use Rattle.rv_asm.specs.Layout.{line_at, address, names, is_unknown, phase_two_fault}
-use Rattle.rv_asm.specs.Counted.{size_at}
-use Rattle.rv_asm.specs.Counted.{renames, relabels, fault_stated_by}
-use Rattle.rv_asm.specs.Kept.{fails}
-use Rattle.rv_asm.specs.Listing.{◌>>=◌, Valuation, asked, is_instruction, size_of, statement_bytes}
-use Rattle.rv_asm.specs.Counted.{first, joined, first_fault}
-use Rattle.rv_asm.specs.Constants.{IsKnown}
-use Rattle.rv_asm.specs.Steps.{Known, Item, values_of, labelled, appended, at_line, run, item_step, item_bytes, image_of, unless, known_before, stated_bytes, AddsOptional, Adds, AddsLine, bytes_by, listed, written, Writes}
-use Rattle.rv_asm.proofs.Laying.{phase_two_is}
+use Rattle.rv_asm.specs.Layout.{line_at, known_on, row_at, phase_two_fault}
+use Rattle.rv_asm.specs.Listing.{◌>>=◌, row}
+use Rattle.rv_asm.specs.Counted.{address, first, joined, first_fault}
+use Rattle.rv_asm.specs.Steps.{Known, Item, values_of, stated, appended, at_line, run, item_step, item_bytes, image_of, unless, known_before, stated_bytes, AddsOptional, Adds, AddsLine, bytes_by, listed, written, Writes}
 use Rattle.rv_asm.proofs.Runs.{run_append}
 use Rattle.rv_asm.proofs.Sizes.{statement_size}
 
@@ -62,6 +57,7 @@ nothing_added (Err fault) k = refl
 
 -- a line without a statement
 pub adds_none : (k : ℕ) (known : Known) (items : List Item) → AddsOptional k known None items items
+unfolding row
 adds_none k known items ds = nothing_added (image_of ds items) k
 
 pushed : (r : Result (List ℕ) AsmFault) (ds : Definitions) (item : Item) (bs : Result (List ℕ) FaultKind)
@@ -80,7 +76,7 @@ pushed (Ok out) ds item bs k at is = rw (is, at) (done (at_line k (appended out 
 pub adds_pushed : (k : ℕ) (known : Known) (statement : Statement) (items : List Item) (item : Item) →
     item.line ≡ k
     → ((ds : Definitions) → item_bytes ds item
-    ≡ statement_bytes (values_of k known) (operand_value ds k known.address) known.address statement)
+    ≡ (row (values_of k known) known.address statement).contents (operand_value ds k known.address))
     → Adds k known statement items (items ++ item ∷ [])
 adds_pushed k known statement items item at is ds =
     run_append (item_step ds) [] items (item ∷ []) ∙ pushed (image_of ds items) ds item _ k at (is ds)
@@ -110,59 +106,17 @@ writes_more lines n old new writes adds ds =
 
 -- ---- statements without a fault in phase two
 
-record IsFree (unknown past : Bool) : Type 0 where
-  known : unknown ≡ false
-  within : past ≡ false
-
-free_by : (renamed unknown misplaced past : Bool) → cond renamed (Some DuplicateSymbol)
+not_past : (renamed unknown misplaced past : Bool) → cond renamed (Some DuplicateSymbol)
     (cond unknown (Some NotConstant) (cond misplaced (Some Misplaced) (cond past (Some TooLarge) None))) ≡
-    None →
-    IsFree unknown past
-free_by true unknown misplaced past h = absurd cc
-free_by false true misplaced past h = absurd cc
-free_by false false true past h = absurd cc
-free_by false false false true h = absurd cc
-free_by false false false false h = record { known = refl; within = refl }
-
--- the value that must be known on the line of a statement
-abbrev constant_by : Valuation → Option (Operand × (ℤ → Bool)) → ℤ
-constant_by early o = elim o as (λ _. ℤ) [ None ↦ pos 0 | Some a ↦ unwrap_or (early a.0) (pos 0) ]
-
-unfailing : (b : Bool) → not b ≡ false → b ≡ true
-unfailing true h = refl
-unfailing false h = cc
-
-passes : (test : ℤ → Bool) (o : Option ℤ) → fails test o ≡ false →
-    (o ≡ Some (unwrap_or o (pos 0))) × (test (unwrap_or o (pos 0)) ≡ true)
-passes test None h = absurd cc
-passes test (Some v) h = (refl, unfailing (test v) h)
-
-known_by : (early : Valuation) (o : Option (Operand × (ℤ → Bool)))
-    → option_map_or (λ a. fails a.1 (early a.0)) o false ≡ false
-    → elim o as (λ _. Type 0) [
-      | None ↦ constant_by early o ≡ pos 0
-      | Some a ↦ (early a.0 ≡ Some (constant_by early o)) × (a.1 (constant_by early o) ≡ true)
-    ]
-known_by early None h = refl
-known_by early (Some a) h = passes a.1 (early a.0) h
+    None → past ≡ false
+not_past true unknown misplaced past h = absurd cc
+not_past false true misplaced past h = absurd cc
+not_past false false true past h = absurd cc
+not_past false false false true h = absurd cc
+not_past false false false false h = refl
 
 below : (m n : ℕ) → nat_lt m n ≡ false → n ≤ m
 below m n h = grind (arith, nat_tests)
-
-module _ (known : List (List ℕ × ℤ)) (early : Valuation) (here : ℕ) (statement : Statement)
-    (none : fault_stated_by known early here statement ≡ None) where
-  is_free : IsFree (is_unknown early statement)
-      (nat_lt (ram_base + image_limit) (here + size_of early here statement))
-  is_free = free_by (renames known statement) (is_unknown early statement)
-      (is_instruction statement && not (here % 4 == 0))
-      (nat_lt (ram_base + image_limit) (here + size_of early here statement)) none
-
-  is_known : IsKnown early (constant_by early (asked statement)) statement
-  unfolding IsKnown
-  is_known = known_by early (asked statement) is_free.known
-
-  is_within : here + size_of early here statement ≤ ram_base + image_limit
-  is_within = below _ _ is_free.within
 
 -- ---- the size of the image
 
@@ -171,59 +125,34 @@ sized_answer : (r : Result (List ℕ) FaultKind) (n : ℕ) → ((bs : List ℕ) 
 sized_answer (Ok bs) n h e = h bs refl
 sized_answer (Err kind) n h e = absurd cc
 
-module _ (names : List (List ℕ × ℤ)) (ds : Definitions) (k : ℕ) (known : Known) where
-  size_line : (statement : Option Statement)
-      → option_and_then (fault_stated_by names (values_of k known) known.address) statement ≡ None
-      → result_err (stated_bytes ds k known statement) ≡ None
-      → length (listed (stated_bytes ds k known statement)) ≡ size_at (values_of k known) known.address
-      statement
-  size_line None free e = refl
-  size_line (Some s) free e =
-      sized_answer (stated_bytes ds k known (Some s)) (size_of (values_of k known) known.address s)
-      (λ bs is. statement_size (values_of k known) _ (operand_value ds k known.address) known.address s bs
-      (is_known names (values_of k known) known.address s free) is) e
-
-  within_line : (statement : Option Statement)
-      → option_and_then (fault_stated_by names (values_of k known) known.address) statement ≡ None
-      → known.address ≤ ram_base + image_limit
-      → known.address + size_at (values_of k known) known.address statement ≤ ram_base + image_limit
-  within_line None free h = omega (arith, h)
-  within_line (Some s) free h = is_within names (values_of k known) known.address s free
-
-without_labels : (b : Bool) (o : Option FaultKind) → cond b (Some DuplicateSymbol) o ≡ None → o ≡ None
-without_labels true o h = absurd cc
-without_labels false o h = h
+module _ (ds : Definitions) (k : ℕ) (known : Known) where
+  size_line : (statement : Option Statement) → result_err (stated_bytes ds k known statement) ≡ None
+      → (stated k known statement).address ≡ known.address + length (listed (stated_bytes ds k known statement))
+  size_line statement e = ap (λ n. known.address + n)
+      (sym (sized_answer (stated_bytes ds k known statement) (row_at k known statement).size
+      (λ bs. statement_size (values_of k known) (operand_value ds k known.address) known.address bs
+      (unwrap_or statement Marker)) e))
 
 module _ (lines : List Said) where
-  abbrev here : ℕ → Known
-  here n = labelled n (known_before lines n) (line_at lines n).labels
-
-  statement_free : (n : ℕ) → phase_two_fault lines n ≡ None
-      → option_and_then (fault_stated_by (here n).definitions.names (values_of n (here n)) (address lines n))
-      (line_at lines n).statement ≡ None
-  statement_free n h =
-      without_labels (relabels (names lines n) (line_at lines n).labels) _ (sym (phase_two_is lines n) ∙ h)
+  pub within_line : (n : ℕ) → phase_two_fault lines n ≡ None → address lines (suc n) ≤ ram_base + image_limit
+  unfolding known_before phase_two_fault
+  within_line n h = below _ _ (not_past _ _ _ _ h)
 
   pub within_limit : (n : ℕ) → first_fault (phase_two_fault lines) n ≡ None →
       address lines n ≤ ram_base + image_limit
-  unfolding address
+  unfolding known_before
   within_limit zero h = omega arith
-  within_limit (suc n) h =
-      within_line (here n).definitions.names (here n).definitions n (here n) (line_at lines n).statement
-      (statement_free n (none_last (phase_two_fault lines) n h))
-      (within_limit n (none_before (phase_two_fault lines) n h))
+  within_limit (suc n) h = within_line n (none_last (phase_two_fault lines) n h)
 
   -- the bytes of n lines without a fault reach from the base to the address following these lines
-  pub size_listed : (ds : Definitions) (n : ℕ) → first_fault (phase_two_fault lines) n ≡ None →
-      first_fault (λ k. result_err (bytes_by ds lines k)) n ≡ None
+  pub size_listed : (ds : Definitions) (n : ℕ) → first_fault (λ k. result_err (bytes_by ds lines k)) n ≡ None
       → ram_base + length (joined (λ k. listed (bytes_by ds lines k)) n) ≡ address lines n
-  unfolding joined address
-  size_listed ds zero h e = refl
-  size_listed ds (suc n) h e =
+  unfolding joined known_before
+  size_listed ds zero e = refl
+  size_listed ds (suc n) e =
       let three = λ (k : ℕ). result_err (bytes_by ds lines k) in
-      let before = size_listed ds n (none_before (phase_two_fault lines) n h) (none_before three n e) in
-      let last = size_line (here n).definitions.names ds n (here n) (line_at lines n).statement
-      (statement_free n (none_last (phase_two_fault lines) n h)) (none_last three n e) in
+      let before = size_listed ds n (none_before three n e) in
+      let last = size_line ds n (known_on lines n) (line_at lines n).statement (none_last three n e) in
       omega (
         arith,
         length-append (joined (λ k. listed (bytes_by ds lines k)) n) (listed (bytes_by ds lines n)),

@@ -10,9 +10,8 @@ use Rattle.std.proofs.lemmas.Bool.Decides.{nat_tests}
 use Rattle.rv_isa.specs.Number.{modulo}
 use Rattle.rv_isa.specs.declared.kind.Kind.{Kind}
 use Rattle.rv_asm.specs.Values.{is_between, gap}
-use Rattle.rv_asm.specs.Listing.{bytes, padding}
+use Rattle.rv_asm.specs.Listing.{bytes, padding, is_multiple}
 use Rattle.rv_asm.specs.Kept.{nops}
-use Rattle.rv_asm.specs.Listing.{is_multiple}
 
 pub length_bytes : (kinds : List Kind) → length (bytes kinds) ≡ 4 * length kinds
 length_bytes [] = refl

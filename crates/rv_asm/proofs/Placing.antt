@@ -12,14 +12,14 @@ use Rattle.rv_source.specs.declared.operand.Operand.{Operand}
 use Rattle.rv_asm.specs.declared.kept.Kept.TheVariants as kept
 use Rattle.rv_asm.specs.declared.single.Single.{Single}
 use Rattle.rv_asm.specs.Symbols.{Definitions, sum_value, operand_value}
-use Rattle.rv_asm.specs.Listing.{size_of, constant_in, statement_bytes, sums_bytes}
 use Rattle.rv_asm.specs.Kept.{KindFails}
-use Rattle.rv_asm.specs.Constants.{IsKnown, always}
+use Rattle.rv_asm.specs.Constants.{IsKnown, size_of, constant_in, statement_bytes}
 use Rattle.rv_asm.specs.Steps.{Known, Item, IsSum, kept_bytes, waiting_bytes, item_bytes, values_of, free, after_statement, Adds}
-use Rattle.rv_asm.proofs.Writing.{only_value}
+use Rattle.rv_asm.specs.Listing.{bytes_in, placed as placed_in}
+use Rattle.rv_asm.proofs.DataBytes.{placed_one}
 use Rattle.rv_asm.proofs.Runs.{kind_fails_bind}
 use Rattle.rv_asm.proofs.Listed.{adds_pushed}
-use Rattle.rv_asm.proofs.Sizes.{same_size, same_constant, same_bytes}
+use Rattle.rv_asm.proofs.Sizes.{size_is, defines_is, contents_are}
 
 pub not_some : {A : Type 0} (o : Option A) → is_some o ≡ false → o ≡ None
 not_some None h = refl
@@ -35,9 +35,9 @@ pub data_kept : (width : Width) (x : Operand) (xs all : List Operand) (k : Kept)
     → ((ds : Definitions) (line here : ℕ) → kept_bytes ds line here k
     ≡ waiting_bytes here (w.Data width) (operand_value ds line here x))
     → (ds : Definitions) (line here : ℕ) → kept_bytes ds line here k
-    ≡ sums_bytes (operand_value ds line here) width all
+    ≡ placed_in (bytes_in width) all (operand_value ds line here)
 data_kept width x [] all k is none kept ds line here =
-    rw (← is) (kept ds line here ∙ sym (only_value (operand_value ds line here) width here x))
+    rw (← is) (kept ds line here ∙ sym (placed_one (bytes_in width) x (operand_value ds line here)))
 data_kept width x (y ∷ ys) all k is none kept ds line here = cc
 
 module _ (k : ℕ) (known : Known) (statement : Statement) where
@@ -48,25 +48,24 @@ module _ (k : ℕ) (known : Known) (statement : Statement) where
 
   module _ (c : ℤ) (is : IsKnown (values_of k known) c statement) where
     pub placed : (end : ℕ) → free known.definitions k known.address statement ≡ Ok tt →
-        end ≡ known.address + size_of (always c) known.address statement
+        end ≡ known.address + size_of c known.address statement
         → after_statement k known statement ≡ Ok (record {
           address = end;
           definitions = record {
-            names = known.definitions.names ++ constant_in (always c) statement;
+            names = known.definitions.names ++ constant_in c statement;
             locals = known.definitions.locals;
           };
         })
     unfolding after_statement
     placed end fault e =
-        let size = same_size (values_of k known) c known.address statement is in
-        let constant = same_constant (values_of k known) c statement is in
+        let size = size_is (values_of k known) c known.address statement is in
+        let constant = defines_is (values_of k known) c known.address statement is in
         rw (fault, e, ← size, ← constant) refl
 
     pub adds : (items : List Item) (item : Item) → item.line ≡ k
         → ((ds : Definitions) → item_bytes ds item
-        ≡ statement_bytes (always c) (operand_value ds k known.address) known.address statement)
+        ≡ statement_bytes c (operand_value ds k known.address) known.address statement)
         → Adds k known statement items (items ++ item ∷ [])
     adds items item at bytes = adds_pushed k known statement items item at
-        (λ ds. rw (same_bytes (values_of k known) c (operand_value ds k known.address) known.address
-        statement is)
-        (bytes ds))
+        (λ ds. bytes ds ∙ sym (contents_are (values_of k known) c known.address (operand_value ds k known.address)
+        statement is))

@@ -15,7 +15,7 @@ use Rattle.rv_program.specs.declared.fault.FaultKind.{FaultKind}
 use Rattle.rv_program.specs.declared.fault.FaultKind.TheVariants.{OutOfMemory}
 use Rattle.rv_program.specs.declared.fault.AsmFault.{AsmFault}
 use Rattle.rv_program.specs.Faults.{Fails, Gives, IsFaultAt, kind_of}
-use Rattle.rv_asm.specs.Layout.{line_at, blank, address}
+use Rattle.rv_asm.specs.Layout.{line_at, blank}
 use Rattle.rv_asm.specs.Assembly.{phase_one_fault, all_said}
 use Rattle.rv_asm.specs.Counted.{first, first_fault}
 use Rattle.rv_asm.specs.Steps.{Known, Item, start, unless, known_before, laid_out, lines_laid_out, extended, AddsLine, Writes}
@@ -36,7 +36,7 @@ unfolding first
 begun texts = record { left = refl; none = refl; within = omega arith }
 
 pub laid_out-zero : (ls : List Said) → laid_out ls 0 ≡ Ok start
-unfolding laid_out first address
+unfolding laid_out first known_before
 laid_out-zero ls = refl
 
 -- ---- no local label that is laid out is on a later line
@@ -105,11 +105,7 @@ dropped (y ∷ xs) (suc n) x ys d e = let r = dropped xs n x ys d e
 unread_kind : (fault : LineFault) (r : Result Said LineFault) → LineFails fault r →
     (kind_of fault ≡ OutOfMemory) ⊎ (r ≡ Err fault)
 unread_kind line.OutOfMemory r h = inl refl
-unread_kind line.BadByte r h = inr h
-unread_kind line.LineTooLong r h = inr h
-unread_kind line.Syntax r h = inr h
-unread_kind line.UnknownWord r h = inr h
-unread_kind line.BadOperands r h = inr h
+unread_kind kind r h = inr h
 
 module _ (texts rest : List (List ℕ)) (n : ℕ) (so : SoFar texts rest n) where
   module _ (text : List ℕ) (after : List (List ℕ)) (cut : rest ≡ text ∷ after) where
@@ -184,11 +180,7 @@ module _ (texts rest : List (List ℕ)) (n : ℕ) (so : SoFar texts rest n) wher
 pub unread_bind : (fault : LineFault) (r : Result Written LineFault) (f : Written → Result Said LineFault) →
     LineFails fault r → LineFails fault (r >>= f)
 unread_bind line.OutOfMemory r f h = h
-unread_bind line.BadByte r f h = rw h refl
-unread_bind line.LineTooLong r f h = rw h refl
-unread_bind line.Syntax r f h = rw h refl
-unread_bind line.UnknownWord r f h = rw h refl
-unread_bind line.BadOperands r f h = rw h refl
+unread_bind fault r f h = rw h refl
 
 pub unread_line : (k : ℕ) (text : List ℕ) (fault : LineFault) (at : AsmFault) → LineFails fault
     (written text) →
@@ -207,11 +199,7 @@ with_labels labels m = m >>= λ s. Ok (record { labels = labels; statement = s }
 
 pub fails_by : (fault : LineFault) (r : Result Said LineFault) → r ≡ Err fault → LineFails fault r
 fails_by line.OutOfMemory r h = tt
-fails_by line.BadByte r h = h
-fails_by line.LineTooLong r h = h
-fails_by line.Syntax r h = h
-fails_by line.UnknownWord r h = h
-fails_by line.BadOperands r h = h
+fails_by fault r h = h
 
 pub unread_statement : (k : ℕ) (text : List ℕ) (read : Written) (fault : LineFault) (at : AsmFault) →
     written text ≡ Ok read → Err fault ≡ statement_of read.body → IsFaultAt (k + 1) (kind_of fault) at →

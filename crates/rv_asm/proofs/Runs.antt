@@ -4,7 +4,7 @@ use Rattle.std.specs.Prelude.{Result, Ok, Err}
 use Rattle.std.proofs.Math.Seq.{drop-cons}
 use Rattle.std.proofs.lemmas.List.{drop_all}
 use Rattle.rv_program.specs.declared.fault.FaultKind.{FaultKind}
-use Rattle.rv_program.specs.declared.fault.FaultKind.TheVariants.{BadByte, LineTooLong, Syntax, UnknownWord, BadOperands, DuplicateSymbol, NotConstant, Misplaced, TooLarge, Undefined, OutOfRange, OutOfMemory}
+use Rattle.rv_program.specs.declared.fault.FaultKind.TheVariants.{OutOfMemory}
 use Rattle.rv_program.specs.declared.fault.AsmFault.{AsmFault}
 use Rattle.rv_program.specs.Faults.{Fails, FailsBy, IsFaultAt}
 use Rattle.rv_asm.specs.Kept.{KindFails}
@@ -25,71 +25,23 @@ bind_same (Err e) f g h = refl
 
 pub kind_fails_bind : {A B : Type 0} (kind : FaultKind) (r : Result A FaultKind) (f : A →
     Result B FaultKind) → KindFails kind r → KindFails kind (r >>= f)
-kind_fails_bind BadByte r f h = rw h refl
-kind_fails_bind LineTooLong r f h = rw h refl
-kind_fails_bind Syntax r f h = rw h refl
-kind_fails_bind UnknownWord r f h = rw h refl
-kind_fails_bind BadOperands r f h = rw h refl
-kind_fails_bind DuplicateSymbol r f h = rw h refl
-kind_fails_bind NotConstant r f h = rw h refl
-kind_fails_bind Misplaced r f h = rw h refl
-kind_fails_bind TooLarge r f h = rw h refl
-kind_fails_bind Undefined r f h = rw h refl
-kind_fails_bind OutOfRange r f h = rw h refl
 kind_fails_bind OutOfMemory r f h = h
+kind_fails_bind kind r f h = rw h refl
 
 pub fails_bind : {A B : Type 0} (kind : FaultKind) (fault : AsmFault) (r : Result A AsmFault) (f : A →
     Result B AsmFault) → FailsBy kind fault r → FailsBy kind fault (r >>= f)
-fails_bind BadByte fault r f h = rw h refl
-fails_bind LineTooLong fault r f h = rw h refl
-fails_bind Syntax fault r f h = rw h refl
-fails_bind UnknownWord fault r f h = rw h refl
-fails_bind BadOperands fault r f h = rw h refl
-fails_bind DuplicateSymbol fault r f h = rw h refl
-fails_bind NotConstant fault r f h = rw h refl
-fails_bind Misplaced fault r f h = rw h refl
-fails_bind TooLarge fault r f h = rw h refl
-fails_bind Undefined fault r f h = rw h refl
-fails_bind OutOfRange fault r f h = rw h refl
 fails_bind OutOfMemory fault r f h = h
+fails_bind kind fault r f h = rw h refl
 
 pub fails_at : {B : Type 0} (line : ℕ) (kind : FaultKind) (fault : AsmFault) (meaning : Result B AsmFault) →
     IsFaultAt line kind fault → meaning ≡ Err (record { line = line; kind = kind }) → Fails fault meaning
-fails_at line BadByte fault m e h = rw (e, h) refl
-fails_at line LineTooLong fault m e h = rw (e, h) refl
-fails_at line Syntax fault m e h = rw (e, h) refl
-fails_at line UnknownWord fault m e h = rw (e, h) refl
-fails_at line BadOperands fault m e h = rw (e, h) refl
-fails_at line DuplicateSymbol fault m e h = rw (e, h) refl
-fails_at line NotConstant fault m e h = rw (e, h) refl
-fails_at line Misplaced fault m e h = rw (e, h) refl
-fails_at line TooLarge fault m e h = rw (e, h) refl
-fails_at line Undefined fault m e h = rw (e, h) refl
-fails_at line OutOfRange fault m e h = rw (e, h) refl
 fails_at line OutOfMemory fault m e h = rw e refl
+fails_at line kind fault m e h = rw (e, h) refl
 
 pub fails_at_line : {B : Type 0} (k : ℕ) (kind : FaultKind) (fault : AsmFault) (r : Result B FaultKind) →
     KindFails kind r → IsFaultAt (k + 1) kind fault → Fails fault (at_line k r)
-fails_at_line k BadByte fault r h e = fails_at (k + 1) BadByte fault (at_line k r) e (rw (h, add-one) refl)
-fails_at_line k LineTooLong fault r h e =
-    fails_at (k + 1) LineTooLong fault (at_line k r) e (rw (h, add-one) refl)
-fails_at_line k Syntax fault r h e = fails_at (k + 1) Syntax fault (at_line k r) e (rw (h, add-one) refl)
-fails_at_line k UnknownWord fault r h e =
-    fails_at (k + 1) UnknownWord fault (at_line k r) e (rw (h, add-one) refl)
-fails_at_line k BadOperands fault r h e =
-    fails_at (k + 1) BadOperands fault (at_line k r) e (rw (h, add-one) refl)
-fails_at_line k DuplicateSymbol fault r h e =
-    fails_at (k + 1) DuplicateSymbol fault (at_line k r) e (rw (h, add-one) refl)
-fails_at_line k NotConstant fault r h e =
-    fails_at (k + 1) NotConstant fault (at_line k r) e (rw (h, add-one) refl)
-fails_at_line k Misplaced fault r h e =
-    fails_at (k + 1) Misplaced fault (at_line k r) e (rw (h, add-one) refl)
-fails_at_line k TooLarge fault r h e = fails_at (k + 1) TooLarge fault (at_line k r) e (rw (h, add-one) refl)
-fails_at_line k Undefined fault r h e =
-    fails_at (k + 1) Undefined fault (at_line k r) e (rw (h, add-one) refl)
-fails_at_line k OutOfRange fault r h e =
-    fails_at (k + 1) OutOfRange fault (at_line k r) e (rw (h, add-one) refl)
 fails_at_line k OutOfMemory fault r h e = rw e refl
+fails_at_line k kind fault r h e = fails_at (k + 1) kind fault (at_line k r) e (rw (h, add-one) refl)
 
 -- ---- runs
 

@@ -5,7 +5,8 @@ use Rattle.std.specs.Option.{option_map}
 use Rattle.std.proofs.lemmas.Int.{ints}
 use Rattle.rv_source.specs.declared.expression.Term.{Term}
 use Rattle.rv_asm.specs.declared.single.Single.{Single}
-use Rattle.rv_asm.specs.Symbols.{atom_value, added, sum_value}
+use Rattle.rv_asm.specs.Symbols.{atom_value, sum_value}
+use Rattle.rv_asm.specs.Kept.{added}
 use Rattle.rv_asm.specs.Steps.{IsNumber, IsSum}
 
 nothing_added : (v : ℤ) → v ≡ added v false (pos 0)

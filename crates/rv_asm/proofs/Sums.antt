@@ -1,5 +1,5 @@
 -- Summing the terms of an expression, one by one.
-use Rattle.std.proofs.Common.{◌≡◌, ℕ, suc, ◌+◌, ◌*◌, ◌<◌, ◌≤◌, List, [], ◌∷◌, ℤ, pos, ◌+ℤ◌, ◌-ℤ◌, drop, get_or, length, Bool, true, false, ap, sym, ◌∙◌, refl, arith, add-one}
+use Rattle.std.proofs.Common.{◌≡◌, ℕ, suc, ◌+◌, ◌*◌, ◌<◌, ◌≤◌, List, [], ◌∷◌, ℤ, pos, ◌+ℤ◌, drop, get_or, length, Bool, true, false, ap, sym, ◌∙◌, refl, arith, add-one}
 use Rattle.std.specs.Prelude.{Option, Some, None, option_and_then}
 use Rattle.std.specs.Option.{option_map}
 use Rattle.std.proofs.lemmas.Int.{ints}
@@ -7,30 +7,22 @@ use Rattle.std.proofs.Math.Seq.{drop-cons}
 use Rattle.std.proofs.lemmas.List.{drop_all}
 use Rattle.rv_source.specs.declared.expression.Term.{Term}
 use Rattle.rv_asm.specs.Values.{is_word}
-use Rattle.rv_asm.specs.Symbols.{Definitions, atom_value, added, sum_value}
-use Rattle.rv_asm.specs.Kept.{IsNear}
+use Rattle.rv_asm.specs.Symbols.{Definitions, atom_value, sum_value}
+use Rattle.rv_asm.specs.Kept.{IsNear, added}
 
 near_word : (v : ℤ) → is_word v ≡ true → IsNear 4294967296 v
 near_word v h = record { low = grind (arith, ints); high = grind (arith, ints) }
 
-near_less : (n : ℕ) (sum v : ℤ) → IsNear n sum → IsNear 4294967296 v → IsNear (n + 4294967296) (sum -ℤ v)
-near_less n sum v h k = record {
-  low = omega (arith, ints, h.low, h.high, k.low, k.high);
-  high =
-      omega (arith, ints, h.low, h.high, k.low, k.high);
-}
-
-near_more : (n : ℕ) (sum v : ℤ) → IsNear n sum → IsNear 4294967296 v → IsNear (n + 4294967296) (sum +ℤ v)
-near_more n sum v h k = record {
-  low = omega (arith, ints, h.low, h.high, k.low, k.high);
-  high =
-      omega (arith, ints, h.low, h.high, k.low, k.high);
-}
-
 near_added : (n : ℕ) (sum v : ℤ) (negative : Bool) → IsNear n sum → IsNear 4294967296 v →
     IsNear (n + 4294967296) (added sum negative v)
-near_added n sum v true h k = near_less n sum v h k
-near_added n sum v false h k = near_more n sum v h k
+near_added n sum v true h k = record {
+  low = omega (arith, ints, h.low, h.high, k.low, k.high);
+  high = omega (arith, ints, h.low, h.high, k.low, k.high);
+}
+near_added n sum v false h k = record {
+  low = omega (arith, ints, h.low, h.high, k.low, k.high);
+  high = omega (arith, ints, h.low, h.high, k.low, k.high);
+}
 
 -- sum is that of the first term and of i more, and at most i + 1 times 2 ^ 32 away from 0
 pub record SumSoFar (ds : Definitions) (line here : ℕ) (terms more : List Term) (i : ℕ) (sum : ℤ) : Type 0

@@ -11,8 +11,8 @@ use Rattle.rv_program.specs.declared.fault.AsmFault.{AsmFault}
 use Rattle.rv_asm.specs.Symbols.{Definitions}
 use Rattle.rv_asm.specs.Layout.{definitions, phase_two_fault}
 use Rattle.rv_asm.specs.Listing.{◌>>=◌}
-use Rattle.rv_asm.specs.Assembly.{Assembly, phase_one_fault, phase_three_fault, all_said, assembled}
-use Rattle.rv_asm.specs.Counted.{joined, first_fault, joined_bytes, assembled_by}
+use Rattle.rv_asm.specs.Assembly.{Assembly, phase_one_fault, all_said, assembled}
+use Rattle.rv_asm.specs.Counted.{phase_three_fault, joined, first_fault, joined_bytes, assembled_by}
 use Rattle.rv_asm.proofs.Counting.{assembled_is}
 use Rattle.rv_asm.specs.Steps.{Known, unless, known_before, bytes_by, listed, written, laid_out, lines_laid_out}
 use Rattle.rv_asm.proofs.Listed.{size_listed, within_limit}
@@ -75,7 +75,7 @@ module _ (ls : List Said) (n : ℕ) where
   size_by (Some fault) ds out e f h = absurd cc
   size_by None ds out e f h =
       let same : joined (λ k. listed (bytes_by ds ls k)) n ≡ out = cc in
-      rw (← same) (omega (arith, size_listed ls ds n e f, within_limit ls n e))
+      rw (← same) (omega (arith, size_listed ls ds n f, within_limit ls n e))
 
   laid_out_size : (one two : Option AsmFault) (known : Known) (out : List ℕ) →
       first_fault (phase_two_fault ls) n ≡ two

@@ -1,10 +1,9 @@
--- What is said of all lines, by recursion on the number of a line; and the nearest local label by recursion on the
--- definitions.
--- The language is this project's own: docs/ASSEMBLER.md.
+-- What is said of all lines, by recursion on the number of a line; and the nearest local label by recursion
+-- on the definitions. The language is this project's own: docs/ASSEMBLER.md.
 -- Not to audit: private contracts alone cite this.
 use Rattle.std.specs.Prelude.{ℕ, zero, suc, ◌+◌, ◌%◌, Bool, false, not, ◌||◌, ◌&&◌, ◌==◌, nat_le, nat_lt, ℤ, pos, is_some, option_and_then, List, [], ◌∷◌, ◌++◌, length, Option, Some, None, if◌then◌else◌, Result, Ok, Err}
 use Rattle.std.specs.Option.{option_map, option_map_or, option_or}
-use Rattle.std.specs.Result.{result_unwrap_or}
+use Rattle.std.specs.Result.{result_err, result_unwrap_or}
 use Rattle.rv_base.specs.Lines.{lines}
 use Rattle.rv_source.specs.Reading.{Said}
 use Rattle.rv_tokens.specs.declared.token.Direction.{Direction}
@@ -15,14 +14,16 @@ use Rattle.rv_source.specs.declared.line.Label.TheVariants as label
 use Rattle.rv_source.specs.declared.statement.Statement.{Statement}
 use Rattle.rv_source.specs.declared.statement.Statement.TheVariants as s
 use Rattle.rv_program.specs.declared.fault.FaultKind.TheVariants.{DuplicateSymbol, NotConstant, Misplaced, TooLarge}
-use Rattle.rv_asm.specs.Symbols.{value_of}
-use Rattle.rv_asm.specs.Listing.{Valuation, is_instruction, size_of, constant_in}
+use Rattle.rv_asm.specs.Symbols.{value_of, operand_value}
+use Rattle.rv_asm.specs.Listing.{row}
+use Rattle.rv_asm.specs.Kept.{Valuation}
+use Rattle.rv_asm.specs.Constants.{is_unknown, is_instruction}
 use Rattle.rv_program.specs.Program.{Assembly}
 use Rattle.rv_program.specs.declared.fault.FaultKind.{FaultKind}
 use Rattle.rv_program.specs.declared.fault.AsmFault.{AsmFault}
 use Rattle.rv_asm.specs.declared.locals.LocalLabel.{LocalLabel}
-use Rattle.rv_asm.specs.Layout.{line_at, address, names, names_in, values_on, definitions, labels_in, is_unknown, phase_two_fault}
-use Rattle.rv_asm.specs.Assembly.{all_said, line_bytes, phase_one_fault, phase_three_fault}
+use Rattle.rv_asm.specs.Layout.{line_at, known_before, known_on, definitions, labels_in, phase_two_fault}
+use Rattle.rv_asm.specs.Assembly.{all_said, line_bytes, phase_one_fault}
 
 -- ---- over the numbers below n, in their order
 
@@ -42,6 +43,10 @@ up_to f zero = f zero ∷ []
 up_to f (suc n) = up_to f n ++ f (suc n) ∷ []
 
 -- ---- the image, or its fault
+
+-- the fault of line k in phase three, if it has one
+abbrev pub phase_three_fault : List Said → ℕ → Option FaultKind
+phase_three_fault lines k = result_err (line_bytes lines k)
 
 -- the fault of the first faulty line among n lines
 abbrev pub first_fault : (ℕ → Option FaultKind) → ℕ → Option AsmFault
@@ -63,17 +68,16 @@ assembled_by source =
     option_map_or (λ fault. Err fault) (first_of_phases texts)
     (Ok (record { bytes = joined_bytes (all_said texts); symbols = (definitions (all_said texts)).names }))
 
+-- the address of line k, and the names that are defined before it
+abbrev pub address : List Said → ℕ → ℕ
+address lines k = (known_before lines k).address
+
+abbrev pub names : List Said → ℕ → List (List ℕ × ℤ)
+names lines k = (known_before lines k).definitions.names
+
 -- the names that n lines define as labels, with their addresses
 abbrev pub labels : List Said → ℕ → List (List ℕ × ℕ)
 labels said n = joined (λ k. labels_in (address said k) (line_at said k).labels) n
-
--- ---- a statement, if there is one
-
-abbrev pub size_at : Valuation → ℕ → Option Statement → ℕ
-size_at early here statement = option_map_or (size_of early here) statement 0
-
-abbrev pub constants_at : Valuation → Option Statement → List (List ℕ × ℤ)
-constants_at early statement = option_map_or (constant_in early) statement []
 
 -- ---- phase two
 
@@ -88,23 +92,22 @@ abbrev pub renames : List (List ℕ × ℤ) → Statement → Bool
 renames known (s.Constant name x) = is_some (value_of known name)
 renames known statement = false
 
--- `statement_fault` of Layout, by `renames`
+-- `row_fault` of Layout, by `renames` and the value that must be known
 abbrev pub fault_stated_by : List (List ℕ × ℤ) → Valuation → ℕ → Statement → Option FaultKind
 fault_stated_by known early here statement =
     if renames known statement then Some DuplicateSymbol
     else (if is_unknown early statement then Some NotConstant
     else (if is_instruction statement && not (here % 4 == 0) then Some Misplaced
-    else (if nat_lt (ram_base + image_limit) (here + size_of early here statement) then Some TooLarge
+    else (if nat_lt (ram_base + image_limit) (here + (row early here statement).size) then Some TooLarge
     else None)))
 
 -- `phase_two_fault`, by `relabels` and `renames`
 abbrev pub phase_two_by : List Said → ℕ → Option FaultKind
 phase_two_by lines k =
-    let line = line_at lines k in
-    let here = address lines k in
-    if relabels (names lines k) line.labels then Some DuplicateSymbol
-    else option_and_then
-    (fault_stated_by (names lines k ++ names_in here line.labels) (values_on lines k) here) line.statement
+    let known = known_on lines k in
+    if relabels (names lines k) (line_at lines k).labels then Some DuplicateSymbol
+    else option_and_then (fault_stated_by known.definitions.names (operand_value known.definitions k known.address)
+    known.address) (line_at lines k).statement
 
 -- ---- all faults
 

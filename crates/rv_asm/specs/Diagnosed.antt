@@ -1,18 +1,15 @@
 -- The faults of all lines of a source, and what is said of them.
 -- To audit: public contracts cite this.
 -- Lines are counted from 0 here, but from 1 in a fault and in a diagnosis.
-use Rattle.std.specs.Prelude.{◌≡◌, ℕ, zero, suc, ◌+◌, ◌-◌, ◌≤◌, ◌<◌, List, [], ◌∷◌, map, length, get_or, set, not, ℤ, pos, Option, None, is_some, if◌then◌else◌}
-use Rattle.std.specs.Option.{unwrap_or}
-use Rattle.std.specs.List.{All, find}
+use Rattle.std.specs.Prelude.{ℕ, zero, suc, List, [], ◌∷◌, length, set, ℤ, pos, None, is_some, if◌then◌else◌}
+use Rattle.std.specs.Result.{result_err}
 use Rattle.rv_source.specs.Reading.{Said}
-use Rattle.rv_source.specs.Operands.{is_nothing}
 use Rattle.rv_source.specs.declared.line.Label.{Label}
 use Rattle.rv_source.specs.declared.line.Label.TheVariants as label
-use Rattle.rv_program.specs.declared.fault.FaultKind.{FaultKind}
 use Rattle.rv_program.specs.declared.fault.AsmFault.{AsmFault}
 use Rattle.rv_asm.specs.Symbols.{value_of}
-use Rattle.rv_asm.specs.Layout.{line_at, names, phase_two_fault}
-use Rattle.rv_asm.specs.Assembly.{all_said, faults_in, phase_one_fault, phase_three_fault}
+use Rattle.rv_asm.specs.Layout.{line_at, known_before, phase_two_fault}
+use Rattle.rv_asm.specs.Assembly.{all_said, first_faults, line_bytes, phase_one_fault}
 use Rattle.rv_asm.specs.declared.diagnosis.Diagnosis.{Diagnosis}
 
 -- ---- the faults of all lines
@@ -30,29 +27,18 @@ unfoldable pub kept : List Said → ℕ → List Said
 kept lines zero = lines
 kept lines (suc k) =
     let ls = kept lines k in
-    let cleared : Said = record { labels = new_labels (names ls k) (line_at ls k).labels; statement = None } in
+    let cleared : Said = record { labels = new_labels (known_before ls k).definitions.names (line_at ls k).labels; statement = None } in
     if is_some (phase_two_fault ls k) then set ls k cleared else ls
 
 -- the faults of a source in the first phase that has one
 unfoldable pub faults_of : List (List ℕ) → List AsmFault
 faults_of texts =
-    let n = length texts in
-    let two = faults_in (λ k. phase_two_fault (kept (all_said texts) k) k) n in
-    unwrap_or (find (λ faults. not (is_nothing faults)) (faults_in (phase_one_fault texts) n ∷ two
-    ∷ faults_in (phase_three_fault (all_said texts)) n ∷ [])) []
+    let said = all_said texts in
+    first_faults (phase_one_fault texts ∷ (λ k. phase_two_fault (kept said k) k)
+    ∷ (λ k. result_err (line_bytes said k)) ∷ []) (length texts)
 
 -- ---- a diagnosis
 
 -- the line of a diagnosis, counted from 1, and the kind of its fault
 abbrev pub fault_of : Diagnosis → AsmFault
 fault_of d = record { line = d.line; kind = d.kind }
-
--- the place of a diagnosis, whose columns count from 1, lies in its line
-pub record LiesIn (texts : List (List ℕ)) (d : Diagnosis) : Type 0 where
-  pub from : 0 < d.column
-  pub to : d.column - 1 + d.length ≤ length (get_or texts (d.line - 1) [])
-
--- these faults are diagnosed, each in its line
-pub record Diagnoses (texts : List (List ℕ)) (faults : List AsmFault) (ds : List Diagnosis) : Type 0 where
-  pub each : map fault_of ds ≡ faults
-  pub places : All (LiesIn texts) ds

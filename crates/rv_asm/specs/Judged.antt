@@ -1,21 +1,23 @@
 -- The lines of a refused source, one by one.
 -- The language is this project's own: docs/ASSEMBLER.md.
 -- Not to audit: private contracts alone cite this.
-use Rattle.std.specs.Prelude.{◌≡◌, ℕ, suc, ◌+◌, ◌-◌, ◌≤◌, ◌<◌, List, [], ◌∷◌, length, Option, Some, None, is_some, option_and_then, if◌then◌else◌, Result, Ok, IfSome}
+use Rattle.std.specs.Prelude.{◌≡◌, ℕ, suc, ◌+◌, ◌-◌, ◌≤◌, ◌<◌, List, [], ◌∷◌, map, length, get_or, Option, Some, None, is_some, option_and_then, if◌then◌else◌, Result, Ok, IfSome}
 use Rattle.std.specs.Option.{option_map}
+use Rattle.std.specs.List.{All}
 use Rattle.std.specs.Result.{result_err}
 use Rattle.rv_source.specs.Reading.{Said, said}
 use Rattle.rv_tokens.specs.Faults.{Fails as LineFails}
 use Rattle.rv_tokens.specs.declared.fault.LineFault.{LineFault}
 use Rattle.rv_source.specs.declared.statement.Statement.{Statement}
 use Rattle.rv_program.specs.declared.fault.FaultKind.{FaultKind}
+use Rattle.rv_program.specs.declared.fault.AsmFault.{AsmFault}
 use Rattle.rv_program.specs.declared.fault.FaultKind.TheVariants.{DuplicateSymbol, OutOfMemory}
 use Rattle.rv_asm.specs.declared.diagnosis.Diagnosis.{Diagnosis}
 use Rattle.rv_asm.specs.Symbols.{Definitions}
-use Rattle.rv_asm.specs.Counted.{relabels, fault_stated_by}
+use Rattle.rv_asm.specs.Counted.{relabels, names, fault_stated_by}
 use Rattle.rv_asm.specs.Steps.{Known, values_of, labelled, stated, stated_bytes, after_line}
-use Rattle.rv_asm.specs.Layout.{line_at, names, phase_two_fault}
-use Rattle.rv_asm.specs.Diagnosed.{new_labels, kept}
+use Rattle.rv_asm.specs.Layout.{line_at, phase_two_fault}
+use Rattle.rv_asm.specs.Diagnosed.{new_labels, kept, fault_of}
 
 -- unless memory ran out, nothing changed
 abbrev pub Keeps : {A : Type 0} → FaultKind → A → A → Type 0
@@ -74,6 +76,15 @@ pub record Tries (k : ℕ) (text : List ℕ) (ds : Definitions) (old new : Known
   pub read : said text ≡ Ok line
   pub after : after_line k old line ≡ Ok new
   pub finds : IsFound k text (result_err (stated_bytes ds k (labelled k old line.labels) line.statement)) found
+
+-- the place of a diagnosis, whose columns count from 1, lies in its line
+abbrev pub LiesIn : List (List ℕ) → Diagnosis → Type 0
+LiesIn texts d = (0 < d.column) × (d.column - 1 + d.length ≤ length (get_or texts (d.line - 1) []))
+
+-- these faults are diagnosed, each in its line
+pub record Diagnoses (texts : List (List ℕ)) (faults : List AsmFault) (ds : List Diagnosis) : Type 0 where
+  pub each : map fault_of ds ≡ faults
+  pub places : All (LiesIn texts) ds
 
 -- a diagnosis, if there is one
 abbrev pub listed : Option Diagnosis → List Diagnosis

@@ -1,25 +1,27 @@
 -- Results whose faults have no line yet, what instructions wait for, and the lists of local labels.
 -- The language is this project's own: docs/ASSEMBLER.md.
 -- Not to audit: private contracts alone cite this.
-use Rattle.std.specs.Prelude.{◌≡◌, ℕ, List, [], ◌∷◌, ◌++◌, ℤ, pos, ◌+ℤ◌, ◌≤ℤ◌, ◌==◌, if◌then◌else◌, ◌≤◌, ◌<◌, get_or, slice_get, length, replicate, Bool, false, not, Option, Some, None, is_some, Result, Ok, Err}
+use Rattle.std.specs.Prelude.{◌≡◌, ℕ, List, [], ◌∷◌, ◌++◌, ◌^◌, ℤ, pos, negsuc, ◌+ℤ◌, ◌-ℤ◌, ◌≤ℤ◌, ◌==◌, if◌then◌else◌, ◌≤◌, ◌<◌, get_or, slice_get, length, replicate, Bool, false, not, Option, Some, None, is_some, option_and_then, Result, Ok, Err}
 use Rattle.std.specs.Option.{option_map, option_map_or, ok_or}
 use Rattle.std.specs.List.{AllByRecursion, list_all}
 use Rattle.rv_source.specs.declared.operand.Operand.{Operand}
+use Rattle.rv_source.specs.declared.operand.Part.{Part}
 use Rattle.rv_program.specs.declared.fault.FaultKind.{FaultKind}
 use Rattle.rv_program.specs.declared.fault.FaultKind.TheVariants.{OutOfMemory, Undefined, OutOfRange}
 use Rattle.rv_asm.specs.declared.locals.LocalLabel.{LocalLabel}
 use Rattle.rv_isa.specs.declared.kind.Kind.{Kind}
-use Rattle.rv_isa.specs.declared.kind.Kind.TheVariants.{OpImm}
+use Rattle.rv_isa.specs.Number.{modulo}
+use Rattle.rv_isa.specs.declared.kind.Kind.TheVariants.{OpImm, Auipc}
 use Rattle.rv_isa.specs.declared.op.ImmOp.TheVariants.{Addi}
-use Rattle.rv_isa.specs.declared.op.Width.{Width}
+use Rattle.rv_isa.specs.declared.op.Width.TheVariants.{One}
 use Rattle.rv_asm.specs.declared.fixup.Waiting.{Waiting}
 use Rattle.rv_asm.specs.declared.fixup.Waiting.TheVariants as w
 use Rattle.rv_asm.specs.declared.instructions.Instructions.{Instructions}
-use Rattle.rv_asm.specs.declared.instructions.Instructions.TheVariants.{One, Two}
+use Rattle.rv_asm.specs.declared.instructions.Instructions.TheVariants as i
 use Rattle.rv_asm.specs.declared.symbols.Scope.{Scope}
 use Rattle.rv_asm.specs.Symbols.{operand_value}
-use Rattle.rv_asm.specs.Values.{fits}
-use Rattle.rv_asm.specs.Listing.{Valuation, ◌>>=◌, near, pair, value_bytes}
+use Rattle.rv_asm.specs.Values.{fits, field, part_value, far, hi, lo}
+use Rattle.rv_asm.specs.Listing.{◌>>=◌, code, bytes_in}
 
 -- ---- results whose fault has no line yet
 
@@ -38,36 +40,55 @@ KindBecomes new (Err kind) meaning = KindFails kind meaning
 
 -- ---- the bytes of a statement
 
+-- the value of each operand that has one
+abbrev pub Valuation : Type 0
+Valuation = Operand → Option ℤ
+
 -- the values of operands in a scope
 abbrev pub values_in : Scope → Valuation
 values_in s = operand_value s.symbols.now s.line s.here
 
 abbrev pub kinds : Instructions → List Kind
-kinds (One only) = only ∷ []
-kinds (Two first second) = first ∷ second ∷ []
+kinds (i.One only) = only ∷ []
+kinds (i.Two first second) = first ∷ second ∷ []
+
+-- a value added to a sum, or subtracted from it
+abbrev pub added : ℤ → Bool → ℤ → ℤ
+added sum negative v = if negative then sum -ℤ v else sum +ℤ v
+
+-- a value put in its place; Undefined if there is none, else OutOfRange if it doesn't fit there
+abbrev pub wanted : {A : Type 0} → (ℤ → Option A) → Option ℤ → Result A FaultKind
+wanted place v = ok_or v Undefined >>= λ v. ok_or (place v) OutOfRange
+
+-- the immediate of a U-type instruction
+abbrev pub upper_immediate : ℤ → Option ℕ
+upper_immediate v = field (negsuc 524287) (pos 1048575) 20 v
+
+-- a shift amount, or the immediate of a control register instruction
+abbrev pub five_bits : ℤ → Option ℕ
+five_bits v = field (pos 0) (pos 31) 5 v
+
+-- the bytes of one instruction that takes a part of a value
+abbrev pub near : ℕ → Kind → Part → ℤ → Option (List ℕ)
+near here kind part v = option_and_then (code here [] kind) (part_value part v)
+
+-- those of two, for the distance to a target
+abbrev pub pair : ℕ → ℕ → Kind → ℤ → Option (List ℕ)
+pair here scratch kind v = option_and_then (λ d. code here (Auipc scratch (hi d) ∷ []) kind (lo d)) (far here v)
+
+-- the byte that fills a space: 0 if none is given
+abbrev pub fill_of : Valuation → Option Operand → Result ℕ FaultKind
+fill_of value None = Ok 0
+fill_of value (Some x) = wanted (λ v. if fits One v then Some (modulo v (2 ^ 8)) else None) (value x)
 
 abbrev pub with_value : ℕ → Waiting → ℤ → Option (List ℕ)
 with_value here (w.Near kind part) v = near here kind part v
 with_value here (w.Far scratch kind) v = pair here scratch kind v
-with_value here (w.Data width) v = if fits width v then Some (value_bytes width v) else None
+with_value here (w.Data width) v = bytes_in width v
 
 -- whether each operand has a value
 abbrev pub are_known : Valuation → List Operand → Bool
 are_known value xs = list_all (λ x. is_some (value x)) xs
-
--- the values of operands; an undefined one is reported before one that is out of range
-abbrev pub values_of : Valuation → List Operand → Result (List ℤ) FaultKind
-values_of value [] = Ok []
-values_of value (x ∷ xs) = ok_or (value x) Undefined >>= λ v. values_of value xs >>= λ vs. Ok (v ∷ vs)
-
-abbrev pub data_bytes : Width → List ℤ → Result (List ℕ) FaultKind
-data_bytes width [] = Ok []
-data_bytes width (v ∷ vs) =
-    if fits width v then (data_bytes width vs >>= λ bs. Ok (value_bytes width v ++ bs)) else Err OutOfRange
-
--- `sums_bytes`, value by value
-abbrev pub sums_by : Valuation → Width → List Operand → Result (List ℕ) FaultKind
-sums_by value width xs = values_of value xs >>= λ vs. data_bytes width vs
 
 -- n instructions `nop`
 abbrev pub nops : ℕ → List Kind

@@ -1,11 +1,14 @@
 -- The lines of a listing, one by one, and looked up.
 -- The language is this project's own: docs/ASSEMBLER.md.
 -- Not to audit: private contracts alone cite this.
-use Rattle.std.specs.Prelude.{◌≡◌, ℕ, ◌+◌, ◌-◌, ◌≤◌, ◌<◌, List, ◌++◌, length, get_or, Ok}
+use Rattle.std.specs.Prelude.{◌≡◌, ℕ, suc, ◌+◌, ◌-◌, ◌≤◌, ◌<◌, List, ◌++◌, length, get_or, Ok}
+use Rattle.std.specs.List.{flat_map, range_with_len}
 use Rattle.std.specs.List.Sorted.{IsNonDecreasing, IsNonDecreasingBy}
 use Rattle.rv_base.specs.Limits.{ram_base}
 use Rattle.rv_source.specs.Reading.{Said, said}
-use Rattle.rv_asm.specs.Lines.{Listed}
+use Rattle.rv_base.specs.Lines.{lines}
+use Rattle.rv_asm.specs.Assembly.{all_said, line_bytes}
+use Rattle.rv_asm.specs.Lines.{Listed, bytes_of}
 use Rattle.rv_asm.specs.Layout.{labels_in}
 use Rattle.rv_asm.specs.Steps.{Known, after_line}
 
@@ -39,3 +42,9 @@ pub record LiesWhole (l : Listed) : Type 0 where
   pub last : get_or l.addresses (length l.addresses - 1) 0 ≡ ram_base + length l.assembly.bytes
   pub rises : IsNonDecreasing l.addresses
   pub labels : LabelsRise l.labels
+
+-- the bytes of each line are those of the assembly, and joined in order they are the image
+pub record AreLinesOf (source : List ℕ) (l : Listed) : Type 0 where
+  pub each : (k : ℕ) → k < length (lines source) →
+      line_bytes (all_said (lines source)) k ≡ Ok (bytes_of l (suc k))
+  pub all : flat_map (λ k. bytes_of l (suc k)) (range_with_len 0 (length (lines source))) ≡ l.assembly.bytes

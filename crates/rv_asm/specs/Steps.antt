@@ -1,7 +1,7 @@
 -- The states of the assembler from line to line. proofs/ proves that they add up to Assembly.antt.
 -- Not to audit: private contracts alone cite this.
 use Rattle.std.specs.Prelude.{◌≡◌, ◌<◌, ◌≤◌, ℕ, suc, ◌+◌, List, [], ◌∷◌, ◌++◌, length, ℤ, pos, Option, Some, None, is_some, if◌then◌else◌, Result, Ok, Err}
-use Rattle.std.specs.Option.{option_map, option_map_or}
+use Rattle.std.specs.Option.{option_map}
 use Rattle.std.specs.Result.{result_err, result_unwrap_or}
 use Rattle.rv_base.specs.Limits.{ram_base, image_limit}
 use Rattle.rv_source.specs.Reading.{Said}
@@ -17,15 +17,15 @@ use Rattle.rv_asm.specs.declared.fixup.Waiting.{Waiting}
 use Rattle.rv_asm.specs.declared.kept.Kept.{Kept}
 use Rattle.rv_asm.specs.declared.kept.Kept.TheVariants as kept
 use Rattle.rv_asm.specs.declared.single.Single.{Single}
-use Rattle.rv_asm.specs.Symbols.{Definitions, value_of, atom_value, sum_value, operand_value, added}
-use Rattle.rv_asm.specs.Layout.{line_at, address, names, locals, names_in, locals_in, phase_two_fault}
-use Rattle.rv_asm.specs.Counted.{size_at, constants_at}
-use Rattle.rv_asm.specs.Counted.{fault_stated_by}
-use Rattle.rv_asm.specs.Listing.{◌>>=◌, Valuation, wanted, bytes, statement_bytes}
+use Rattle.rv_asm.specs.Symbols.{Definitions, value_of, atom_value, sum_value, operand_value}
+pub use Rattle.rv_asm.specs.Layout.{Known, labelled, stated}
+unfoldable pub use Rattle.rv_asm.specs.Layout.{known_before}
+use Rattle.rv_asm.specs.Layout.{line_at, row_at, phase_two_fault}
+use Rattle.rv_asm.specs.Counted.{fault_stated_by, first_fault, joined}
+use Rattle.rv_asm.specs.Listing.{◌>>=◌, bytes}
 use Rattle.rv_asm.specs.Assembly.{phase_one_fault, all_said}
-use Rattle.rv_asm.specs.Counted.{first_fault, joined}
-use Rattle.rv_asm.specs.Constants.{always, KeptLine, stated_in}
-use Rattle.rv_asm.specs.Kept.{kinds, with_value}
+use Rattle.rv_asm.specs.Constants.{KeptLine, stated_in, statement_bytes}
+use Rattle.rv_asm.specs.Kept.{Valuation, added, wanted, kinds, with_value}
 
 -- the address following the largest image
 abbrev pub image_end : ℕ
@@ -57,7 +57,7 @@ waiting_bytes here waiting value = wanted (with_value here waiting) value
 
 abbrev pub line_text_bytes : Definitions → ℕ → ℕ → KeptLine → Result (List ℕ) FaultKind
 line_text_bytes ds line here text =
-    statement_bytes (always text.constant) (operand_value ds line here) here (stated_in text.bytes)
+    statement_bytes text.constant (operand_value ds line here) here (stated_in text.bytes)
 
 unfoldable pub kept_bytes : Definitions → ℕ → ℕ → Kept → Result (List ℕ) FaultKind
 kept_bytes ds line here kept.Nothing = Ok []
@@ -100,27 +100,12 @@ image_of ds items = run (item_step ds) [] items
 
 -- ---- one line
 
--- the address of the next statement, and the symbols defined so far
-pub record Known : Type 0 where
-  pub address : ℕ
-  pub definitions : Definitions
-
 -- before the first line
 abbrev pub start : Known
 start = record { address = ram_base; definitions = record { names = []; locals = [] } }
 
 abbrev pub values_of : ℕ → Known → Valuation
 values_of k known = operand_value known.definitions k known.address
-
--- with the labels of line k
-abbrev pub labelled : ℕ → Known → List Label → Known
-labelled k known ls = record {
-  address = known.address;
-  definitions = record {
-    names = known.definitions.names ++ names_in known.address ls;
-    locals = known.definitions.locals ++ locals_in k known.address ls;
-  };
-}
 
 -- with a label of line k; DuplicateSymbol if its name is already defined
 unfoldable pub newly_labelled : ℕ → Known → Label → Result Known FaultKind
@@ -131,16 +116,6 @@ newly_labelled k known (label.Local number) = Ok (labelled k known (label.Local 
 
 abbrev pub all_labelled : ℕ → Known → List Label → Result Known FaultKind
 all_labelled k known ls = run (newly_labelled k) known ls
-
--- after the statement of line k, if it has one, once the labels of the line are defined
-abbrev pub stated : ℕ → Known → Option Statement → Known
-stated k known statement = record {
-  address = known.address + size_at (values_of k known) known.address statement;
-  definitions = record {
-    names = known.definitions.names ++ constants_at (values_of k known) statement;
-    locals = known.definitions.locals;
-  };
-}
 
 -- nothing, or the fault of a statement of line k in phase two
 unfoldable pub free : Definitions → ℕ → ℕ → Statement → Result (Unit {0}) FaultKind
@@ -165,8 +140,7 @@ after_line k known line = all_labelled k known line.labels >>= λ s. after_optio
 
 -- the bytes of the statement of line k, once all symbols are known
 abbrev pub stated_bytes : Definitions → ℕ → Known → Option Statement → Result (List ℕ) FaultKind
-stated_bytes ds k known statement = option_map_or
-    (statement_bytes (values_of k known) (operand_value ds k known.address) known.address) statement (Ok [])
+stated_bytes ds k known statement = (row_at k known statement).contents (operand_value ds k known.address)
 
 -- items have, in addition, the bytes of a statement of line k, once the labels of the line are defined
 abbrev pub AddsOptional : ℕ → Known → Option Statement → List Item → List Item → Type 0
@@ -187,14 +161,7 @@ abbrev pub unless : {A : Type 0} → Option AsmFault → Result A AsmFault → R
 unless (Some fault) m = Err fault
 unless None m = m
 
--- before line n
-abbrev pub known_before : List Said → ℕ → Known
-known_before lines n = record {
-  address = address lines n;
-  definitions = record { names = names lines n; locals = locals lines n };
-}
-
--- the same, or the first fault of the lines before it in phase two
+-- what is known before line n, or the first fault of the lines before it in phase two
 unfoldable pub laid_out : List Said → ℕ → Result Known AsmFault
 laid_out lines n = unless (first_fault (phase_two_fault lines) n) (Ok (known_before lines n))
 

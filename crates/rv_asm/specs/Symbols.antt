@@ -1,7 +1,7 @@
 -- The symbols of a source, and the values of expressions.
 -- To audit: public contracts cite this.
 -- The language is this project's own: docs/ASSEMBLER.md.
-use Rattle.std.specs.Prelude.{ℕ, ◌&&◌, List, [], ◌∷◌, ℤ, pos, ◌+ℤ◌, ◌-ℤ◌, Bool, filter, Option, Some, None, option_and_then, ◌==◌, nat_le, nat_lt, if◌then◌else◌}
+use Rattle.std.specs.Prelude.{ℕ, ◌&&◌, List, [], ◌∷◌, ◌++◌, ℤ, pos, ◌+ℤ◌, ◌-ℤ◌, filter, Option, Some, None, option_and_then, ◌==◌, nat_le, nat_lt, if◌then◌else◌}
 use Rattle.std.specs.List.{find, last_or}
 use Rattle.std.specs.Option.{option_map}
 pub use Rattle.rv_program.specs.Program.{value_of}
@@ -19,7 +19,12 @@ pub record Definitions : Type 0 where
   pub names : List (List ℕ × ℤ)
   pub locals : List LocalLabel
 
--- the nearest definition of n: `nb` means the last on this line or a line before it, `nf` the first on a line after it
+-- definitions, and others after them
+abbrev pub followed : Definitions → List (List ℕ × ℤ) → List LocalLabel → Definitions
+followed ds names locals = record { names = ds.names ++ names; locals = ds.locals ++ locals }
+
+-- the nearest definition of n: `nb` means the last on this line or a line before it, `nf` the first on a line
+-- after it
 abbrev pub nearest : List LocalLabel → ℕ → ℕ → Direction → Option LocalLabel
 nearest ds n line Backward = last_or None (filter (λ d. (d.number == n) && nat_le d.line line) ds)
 nearest ds n line Forward = find (λ d. (d.number == n) && nat_lt line d.line) ds
@@ -33,15 +38,11 @@ atom_value ds line here (Local number direction) =
     option_map (λ d. pos d.address) (nearest ds.locals number line direction)
 atom_value ds line here Here = Some (pos here)
 
--- a value added to a sum, or subtracted from it
-abbrev pub added : ℤ → Bool → ℤ → ℤ
-added sum negative v = if negative then sum -ℤ v else sum +ℤ v
-
 -- the value of an expression: the sum of its terms as whole numbers, if each atom has a value
 unfoldable pub sum_value : Definitions → ℕ → ℕ → List Term → Option ℤ
 sum_value ds line here [] = Some (pos 0)
 sum_value ds line here (t ∷ ts) =
-    option_and_then (λ v. option_map (λ w. added w t.negative v) (sum_value ds line here ts))
+    option_and_then (λ v. option_map (λ w. if t.negative then w -ℤ v else w +ℤ v) (sum_value ds line here ts))
     (atom_value ds line here t.atom)
 
 -- the value of an operand

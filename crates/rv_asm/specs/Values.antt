@@ -1,14 +1,15 @@
 -- Conversions of the value of an expression to the field that it fills.
 -- To audit: public contracts cite this.
 -- The language is this project's own: docs/ASSEMBLER.md.
-use Rattle.std.specs.Prelude.{ℕ, ◌+◌, ◌-◌, ◌/◌, ◌%◌, ◌^◌, Bool, ◌&&◌, List, [], ◌∷◌, ℤ, pos, negsuc, ◌-ℤ◌, int_le, nat_lt, ◌==◌, Option, Some, None, if◌then◌else◌}
+use Rattle.std.specs.Prelude.{ℕ, ◌+◌, ◌-◌, ◌*◌, ◌/◌, ◌%◌, ◌^◌, Bool, ◌&&◌, List, [], ◌∷◌, ℤ, pos, negsuc, ◌-ℤ◌, int_le, nat_lt, ◌==◌, Option, Some, None, if◌then◌else◌}
 pub use Rattle.rv_program.specs.Program.{is_word}
-use Rattle.rv_isa.specs.Number.{modulo, signed}
+use Rattle.std.specs.Option.{option_map_or}
+use Rattle.rv_isa.specs.Number.{modulo}
+use Rattle.rv_isa.specs.Width.{bytes_of}
 use Rattle.rv_isa.specs.declared.kind.Kind.{Kind}
 use Rattle.rv_isa.specs.declared.kind.Kind.TheVariants.{Lui, OpImm}
 use Rattle.rv_isa.specs.declared.op.ImmOp.TheVariants.{Addi}
 use Rattle.rv_isa.specs.declared.op.Width.{Width}
-use Rattle.rv_isa.specs.declared.op.Width.TheVariants.{One, Two, Four}
 use Rattle.rv_source.specs.declared.operand.Part.{Part}
 use Rattle.rv_source.specs.declared.operand.Part.TheVariants.{Whole, High, Low}
 
@@ -17,25 +18,18 @@ is_between low high v = int_le low v && int_le v high
 
 -- whether a value fits into a width, signed or unsigned
 abbrev pub fits : Width → ℤ → Bool
-fits One = is_between (negsuc 127) (pos 255)
-fits Two = is_between (negsuc 32767) (pos 65535)
-fits Four = is_word
+fits width = let n = 2 ^ (8 * bytes_of width) in is_between (negsuc (n / 2 - 1)) (pos (n - 1))
 
 -- the immediate of an I-type or S-type instruction: a value from -2048 to 2047 itself,
 -- and one from 0xFFFFF800 to 0xFFFFFFFF less 2 ^ 32
 abbrev pub immediate : ℤ → Option ℤ
 immediate v =
     if is_between (negsuc 2047) (pos 2047) v then Some v
-    else (if is_between (pos 0xfffff800) (pos 0xffffffff) v then Some (v -ℤ pos (2 ^ 32))
-    else None)
+    else (if is_between (pos 0xfffff800) (pos 0xffffffff) v then Some (v -ℤ pos (2 ^ 32)) else None)
 
--- the immediate of a U-type instruction: a value from -2 ^ 19 to 2 ^ 20 - 1, modulo 2 ^ 20
-abbrev pub upper_immediate : ℤ → Option ℕ
-upper_immediate v = if is_between (negsuc 524287) (pos 1048575) v then Some (modulo v (2 ^ 20)) else None
-
--- a shift amount, or the immediate of a control register instruction
-abbrev pub five_bits : ℤ → Option ℕ
-five_bits v = if is_between (pos 0) (pos 31) v then Some (modulo v (2 ^ 5)) else None
+-- a value in a range as a field of so many bits, and so modulo 2 ^ bits
+abbrev pub field : ℤ → ℤ → ℕ → ℤ → Option ℕ
+field low high bits v = if is_between low high v then Some (modulo v (2 ^ bits)) else None
 
 -- the distance from a jump at `here` to its target, if it is even and within the bound
 abbrev pub distance : ℕ → ℕ → ℤ → Option ℤ
@@ -62,12 +56,12 @@ part_value Low v = if is_word v then Some (lo (modulo v (2 ^ 32))) else None
 abbrev pub far : ℕ → ℤ → Option ℕ
 far here target = if is_word target then Some (modulo (target -ℤ pos here) (2 ^ 32)) else None
 
--- the instructions that load the word w: `addi rd,x0,w` if its signed value is an immediate,
+-- the instructions that load the word w: `addi rd,x0,w` if it is an immediate,
 -- else `lui rd,hi`, followed by `addi rd,rd,lo` unless lo is 0
 unfoldable pub loading : ℕ → ℕ → List Kind
 loading rd w =
-    if is_between (negsuc 2047) (pos 2047) (signed w) then OpImm Addi rd 0 (signed w) ∷ []
-    else Lui rd (hi w) ∷ (if w % 4096 == 0 then [] else OpImm Addi rd rd (lo w) ∷ [])
+    option_map_or (λ imm. OpImm Addi rd 0 imm ∷ [])
+    (immediate (pos w)) (Lui rd (hi w) ∷ (if w % 4096 == 0 then [] else OpImm Addi rd rd (lo w) ∷ []))
 
 -- the number of bytes from an address to the next multiple
 abbrev pub gap : ℕ → ℕ → ℕ

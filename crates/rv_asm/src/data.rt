@@ -1,11 +1,13 @@
 //! The bytes of data, spaces and alignments.
-ghost use Rattle.std.specs.Prelude.{◌≡◌, ◌++◌, ◌<◌, ◌^◌, replicate, pos, Some, None, Ok, OnOk, IfOk, if◌then◌else◌};
+ghost use Rattle.std.specs.Prelude.{◌≡◌, ◌++◌, ◌<◌, ◌^◌, take, replicate, Ok, OnOk};
 ghost use Rattle.std.specs.Option.{ok_or};
 ghost use Rattle.rv_isa.specs.declared.kind.Kind.TheVariants.{OpImm};
 ghost use Rattle.rv_isa.specs.declared.op.ImmOp.TheVariants.{Addi};
-ghost use Rattle.rv_asm.specs.Kept.{KindBecomes};
-ghost use Rattle.rv_asm.specs.Listing.{value_bytes, padding, bytes};
-ghost use Rattle.rv_asm.specs.Kept.{nops};
+ghost use Rattle.rv_asm.specs.Kept.{KindBecomes, nops};
+ghost use Rattle.std.specs.Int.{to_le_bytes, w32};
+ghost use Rattle.rv_isa.specs.Number.{modulo};
+ghost use Rattle.rv_isa.specs.Width.{bytes_of};
+ghost use Rattle.rv_asm.specs.Listing.{padding, bytes, bytes_in};
 ghost use Rattle.rv_asm.specs.Steps.{appended};
 ghost use Rattle.rv_asm.specs.Values.{fits, gap};
 ghost use Rattle.rv_program.specs.declared.fault.FaultKind.TheVariants.{OutOfRange};
@@ -17,19 +19,17 @@ use rv_isa::Width;
 use std::alloc::AllocError;
 
 /// Appends the low bytes of a value, as many as the width has, lowest first.
+#[tactic(auto, using(crate::proofs::DataBytes::width_within))]
 pub fn write_value(width: Width, value: i64, out: &mut Vec<u8>) -> Result<(), AllocError>
-    ensures { OnOk result (out.new.items ≡ out.old.items ++ value_bytes width value) }
+    ensures { OnOk result (out.new.items ≡ out.old.items ++ take (bytes_of width) (to_le_bytes w32 (modulo value (2 ^ 32)))) }
 {
-    match width {
-        Width::One => out.extend_from_slice(&(value.rem_euclid(0x100) as u8).to_le_bytes()),
-        Width::Two => out.extend_from_slice(&(value.rem_euclid(0x1_0000) as u16).to_le_bytes()),
-        Width::Four => out.extend_from_slice(&bits(value).to_le_bytes()),
-    }
+    let bytes = bits(value).to_le_bytes();
+    out.extend_from_slice(&bytes[..width.bytes() as usize])
 }
 
 /// Appends a value in a width, if it fits.
 pub fn write_fitting(width: Width, value: i64, out: &mut Vec<u8>) -> Result<(), FaultKind>
-    ensures { KindBecomes out.new.items result (appended out.old.items (ok_or (if fits width value then Some (value_bytes width value) else None) OutOfRange)) }
+    ensures { KindBecomes out.new.items result (appended out.old.items (ok_or (bytes_in width value) OutOfRange)) }
 {
     if !fits(width, value) {
         return Err(FaultKind::OutOfRange);

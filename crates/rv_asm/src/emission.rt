@@ -1,9 +1,9 @@
 //! Phase three: evaluates the expressions of a statement and writes its bytes.
 ghost use Rattle.std.specs.Prelude.{◌≡◌};
-ghost use Rattle.rv_asm.specs.Kept.{KindBecomes, KindGives, are_known, values_in};
-ghost use Rattle.rv_asm.specs.Constants.{IsTaken, always};
+ghost use Rattle.rv_asm.specs.Kept.{KindBecomes, KindGives, are_known, values_in, fill_of};
+ghost use Rattle.rv_asm.specs.Listing.{bytes_in, placed};
+ghost use Rattle.rv_asm.specs.Constants.{IsTaken, statement_bytes};
 ghost use Rattle.rv_asm.specs.Steps.{appended};
-ghost use Rattle.rv_asm.specs.Listing.{fill_of, sums_bytes, statement_bytes};
 
 use crate::FaultKind;
 use crate::data::{self, pad, write_value};
@@ -24,14 +24,14 @@ fn are_known(scope: Scope, operands: &[Operand]) -> bool
 }
 
 /// Appends values of a width. An undefined value is reported before one that is out of range.
-#[tactic(auto, using(crate::proofs::Writing::none_first))]
+#[tactic(auto, using(crate::proofs::DataBytes::none_first))]
 fn write_values(
     scope: Scope,
     width: Width,
     values: &[Operand],
     out: &mut Vec<u8>,
 ) -> Result<(), FaultKind>
-    ensures { KindBecomes out.new.items result (appended out.old.items (sums_bytes (values_in scope.entry) width values.now)) }
+    ensures { KindBecomes out.new.items result (appended out.old.items (placed (bytes_in width) values.now (values_in scope.entry))) }
 {
     let [first, rest @ ..] = values else {
         return Ok(());
@@ -67,7 +67,7 @@ impl<'a> Scope<'a> {
     }
 
     /// Appends the bytes of a statement with its constant.
-    #[tactic(auto, unfolding(crate::specs::Listing::statement_bytes, crate::specs::Constants::IsTaken))]
+    #[tactic(auto, unfolding(crate::specs::Constants::statement_bytes, crate::specs::Constants::IsTaken))]
     pub fn write(
         &self,
         constant: i64,
@@ -75,7 +75,7 @@ impl<'a> Scope<'a> {
         out: &mut Vec<u8>,
     ) -> Result<(), FaultKind>
         requires { IsTaken constant statement.now }
-        ensures { KindBecomes out.new.items result (appended out.old.items (statement_bytes (always constant) (values_in self.now) self.now.here statement.now)) }
+        ensures { KindBecomes out.new.items result (appended out.old.items (statement_bytes constant (values_in self.now) self.now.here statement.now)) }
     {
         match statement {
             Statement::Instruction(instr) => write_instr(*instr, out),

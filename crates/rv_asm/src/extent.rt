@@ -3,12 +3,10 @@ ghost use Rattle.std.specs.Prelude.{◌≡◌, ◌==◌, ◌&&◌, ◌%◌, ◌�
 ghost use Rattle.rv_isa.specs.Width.{bytes_of};
 ghost use Rattle.rv_source.specs.declared.statement.Statement.{Statement};
 ghost use Rattle.rv_asm.specs.Values.{is_between};
-ghost use Rattle.rv_asm.specs.Layout.{is_unknown};
 ghost use Rattle.rv_asm.specs.Counted.{renames};
-ghost use Rattle.rv_asm.specs.Kept.{fails};
-ghost use Rattle.rv_asm.specs.Listing.{is_instruction, is_multiple, size_of};
-ghost use Rattle.rv_asm.specs.Kept.{KindGives, values_in};
-ghost use Rattle.rv_asm.specs.Constants.{IsKnown, IsTaken, always};
+ghost use Rattle.rv_asm.specs.Kept.{fails, KindGives, values_in};
+ghost use Rattle.rv_asm.specs.Listing.{is_multiple};
+ghost use Rattle.rv_asm.specs.Constants.{IsKnown, IsTaken, is_unknown, is_instruction, size_of};
 ghost use Rattle.rv_asm.specs.Steps.{Ends, image_end, free};
 
 use crate::FaultKind;
@@ -83,7 +81,7 @@ fn data_size(width: Width, count: usize) -> u32
 #[tactic(auto, unfolding(crate::specs::Values::loading, crate::specs::Constants::IsTaken))]
 fn size_of(here: u32, constant: i64, statement: &Statement) -> u32
     requires { IsTaken constant statement.now }
-    ensures { result ≡ min (size_of (always constant) here statement.now) 0xffffffff }
+    ensures { result ≡ min (size_of constant here statement.now) 0xffffffff }
 {
     match statement {
         Statement::Instruction(_) | Statement::WithValue { .. } => 4,
@@ -101,7 +99,7 @@ fn size_of(here: u32, constant: i64, statement: &Statement) -> u32
 /// Returns the address following a statement, or None if the statement ends past the largest image.
 fn end_of(here: u32, constant: i64, statement: &Statement) -> Option<u32>
     requires { IsTaken constant statement.now }
-    ensures { Ends result (here + size_of (always constant) here statement.now) }
+    ensures { Ends result (here + size_of constant here statement.now) }
 {
     let end = here.saturating_add(size_of(here, constant, statement));
     (end <= RAM_BASE + IMAGE_LIMIT).then_some(end)
@@ -136,7 +134,7 @@ fn renames(symbols: &Symbols, statement: &Statement) -> bool
 pub fn extent_of(scope: Scope, statement: &Statement) -> Result<Extent, FaultKind>
     ensures fault { KindGives (λ _. tt) result (free scope.entry.symbols.now scope.entry.line scope.entry.here statement.now) }
     ensures known { IfOk result (λ e. IsKnown (values_in scope.entry) e.constant statement.now) }
-    ensures end { IfOk result (λ e. e.end ≡ scope.entry.here + size_of (always e.constant) scope.entry.here statement.now) }
+    ensures end { IfOk result (λ e. e.end ≡ scope.entry.here + size_of e.constant scope.entry.here statement.now) }
     ensures within { IfOk result (λ e. e.end ≤ image_end) }
     ensures renames { IfOk result (λ _. renames scope.entry.symbols.now.names statement.now ≡ false) }
 {

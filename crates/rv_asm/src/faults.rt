@@ -1,18 +1,17 @@
 //! What is wrong with a source that is refused, and where.
-ghost use Rattle.std.specs.Prelude.{◌≡◌, ◌+◌, ◌-◌, ◌≤◌, ◌<◌, ◌++◌, length, map, slice_get, Some, IfOk, OnOk};
+ghost use Rattle.std.specs.Prelude.{◌≡◌, ◌+◌, ◌-◌, ◌≤◌, ◌<◌, ◌++◌, [], get_or, length, map, slice_get, Some, IfOk, OnOk};
 ghost use Rattle.std.specs.List.{All};
 ghost use Rattle.std.specs.Option.{option_map};
 ghost use Rattle.std.specs.Result.{result_err};
 ghost use Rattle.rv_base.specs.Lines.{lines};
 ghost use Rattle.rv_source.specs.Reading.{said};
 ghost use Rattle.rv_program.specs.Faults.{kind_of};
-ghost use Rattle.rv_asm.specs.Assembly.{all_said, assembled, phase_one_fault, phase_three_fault};
+ghost use Rattle.rv_asm.specs.Assembly.{all_said, assembled, phase_one_fault};
+ghost use Rattle.rv_asm.specs.Counted.{phase_three_fault, all_faults, fault_in};
 ghost use Rattle.rv_asm.specs.Layout.{definitions};
 ghost use Rattle.rv_asm.specs.Steps.{start, known_before, image_of};
-ghost use Rattle.rv_asm.specs.Diagnosed.{kept, faults_of, fault_of, Diagnoses};
-ghost use Rattle.rv_asm.specs.Judged.{judged};
-ghost use Rattle.rv_asm.specs.Counted.{all_faults, fault_in};
-ghost use Rattle.rv_asm.specs.Judged.{IsUnreadBy, IsFound, Judges, Tries, listed};
+ghost use Rattle.rv_asm.specs.Diagnosed.{kept, faults_of, fault_of};
+ghost use Rattle.rv_asm.specs.Judged.{judged, Diagnoses, IsUnreadBy, IsFound, Judges, Tries, listed};
 
 use crate::FaultKind;
 use crate::assembler::image;
@@ -280,7 +279,8 @@ fn diagnose_values(
 ///
 /// `NoMemory` may come in place of any result.
 pub fn diagnose(alloc: Global, source: &[u8]) -> Result<Vec<Diagnosis>, NoMemory>
-    ensures all { IfOk result (λ ds. Diagnoses (lines source.now) (faults_of (lines source.now)) ds.items) }
+    ensures all { IfOk result (λ ds. map fault_of ds.items ≡ faults_of (lines source.now)) }
+    ensures places { IfOk result (λ ds. All (λ d. (0 < d.column) × (d.column - 1 + d.length ≤ length (get_or (lines source.now) (d.line - 1) []))) ds.items) }
     ensures first { IfOk result (λ ds. slice_get (map fault_of ds.items) 0 ≡ result_err (assembled source.now)) }
 {
     let unread = diagnose_reading(alloc, source)?;

@@ -1,8 +1,8 @@
 //! Fixups: instructions and data that wait for a value.
 ghost use Rattle.std.specs.Prelude.{◌≡◌, ◌++◌};
 ghost use Rattle.std.specs.Option.{option_map};
-ghost use Rattle.rv_asm.specs.Listing.{bytes, filled, near, pair};
-ghost use Rattle.rv_asm.specs.Kept.{kinds};
+ghost use Rattle.rv_asm.specs.Listing.{bytes, filled};
+ghost use Rattle.rv_asm.specs.Kept.{kinds, near, pair};
 
 use crate::FaultKind;
 use crate::data::write_fitting;

@@ -1,15 +1,14 @@
 //! The lines of an accepted source with their addresses and their bytes, and its labels.
-ghost use Rattle.std.specs.Prelude.{◌≡◌, ◌≤◌, ◌<◌, ◌+◌, ◌++◌, IfOk, OnOk, length};
-ghost use Rattle.std.specs.List.{All};
+ghost use Rattle.std.specs.Prelude.{◌≡◌, ◌≤◌, ◌<◌, ◌+◌, ◌++◌, ℕ, suc, Ok, IfOk, OnOk, length};
+ghost use Rattle.std.specs.List.{All, flat_map, range_with_len};
 ghost use Rattle.std.specs.List.Sorted.{IsNonDecreasing};
 ghost use Rattle.std.specs.Option.{option_map};
 ghost use Rattle.rv_base.specs.Lines.{lines};
 ghost use Rattle.rv_program.specs.Faults.{Gives};
-ghost use Rattle.rv_asm.specs.Layout.{address};
-ghost use Rattle.rv_asm.specs.Assembly.{all_said};
-ghost use Rattle.rv_asm.specs.Lines.{listed, AreLinesOf};
+ghost use Rattle.rv_asm.specs.Assembly.{all_said, line_bytes};
+ghost use Rattle.rv_asm.specs.Lines.{listed, bytes_of};
 ghost use Rattle.rv_asm.specs.Layout.{labels_in};
-ghost use Rattle.rv_asm.specs.Counted.{labels, up_to};
+ghost use Rattle.rv_asm.specs.Counted.{address, labels, up_to};
 ghost use Rattle.rv_asm.specs.Looked.{Lists, LabelsRise, IsCutAt, LabelsCutAt};
 
 use crate::assembler::assemble;
@@ -170,10 +169,11 @@ impl Model for Listing {
 }
 
 impl Listing {
-    ghost use Rattle.std.specs.Prelude.{◌≡◌, ◌+◌, ◌-◌, ◌<◌, ◌≤◌, ◌&&◌, ℕ, nat_le, nat_lt, length, is_some, IfSome, IfNone};
+    ghost use Rattle.std.specs.Prelude.{◌≡◌, ◌+◌, ◌-◌, ◌<◌, ◌≤◌, ◌&&◌, ℕ, List, nat_le, nat_lt, filter, length, None, is_some, IfSome, IfNone};
+    ghost use Rattle.std.specs.List.{last_or};
     ghost use Rattle.std.specs.Option.{option_map};
     ghost use Rattle.rv_base.specs.Limits.{ram_base};
-    ghost use Rattle.rv_asm.specs.Lines.{address_of, bytes_of, HasByteAt, nearest_label};
+    ghost use Rattle.rv_asm.specs.Lines.{address_of, bytes_of, HasByteAt};
     ghost use Rattle.rv_asm.specs.Looked.{LiesWhole};
 
     /// Makes the listing of a program and its places.
@@ -246,7 +246,7 @@ impl Listing {
 
     /// Returns the last label at an address or before it, with the distance from it.
     pub fn label_before(&self, address: u32) -> Option<NearLabel<'_>>
-        ensures { option_map (λ n. (n.name, n.distance)) result ≡ nearest_label self.now.labels address }
+        ensures { option_map {U = List ℕ × ℕ} (λ n. (n.name, n.distance)) result ≡ option_map (λ l. (l.0, address - l.1)) (last_or None (filter (λ l. nat_le l.1 address) self.now.labels)) }
     {
         let count = count_labels(&self.labels, address);
         if count == 0 {
@@ -269,7 +269,8 @@ impl Listing {
 /// The fault of `assemble`. `OutOfMemory`, at line 0, may come in place of any result.
 pub fn list(alloc: Global, source: &[u8]) -> Result<Listing, AsmFault>
     ensures value { Gives (λ l. l) result (listed source.now) }
-    ensures lines { IfOk result (AreLinesOf source.now) }
+    ensures bytes { IfOk result (λ l. (k : ℕ) → k < length (lines source.now) → line_bytes (all_said (lines source.now)) k ≡ Ok (bytes_of l (suc k))) }
+    ensures image { IfOk result (λ l. flat_map (λ k. bytes_of l (suc k)) (range_with_len 0 (length (lines source.now))) ≡ l.assembly.bytes) }
 {
     let program = assemble(alloc, source)?;
     match find_places(alloc, source) {

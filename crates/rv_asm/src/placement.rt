@@ -1,9 +1,9 @@
 //! Statements with their places in the image.
 ghost use Rattle.std.specs.Prelude.{◌≡◌, ℕ, IfSome};
 ghost use Rattle.rv_asm.specs.Symbols.{Definitions, operand_value};
-ghost use Rattle.rv_asm.specs.Listing.{statement_bytes, sums_bytes};
-ghost use Rattle.rv_asm.specs.Constants.{always};
+ghost use Rattle.rv_asm.specs.Constants.{statement_bytes};
 ghost use Rattle.rv_asm.specs.Kept.{KindBecomes};
+ghost use Rattle.rv_asm.specs.Listing.{bytes_in, placed};
 ghost use Rattle.rv_asm.specs.Steps.{kept_bytes, waiting_bytes, line_text_bytes, appended};
 
 use crate::FaultKind;
@@ -74,7 +74,7 @@ fn waiting<'a>(waiting: Waiting, operand: &Operand<'a>) -> Option<Kept<'a>>
 /// Returns what is kept of values of a width, or None if it isn't a single one.
 #[tactic(auto, using(crate::proofs::Placing::data_kept))]
 fn value<'a>(width: Width, values: &[Operand<'a>]) -> Option<Kept<'a>>
-    ensures { IfSome result (λ k. (ds : Definitions) → (line here : ℕ) → kept_bytes ds line here k ≡ sums_bytes (operand_value ds line here) width values.now) }
+    ensures { IfSome result (λ k. (ds : Definitions) → (line here : ℕ) → kept_bytes ds line here k ≡ placed (bytes_in width) values.now (operand_value ds line here)) }
 {
     let [first, rest @ ..] = values else {
         return None;
@@ -87,9 +87,9 @@ fn value<'a>(width: Width, values: &[Operand<'a>]) -> Option<Kept<'a>>
 }
 
 /// Returns what is kept of a statement, or None if its text has to be kept.
-#[tactic(auto, unfolding(crate::specs::Listing::statement_bytes, crate::specs::Steps::kept_bytes))]
+#[tactic(auto, unfolding(crate::specs::Constants::statement_bytes, crate::specs::Steps::kept_bytes))]
 fn short<'a>(constant: i64, statement: &Statement<'_, 'a>) -> Option<Kept<'a>>
-    ensures { IfSome result (λ k. (ds : Definitions) → (line here : ℕ) → kept_bytes ds line here k ≡ statement_bytes (always constant) (operand_value ds line here) here statement.now) }
+    ensures { IfSome result (λ k. (ds : Definitions) → (line here : ℕ) → kept_bytes ds line here k ≡ statement_bytes constant (operand_value ds line here) here statement.now) }
 {
     match statement {
         Statement::Instruction(instr) => Some(Kept::Instructions(Instructions::One(*instr))),
@@ -115,8 +115,7 @@ impl<'a> PlacedStatement<'a> {
     ghost use Rattle.std.specs.Prelude.{◌≡◌, ◌<◌, ℕ, Some};
     ghost use Rattle.rv_asm.specs.Kept.{KindBecomes};
     ghost use Rattle.rv_asm.specs.Symbols.{Definitions, operand_value};
-    ghost use Rattle.rv_asm.specs.Listing.{statement_bytes};
-    ghost use Rattle.rv_asm.specs.Constants.{IsTaken, always, statement_in};
+    ghost use Rattle.rv_asm.specs.Constants.{IsTaken, statement_in, statement_bytes};
     ghost use Rattle.rv_asm.specs.Steps.{item_bytes, appended};
 
     /// Makes the statement of a line, with its constant, at an address.
@@ -132,7 +131,7 @@ impl<'a> PlacedStatement<'a> {
         requires taken { IsTaken constant statement.now }
         requires said { statement_in text.now ≡ Some statement.now }
         ensures at { result.line ≡ line }
-        ensures bytes { (ds : Definitions) → item_bytes ds result ≡ statement_bytes (always constant) (operand_value ds line address) address statement.now }
+        ensures bytes { (ds : Definitions) → item_bytes ds result ≡ statement_bytes constant (operand_value ds line address) address statement.now }
     {
         let kept = match short(constant, statement) {
             Some(kept) => kept,

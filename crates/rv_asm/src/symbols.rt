@@ -1,10 +1,9 @@
 //! The symbols of a source, and the values of expressions.
 ghost use Rattle.std.specs.Prelude.{◌≡◌, ◌^◌, ◌++◌, true, false, [], Ok, IfSome};
-ghost use Rattle.rv_asm.specs.Symbols.{atom_value, sum_value, added};
+ghost use Rattle.rv_asm.specs.Symbols.{atom_value, sum_value};
 ghost use Rattle.rv_asm.specs.Counted.{renames};
-ghost use Rattle.rv_asm.specs.Listing.{constant_in};
-ghost use Rattle.rv_asm.specs.Constants.{IsTaken, always};
-ghost use Rattle.rv_asm.specs.Kept.{KindBecomes, IsNear, values_in};
+ghost use Rattle.rv_asm.specs.Constants.{IsTaken, constant_in};
+ghost use Rattle.rv_asm.specs.Kept.{KindBecomes, IsNear, added, values_in};
 ghost use Rattle.rv_asm.specs.Values.{is_word};
 
 use crate::FaultKind;
@@ -49,7 +48,7 @@ impl Symbols {
     ) -> Result<(), FaultKind>
         requires taken { IsTaken constant statement.now }
         requires new { renames self.old.names statement.now ≡ false }
-        ensures { KindBecomes self.new result (Ok (record { names = self.old.names ++ constant_in (always constant) statement.now; locals = self.old.locals })) }
+        ensures { KindBecomes self.new result (Ok (record { names = self.old.names ++ constant_in constant statement.now; locals = self.old.locals })) }
     {
         match statement {
             Statement::Constant { name, .. } => {

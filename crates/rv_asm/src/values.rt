@@ -2,7 +2,8 @@
 ghost use Rattle.std.specs.Prelude.{◌≡◌, ◌==◌, ◌&&◌, ◌<◌, ◌≤◌, ◌^◌, Some, None, IfSome, if◌then◌else◌};
 ghost use Rattle.rv_isa.specs.declared.op.Width.TheVariants.{One};
 ghost use Rattle.rv_isa.specs.Number.{IsWithin, IsDistance, modulo};
-ghost use Rattle.rv_asm.specs.Values.{is_between, is_word, fits, immediate, upper_immediate, five_bits, distance, hi, lo, part_value, far, gap};
+ghost use Rattle.rv_asm.specs.Values.{is_between, is_word, fits, immediate, distance, hi, lo, part_value, far, gap};
+ghost use Rattle.rv_asm.specs.Kept.{upper_immediate, five_bits};
 
 use rv_isa::Width;
 use rv_source::Part;

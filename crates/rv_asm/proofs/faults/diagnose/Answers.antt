@@ -5,7 +5,12 @@ use Rattle.rv_asm.proofs.faults.diagnose.Goals as goal
 pub returns-then-not-is_empty-clause-all : goal.returns-then-not-is_empty-clause-all
 returns-then-not-is_empty-clause-all c =
     (in_one c.args.source.now c.in_ok-unread.unread.items c.in_ok-unread.ensures
-    (filled_by _ _ _ c.as_slice.ensures.value c.is_empty.ensures c.if-not-is_empty.true)).all
+    (filled_by _ _ _ c.as_slice.ensures.value c.is_empty.ensures c.if-not-is_empty.true)).all.each
+
+pub returns-then-not-is_empty-clause-places : goal.returns-then-not-is_empty-clause-places
+returns-then-not-is_empty-clause-places c =
+    (in_one c.args.source.now c.in_ok-unread.unread.items c.in_ok-unread.ensures
+    (filled_by _ _ _ c.as_slice.ensures.value c.is_empty.ensures c.if-not-is_empty.true)).all.places
 
 pub returns-then-not-is_empty-clause-first : goal.returns-then-not-is_empty-clause-first
 returns-then-not-is_empty-clause-first c =
@@ -17,7 +22,14 @@ returns-then-not-is_empty-2-clause-all c =
     (in_two c.args.source.now c.in_ok-unread.unread.items c.in_ok-unread.ensures
     (empty_by _ _ _ c.as_slice.ensures.value c.is_empty.ensures c.if-not-is_empty.false)
     c.in_ok-misplaced.misplaced.items c.in_ok-misplaced.ensures.all
-    (filled_by _ _ _ c.as_slice-2.ensures.value c.is_empty-2.ensures c.if-not-is_empty-2.true)).all
+    (filled_by _ _ _ c.as_slice-2.ensures.value c.is_empty-2.ensures c.if-not-is_empty-2.true)).all.each
+
+pub returns-then-not-is_empty-2-clause-places : goal.returns-then-not-is_empty-2-clause-places
+returns-then-not-is_empty-2-clause-places c =
+    (in_two c.args.source.now c.in_ok-unread.unread.items c.in_ok-unread.ensures
+    (empty_by _ _ _ c.as_slice.ensures.value c.is_empty.ensures c.if-not-is_empty.false)
+    c.in_ok-misplaced.misplaced.items c.in_ok-misplaced.ensures.all
+    (filled_by _ _ _ c.as_slice-2.ensures.value c.is_empty-2.ensures c.if-not-is_empty-2.true)).all.places
 
 pub returns-then-not-is_empty-2-clause-first : goal.returns-then-not-is_empty-2-clause-first
 returns-then-not-is_empty-2-clause-first c =
@@ -41,7 +53,16 @@ returns-clause-all c =
     (empty_by _ _ _ c.as_slice.ensures.value c.is_empty.ensures c.if-not-is_empty.false)
     c.in_ok-misplaced.misplaced.items c.in_ok-misplaced.ensures.all
     (empty_by _ _ _ c.as_slice-2.ensures.value c.is_empty-2.ensures c.if-not-is_empty-2.false)
-    ds.items third).all)
+    ds.items third).all.each)
+
+pub returns-clause-places : goal.returns-clause-places
+returns-clause-places c =
+    if_ok c.diagnose_values.result _ _ c.diagnose_values.ensures (λ ds third.
+    (in_three c.args.source.now c.in_ok-unread.unread.items c.in_ok-unread.ensures
+    (empty_by _ _ _ c.as_slice.ensures.value c.is_empty.ensures c.if-not-is_empty.false)
+    c.in_ok-misplaced.misplaced.items c.in_ok-misplaced.ensures.all
+    (empty_by _ _ _ c.as_slice-2.ensures.value c.is_empty-2.ensures c.if-not-is_empty-2.false)
+    ds.items third).all.places)
 
 pub returns-clause-first : goal.returns-clause-first
 returns-clause-first c =

@@ -2,8 +2,8 @@ use Rattle.std.proofs.Common.{◌≡◌, ◌≤◌, ◌+◌, length}
 use Rattle.rv_base.specs.Lines.{lines}
 use Rattle.rv_asm.specs.Assembly.{all_said}
 use Rattle.rv_asm.specs.Steps.{known_before}
-use Rattle.rv_asm.specs.Diagnosed.{Diagnoses, kept}
-use Rattle.rv_asm.specs.Judged.{judged}
+use Rattle.rv_asm.specs.Diagnosed.{kept}
+use Rattle.rv_asm.specs.Judged.{Diagnoses, judged}
 use Rattle.rv_asm.specs.Counted.{all_faults}
 use Rattle.rv_asm.proofs.Reading.{SoFar}
 use Rattle.rv_asm.proofs.faults.diagnose_layout.Given as goal

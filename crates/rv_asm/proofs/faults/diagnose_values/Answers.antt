@@ -1,7 +1,8 @@
 use Rattle.std.proofs.Common.{◌≡◌, ◌∙◌, ◌∷◌, length, ap, sym, arith}
 use Rattle.std.specs.Prelude.{Ok}
 use Rattle.rv_base.specs.Lines.{lines}
-use Rattle.rv_asm.specs.Assembly.{all_said, phase_three_fault}
+use Rattle.rv_asm.specs.Assembly.{all_said}
+use Rattle.rv_asm.specs.Counted.{phase_three_fault}
 use Rattle.rv_asm.specs.Steps.{Known}
 use Rattle.rv_asm.proofs.Reading.{begun, laid_out-zero, up_to_laid_out, read_more, read_all}
 use Rattle.rv_asm.proofs.Lined.{layout_more}

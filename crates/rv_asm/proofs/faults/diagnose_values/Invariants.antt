@@ -1,10 +1,10 @@
 use Rattle.std.proofs.Common.{◌≡◌, ◌≤◌, ◌+◌, length}
 use Rattle.std.specs.Prelude.{Ok}
 use Rattle.rv_base.specs.Lines.{lines}
-use Rattle.rv_asm.specs.Assembly.{all_said, phase_three_fault}
+use Rattle.rv_asm.specs.Assembly.{all_said}
+use Rattle.rv_asm.specs.Counted.{phase_three_fault, all_faults}
 use Rattle.rv_asm.specs.Steps.{laid_out}
-use Rattle.rv_asm.specs.Diagnosed.{Diagnoses}
-use Rattle.rv_asm.specs.Counted.{all_faults}
+use Rattle.rv_asm.specs.Judged.{Diagnoses}
 use Rattle.rv_asm.proofs.Reading.{SoFar}
 use Rattle.rv_asm.proofs.faults.diagnose_values.Given as goal
 

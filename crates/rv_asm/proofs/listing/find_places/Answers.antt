@@ -1,17 +1,15 @@
 use Rattle.std.proofs.Common.{◌≡◌, ◌∙◌, ◌∷◌, length, ap, sym, arith, rules}
 use Rattle.std.specs.Prelude.{Ok}
 use Rattle.rv_base.specs.Lines.{lines}
-use Rattle.rv_asm.specs.Layout.{address}
 use Rattle.rv_asm.specs.Assembly.{all_said}
-use Rattle.rv_asm.specs.Counted.{joined}
-use Rattle.rv_asm.specs.Counted.{up_to}
-use Rattle.rv_asm.specs.Steps.{Known}
+use Rattle.rv_asm.specs.Counted.{joined, up_to}
+use Rattle.rv_asm.specs.Steps.{Known, known_before}
 use Rattle.rv_asm.proofs.Reading.{begun, laid_out-zero, up_to_laid_out, read_more}
 use Rattle.rv_asm.proofs.Lined.{layout_more, addresses_pushed, labels_more}
 use Rattle.rv_asm.proofs.listing.find_places.Goals as goal
 
 pub loop-text-init : goal.loop-text-init
-unfolding address up_to joined
+unfolding known_before up_to joined
 loop-text-init c =
     let all : c.into_iter-text-iterator.result ≡ lines c.args.source.now =
     c.into_iter-text-iterator.ensures.into_iter_gives ∙ c.cut_lines-text-items.ensures.cut in

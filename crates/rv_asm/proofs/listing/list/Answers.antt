@@ -25,8 +25,14 @@ returns-in-Ok-clause-value c =
     rw (c.new.ensures, c.in-Ok.ensures.addresses, c.in-Ok.ensures.labels)
     (listing_is c.args.source.now c.in_ok-program.program ok c.in_ok-program.ensures)
 
-pub returns-in-Ok-clause-lines : goal.returns-in-Ok-clause-lines
-returns-in-Ok-clause-lines c =
+pub returns-in-Ok-clause-bytes : goal.returns-in-Ok-clause-bytes
+returns-in-Ok-clause-bytes c =
     let ok = accepted c.args.source.now c.in_ok-program.program c.in_ok-program.ensures in
-    rw (c.new.ensures, c.in-Ok.ensures.addresses, c.in-Ok.ensures.labels)
-    (are_lines c.args.source.now c.in_ok-program.program ok)
+    rw (c.new.ensures, c.in-Ok.ensures.addresses)
+    (are_lines c.args.source.now c.in_ok-program.program ok).each
+
+pub returns-in-Ok-clause-image : goal.returns-in-Ok-clause-image
+returns-in-Ok-clause-image c =
+    let ok = accepted c.args.source.now c.in_ok-program.program c.in_ok-program.ensures in
+    rw (c.new.ensures, c.in-Ok.ensures.addresses)
+    (are_lines c.args.source.now c.in_ok-program.program ok).all

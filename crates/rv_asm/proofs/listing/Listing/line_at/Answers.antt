@@ -11,7 +11,7 @@ returns-then-count-len-clause-only c m h =
     c.self.view_is in
     let cut : IsCutAt c.args.self.now.addresses c.args.address c.count_up_to-count.result =
     rw (c.deref.ensures.value, e) at c.count_up_to-count.ensures in
-    one_line c.args.self.now.addresses c.args.address c.count_up_to-count.result m cut h.counted h.from h.to
+    one_line c.args.self.now.addresses c.args.address c.count_up_to-count.result m cut h.0 h.1 h.2
 
 pub returns-else-count-gt0-clause-none : goal.returns-else-count-gt0-clause-none
 returns-else-count-gt0-clause-none c m h =
@@ -19,8 +19,8 @@ returns-else-count-gt0-clause-none c m h =
     c.self.view_is in
     let cut : IsCutAt c.args.self.now.addresses c.args.address c.count_up_to-count.result =
     rw (c.deref.ensures.value, e) at c.count_up_to-count.ensures in
-    let is = one_line c.args.self.now.addresses c.args.address c.count_up_to-count.result m cut h.counted
-    h.from h.to in
+    let is = one_line c.args.self.now.addresses c.args.address c.count_up_to-count.result m cut h.0
+    h.1 h.2 in
     elim c.else-count-gt0.branch [
       | else-count-gt0-via-then-count-gt0+else-count-len w ↦
           let len : length c.args.self.now.addresses ≡ w.len.result =
@@ -31,7 +31,7 @@ returns-else-count-gt0-clause-none c m h =
             len,
             f,
           ))
-          h.counted h.from h.to
+          h.0 h.1 h.2
       | else-count-gt0-via-else-count-gt0 w ↦
-          let z = w.if-count-gt0.false in let p = h.counted in omega (arith, is, z, p)
+          let z = w.if-count-gt0.false in let p = h.0 in omega (arith, is, z, p)
     ]

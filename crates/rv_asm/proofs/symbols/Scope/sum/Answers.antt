@@ -3,7 +3,8 @@ use Rattle.std.specs.Prelude.{Some, None}
 use Rattle.std.proofs.lemmas.Int.{to_z-of_z}
 use mir.Syntax.{w64}
 use mir.Val.{to_z, of_z, SFits}
-use Rattle.rv_asm.specs.Symbols.{atom_value, added}
+use Rattle.rv_asm.specs.Symbols.{atom_value}
+use Rattle.rv_asm.specs.Kept.{added}
 use Rattle.rv_asm.proofs.Sums.{sum_begun, first_none, sum_more, sum_none, sum_whole}
 use Rattle.rv_asm.proofs.symbols.Scope.sum.Goals as goal
 
