@@ -8,7 +8,8 @@ use Rattle.rv_isa.specs.Names.{csr_names}
 use Rattle.rv_base.specs.Words.{words, begins_comment}
 use Rattle.rv_base.specs.Limits.{line_limit}
 use Rattle.rv_commands.specs.Addresses.{address_of}
-use Rattle.rv_commands.specs.Commands.{IsNamed, number_between, control_register, alone, counted, with_one, ranged, commands, said_by, command_of}
+use Rattle.rv_commands.specs.Named.{IsNamed}
+use Rattle.rv_commands.specs.Commands.{number_between, control_register, alone, counted, with_one, ranged, commands, said_by, command_of}
 use Rattle.rv_commands.specs.declared.command.Command.{Command}
 use Rattle.rv_commands.specs.declared.command.Command.TheVariants.{Step, Go, SetBreak, ClearBreak, Registers, ControlRegister, Memory, Instruction, Traps, Edges, Quit, Nothing}
 

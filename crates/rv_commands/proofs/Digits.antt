@@ -9,9 +9,8 @@ use Rattle.std.proofs.lemmas.List.{drop_all}
 use Rattle.std.proofs.lemmas.List.Folds.{list_all_at}
 use Rattle.std.proofs.Math.Nat.{pow-le-pow_right}
 use Rattle.std.proofs.Math.Seq.{drop-cons}
-use Rattle.rv_base.specs.Numbers.{hex_digit}
-use Rattle.rv_tokens.specs.Literals.{value, number_in}
-use Rattle.rv_tokens.specs.Literals as literal
+use Rattle.rv_base.specs.Numbers.{hex_digit, value, number_in}
+use Rattle.rv_tokens.specs.Partial as literal
 use Rattle.rv_commands.specs.Addresses.{hexadecimal}
 
 -- whether a byte is a digit, the value with one more digit, and the value of all
@@ -19,7 +18,7 @@ abbrev is_digit : ℕ → Bool
 is_digit b = literal.is_digit 16 b
 
 abbrev step : ℕ → ℕ → ℕ
-step v b = 16 * v + unwrap_or (hex_digit b) 0
+step v b = 16 * v + unwrap_or (hex_digit b) 16
 
 abbrev hex_value : List ℕ → ℕ
 hex_value digits = value 16 digits
@@ -68,7 +67,7 @@ pub not_a_digit : (ds : List ℕ) (i : ℕ) → i < length ds → hex_digit (get
     → None ≡ hexadecimal ds
 not_a_digit ds i h e =
     hexadecimal-bad ds
-    (list_all_at is_digit ds i 0 h (ap (λ (o : Option ℕ). option_map_or (λ d. nat_lt d 16) o false) e))
+    (list_all_at is_digit ds i 0 h (ap (λ (o : Option ℕ). nat_lt (unwrap_or o 16) 16) e))
 
 -- the value with one more digit fits into 32 bits
 pub fits : (ds : List ℕ) (i sum d : ℕ) → is_count (length ds) ≡ true → i < length ds → SoFar ds i sum → d < 16
@@ -81,7 +80,7 @@ fits ds i sum d count h so small =
 -- with one more digit
 sum_next : (sum x d : ℕ) (xs : List ℕ) → hex_digit x ≡ Some d
     → fold step sum (x ∷ xs) ≡ fold step (16 * sum + d) xs
-sum_next sum x d xs e = ap (λ o. fold step (16 * sum + unwrap_or o 0) xs) e
+sum_next sum x d xs e = ap (λ o. fold step (16 * sum + unwrap_or o 16) xs) e
 
 below_base : (d : ℕ) → d < 16 → nat_lt d 16 ≡ true
 below_base d h = grind (arith, nat_tests)
@@ -89,7 +88,7 @@ below_base d h = grind (arith, nat_tests)
 all_next : (x d : ℕ) (xs : List ℕ) → hex_digit x ≡ Some d → d < 16
     → list_all is_digit (x ∷ xs) ≡ list_all is_digit xs
 all_next x d xs e h =
-    ap (λ (o : Option ℕ). option_map_or (λ n. nat_lt n 16) o false && list_all is_digit xs) e
+    ap (λ (o : Option ℕ). nat_lt (unwrap_or o 16) 16 && list_all is_digit xs) e
     ∙ ap (λ b. b && list_all is_digit xs) (below_base d h)
 
 pub next_so_far : (ds : List ℕ) (i sum d : ℕ) → i < length ds → SoFar ds i sum

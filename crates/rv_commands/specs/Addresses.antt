@@ -5,11 +5,11 @@ use Rattle.std.specs.Prelude.{ℕ, ◌^◌, ℤ, List, length, drop, if◌then�
 use Rattle.std.specs.Option.{option_map}
 use Rattle.std.specs.List.{starts_with}
 use Rattle.rv_isa.specs.Number.{modulo}
-use Rattle.rv_tokens.specs.Literals.{number_in}
+use Rattle.rv_base.specs.Numbers.{number_in}
 
 -- one to eight hexadecimal digits
 unfoldable pub hexadecimal : List ℕ → Option ℕ
-hexadecimal digits = if nat_le (length digits) 8 then number_in 16 digits else None
+hexadecimal digits = if nat_le (length digits) 8 then number_in 16 0xffffffff digits else None
 
 -- ADDR: `0x` and one to eight hexadecimal digits, or a symbol, modulo 2 ^ 32; symbols gives the value of each
 -- name that has one

@@ -1,7 +1,7 @@
 -- To audit: public contracts cite this.
 -- The command of each command line, or None if it isn't a command.
 -- The language is this project's own: docs/MONITOR.md.
-use Rattle.std.specs.Prelude.{◌≡◌, ℕ, ℤ, ⊤, List, [], ◌∷◌, length, if◌then◌else◌, nat_le, nat_lt, Option, Some, None, codes, option_and_then}
+use Rattle.std.specs.Prelude.{ℕ, ℤ, List, [], ◌∷◌, length, if◌then◌else◌, nat_le, nat_lt, Option, Some, None, codes, option_and_then}
 use Rattle.std.specs.Option.{option_map}
 use Rattle.rv_base.specs.Tables.{lookup}
 use Rattle.rv_isa.specs.Names.{csr_names}
@@ -73,8 +73,3 @@ said_by symbols (word ∷ more) =
 -- a line; a line of more than 1,024 bytes is refused whatever it says
 unfoldable pub command_of : List ℕ → (List ℕ → Option ℤ) → Option Command
 command_of line symbols = if nat_lt line_limit (length line) then None else said_by symbols (words line)
-
--- the control register of a command is the one with its name
-abbrev pub IsNamed : Command → Type 0
-IsNamed (ControlRegister name csr) = lookup name csr_names ≡ Some csr
-IsNamed _ = ⊤

@@ -2,7 +2,8 @@
 ghost use Rattle.std.specs.Prelude.{◌≡◌, ◌≤◌, ◌<◌, IfSome};
 ghost use Rattle.std.specs.Option.{option_copied};
 ghost use Rattle.rv_base.specs.Words.{words};
-ghost use Rattle.rv_commands.specs.Commands.{number_between, alone, command_of, IsNamed};
+ghost use Rattle.rv_commands.specs.Commands.{number_between, alone, command_of};
+ghost use Rattle.rv_commands.specs.Named.{IsNamed};
 ghost use Rattle.rv_commands.specs.Rows.{only, number_alone, address_alone, steps, going, named, memory, row};
 
 use crate::address::address;

@@ -7,10 +7,9 @@ use Rattle.std.specs.Option.{option_map}
 use Rattle.rv_lists.specs.declared.input.Input.{Input}
 use Rattle.rv_lists.specs.declared.input.Input.TheVariants.{Rx, Line}
 use Rattle.rv_lists.specs.declared.input.TimedInput.{TimedInput}
-use Rattle.rv_base.specs.Numbers.{byte_of}
-use Rattle.rv_base.specs.Tables.{lookup}
-use Rattle.rv_lists.specs.Timed.{joined, all_of, byte_input, received, source_of, level_of, driven, kinds, inputs_of, at, never_falls}
-use Rattle.rv_lists.specs.Reading.{latest_step, with_inputs, with_line, inputs_by}
+use Rattle.rv_base.specs.Numbers.{hex_byte}
+use Rattle.rv_lists.specs.Timed.{all_of, byte_input, received, source_of, level_of, driven, inputs_of, at, never_falls}
+use Rattle.rv_lists.specs.Reading.{joined, latest_step, with_inputs, with_line, inputs_by}
 
 pub latest_is : (xs : List TimedInput) (d : TimedInput) → 0 < length xs
     → (get_or xs (length xs - 1) d).step ≡ latest_step xs
@@ -38,14 +37,14 @@ with_pushed before step b (Some is) =
 with_pushed before step b None = refl
 
 pub received_more : (before : List TimedInput) (step b : ℕ) (w : List ℕ) (ws words : List (List ℕ))
-    → words ≡ w ∷ ws → byte_of w ≡ Some b
+    → words ≡ w ∷ ws → hex_byte w ≡ Some b
     → with_inputs (before ++ record { step = step; input = Rx b } ∷ []) step (all_of byte_input ws)
     ≡ with_inputs before step (all_of byte_input words)
 unfolding all_of
 received_more before step b w ws words e is = rw (e, is) (with_pushed before step b (all_of byte_input ws))
 
 pub received_bad : (before : List TimedInput) (step : ℕ) (w : List ℕ) (ws words : List (List ℕ))
-    → words ≡ w ∷ ws → byte_of w ≡ None → with_inputs before step (all_of byte_input words) ≡ None
+    → words ≡ w ∷ ws → hex_byte w ≡ None → with_inputs before step (all_of byte_input words) ≡ None
 unfolding all_of
 received_bad before step w ws words e is = rw (e, is) refl
 
@@ -140,7 +139,7 @@ received_by (Some b) (Some js) is e = let same : Rx b ∷ js ≡ is = cc in rw (
 received_some : (ws : List (List ℕ)) (is : List Input) → received ws ≡ Some is → 0 < length is
 unfolding all_of
 received_some [] is e = absurd cc
-received_some (w ∷ ws) is e = received_by (byte_of w) (all_of byte_input ws) is e
+received_some (w ∷ ws) is e = received_by (hex_byte w) (all_of byte_input ws) is e
 
 driven_by : (source : Option ℕ) (level : Option Bool) (is : List Input)
     → option_and_then (λ n. option_map (λ high. Line n high ∷ []) level) source ≡ Some is → 0 < length is

@@ -4,12 +4,13 @@ use Rattle.std.proofs.lemmas.List.Folds.{list_all-append}
 use Rattle.std.specs.List.{list_all}
 use Rattle.std.specs.Prelude.{Option, Some, None, nat_le, nat_lt, ◌&&◌, length, option_and_then}
 use Rattle.std.specs.Option.{option_map}
-use Rattle.rv_base.specs.Numbers.{decimal}
+use Rattle.rv_base.specs.Numbers.{decimal, number_in}
 use Rattle.rv_base.specs.Words.{words, begins_comment}
 use Rattle.rv_lists.specs.declared.input.Input.{Input}
 use Rattle.rv_lists.specs.declared.input.TimedInput.{TimedInput}
 use Rattle.rv_lists.specs.Text.{HasSteps}
-use Rattle.rv_lists.specs.Timed.{at, joined, all_of, step_of, inputs_of, said_by, said, never_falls, timed}
+use Rattle.rv_lists.specs.Reading.{joined}
+use Rattle.rv_lists.specs.Timed.{at, all_of, step_of, inputs_of, said_by, said, never_falls, timed}
 
 and_both : (a b c : Bool) → (a && (b && c)) ≡ true → c ≡ true
 and_both true true c h = h
@@ -29,7 +30,7 @@ decimal_by v most n true false c e h = absurd cc
 decimal_by v most n false b c e h = absurd cc
 
 decimal_small : (most : ℕ) (word : List ℕ) (n : ℕ) → decimal most word ≡ Some n → nat_le n most ≡ true
-unfolding decimal
+unfolding number_in
 decimal_small most word n h = decimal_by _ most n _ _ _ refl h
 
 step_by : (t : Bool) (word : List ℕ) (n : ℕ) → cond t (decimal 9999999999 word) None ≡ Some n

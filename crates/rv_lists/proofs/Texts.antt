@@ -10,15 +10,19 @@ use Rattle.std.specs.Char.{is_ascii_digit}
 use Rattle.std.specs.List.{All, list_all}
 use Rattle.std.specs.Prelude.{Some, nat_eq, nat_le, nat_lt, ◌&&◌, codes, decimal, slice_index_or, if◌then◌else◌}
 use Rattle.rv_base.specs.Digits.{digit, hex}
-use Rattle.rv_base.specs.Lines.{lines, split, without_return}
-use Rattle.rv_base.specs.Numbers.{value, hex_digit, byte_of}
+use Rattle.std.specs.Str.Lines.{strip_carriage_return}
+use Rattle.std.proofs.lemmas.Str.{digit_value-digit_char}
+use Rattle.rv_base.specs.Lines.{lines, split}
+use Rattle.rv_base.proofs.DecimalDigits.{decimal_is}
+use Rattle.rv_base.specs.Decimals.{decimal_value, decimal_bytes}
+use Rattle.rv_base.specs.Numbers.{digit_value, hex_digit, hex_byte, number_in}
 use Rattle.rv_base.specs.Numbers as read
 use Rattle.rv_base.specs.Words.{words, is_blank, begins_comment}
 use Rattle.rv_lists.specs.declared.input.Input.{Input}
 use Rattle.rv_lists.specs.declared.input.Input.TheVariants.{Rx, Line}
 use Rattle.rv_lists.specs.declared.input.TimedInput.{TimedInput}
 use Rattle.rv_lists.specs.Reading.{is_input}
-use Rattle.rv_lists.specs.Text.{input_text, line_text, list_text, HasSteps, ReadsAs}
+use Rattle.rv_lists.specs.Text.{input_text, line_text, list_text, HasSteps}
 use Rattle.rv_lists.specs.Timed.{all_of, step_of, source_of, level_of, inputs_of, said, never_falls, timed}
 use Rattle.rv_lists.proofs.Lines.{said_step}
 
@@ -112,10 +116,10 @@ printed_at [] i h l = absurd (omega arith)
 printed_at (b ∷ bs) zero h l = le_is 32 b (and_left (nat_le 32 b) (printed bs) h)
 printed_at (b ∷ bs) (suc i) h l = printed_at bs i (and_right (nat_le 32 b) (printed bs) h) (omega arith)
 
-no_return : (line : List ℕ) → 0 < length line → printed line ≡ true → without_return line ≡ line
+no_return : (line : List ℕ) → 0 < length line → printed line ≡ true → strip_carriage_return line ≡ line
 no_return line some h =
     let m : 32 ≤ get_or line (length line - 1) 0 = printed_at line (length line - 1) h (omega arith) in
-    rw (lt 0 (length line) some, ne_above (get_or line (length line - 1) 0) 13 (omega arith)) refl
+    rw (ne_above (get_or line (length line - 1) 0) 13 (omega arith)) refl
 
 lines_line : (line rest : List ℕ) → 0 < length line → printed line ≡ true
     → lines (line ++ 10 ∷ rest) ≡ line ∷ lines rest
@@ -130,7 +134,7 @@ step_value v b = 10 * v + (b - 48)
 record IsWritten (n : ℕ) (ds : List ℕ) : Type 0 where
   some : 0 < length ds
   all : list_all is_ascii_digit ds ≡ true
-  means : value ds ≡ n
+  means : decimal_value ds ≡ n
 
 is_digit : (n : ℕ) → n < 10 → is_ascii_digit (48 + n) ≡ true
 is_digit n h = rw (le 48 (48 + n) (omega arith), le (48 + n) 57 (omega arith)) refl
@@ -157,10 +161,12 @@ written : (n : ℕ) → n < 2 ^ 64 → IsWritten n (decimal n)
 written n h = decimal_by_steps IsWritten one_digit more_digits n h
 
 read_back : (most n : ℕ) (ds : List ℕ) → IsWritten n ds → n ≤ most → read.decimal most ds ≡ Some n
-unfolding read.decimal
+unfolding decimal_bytes
 read_back most n ds w small =
-    let v : nat_le (value ds) most ≡ true = rw w.means (le n most small) in
-    rw (le 1 (length ds) (omega (arith, w.some)), w.all, v) (ap (λ m. Some m) w.means)
+    let v : nat_le (decimal_value ds) most ≡ true = rw w.means (le n most small) in
+    let bytes : decimal_bytes most ds ≡ Some n =
+    rw (le 1 (length ds) (omega (arith, w.some)), w.all, v) (ap (λ m. Some m) w.means) in
+    sym (decimal_is most ds) ∙ bytes
 
 graphic_digits : (ds : List ℕ) → list_all is_ascii_digit ds ≡ true → graphic ds ≡ true
 graphic_digits ds h = weaker is_ascii_digit (λ b. nat_lt 32 b)
@@ -175,26 +181,9 @@ no_comment (d ∷ ds) some h =
 
 -- ---- hexadecimal digits
 
-digit_by : (n : ℕ) (t : Bool) → n < 16 → nat_lt n 10 ≡ t → hex_digit (digit n) ≡ Some n
-unfolding hex_digit
-digit_by n true h e =
-    let l : n < 10 = lt_is n 10 e in
-    rw (e, le 48 (48 + n) (omega arith), le (48 + n) 57 (omega arith))
-    (let same : (48 + n) - 48 ≡ n = omega arith in ap (λ m. Some m) same)
-digit_by n false h e =
-    let l : 10 ≤ n = not_lt_is n 10 e in
-    rw (
-      e,
-      le 48 (87 + n) (omega arith),
-      above (87 + n) 57 (omega arith),
-      le 65 (87 + n) (omega arith),
-      above (87 + n) 70 (omega arith),
-      le 97 (87 + n) (omega arith),
-      le (87 + n) 102 (omega arith),
-    ) (let same : (87 + n) - 87 ≡ n = omega arith in ap (λ m. Some m) same)
-
 digit_read : (n : ℕ) → n < 16 → hex_digit (digit n) ≡ Some n
-digit_read n h = digit_by n (nat_lt n 10) h refl
+unfolding hex_digit
+digit_read n h = rw (digit_value-digit_char n (omega arith), lt n 16 h) refl
 
 graphic_by : (n : ℕ) (t : Bool) → nat_lt n 10 ≡ t → nat_lt 32 (digit n) ≡ true
 graphic_by n true e = rw e (lt 32 (48 + n) (omega arith))
@@ -212,13 +201,19 @@ length_hex : (b : ℕ) → length (hex 2 b) ≡ 2
 unfolding hex
 length_hex b = refl
 
-byte_read : (b : ℕ) → b < 256 → byte_of (hex 2 b) ≡ Some b
-unfolding hex byte_of
+byte_read : (b : ℕ) → b < 256 → hex_byte (hex 2 b) ≡ Some b
+unfolding hex hex_byte number_in
 byte_read b h =
     let high = b / 16 ^ 1 % 16 in
     let low = b / 16 ^ 0 % 16 in
-    let sum : 16 * high + low ≡ b = omega arith in
-    rw (digit_read high (omega arith), digit_read low (omega arith)) (ap (λ m. Some m) sum)
+    let sum : 16 * (16 * 0 + high) + low ≡ b = omega arith in
+    rw (
+      digit_read high (omega arith),
+      digit_read low (omega arith),
+      lt high 16 (omega arith),
+      lt low 16 (omega arith),
+      le (16 * (16 * 0 + high) + low) 255 (omega arith),
+    ) (ap (λ m. Some m) sum)
 
 -- ---- the line of an input
 
@@ -372,7 +367,7 @@ all_said (x ∷ xs) ranges small =
     ) refl
 
 pub reads : (xs : List TimedInput) (text : List ℕ) → text ≡ list_text xs
-    → list_all (λ x. is_input x.input) xs ≡ true → never_falls xs ≡ true → HasSteps xs → ReadsAs text xs
+    → list_all (λ x. is_input x.input) xs ≡ true → never_falls xs ≡ true → HasSteps xs → timed (lines text) ≡ Some xs
 unfolding timed
 reads xs text is ranges rising small = rw (is, all_said xs ranges small, rising) refl
 

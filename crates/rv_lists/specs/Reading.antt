@@ -8,7 +8,15 @@ use Rattle.rv_lists.specs.declared.input.Input.TheVariants.{Rx, Line}
 use Rattle.rv_lists.specs.declared.input.TimedInput.{TimedInput}
 use Rattle.rv_lists.specs.declared.line_refusal.LineRefusal.{LineRefusal}
 use Rattle.rv_lists.specs.declared.line_refusal.LineRefusal.TheVariants.{BadLine, OutOfMemory}
-use Rattle.rv_lists.specs.Timed.{received, driven, at, unless_falling}
+use Rattle.rv_lists.specs.Timed.{received, driven, at, never_falls}
+
+-- one list followed by the other, if there are both
+abbrev pub joined : {B : Type 0} → Option (List B) → Option (List B) → Option (List B)
+joined a b = option_and_then (λ xs. option_map (λ ys. xs ++ ys) b) a
+
+-- inputs, unless a step falls
+abbrev pub unless_falling : List TimedInput → Option (List TimedInput)
+unless_falling inputs = if never_falls inputs then Some inputs else None
 
 -- the step of the last input, or 0 if there is none
 abbrev pub latest_step : List TimedInput → ℕ

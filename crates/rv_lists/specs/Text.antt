@@ -1,13 +1,11 @@
 -- To audit: public contracts cite this.
 -- The text of a timed list.
-use Rattle.std.specs.Prelude.{true, nat_le, ◌≡◌, ℕ, List, [], ◌++◌, ◌∷◌, if◌then◌else◌, Some, codes, decimal}
-use Rattle.std.specs.List.{list_all}
+use Rattle.std.specs.Prelude.{true, nat_le, ◌≡◌, ℕ, List, ◌++◌, if◌then◌else◌, codes, decimal}
+use Rattle.std.specs.List.{flat_map, list_all}
 use Rattle.rv_base.specs.Digits.{hex}
-use Rattle.rv_base.specs.Lines.{lines}
 use Rattle.rv_lists.specs.declared.input.Input.{Input}
 use Rattle.rv_lists.specs.declared.input.Input.TheVariants.{Rx, Line}
 use Rattle.rv_lists.specs.declared.input.TimedInput.{TimedInput}
-use Rattle.rv_lists.specs.Timed.{timed}
 
 -- an input, as it stands after its step
 abbrev pub input_text : Input → List ℕ
@@ -21,13 +19,8 @@ line_text x = decimal x.step ++ codes " " ++ input_text x.input ++ codes "\n"
 
 -- a line for each input
 unfoldable pub list_text : List TimedInput → List ℕ
-list_text [] = []
-list_text (x ∷ xs) = line_text x ++ list_text xs
+list_text inputs = flat_map line_text inputs
 
 -- no step has more than ten digits
 abbrev pub HasSteps : List TimedInput → Type 0
 HasSteps xs = list_all (λ x. nat_le x.step 9999999999) xs ≡ true
-
--- a text is read as exactly these inputs
-abbrev pub ReadsAs : List ℕ → List TimedInput → Type 0
-ReadsAs text inputs = timed (lines text) ≡ Some inputs

@@ -1,7 +1,7 @@
 -- To audit: public contracts cite this.
 -- Timed lists: the inputs of a text, or its first refused line. None stands for a text that can't be read.
 -- The language is this project's own: docs/MONITOR.md.
-use Rattle.std.specs.Prelude.{◌≡◌, ℕ, ◌<◌, ◌≤◌, ◌&&◌, Bool, true, false, List, [], ◌∷◌, ◌++◌, length, map, take, if◌then◌else◌, nat_le, nat_lt, Option, Some, None, Result, Ok, Err, codes, option_and_then, is_some}
+use Rattle.std.specs.Prelude.{◌≡◌, ℕ, ◌<◌, ◌&&◌, Bool, true, false, List, [], ◌∷◌, ◌++◌, length, map, take, if◌then◌else◌, nat_le, nat_lt, Option, Some, None, Result, Ok, Err, codes, option_and_then, is_some}
 use Rattle.std.specs.Option.{option_map}
 use Rattle.rv_base.specs.Limits.{line_limit}
 use Rattle.rv_base.specs.Lines.{lines}
@@ -11,17 +11,13 @@ use Rattle.rv_lists.specs.declared.input.Input.TheVariants.{Rx, Line}
 use Rattle.rv_lists.specs.declared.input.TimedInput.{TimedInput}
 use Rattle.rv_lists.specs.declared.fault.TimelineFault.{TimelineFault}
 use Rattle.rv_lists.specs.declared.fault.TimelineFault.TheVariants.{BadLine, OutOfMemory}
-use Rattle.rv_base.specs.Numbers.{decimal, byte_of}
+use Rattle.rv_base.specs.Numbers.{decimal, hex_byte}
 use Rattle.rv_base.specs.Words.{words, begins_comment}
 
--- one list followed by the other, if there are both
-abbrev pub joined : {B : Type 0} → Option (List B) → Option (List B) → Option (List B)
-joined a b = option_and_then (λ xs. option_map (λ ys. xs ++ ys) b) a
-
--- the meanings of all parts, in order, if each has one
+-- the meanings of all parts, one after another, if each has one
 unfoldable pub all_of : {A B : Type 0} → (A → Option (List B)) → List A → Option (List B)
 all_of meaning [] = Some []
-all_of meaning (x ∷ xs) = joined (meaning x) (all_of meaning xs)
+all_of meaning (x ∷ xs) = option_and_then (λ ys. option_map (λ zs. ys ++ zs) (all_of meaning xs)) (meaning x)
 
 -- ---- the inputs of a line
 
@@ -39,7 +35,7 @@ level_of word = lookup word ((codes "0", false) ∷ (codes "1", true) ∷ [])
 
 -- HH: a byte that the serial port receives
 abbrev pub byte_input : List ℕ → Option (List Input)
-byte_input word = option_map (λ b. Rx b ∷ []) (byte_of word)
+byte_input word = option_map (λ b. Rx b ∷ []) (hex_byte word)
 
 -- the words following `rx`: a byte each, at least one
 abbrev pub received : List (List ℕ) → Option (List Input)
@@ -84,19 +80,13 @@ never_falls [] = true
 never_falls (x ∷ []) = true
 never_falls (x ∷ y ∷ more) = nat_le x.step y.step && never_falls (y ∷ more)
 
--- inputs, unless a step falls
-abbrev pub unless_falling : List TimedInput → Option (List TimedInput)
-unless_falling inputs = if never_falls inputs then Some inputs else None
-
 -- the inputs of all lines, in order, if each line can be read and no step falls
 unfoldable pub timed : List (List ℕ) → Option (List TimedInput)
-timed texts = option_and_then unless_falling (all_of said texts)
+timed texts = option_and_then (λ xs. if never_falls xs then Some xs else None) (all_of said texts)
 
 -- line n, counted from 1, is the first refused: the first n lines have no list, and any fewer of them have
--- one
+-- one. So there is a line n, since all lines and no line at all are neither refused nor fewer.
 pub record IsFirstRefused (texts : List (List ℕ)) (n : ℕ) : Type 0 where
-  pub counted : 0 < n
-  pub within : n ≤ length texts
   pub refused : timed (take n texts) ≡ None
   pub taken : (k : ℕ) → k < n → is_some (timed (take k texts)) ≡ true
 
