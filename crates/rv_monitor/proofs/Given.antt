@@ -17,7 +17,8 @@ use Rattle.rv_monitor.specs.Events.{event_of, inputs_at, events_of}
 use Rattle.rv_monitor.specs.TimedCalls.{HasStopped, IsRefused}
 use Rattle.rv_monitor.specs.declared.stop.Stop.{Stop}
 use Rattle.rv_monitor.specs.State.{Addresses, TimedState, IsInTime, rest, count_before, begun, after, with_due, given}
-use Rattle.rv_monitor.specs.Laws.{IsReached, GivenAsListed}
+use Rattle.rv_monitor.specs.Joined.{GivenAsListed}
+use Rattle.rv_monitor.specs.Laws.{IsReached}
 use Rattle.rv_monitor.proofs.Times.{from, of, from_earlier, tail_rises, all_from, drop_from, late_from, late_count, none_of, none_before}
 use Rattle.rv_monitor.proofs.Steps.{inputs_late, none_due}
 

@@ -11,3 +11,4 @@ pub mod Traps
 pub mod Given
 pub mod Reached
 pub mod SessionCalls
+pub mod Resumed

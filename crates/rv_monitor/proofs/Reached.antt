@@ -152,7 +152,7 @@ and_false : (t : Bool) → cond (t && false) (Some Breakpoint) None ≡ None
 and_false true = refl
 and_false false = refl
 
-goes_without : (b : BoardState) (n : ℕ) → halted_of b ≡ None → stop_after set.empty b n ≡ None
+pub goes_without : (b : BoardState) (n : ℕ) → halted_of b ≡ None → stop_after set.empty b n ≡ None
 unfolding stop_after
 goes_without b n e = rw (e, ← no_member (pc_of b)) (and_false (nat_lt 0 n))
 

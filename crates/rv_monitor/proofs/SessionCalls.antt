@@ -6,9 +6,10 @@ use Rattle.rv_base.specs.declared.memory.NoMemory.{NoMemory}
 use Rattle.rv_board.specs.State.{BoardState}
 use Rattle.rv_monitor.specs.declared.stop.Stop.{Stop}
 use Rattle.rv_monitor.specs.declared.stop.Stop.TheVariants.{Limit}
-use Rattle.rv_monitor.specs.State.{Addresses, TimedState, SessionState, begun, begun_again, most_of, after, with_due}
+use Rattle.rv_monitor.specs.Resumed.{resumed, resumed_at}
+use Rattle.rv_monitor.specs.State.{Addresses, TimedState, SessionState, begun, most_of, after, with_due}
 use Rattle.rv_monitor.specs.Stops.{stop_after, steps_between, Took, WasRefused, stop_of}
-use Rattle.rv_monitor.specs.TimedCalls.{HasStopped, IsRefused}
+use Rattle.rv_monitor.specs.TimedCalls.{HasStopped, IsRefused, begun_again}
 use Rattle.rv_monitor.proofs.Stopping.{took_steps, stopped, refused}
 
 module _ (a : Addresses) (n : ℕ) (old new : SessionState) where
@@ -114,3 +115,26 @@ module _ (n : ℕ) (old new : SessionState) (board : BoardState) where
 
   pub again_others : Took set.empty n (begun_again old board) new → new ≡ record old { timed = new.timed }
   again_others t = took_others set.empty n (begun_again old board) new t
+
+-- the same, from a board on that has taken some of the steps
+module _ (n : ℕ) (old new : SessionState) (board : BoardState) (taken : ℕ) where
+  abbrev EndedOn : Stop → Type 0
+  EndedOn = HasStopped set.empty (min n (old.limit - taken)) (resumed board old.timed.inputs taken) new.timed
+
+  pub took_on : (r : Result Stop NoMemory) → IfOk r EndedOn → new ≡ record old { timed = new.timed }
+      → OnOk r (Took set.empty n (resumed_at old board taken) new)
+  took_on (Ok stop) h e = took_is set.empty n (resumed_at old board taken) new stop h e
+  took_on (Err refusal) h e = tt
+
+  pub word_on : (r : Result Stop NoMemory) → IfOk r EndedOn
+      → IfOk r (λ stop. stop ≡ stop_of set.empty (resumed_at old board taken) new)
+  word_on (Ok stop) h = h.word
+  word_on (Err refusal) h = tt
+
+  pub on_was : Took set.empty n (resumed_at old board taken) new
+      → HasStopped set.empty (min n (old.limit - taken)) (resumed board old.timed.inputs taken) new.timed
+      (stop_of set.empty (resumed_at old board taken) new)
+  on_was t = took_was set.empty n (resumed_at old board taken) new t
+
+  pub on_others : Took set.empty n (resumed_at old board taken) new → new ≡ record old { timed = new.timed }
+  on_others t = took_others set.empty n (resumed_at old board taken) new t

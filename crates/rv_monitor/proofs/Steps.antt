@@ -6,7 +6,8 @@ use Rattle.std.proofs.lemmas.List.Elements.{filter_more}
 use Rattle.std.proofs.lemmas.List.Filters.{length-filter_more}
 use Rattle.std.proofs.lemmas.Bool.Decides.{nat_tests}
 use Rattle.rv_board.specs.State.{BoardState, halted_of}
-use Rattle.rv_board.specs.Move.{moved, happens, run, writes, writes_by}
+use Rattle.rv_board.specs.Move.{moved, run, writes}
+use Rattle.rv_board.specs.MoveParts.{happens}
 use Rattle.rv_board.specs.declared.event.Event.TheVariants.{Step}
 use Rattle.rv_board.proofs.Runs.{run_append, run_more}
 use Rattle.rv_lists.specs.declared.input.Input.{Input}
@@ -16,20 +17,15 @@ use Rattle.rv_lists.specs.Timed.{never_falls}
 use Rattle.rv_monitor.specs.Events.{event_of, inputs_at, events_of}
 use Rattle.rv_monitor.specs.State.{TimedState, IsInTime, rest, count_before, after, with_due}
 use Rattle.rv_monitor.specs.WithoutInputs.{without_inputs}
-use Rattle.rv_monitor.specs.Laws.{RunsJoin, CallsJoin}
+use Rattle.rv_monitor.specs.Joined.{RunsJoin, CallsJoin}
 use Rattle.rv_monitor.proofs.Times.{from, of, from_earlier, late_from, late_of, late_count, drop_rises, drop_from, none_before, due_step, later_of, later_count, none_of, count_most}
 
 -- ---- no input runs out of memory
 
-no_write : (h : Option ℕ) (b : BoardState) (i : Input) → writes_by h b (event_of i) ≡ false
-no_write None b (Rx byte) = refl
-no_write None b (Line source high) = refl
-no_write (Some code) b (Rx byte) = refl
-no_write (Some code) b (Line source high) = refl
-
 pub input_writes_not : (b : BoardState) (i : Input) → writes b (event_of i) ≡ false
 unfolding writes
-input_writes_not b i = no_write b.machine.bus.halt b i
+input_writes_not b (Rx byte) = refl
+input_writes_not b (Line source high) = refl
 
 -- ---- events of more steps
 

@@ -5,6 +5,7 @@ pub mod Breaks
 pub mod Stops
 pub mod TimedCalls
 pub mod Laws
+pub mod Joined
 pub mod Commands
 pub mod Answers
 pub mod Filter
@@ -15,3 +16,4 @@ pub mod Views
 pub mod Growth
 pub mod Took
 pub mod Labels
+pub mod Resumed

@@ -6,7 +6,7 @@ use Rattle.std.specs.Ordering.{nat_cmp}
 use Rattle.std.specs.FinSet as set
 use Rattle.std.specs.FinSet.{FinSet}
 use Rattle.rv_program.specs.Program.{Assembly}
-use Rattle.rv_board.specs.State.{BoardState}
+use Rattle.rv_board.specs.BoardState.{BoardState}
 use Rattle.rv_board.specs.Move.{run}
 use Rattle.rv_lists.specs.Timed.{never_falls, inserted}
 use Rattle.rv_lists.specs.declared.input.Input.{Input}
@@ -58,10 +58,6 @@ start board inputs program limit =
       breakpoints = set.empty;
       room = 0;
     }
-
--- a session before its first step over another board, with all that it has
-abbrev pub begun_again : SessionState → BoardState → SessionState
-begun_again s board = record s { timed = begun board s.timed.inputs }
 
 -- the largest number of steps that a call for n may take
 abbrev pub most_of : SessionState → ℕ → ℕ

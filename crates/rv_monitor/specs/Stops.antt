@@ -4,8 +4,9 @@ use Rattle.std.specs.Prelude.{◌≡◌, ℕ, ◌-◌, ◌<◌, ◌≤◌, ◌&&
 use Rattle.std.specs.FinSet as set
 use Rattle.rv_base.specs.declared.memory.NoMemory.{NoMemory}
 use Rattle.rv_hart.specs.declared.trap.Outcome.{Outcome}
-use Rattle.rv_board.specs.State.{BoardState, halted_of, pc_of}
-use Rattle.rv_board.specs.Move.{step_outcome, writes}
+use Rattle.rv_hart.specs.Step.{step}
+use Rattle.rv_board.specs.BoardState.{BoardState}
+use Rattle.rv_board.specs.Move.{writes}
 use Rattle.rv_board.specs.Room.{wants_room}
 use Rattle.rv_board.specs.declared.event.Event.TheVariants.{Step}
 use Rattle.rv_monitor.specs.declared.stop.Stop.{Stop}
@@ -16,8 +17,8 @@ use Rattle.rv_monitor.specs.State.{Addresses, TimedState, SessionState, most_of,
 -- first step, its next instruction is at a breakpoint
 unfoldable pub stop_after : Addresses → BoardState → ℕ → Option Stop
 stop_after breakpoints b count =
-    if is_some (halted_of b) then Some Halted
-    else (if nat_lt 0 count && set.contains breakpoints (pc_of b) then Some Breakpoint else None)
+    if is_some b.machine.bus.halt then Some Halted
+    else (if nat_lt 0 count && set.contains breakpoints b.machine.pc then Some Breakpoint else None)
 
 -- a call for n steps took the least number of them after which it has a reason to end, or all that it may
 -- take, and nothing else changed
@@ -51,14 +52,14 @@ pub record WasRefused (breakpoints : Addresses) (n : ℕ) (old new : SessionStat
 
 -- whether a session may take a step: its board hasn't halted, and the limit isn't reached
 abbrev pub may_step : SessionState → Bool
-may_step s = is_none (halted_of s.timed.board) && nat_lt s.timed.taken s.limit
+may_step s = is_none s.timed.board.machine.bus.halt && nat_lt s.timed.taken s.limit
 
 -- a call for one step took it, and tells what the step did; or there was none to be taken; or memory ran out
 -- at it, once the inputs before it were given
 abbrev pub TakesStep : SessionState → SessionState → Result (Option Outcome) NoMemory → Type 0
 TakesStep old new (Ok (Some outcome)) =
     (may_step old ≡ true) × (new ≡ record old { timed = after old.timed 1 })
-    × (outcome ≡ step_outcome (with_due old.timed).board)
+    × (outcome ≡ (step (with_due old.timed).board.machine).1)
 TakesStep old new (Ok None) = (may_step old ≡ false) × (new ≡ old)
 TakesStep old new (Err refused) =
     (may_step old ≡ true) × (new ≡ record old { timed = with_due old.timed })

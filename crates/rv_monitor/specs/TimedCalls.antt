@@ -1,13 +1,22 @@
 -- Not to audit: private contracts alone cite this.
 -- When a call over a board with its timed inputs ends, by the number of steps between two states.
-use Rattle.std.specs.Prelude.{◌≡◌, ℕ, ◌<◌, ◌≤◌, true, None, unwrap_or, is_some}
+use Rattle.std.specs.Prelude.{◌≡◌, ℕ, ◌<◌, ◌≤◌, true, Option, None, unwrap_or, is_some}
 use Rattle.rv_board.specs.Move.{writes}
 use Rattle.rv_board.specs.Room.{wants_room}
 use Rattle.rv_board.specs.declared.event.Event.TheVariants.{Step}
 use Rattle.rv_monitor.specs.declared.stop.Stop.{Stop}
 use Rattle.rv_monitor.specs.declared.stop.Stop.TheVariants.{Limit}
-use Rattle.rv_monitor.specs.State.{Addresses, TimedState, after, with_due}
+use Rattle.rv_board.specs.State.{BoardState}
+use Rattle.rv_monitor.specs.State.{Addresses, SessionState, TimedState, after, begun, with_due}
 use Rattle.rv_monitor.specs.Stops.{stop_after, steps_between}
+
+-- the number of steps of `c`
+abbrev pub going_for : SessionState → Option ℕ → ℕ
+going_for s n = unwrap_or n s.limit
+
+-- a session before its first step over another board, with all that it has
+abbrev pub begun_again : SessionState → BoardState → SessionState
+begun_again s board = record s { timed = begun board s.timed.inputs }
 
 -- the number of steps that a call takes: the least after which it has a reason to end, or the most that it
 -- may take

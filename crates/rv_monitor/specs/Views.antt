@@ -9,8 +9,9 @@ use Rattle.rv_isa.specs.Meaning.{means}
 use Rattle.rv_isa.specs.Text.{text}
 use Rattle.rv_pmp.specs.declared.mode.Mode.{Mode}
 use Rattle.rv_pmp.specs.declared.mode.Mode.TheVariants.{User, Machine}
-use Rattle.rv_plic.specs.Edges.{edges_of}
-use Rattle.rv_board.specs.State.{BoardState, pc_of, mode_of, csr_of, byte_of}
+use Rattle.rv_plic.specs.Gateways.{edges_of}
+use Rattle.rv_bus.specs.Access.{ram_byte}
+use Rattle.rv_board.specs.BoardState.{BoardState, csr_of}
 use Rattle.rv_board.specs.declared.event.TrapRecord.{TrapRecord}
 use Rattle.rv_base.specs.Digits.{hex}
 use Rattle.rv_monitor.specs.Numbers.{two_decimals}
@@ -34,7 +35,7 @@ mode_letter Machine = codes "M"
 
 -- the pc and the mode, as `pc=80000000 mode=M`
 unfoldable pub place_text : BoardState → List ℕ
-place_text b = codes "pc=" ++ hex 8 (pc_of b) ++ codes " mode=" ++ mode_letter (mode_of b)
+place_text b = codes "pc=" ++ hex 8 b.machine.pc ++ codes " mode=" ++ mode_letter b.machine.mode
 
 -- a register, as `x07=00000555`; a line end follows the last of four, and a space the others
 unfoldable pub register_in_line : BoardState → ℕ → List ℕ
@@ -54,27 +55,20 @@ control_register_text b name csr = line (name ++ codes "=" ++ hex 8 (unwrap_or (
 
 -- the byte at an offset from an address, modulo 2 ^ 32
 abbrev pub byte_at_offset : BoardState → ℕ → ℕ → Option ℕ
-byte_at_offset b addr offset = byte_of b ((addr + offset) % 2 ^ 32)
+byte_at_offset b addr offset = ram_byte b.machine.bus.ram ((addr + offset) % 2 ^ 32)
 
--- a byte, or `--` where there is no memory
-abbrev pub byte_text : Option ℕ → List ℕ
-byte_text byte = option_map_or (hex 2) byte (codes "--")
-
--- a byte in its line: a space and the byte
+-- a byte in its line: a space, and the byte, or `--` where there is no memory
 unfoldable pub byte_in_line : BoardState → ℕ → ℕ → List ℕ
-byte_in_line b addr offset = codes " " ++ byte_text (byte_at_offset b addr offset)
+byte_in_line b addr offset = codes " " ++ option_map_or (hex 2) (byte_at_offset b addr offset) (codes "--")
 
 -- a line of a dump: an address, and `count` bytes from there on
 unfoldable pub bytes_line : BoardState → ℕ → ℕ → List ℕ
 bytes_line b addr count = line (hex 8 addr ++ codes ":" ++ pieces (byte_in_line b addr) count)
 
--- line k of a dump of `count` bytes: 16 of them, and in the last line those that are left
-unfoldable pub memory_line : BoardState → ℕ → ℕ → ℕ → List ℕ
-memory_line b addr count k = bytes_line b ((addr + 16 * k) % 2 ^ 32) (min 16 (count - 16 * k))
-
--- `m`: a dump of `count` bytes
+-- `m`: a dump of `count` bytes, 16 in a line, and in the last line those that are left
 unfoldable pub memory_text : BoardState → ℕ → ℕ → List ℕ
-memory_text b addr count = pieces (memory_line b addr count) (div_ceil count 16)
+memory_text b addr count =
+    pieces (λ k. bytes_line b ((addr + 16 * k) % 2 ^ 32) (min 16 (count - 16 * k))) (div_ceil count 16)
 
 -- the word of four bytes, low one first, if there is memory for all
 abbrev pub word_from : Option ℕ → Option ℕ → Option ℕ → Option ℕ → Option ℕ
@@ -98,15 +92,11 @@ instruction_text b addr = line (hex 8 addr ++ codes ": " ++ word_text (word_of b
 
 -- ---- traps
 
--- the line of a trap
+-- `t`: the line of a trap, of those that the board keeps, oldest first
 unfoldable pub trap_text : TrapRecord → List ℕ
 trap_text t =
     line ((codes "trap cause=" ++ hex 8 t.cause) ++ (codes " epc=" ++ hex 8 t.epc)
     ++ (codes " tval=" ++ hex 8 t.tval))
-
--- `t`: the traps that the board keeps, oldest first
-abbrev pub traps_text : BoardState → List ℕ
-traps_text b = flat_map trap_text b.traps
 
 -- ---- pending edges
 
@@ -114,7 +104,7 @@ traps_text b = flat_map trap_text b.traps
 unfoldable pub edges_text : BoardState → ℕ → List ℕ
 edges_text b source =
     line (codes "source " ++ decimal source ++ codes " edges="
-    ++ decimal (edges_of b.machine.bus.plic.gateways.edges source))
+    ++ decimal (edges_of b.machine.bus.plic.edges source))
 
 -- ---- stops
 

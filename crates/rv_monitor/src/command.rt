@@ -3,7 +3,7 @@ ghost use Rattle.std.specs.Prelude.{◌≡◌, ◌++◌, ◌+◌, ◌-◌, ◌�
 ghost use Rattle.rv_base.specs.Digits.{hex};
 ghost use Rattle.rv_monitor.specs.Views.{line};
 ghost use Rattle.rv_program.specs.Program.{value_of};
-ghost use Rattle.rv_commands.specs.Commands.{IsNamed};
+ghost use Rattle.rv_commands.specs.Named.{IsNamed};
 ghost use Rattle.rv_commands.specs.declared.command.Command.{Command};
 ghost use Rattle.rv_monitor.specs.Answers.{AppendsAnswer};
 ghost use Rattle.rv_monitor.specs.Commands.{Leaves, LeavesRefused, answer, next_of, stop_word, command_in};
@@ -97,7 +97,7 @@ impl<M: ByteMemory, C: Decoded> Session<M, C> {
             self.old self.new text.old.items text.new.items result }
     {
         text.reserve(WORD_BYTES + STOP_BYTES)?;
-        let most = count.unwrap_or(self.limit() - self.taken());
+        let most = count.unwrap_or(self.limit());
         let stop = self.go(most)?;
         write_stop(self.board(), stop_word(stop), text)
     }

@@ -1,9 +1,15 @@
 //! Sessions: what a caller may ask of one.
-ghost use Rattle.std.specs.Prelude.{◌≡◌, ◌≤◌, true, false, OnOk, OnErr, IfOk};
+ghost use Rattle.std.specs.Prelude.{◌≡◌, ◌==◌, ◌≤◌, ℕ, ◌+◌, true, false, List, drop, OnOk, OnErr, IfOk};
 ghost use Rattle.std.specs.FinSet as set;
-ghost use Rattle.rv_lists.specs.Timed.{never_falls};
-ghost use Rattle.rv_monitor.specs.Laws.{RunsJoin, CallsJoin, GivenAsListed};
-ghost use Rattle.rv_monitor.specs.State.{TimedState, IsInTime, start, begun_again, with_break, without_break, given};
+ghost use Rattle.rv_board.specs.Move.{run};
+ghost use Rattle.rv_board.specs.State.{BoardState};
+ghost use Rattle.rv_lists.specs.Timed.{inserted, never_falls};
+ghost use Rattle.rv_lists.specs.declared.input.Input.{Input};
+ghost use Rattle.rv_lists.specs.declared.input.TimedInput.{TimedInput};
+ghost use Rattle.rv_monitor.specs.Events.{events_of};
+ghost use Rattle.rv_monitor.specs.Laws.{IsReached};
+ghost use Rattle.rv_monitor.specs.Resumed.{resumed_at};
+ghost use Rattle.rv_monitor.specs.State.{TimedState, IsInTime, start, begun, count_before, after, with_due, with_break, without_break, given};
 ghost use Rattle.rv_monitor.specs.Stops.{Took, WasRefused, stop_of, TakesStep};
 
 use crate::breakpoints::Breakpoints;
@@ -220,12 +226,39 @@ impl<M: ByteMemory, C: Decoded> Session<M, C> {
     /// `NoMemory` if memory runs out at one of these steps. Nothing changes then.
     #[tactic(auto, using(crate::proofs::SessionCalls::took_again, crate::proofs::SessionCalls::word_again))]
     pub fn rewind(&mut self, board: Board<M, C>, n: u64) -> Result<Stop, NoMemory>
-        ensures took { OnOk result (Took set.empty n (begun_again self.old board) self.new) }
-        ensures stop { IfOk result (λ stop. stop ≡ stop_of set.empty (begun_again self.old board) self.new) }
+        ensures took { OnOk result
+            (Took set.empty n (record self.old { timed = begun board self.old.timed.inputs }) self.new) }
+        ensures stop { IfOk result (λ stop. stop
+            ≡ stop_of set.empty (record self.old { timed = begun board self.old.timed.inputs }) self.new) }
         ensures err { OnErr result (self.new ≡ self.old) }
     {
         let most = n.min(self.limit);
         self.timed.rewind(board, most)
+    }
+
+    /// Puts the session to where `n` steps end that are taken from a board on, with all of its inputs: from
+    /// one that has taken the first `taken` steps of this session and was given no input of the next step.
+    /// That comes to what [`rewind`](Session::rewind) comes to, in fewer steps. The breakpoints stay.
+    ///
+    /// # Errors
+    ///
+    /// `NoMemory` if memory runs out at one of these steps. Nothing changes then.
+    #[tactic(auto, using(crate::proofs::SessionCalls::took_on, crate::proofs::SessionCalls::word_on))]
+    pub fn resume(&mut self, board: Board<M, C>, taken: u64, n: u64) -> Result<Stop, NoMemory>
+        requires { taken ≤ self.old.limit }
+        ensures took { OnOk result (Took set.empty n (resumed_at self.old board taken) self.new) }
+        ensures stop { IfOk result (λ stop. stop ≡ stop_of set.empty (resumed_at self.old board taken) self.new) }
+        ensures err { OnErr result (self.new ≡ self.old) }
+    {
+        let most = n.min(self.limit - taken);
+        self.timed.resume(board, taken, most)
+    }
+
+    /// Returns whether no input of the next step was given, so that the board is what the steps taken left.
+    pub fn awaits_inputs(&self) -> bool
+        ensures { result ≡ (self.now.timed.place == count_before self.now.timed.taken self.now.timed.inputs) }
+    {
+        self.timed.awaits_inputs()
     }
 }
 
@@ -233,12 +266,25 @@ impl<M: ByteMemory, C: Decoded> Session<M, C> {
 /// where that one stopped.
 #[tactic(auto, using(crate::proofs::Steps::runs_join))]
 pub fn calls_join()
-    ensures runs { RunsJoin }
-    ensures calls { (s : TimedState) → IsInTime s → CallsJoin s }
+    // A run of the first steps and then of the next, with the inputs that are left, is the run of all.
+    ensures runs { (b : BoardState) (timed : List TimedInput) (k j : ℕ) → never_falls timed ≡ true
+        → run (run b (events_of timed 0 k)) (events_of (drop (count_before k timed) timed) k j)
+        ≡ run b (events_of timed 0 (k + j)) }
+
+    // So steps may be taken in any number of calls, and no step is no change.
+    ensures none { (s : TimedState) → IsInTime s → after s 0 ≡ s }
+    ensures more { (s : TimedState) → IsInTime s → (k j : ℕ) → after (after s k) j ≡ after s (k + j) }
+
+    // After memory ran out at a step, the next call goes on with that step, and gives no input again.
+    ensures again { (s : TimedState) → IsInTime s → (k j : ℕ)
+        → after (with_due (after s k)) (1 + j) ≡ after s (k + (1 + j)) }
 {}
 
 /// Law: an input that is given by hand is the same as one that stood in the list from the start.
 #[tactic(auto, using(crate::proofs::Given::given_as_listed))]
 pub fn given_as_listed()
-    ensures { GivenAsListed }
+    ensures reached { (board : BoardState) (s : TimedState) (input : Input) → IsReached board s
+        → IsReached board (given s input) }
+    ensures same { (board : BoardState) (s : TimedState) (input : Input) → IsReached board s → given s input
+        ≡ with_due (after (begun board (inserted s.inputs (record { step = s.taken; input = input }))) s.taken) }
 {}

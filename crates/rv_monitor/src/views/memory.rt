@@ -2,7 +2,8 @@
 ghost use Rattle.std.specs.Prelude.{◌≡◌, ◌++◌, ◌+◌, ◌-◌, ◌*◌, ◌%◌, ◌^◌, ◌<◌, ◌≤◌, codes, min, OnOk, OnErr, vec_len, vec_capacity};
 ghost use Rattle.rv_monitor.specs.Growth.{GrewBy};
 ghost use Rattle.rv_monitor.specs.Room.{memory_room, instruction_room};
-ghost use Rattle.rv_monitor.specs.Views.{pieces, byte_at_offset, byte_text, byte_in_line, memory_line, memory_text, word_of, word_text, instruction_text};
+ghost use Rattle.rv_monitor.specs.Labels.{byte_text, memory_line};
+ghost use Rattle.rv_monitor.specs.Views.{pieces, byte_at_offset, byte_in_line, memory_text, word_of, word_text, instruction_text};
 
 use rv_base::{NoMemory, append_within, byte_digits, word_digits};
 use rv_board::Board;
@@ -49,7 +50,7 @@ fn append_bytes<M: ByteMemory, C: Decoded>(
 }
 
 /// Appends line `number` of a dump of `count` bytes from `addr`.
-#[tactic(auto, unfolding(crate::specs::Views::memory_line, crate::specs::Views::bytes_line))]
+#[tactic(auto, unfolding(crate::specs::Views::bytes_line))]
 fn append_line<M: ByteMemory, C: Decoded>(
     board: &Board<M, C>,
     addr: u32,

@@ -3,7 +3,8 @@ ghost use Rattle.std.specs.Prelude.{◌≡◌, ◌++◌, ◌+◌, ◌*◌, ◌<�
 ghost use Rattle.rv_monitor.specs.Growth.{GrewBy};
 ghost use Rattle.rv_monitor.specs.Room.{traps_room};
 ghost use Rattle.rv_monitor.specs.Labels.{labelled};
-ghost use Rattle.rv_monitor.specs.Views.{trap_text, traps_text};
+ghost use Rattle.std.specs.List.{flat_map};
+ghost use Rattle.rv_monitor.specs.Views.{trap_text};
 
 use rv_base::{NoMemory, append_within, word_digits};
 use rv_board::{Board, TrapRecord};
@@ -41,7 +42,7 @@ pub fn write_traps<M: ByteMemory, C: Decoded>(
     board: &Board<M, C>,
     text: &mut Vec<u8>,
 ) -> Result<(), NoMemory>
-    ensures ok { OnOk result (text.new.items ≡ text.old.items ++ traps_text board.now) }
+    ensures ok { OnOk result (text.new.items ≡ text.old.items ++ flat_map trap_text board.now.traps) }
     ensures err { OnErr result (text.new.items ≡ text.old.items) }
     ensures room { OnErr result
         (vec_capacity text.old < vec_len text.old + traps_room (length board.now.traps)) }

@@ -1,0 +1,175 @@
+-- Boards that go on after some of their steps.
+use Rattle.std.proofs.Common.{◌≡◌, ◌∙◌, ℕ, zero, suc, ◌+◌, ◌-◌, ◌<◌, ◌≤◌, Bool, true, false, cond, List, [], ◌∷◌, length, get_or, drop, refl, sym, ap, subst, arith, zero-add, inl, inr, ⊎_elim}
+use Rattle.std.specs.Prelude.{◌⊎◌, nat_eq, nat_lt, ◌==◌, map, filter, is_some, Result, Ok, Err, OnErr, IfOk, None}
+use Rattle.std.specs.FinSet as set
+use Rattle.std.proofs.lemmas.Bool.{cases_lt, false≢true}
+use Rattle.std.proofs.lemmas.Bool.Decides.{nat_tests}
+use Rattle.rv_base.specs.declared.memory.NoMemory.{NoMemory}
+use Rattle.rv_board.specs.State.{BoardState, halted_of}
+use Rattle.rv_board.specs.Move.{run}
+use Rattle.rv_lists.specs.declared.input.TimedInput.{TimedInput}
+use Rattle.rv_lists.specs.Timed.{never_falls}
+use Rattle.rv_monitor.specs.declared.stop.Stop.{Stop}
+use Rattle.rv_monitor.specs.Events.{event_of, inputs_at, events_of}
+use Rattle.rv_monitor.specs.Laws.{IsReached}
+use Rattle.rv_monitor.specs.Resumed.{resumed}
+use Rattle.rv_monitor.specs.State.{TimedState, IsInTime, count_before, begun, after, with_due}
+use Rattle.rv_monitor.specs.TimedCalls.{HasStopped}
+use Rattle.rv_monitor.proofs.Times.{from, of, from_first, from_place, from_earlier, none_before, late_from, late_of, late_count, count_most}
+use Rattle.rv_monitor.proofs.Steps.{after_more}
+use Rattle.rv_monitor.proofs.Stopping.{taken_is}
+use Rattle.rv_monitor.proofs.Given.{after_begun, due_begun}
+use Rattle.rv_monitor.proofs.Reached.{goes_without}
+
+-- ---- the number of inputs before a step, one after another
+
+module _ (t : ℕ) where
+  pub counted_first : (xs : List TimedInput) → 0 + count_before t (drop 0 xs) ≡ count_before t xs
+  counted_first xs = zero-add (count_before t xs)
+
+  lt : (m n : ℕ) → m < n → nat_lt m n ≡ true
+  lt m n h = grind (arith, nat_tests)
+
+  one_less : (xs : List TimedInput) (i : ℕ) (d : TimedInput) → i < length xs → (get_or xs i d).step < t
+      → count_before t (drop i xs) ≡ suc (count_before t (drop (suc i) xs))
+  one_less [] i d h k = absurd (omega arith)
+  one_less (x ∷ xs) zero d h k = rw (lt x.step t k) refl
+  one_less (x ∷ xs) (suc i) d h k = one_less xs i d (omega arith) k
+
+  pub counted_more : (xs : List TimedInput) (i : ℕ) (x d : TimedInput) → i < length xs → x ≡ get_or xs i d
+      → x.step < t → i + count_before t (drop i xs) ≡ count_before t xs
+      → (i + 1) + count_before t (drop (i + 1) xs) ≡ count_before t xs
+  counted_more xs i x d h e k more =
+      let next : i + 1 ≡ suc i = omega arith in
+      let less = one_less xs i d h (omega (arith, ap (λ y. y.step) e)) in
+      ap (λ n. n + count_before t (drop n xs)) next ∙ omega (arith, less, more)
+
+  none_left : (xs : List TimedInput) → count_before t (drop (length xs) xs) ≡ 0
+  none_left [] = refl
+  none_left (x ∷ xs) = none_left xs
+
+  pub counted_all : (xs : List TimedInput) (n : ℕ) → n ≡ length xs
+      → n + count_before t (drop n xs) ≡ count_before t xs → n ≡ count_before t xs
+  counted_all xs n e h =
+      let none = ap (λ i. count_before t (drop i xs)) e ∙ none_left xs in omega (arith, h, none)
+
+  pub counted_till : (xs : List TimedInput) (i : ℕ) (x d : TimedInput) → never_falls xs ≡ true → i < length xs
+      → x ≡ get_or xs i d → t ≤ x.step → i + count_before t (drop i xs) ≡ count_before t xs
+      → i ≡ count_before t xs
+  counted_till xs i x d rising h e k more =
+      let none : count_before t (drop i xs) ≡ 0 =
+      none_before t (drop i xs)
+      (from_earlier t (get_or xs i d).step (drop i xs) (from_place xs i d rising h)
+      (omega (arith, ap (λ y. y.step) e))) in
+      omega (arith, none, more)
+
+-- ---- a board that goes on is in time
+
+pub resumed_in_time : (b : BoardState) (xs : List TimedInput) (t place : ℕ) → never_falls xs ≡ true
+    → place ≡ count_before t xs
+    → IsInTime (record { board = b; inputs = xs; place = place; taken = t }) × (from 0 (drop place xs) ≡ true)
+resumed_in_time b xs t place rising e = (
+  record {
+    within = omega (arith, e, count_most t xs);
+    rising = rising;
+    ahead = ap (λ n. from t (drop n xs)) e ∙ late_from t xs rising;
+  },
+  from_first (drop place xs),
+)
+
+-- from no step on it is a board before its first step
+first_is : (b : BoardState) (xs : List TimedInput) → resumed b xs 0 ≡ begun b xs
+first_is b xs = rw (none_before 0 xs (from_first xs)) refl
+
+pub from_reset : (r : Result Stop NoMemory) (b : BoardState) (xs : List TimedInput) (new : TimedState) (most : ℕ)
+    → IfOk r (HasStopped set.empty most (resumed b xs 0) new) → IfOk r (HasStopped set.empty most (begun b xs) new)
+from_reset r b xs new most h = subst (λ (s : TimedState). IfOk r (HasStopped set.empty most s new)) (first_is b xs) h
+
+pub resumed_within : (r : Result Stop NoMemory) (old new : TimedState) (b : BoardState) (taken most limit : ℕ)
+    → IfOk r (HasStopped set.empty most (resumed b old.inputs taken) new) → OnErr r (new ≡ old)
+    → taken + most ≤ limit → old.taken ≤ limit → new.taken ≤ limit
+resumed_within (Ok stop) old new b taken most limit ok err k h = omega (arith, ok.count.within)
+resumed_within (Err e) old new b taken most limit ok err k h = omega (arith, ap (λ u. u.taken) err)
+
+-- ---- where no input of the next step was given, the board is what the steps taken left
+
+lt_more : (m n : ℕ) → nat_eq m n ≡ true → nat_lt m (n + 1) ≡ true
+lt_more m n h = grind (arith, nat_tests)
+
+none_counted_by : (t : ℕ) (x : TimedInput) (xs : List TimedInput) (b c : Bool) → nat_eq x.step t ≡ b
+    → nat_lt x.step (t + 1) ≡ c → (count_before (t + 1) xs ≡ 0 → of t xs ≡ [])
+    → count_before (t + 1) (x ∷ xs) ≡ 0 → of t (x ∷ xs) ≡ []
+none_counted_by t x xs true c e f more h =
+    absurd (omega (
+      arith,
+      subst (λ (b : Bool). length (cond b (x ∷ filter (λ y. nat_lt y.step (t + 1)) xs)
+          (filter (λ y. nat_lt y.step (t + 1)) xs)) ≡ 0) (lt_more x.step t e) h,
+    ))
+none_counted_by t x xs false true e f more h =
+    absurd (omega (
+      arith,
+      subst (λ (b : Bool). length (cond b (x ∷ filter (λ y. nat_lt y.step (t + 1)) xs)
+          (filter (λ y. nat_lt y.step (t + 1)) xs)) ≡ 0) f h,
+    ))
+none_counted_by t x xs false false e f more h =
+    rw e (more (subst (λ (b : Bool). length (cond b (x ∷ filter (λ y. nat_lt y.step (t + 1)) xs)
+    (filter (λ y. nat_lt y.step (t + 1)) xs)) ≡ 0) f h))
+
+none_counted : (t : ℕ) (xs : List TimedInput) → count_before (t + 1) xs ≡ 0 → of t xs ≡ []
+none_counted t [] h = refl
+none_counted t (x ∷ xs) h =
+    none_counted_by t x xs (nat_eq x.step t) (nat_lt x.step (t + 1)) refl refl (none_counted t xs) h
+
+none_at : (t : ℕ) (xs : List TimedInput) → never_falls xs ≡ true → count_before (t + 1) xs ≡ count_before t xs
+    → inputs_at xs t ≡ []
+unfolding inputs_at
+none_at t xs rising e =
+    let late = drop (count_before t xs) xs in
+    let none : count_before (t + 1) late ≡ 0 = omega (arith, late_count t (t + 1) (omega arith) xs rising, e) in
+    ap (map (λ x. event_of x.input)) (sym (late_of t t (omega arith) xs rising) ∙ none_counted t late none)
+
+module _ (first : BoardState) (s : TimedState) (r : IsReached first s) where
+  abbrev from_reset_on : TimedState
+  from_reset_on = begun first s.inputs
+
+  left_by : (s ≡ after from_reset_on s.taken) ⊎ (s ≡ with_due (after from_reset_on s.taken))
+      → s.place ≡ count_before s.taken s.inputs → s.board ≡ run first (events_of s.inputs 0 s.taken)
+  left_by (inl e) h = ap (λ u. u.board) (e ∙ after_begun first s.inputs s.taken)
+  left_by (inr e) h =
+      let is = e ∙ due_begun first s.inputs r.rising s.taken in
+      let none = none_at s.taken s.inputs r.rising (sym (ap (λ u. u.place) is) ∙ h) in
+      ap (λ u. u.board) is ∙ ap (run (run first (events_of s.inputs 0 s.taken))) none
+
+  pub left_by_steps : s.place ≡ count_before s.taken s.inputs
+      → s.board ≡ run first (events_of s.inputs 0 s.taken)
+  left_by_steps h = left_by r.state h
+
+  -- ---- the steps that are left are taken again
+
+  module _ (b : BoardState) (k n : ℕ) (new : TimedState) (stop : Stop) (h : b ≡ run first (events_of s.inputs 0 k))
+      (below : k ≤ n) (within : n ≤ s.taken)
+      (st : HasStopped set.empty (n - k) (resumed b s.inputs k) new stop) where
+    resumed_is : resumed b s.inputs k ≡ after from_reset_on k
+    resumed_is =
+        ap (λ (c : BoardState). resumed c s.inputs k) h ∙ sym (after_begun first s.inputs k)
+
+    on : (j : ℕ) → after (resumed b s.inputs k) j ≡ after from_reset_on (k + j)
+    on j = ap (λ u. after u j) resumed_is ∙ after_more from_reset_on k j r.rising
+
+    taken_on : new.taken ≡ k + (new.taken - k)
+    taken_on = taken_is (resumed b s.inputs k) new (new.taken - k) st.state
+
+    pub resumed_taken : new.taken ≡ n
+    resumed_taken = ⊎_elim
+        (λ less.
+        let j = new.taken - k in
+        let halt = ap (λ u. halted_of u.board) (on j) ∙ r.running (k + j) (omega (arith, taken_on)) in
+        let none = goes_without (after (resumed b s.inputs k) j).board j halt in
+        absurd (false≢true (ap is_some (sym none) ∙ st.count.least (omega (arith, taken_on)))))
+        (λ enough. omega (arith, taken_on, st.count.within))
+        (cases_lt new.taken n)
+
+    pub resumed_back : new ≡ after from_reset_on n
+    resumed_back =
+        let sum : k + (new.taken - k) ≡ n = omega (arith, taken_on, resumed_taken) in
+        st.state ∙ (on (new.taken - k) ∙ ap (after from_reset_on) sum)
