@@ -8,8 +8,7 @@ use Rattle.rv_opening.specs.declared.fault.OpenFault.{OpenFault}
 use Rattle.rv_opening.specs.declared.fault.OpenFault.TheVariants.{OutOfMemory}
 use Rattle.rv_texts.specs.Readers.{Texts}
 use Rattle.rv_words.specs.declared.Options.{Options}
-use Rattle.rv_cli.specs.Conversions.{unopened_fault}
-use Rattle.rv_cli.specs.Laws.{OneOutput}
+use Rattle.rv_cli.specs.OneOutput.{OneOutput}
 use Rattle.rv_cli.specs.Output.{IsOutput, OpensFor, Output, ending_of, ends, printed, refused}
 use Rattle.rv_cli.proofs.OneRun.{one_done, some_done}
 
@@ -25,7 +24,7 @@ same_fault r a b one two = let e = sym one ∙ two in cc
 module _ (texts : Texts) (options : Options) where
   -- the output of an opening
   abbrev output_of : Opening → Output
-  output_of (Err fault) = Err (unopened_fault fault)
+  output_of (Err fault) = Err fault
   output_of (Ok first) = let some = some_done texts.commands first in end_of some.0 some.1.0
 
   is_output : (opening : Opening) → OpensFor texts options opening → opening ≢ Err OutOfMemory

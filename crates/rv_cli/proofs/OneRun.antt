@@ -1,14 +1,14 @@
 -- A command leaves one session, and commands one text.
-use Rattle.std.proofs.Common.{◌≡◌, ◌∙◌, ℕ, zero, suc, ◌+◌, ◌-◌, ◌<◌, ◌≤◌, ◌⊎◌, inl, inr, List, [], ◌∷◌, ◌++◌, Option, Some, None, refl, sym, ap, subst, arith, below_more, ⊎_elim}
+use Rattle.std.proofs.Common.{◌≡◌, ◌∙◌, ℕ, zero, suc, ◌+◌, ◌<◌, ◌≤◌, ◌⊎◌, inl, inr, List, [], ◌∷◌, ◌++◌, Option, Some, None, refl, sym, ap, subst, arith, below_more, ⊎_elim}
 use Rattle.std.specs.Prelude.{is_some}
 use Rattle.std.specs.FinSet as set
 use Rattle.std.proofs.lemmas.Bool.{cases_lt, false≢true}
 use Rattle.rv_commands.specs.declared.command.Command.{Command}
 use Rattle.rv_commands.specs.declared.command.Command.TheVariants.{Step, Go, SetBreak, ClearBreak}
-use Rattle.rv_monitor.specs.Commands.{Leaves, Took, answer, command_in, going_for, next_of}
+use Rattle.rv_monitor.specs.Commands.{Leaves, Took, answer, command_in, next_of}
 use Rattle.rv_monitor.specs.State.{Addresses, SessionState, TimedState, after, most_of, with_break, without_break}
 use Rattle.rv_monitor.specs.Stops.{stop_after}
-use Rattle.rv_monitor.specs.TimedCalls.{IsCount}
+use Rattle.rv_monitor.specs.TimedCalls.{IsCount, going_for}
 use Rattle.rv_monitor.specs.declared.command.Next.{Next}
 use Rattle.rv_monitor.specs.declared.command.Next.TheVariants.{More, Quit}
 use Rattle.rv_monitor.specs.declared.stop.Stop.{Stop}

@@ -1,8 +1,9 @@
 -- The reasons why a run has no ending, by those why its texts were not read and by what the texts mean.
-use Rattle.std.proofs.Common.{Option, Some, None}
+use Rattle.std.proofs.Common.{Option, Some, None, arith}
 use Rattle.std.specs.Prelude.{ℕ, IfSome, List}
 use Rattle.rv_words.specs.declared.Options.{Options}
-use Rattle.rv_texts.specs.Readers.{AllGave, GaveIf, Readers, Texts}
+use Rattle.rv_texts.specs.Calls.{GaveIf}
+use Rattle.rv_texts.specs.Readers.{AllGave, Readers, Texts}
 use Rattle.rv_texts.specs.Texts.{Gave, IsInOrder, Side}
 use Rattle.rv_texts.specs.Unread.{Unread}
 use Rattle.rv_texts.specs.declared.fault.ReadFault.{ReadFault}
@@ -17,11 +18,12 @@ use Rattle.rv_cli.specs.Run.{Refused}
 
 -- a reader that gave its text is in order
 in_order : (reader : Side) (text : List ℕ) → Gave reader text → IsInOrder reader
-in_order reader text g = record { bytes = text; gave = g.gave; within = g.within; is = g.sound }
+in_order reader text g =
+    (record { bytes = text; gave = g.gave; enough = omega arith; within = g.within }, g.sound)
 
 in_order_if : (reader : Option Side) (text : Option (List ℕ)) → GaveIf reader text → IfSome reader IsInOrder
 in_order_if None None g = tt
-in_order_if None (Some text) g = absurd g
+in_order_if None (Some text) g = absurd cc
 in_order_if (Some reader) (Some text) g = in_order reader text g
 in_order_if (Some reader) None g = absurd g
 

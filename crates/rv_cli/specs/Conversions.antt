@@ -1,5 +1,5 @@
 -- The faults of a run by the errors of its parts.
--- To audit: public contracts cite this.
+-- Not to audit: `?` takes these steps, and `Refused` says of each fault when it comes.
 use Rattle.rv_board.specs.declared.event.BootFault.TheVariants as boot
 use Rattle.rv_opening.specs.declared.fault.OpenFault.{OpenFault}
 use Rattle.rv_opening.specs.declared.fault.OpenFault.TheVariants as open_fault

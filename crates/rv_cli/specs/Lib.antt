@@ -1,6 +1,6 @@
 pub mod Conversions
 pub mod Faults
-pub mod Laws
+pub mod OneOutput
 pub mod Meanings
 pub mod Numbered
 pub mod Output

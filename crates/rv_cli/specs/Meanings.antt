@@ -2,10 +2,13 @@
 -- Not to audit: private contracts alone cite this.
 use Rattle.std.specs.Prelude.{◌≡◌, ◌++◌, ℕ, List, Option, Result, Err, ⊤}
 use Rattle.rv_board.specs.State.{halted_of}
+use Rattle.rv_board.specs.declared.event.BootFault.TheVariants as boot
+use Rattle.rv_opening.specs.declared.fault.OpenFault.{OpenFault}
+use Rattle.rv_opening.specs.declared.fault.OpenFault.TheVariants as open_fault
 use Rattle.rv_monitor.specs.State.{SessionState}
 use Rattle.rv_cli.specs.Output.{Does, ending_of, printed}
 use Rattle.rv_cli.specs.declared.fault.CliFault.{CliFault}
-use Rattle.rv_cli.specs.declared.fault.CliFault.TheVariants.{OutOfMemory, ReadSource, ReadInput, ReadCommands, Write}
+use Rattle.rv_cli.specs.declared.fault.CliFault.TheVariants.{Source, Input, BadPages, BadSlots, ImageTooLarge, OutOfMemory}
 use Rattle.rv_cli.specs.declared.fault.Ending.{Ending}
 
 -- the text that a session prints, and how the run ends
@@ -16,10 +19,11 @@ pub record IsRunOf (commands : Option (List ℕ)) (first : SessionState) (result
   pub is : result ≡ (answers ++ printed last.timed.board, ending_of (halted_of last.timed.board))
 
 -- the fault is one that the texts mean, unless memory ran out, and none of a reader or the writer
-abbrev pub RefusedBy : {A : Type 0} → (Result A CliFault → Type 0) → CliFault → Type 0
+abbrev pub RefusedBy : {A : Type 0} → (Result A OpenFault → Type 0) → CliFault → Type 0
 RefusedBy IsMeant OutOfMemory = ⊤
-RefusedBy IsMeant ReadSource = ⊥
-RefusedBy IsMeant ReadInput = ⊥
-RefusedBy IsMeant ReadCommands = ⊥
-RefusedBy IsMeant Write = ⊥
-RefusedBy IsMeant fault = IsMeant (Err fault)
+RefusedBy IsMeant (Source why) = IsMeant (Err (open_fault.Source why))
+RefusedBy IsMeant (Input n) = IsMeant (Err (open_fault.Input n))
+RefusedBy IsMeant BadPages = IsMeant (Err (open_fault.Board boot.BadPages))
+RefusedBy IsMeant BadSlots = IsMeant (Err (open_fault.Board boot.BadSlots))
+RefusedBy IsMeant ImageTooLarge = IsMeant (Err (open_fault.Board boot.ImageTooLarge))
+RefusedBy IsMeant fault = ⊥

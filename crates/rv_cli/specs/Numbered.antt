@@ -1,6 +1,8 @@
 -- The faults whose lines have a number in them.
 -- Not to audit: private contracts alone cite this.
-use Rattle.std.specs.Prelude.{Bool, false, true}
+use Rattle.std.specs.Prelude.{ℕ, Bool, List, false, true}
+use Rattle.rv_monitor.specs.Views.{line}
+use Rattle.rv_cli.specs.Faults.{row_of}
 use Rattle.rv_cli.specs.declared.fault.CliFault.{CliFault}
 use Rattle.rv_cli.specs.declared.fault.CliFault.TheVariants.{Source, Input}
 
@@ -9,3 +11,7 @@ abbrev pub has_number : CliFault → Bool
 has_number (Source fault) = true
 has_number (Input line) = true
 has_number other = false
+
+-- the line of a fault
+abbrev pub line_of : CliFault → List ℕ
+line_of fault = line (row_of fault).0

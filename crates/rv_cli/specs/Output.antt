@@ -3,20 +3,19 @@
 use Rattle.std.specs.Prelude.{◌≡◌, ◌≢◌, ℕ, ◌==◌, ◌||◌, List, [], ◌∷◌, ◌++◌, Option, Some, None, Result, Ok, Err, if◌then◌else◌, length, nat_eq}
 use Rattle.std.specs.FinSet as set
 use Rattle.std.specs.List.{ends_with}
+use Rattle.std.specs.Option.{option_map_or}
 use Rattle.rv_base.specs.Lines.{lines}
-use Rattle.rv_board.specs.State.{BoardState, halted_of, pc_of}
+use Rattle.rv_board.specs.BoardState.{BoardState}
 use Rattle.rv_monitor.specs.Commands.{Leaves, Took, answer, command_in, next_of}
 use Rattle.rv_monitor.specs.State.{SessionState}
+use Rattle.rv_monitor.specs.Views.{line}
 use Rattle.rv_monitor.specs.declared.command.Next.TheVariants.{More, Quit}
 use Rattle.rv_opening.specs.Opening.{Opens}
 use Rattle.rv_opening.specs.declared.fault.OpenFault.{OpenFault}
 use Rattle.rv_opening.specs.declared.fault.OpenFault.TheVariants.{OutOfMemory}
 use Rattle.rv_texts.specs.Readers.{Texts}
 use Rattle.rv_words.specs.declared.Options.{Options}
-use Rattle.rv_cli.specs.Conversions.{unopened_fault}
-use Rattle.rv_cli.specs.Faults.{ended}
 use Rattle.rv_cli.specs.Status.{status_text}
-use Rattle.rv_cli.specs.declared.fault.CliFault.{CliFault}
 use Rattle.rv_cli.specs.declared.fault.Ending.{Ending}
 use Rattle.rv_cli.specs.declared.fault.Ending.TheVariants.{Halted, Running}
 
@@ -25,17 +24,16 @@ use Rattle.rv_cli.specs.declared.fault.Ending.TheVariants.{Halted, Running}
 -- a text with a line end, unless it is empty or has one at its end
 abbrev pub with_line_end : List ℕ → List ℕ
 with_line_end text =
-    if length text == 0 || ends_with nat_eq text (10 ∷ []) then text else ended text
+    if length text == 0 || ends_with nat_eq text (10 ∷ []) then text else line text
 
 -- the console and the status line
 abbrev pub printed : BoardState → List ℕ
 printed b = with_line_end b.machine.bus.serial.sent
-    ++ ended (status_text (halted_of b) (pc_of b) b.steps)
+    ++ line (status_text b.machine.bus.halt b.machine.pc b.steps)
 
 -- how a run ends, by the code of the board's halt
 abbrev pub ending_of : Option ℕ → Ending
-ending_of (Some code) = Halted code
-ending_of None = Running
+ending_of halted = option_map_or (λ code. Halted code) halted Running
 
 -- ---- commands
 
@@ -57,20 +55,20 @@ Does (Some commands) old new text = Obeys (lines commands) old new text
 
 -- ---- the run
 
--- the text that a run prints and how it ends, or its first fault
+-- the text that a run prints and how it ends, or the first fault of its texts and sizes
 abbrev pub Output : Type 0
-Output = Result (List ℕ × Ending) CliFault
+Output = Result (List ℕ × Ending) OpenFault
 
 -- the texts and sizes open a session, whose limit is the steps of the options, or they have a fault
 abbrev pub OpensFor : Texts → Options → Result SessionState OpenFault → Type 0
 OpensFor t o opening = Opens t.source t.inputs o.pages o.slots o.steps opening
 
--- a fault of the opening is that of the run; a session that is opened does what is asked, and then the answers
--- and the board are printed
+-- a fault of the opening is the run's; a session that is opened does what is asked, and then the answers and
+-- the board are printed
 pub data IsOutput (texts : Texts) (options : Options) : Output → Type 0 where
   refused : (fault : OpenFault) → fault ≢ OutOfMemory → OpensFor texts options (Err fault)
-      → IsOutput texts options (Err (unopened_fault fault))
+      → IsOutput texts options (Err fault)
   ends : (first last : SessionState) (answers : List ℕ) → OpensFor texts options (Ok first)
       → Does texts.commands first last answers
       → IsOutput texts options
-      (Ok (answers ++ printed last.timed.board, ending_of (halted_of last.timed.board)))
+      (Ok (answers ++ printed last.timed.board, ending_of last.timed.board.machine.bus.halt))

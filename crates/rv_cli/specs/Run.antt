@@ -2,6 +2,8 @@
 -- To audit: public contracts cite this.
 use Rattle.std.specs.Prelude.{◌≡◌, ℕ, true, false, List, Ok, Err}
 use Rattle.std.specs.Io.KnownBytes.{Appends}
+use Rattle.rv_board.specs.declared.event.BootFault.TheVariants as boot
+use Rattle.rv_opening.specs.declared.fault.OpenFault.TheVariants as open_fault
 use Rattle.rv_words.specs.declared.Options.{Options}
 use Rattle.rv_texts.specs.Readers.{AllGave, Readers, Texts}
 use Rattle.rv_texts.specs.Texts.{Side, WroteBeginning}
@@ -10,7 +12,7 @@ use Rattle.rv_texts.specs.declared.fault.ReadFault.TheVariants as read
 use Rattle.rv_texts.specs.declared.fault.TextName.TheVariants as text_name
 use Rattle.rv_cli.specs.Output.{IsOutput, Output}
 use Rattle.rv_cli.specs.declared.fault.CliFault.{CliFault}
-use Rattle.rv_cli.specs.declared.fault.CliFault.TheVariants.{ReadSource, ReadInput, ReadCommands, OutOfMemory, Write}
+use Rattle.rv_cli.specs.declared.fault.CliFault.TheVariants.{ReadSource, ReadInput, ReadCommands, Source, Input, BadPages, BadSlots, ImageTooLarge, OutOfMemory, Write}
 use Rattle.rv_cli.specs.declared.fault.Ending.{Ending}
 
 -- the texts were read, and this is their output
@@ -34,11 +36,15 @@ pub record CutShort (r : Readers) (out : Side) (options : Options) : Type 0 wher
   pub wrote : WroteBeginning out printed
   pub failed : out.failed ≡ true
 
--- the reason why a run has no ending
+-- the reason why a run has no ending, a row a fault
 abbrev pub Refused : Readers → Side → Options → CliFault → Type 0
 Refused r out options ReadSource = Unread r (read.Unreadable text_name.Source)
 Refused r out options ReadInput = Unread r (read.Unreadable text_name.Input)
 Refused r out options ReadCommands = Unread r (read.Unreadable text_name.Commands)
-Refused r out options OutOfMemory = Unread r read.OutOfMemory
+Refused r out options (Source why) = HasOutput r options (Err (open_fault.Source why))
+Refused r out options (Input n) = HasOutput r options (Err (open_fault.Input n))
+Refused r out options BadPages = HasOutput r options (Err (open_fault.Board boot.BadPages))
+Refused r out options BadSlots = HasOutput r options (Err (open_fault.Board boot.BadSlots))
+Refused r out options ImageTooLarge = HasOutput r options (Err (open_fault.Board boot.ImageTooLarge))
 Refused r out options Write = CutShort r out options
-Refused r out options fault = HasOutput r options (Err fault)
+Refused r out options OutOfMemory = Unread r read.OutOfMemory

@@ -1,8 +1,9 @@
 //! How a run ends, the faults for which it has no ending, the line of each, and the exit statuses.
 ghost use Rattle.std.specs.Prelude.{◌≡◌, ◌++◌, Err, IfErr, IfOk, Ok, OnErr, OnOk, Some, false};
-ghost use Rattle.rv_cli.specs.Shown.{IsAppended};
-ghost use Rattle.rv_cli.specs.Faults.{input_line_of, line_of, read_fault_of, source_line_of, status_of};
-ghost use Rattle.rv_cli.specs.Numbered.{has_number};
+ghost use Rattle.rv_monitor.specs.Views as spec;
+ghost use Rattle.rv_cli.specs.Shown.{IsAppended, input_line_of};
+ghost use Rattle.rv_cli.specs.Faults.{read_fault_of, row_of, source_line_of, status_of};
+ghost use Rattle.rv_cli.specs.Numbered.{has_number, line_of};
 
 use rv_base::NoMemory;
 use rv_board::BootFault;
@@ -200,7 +201,7 @@ pub(crate) fn append_line<D: fmt::Display>(shown: &D, line: &mut Vec<u8>) -> Res
 ///
 /// `NoMemory` if memory runs out. `line` is left as it was.
 pub fn fault_line(fault: &CliFault, line: &mut Vec<u8>) -> Result<(), NoMemory>
-    ensures ok { OnOk result (line.new.items ≡ line.old.items ++ line_of fault.now) }
+    ensures ok { OnOk result (line.new.items ≡ line.old.items ++ spec.line (row_of fault.now).0) }
     ensures err { OnErr result (line.new.items ≡ line.old.items) }
 {
     match *fault {

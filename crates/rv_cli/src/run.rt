@@ -1,9 +1,8 @@
 //! A run, from its texts to the text that is printed.
-ghost use Rattle.std.specs.Prelude.{◌≡◌, ◌≢◌, IfErr, IfOk, Ok, false, is_some};
+ghost use Rattle.std.specs.Prelude.{◌≡◌, ◌≢◌, IfErr, IfOk, IfSome, Ok, false, is_some};
 ghost use Rattle.rv_cli.specs.Output.{IsOutput, OpensFor};
 ghost use Rattle.rv_cli.specs.Meanings.{IsRunOf, RefusedBy};
 ghost use Rattle.rv_cli.specs.Run.{Ended, Refused};
-ghost use Rattle.rv_texts.specs.Readers.{IsSoundIf, readers};
 ghost use Rattle.rv_texts.specs.Texts.{side, side_if};
 ghost use Rattle.rv_cli.specs.declared.fault.CliFault.TheVariants.{ReadInput, ReadSource, Write};
 
@@ -87,17 +86,19 @@ pub fn run_text<S: TextIn, I: TextIn, C: TextIn, W: TextOut>(
 ) -> Result<Ending, CliFault>
     requires source { S.has_failed source.old ≡ false }
     requires inputs { I.has_failed inputs.old ≡ false }
-    requires commands { IsSoundIf C.has_failed commands.old }
+    requires commands { IfSome commands.old (λ c. C.has_failed c ≡ false) }
     requires out { W.has_failed out.old ≡ false }
-    ensures ended { IfOk result (Ended (readers
-        (side S.left S.has_failed source.old source.new)
-        (side I.left I.has_failed inputs.old inputs.new)
-        (side_if C.left C.has_failed commands.old commands.new))
+    ensures ended { IfOk result (Ended (record {
+      source = side S.left S.has_failed source.old source.new;
+      inputs = side I.left I.has_failed inputs.old inputs.new;
+      commands = side_if C.left C.has_failed commands.old commands.new;
+    })
         (side W.taken W.has_failed out.old out.new) options) }
-    ensures refused { IfErr result (Refused (readers
-        (side S.left S.has_failed source.old source.new)
-        (side I.left I.has_failed inputs.old inputs.new)
-        (side_if C.left C.has_failed commands.old commands.new))
+    ensures refused { IfErr result (Refused (record {
+      source = side S.left S.has_failed source.old source.new;
+      inputs = side I.left I.has_failed inputs.old inputs.new;
+      commands = side_if C.left C.has_failed commands.old commands.new;
+    })
         (side W.taken W.has_failed out.old out.new) options) }
     ensures there { is_some commands.new ≡ is_some commands.old }
     ensures unwritten { IfErr result (λ fault. fault ≢ Write → out.new ≡ out.old) }

@@ -1,7 +1,8 @@
 //! The status line: how a board stands after its steps.
 ghost use Rattle.std.specs.Prelude.{◌≡◌, ◌++◌, OnErr, OnOk, Some};
-ghost use Rattle.rv_cli.specs.Faults.{ended};
-ghost use Rattle.rv_cli.specs.Status.{stand_of, status_text};
+ghost use Rattle.rv_monitor.specs.Views as spec;
+ghost use Rattle.rv_cli.specs.Shown.{stand_of};
+ghost use Rattle.rv_cli.specs.Status.{status_text};
 
 use crate::fault::append_line;
 use rv_base::NoMemory;
@@ -51,7 +52,7 @@ impl fmt::Display for Status {
 /// Appends the status line, with its line end, to a text, which is left as it was where memory runs out.
 pub(crate) fn append_status(status: Status, line: &mut Vec<u8>) -> Result<(), NoMemory>
     ensures ok { OnOk result (line.new.items ≡ line.old.items
-        ++ ended (status_text status.halted status.pc status.steps)) }
+        ++ spec.line (status_text status.halted status.pc status.steps)) }
     ensures err { OnErr result (line.new.items ≡ line.old.items) }
 {
     append_line(&status, line)

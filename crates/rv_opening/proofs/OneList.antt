@@ -5,7 +5,8 @@ use Rattle.std.proofs.Math.Seq.{take-length}
 use Rattle.std.proofs.lemmas.Bool.{cases_lt, false≢true}
 use Rattle.std.proofs.lemmas.List.{take-append-drop}
 use Rattle.rv_lists.specs.declared.input.TimedInput.{TimedInput}
-use Rattle.rv_lists.specs.Timed.{joined, all_of, said, never_falls, unless_falling, timed, IsFirstRefused}
+use Rattle.rv_lists.specs.Reading.{joined, unless_falling}
+use Rattle.rv_lists.specs.Timed.{all_of, said, never_falls, timed, IsFirstRefused}
 use Rattle.rv_lists.proofs.Whole.{begun}
 
 -- ---- lines that have a list: so have those before them
@@ -93,7 +94,7 @@ searched_by : (texts : List (List ℕ)) (m : ℕ) (found : Option (List TimedInp
     → timed (take (m + 1) texts) ≡ found → m + 1 ≤ length texts → AllListed texts (m + 1)
     → AllListed texts (m + 1 + 1) ⊎ ((n : ℕ) × IsFirstRefused texts n)
 searched_by texts m None is le all =
-    inr (m + 1, record { counted = omega arith; within = le; refused = is; taken = all })
+    inr (m + 1, record { refused = is; taken = all })
 searched_by texts m (Some inputs) is le all =
     inl (below_more (λ k. is_some (timed (take k texts)) ≡ true) (m + 1) all (ap is_some is))
 

@@ -1,5 +1,6 @@
 -- Why nothing is opened, by the errors of its parts.
--- To audit: public contracts cite this.
+-- Not to audit: `?` takes these steps from the errors of the parts to the one of the opening, and the promise
+-- of `open_session` says of each of those when it comes.
 use Rattle.rv_program.specs.declared.fault.AsmFault.{AsmFault}
 use Rattle.rv_program.specs.declared.fault.FaultKind.{FaultKind}
 use Rattle.rv_program.specs.declared.fault.FaultKind.TheVariants as kind

@@ -1,6 +1,6 @@
 -- The bytes that a reader gave and a writer took.
 -- To audit: public contracts cite this.
-use Rattle.std.specs.Prelude.{◌≡◌, ◌⊎◌, ◌+◌, ◌<◌, ◌≤◌, ℕ, Bool, true, false, List, Option, Some, None, length, take}
+use Rattle.std.specs.Prelude.{◌≡◌, ◌⊎◌, ◌+◌, ◌≤◌, ℕ, Bool, true, false, List, Option, Some, None, length, take}
 use Rattle.std.specs.Io.KnownBytes.{Appends, Consumes, IsAtEnd}
 use Rattle.rv_base.specs.Limits.{text_limit}
 
@@ -29,36 +29,27 @@ pub record Gave (reader : Side) (text : List ℕ) : Type 0 where
   pub within : length text ≤ text_limit
   pub sound : reader.failed ≡ false
 
--- the reader gave no more bytes than a text may have, and then failed or did not
-pub record GavePart (reader : Side) (failed : Bool) : Type 0 where
+-- the reader gave no less and no more bytes than these
+pub record GaveBytes (reader : Side) (least most : ℕ) : Type 0 where
   pub bytes : List ℕ
   pub gave : Consumes reader.old reader.new bytes
-  pub within : length bytes ≤ text_limit
-  pub is : reader.failed ≡ failed
+  pub enough : least ≤ length bytes
+  pub within : length bytes ≤ most
 
--- the reader is in order, and gave no more than a text
+-- the reader is in order, and gave no more than a text may have
 abbrev pub IsInOrder : Side → Type 0
-IsInOrder reader = GavePart reader false
+IsInOrder reader = GaveBytes reader 0 text_limit × (reader.failed ≡ false)
 
--- the largest number of bytes that a call of a reader asks for
-abbrev pub most_a_call : ℕ
-most_a_call = 8192
-
--- the reader gave more bytes than a text may have, and was not called again
-pub record GaveTooMuch (reader : Side) : Type 0 where
-  pub bytes : List ℕ
-  pub gave : Consumes reader.old reader.new bytes
-  pub more : text_limit < length bytes
-  pub left : length bytes ≤ text_limit + most_a_call
-
--- the reader failed or gave too much
+-- the reader failed; or it gave more than a text may have, and was not called again: a call asks for 8192
+-- bytes at most
 abbrev pub IsUnreadable : Side → Type 0
-IsUnreadable reader = GavePart reader true ⊎ GaveTooMuch reader
+IsUnreadable reader =
+    (GaveBytes reader 0 text_limit × (reader.failed ≡ true))
+    ⊎ GaveBytes reader (text_limit + 1) (text_limit + 8192)
 
 -- ---- a writer
 
 -- the writer took a beginning of the text
 pub record WroteBeginning (writer : Side) (text : List ℕ) : Type 0 where
   pub count : ℕ
-  pub some : count ≤ length text
   pub took : Appends writer.old writer.new (take count text)

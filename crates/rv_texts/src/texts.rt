@@ -2,7 +2,8 @@
 ghost use Rattle.std.specs.Prelude.{◌≡◌, ◌⊎◌, IfErr, IfOk, IfSome, IsSomeAnd, false, is_some};
 ghost use Rattle.std.specs.Option.{option_map};
 ghost use Rattle.rv_texts.specs.Unread.{Unread};
-ghost use Rattle.rv_texts.specs.Readers.{AllGave, GaveIf, IsSoundIf, readers};
+ghost use Rattle.rv_texts.specs.Calls.{GaveIf};
+ghost use Rattle.rv_texts.specs.Readers.{AllGave};
 ghost use Rattle.rv_texts.specs.Texts.{IsInOrder, IsUnreadable, side, side_if};
 ghost use Rattle.rv_texts.specs.declared.fault.ReadFault.TheVariants.{OutOfMemory, Unreadable};
 ghost use Rattle.rv_texts.specs.declared.fault.TextName.TheVariants.{Commands, Input, Source};
@@ -70,7 +71,7 @@ fn read_commands<C: TextIn>(
     alloc: Global,
     commands: &mut Option<C>,
 ) -> Result<Option<Vec<u8>>, ReadFault>
-    requires { IsSoundIf C.has_failed commands.old }
+    requires { IfSome commands.old (λ c. C.has_failed c ≡ false) }
     ensures ok { IfOk result (λ text.
         GaveIf (side_if C.left C.has_failed commands.old commands.new) (option_map (λ t. t.items) text)) }
     ensures err { IfErr result (λ fault.
@@ -102,15 +103,17 @@ pub fn read_texts<S: TextIn, I: TextIn, C: TextIn>(
 ) -> Result<Texts, ReadFault>
     requires source { S.has_failed source.old ≡ false }
     requires inputs { I.has_failed inputs.old ≡ false }
-    requires commands { IsSoundIf C.has_failed commands.old }
-    ensures ok { IfOk result (AllGave (readers
-        (side S.left S.has_failed source.old source.new)
-        (side I.left I.has_failed inputs.old inputs.new)
-        (side_if C.left C.has_failed commands.old commands.new))) }
-    ensures err { IfErr result (Unread (readers
-        (side S.left S.has_failed source.old source.new)
-        (side I.left I.has_failed inputs.old inputs.new)
-        (side_if C.left C.has_failed commands.old commands.new))) }
+    requires commands { IfSome commands.old (λ c. C.has_failed c ≡ false) }
+    ensures ok { IfOk result (AllGave (record {
+      source = side S.left S.has_failed source.old source.new;
+      inputs = side I.left I.has_failed inputs.old inputs.new;
+      commands = side_if C.left C.has_failed commands.old commands.new;
+    })) }
+    ensures err { IfErr result (Unread (record {
+      source = side S.left S.has_failed source.old source.new;
+      inputs = side I.left I.has_failed inputs.old inputs.new;
+      commands = side_if C.left C.has_failed commands.old commands.new;
+    })) }
     ensures there { is_some commands.new ≡ is_some commands.old }
 
     // After a reader's fault no reader that follows is touched.

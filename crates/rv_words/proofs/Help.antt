@@ -5,7 +5,7 @@ use Rattle.std.specs.Char.{encode_utf8}
 use Rattle.std.specs.Str.{chars}
 use Rattle.clap.specs.Faults.{flags_fault, walk_fault}
 use Rattle.rv_words.specs.Board.{board_app}
-use Rattle.rv_words.specs.Rules.{AsksForHelp}
+use Rattle.rv_words.specs.Parts.{AsksForHelp}
 
 pub long_help : AsksForHelp (codes "--help")
 unfolding board_app walk_fault

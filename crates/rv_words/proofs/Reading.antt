@@ -1,7 +1,7 @@
 -- What the words of readable parts mean, where they are taken.
 use Rattle.std.proofs.Common.{◌≡◌, ◌∙◌, ℕ, Bool, true, false, List, [], ◌∷◌, ◌++◌, ◌+◌, take, drop, Option, Some, None, refl, sym, ap, subst, ◌⊎◌, inl, inr, append_assoc, append-nil}
 use Rattle.std.specs.Prelude.{◌||◌, cond, not, codes, find, fold, if◌then◌else◌, map, option_and_then, option_map, slice_get, unwrap_or}
-use Rattle.std.specs.List.{list_all, list_any}
+use Rattle.std.specs.List.{flat_map, list_all, list_any}
 use Rattle.std.specs.Option.{option_map_or}
 use Rattle.std.specs.Str.{bytes_eq}
 use Rattle.std.specs.Str.Parse.{digits_value, without_leading_plus}
@@ -14,8 +14,9 @@ use Rattle.clap.specs.declared.builder.value_parser.Reading.TheVariants.{Without
 use Rattle.clap.specs.declared.parser.matches.ValueSource.TheVariants.{DefaultValue}
 use Rattle.rv_words.specs.Board.{OptionName, board_app, commands, input, name_of, pages, range_of, slots, steps}
 use Rattle.rv_words.specs.Read.{number_of}
-use Rattle.rv_words.specs.Rules.{Part, ReadByRules, Says, all_words, are_new, given_by, is_allowed, is_new, is_plain, is_readable, named, number_in, source, value_in}
-use Rattle.rv_words.proofs.Rules.{absent, any_more, arguments, between, both, has_rows, has_source, holding, holding_rows, holding_source, joined_walked, name_walked, no_flag, not_source, or_false, or_true, parts_are_taken, position_of, row_added, row_for, rows_in, rule_for, rule_of, shape, source_rows, source_rule_built, source_used, source_walked, value_walked}
+use Rattle.rv_words.specs.Parts.{ReadByRules, all_words, is_new, number_in}
+use Rattle.rv_words.specs.Rules.{Part, Says, are_new, given_by, is_allowed, is_plain, is_readable, named, source, value_in, words_of}
+use Rattle.rv_words.proofs.Rules.{absent, any_more, arguments, between, both, has_rows, has_source, holding, holding_rows, holding_source, joined_walked, name_walked, no_flag, not_source, or_false, or_true, parts_are_taken, position_of, row_added, row_for, rows_in, rule_for, rule_of, same_words, shape, source_rows, source_rule_built, source_used, source_walked, value_walked}
 
 -- ---- the rows at the end of the walk
 
@@ -393,11 +394,12 @@ matches_are program words =
 
 rows_read : (program : Text) (parts : List Part) → list_all is_readable parts ≡ true
     → are_new [] parts ≡ true
-    → matches_of board_app (program ∷ all_words parts) ≡ fold with_default (map row_for parts) shape.rules
+    → matches_of board_app (program ∷ flat_map words_of parts) ≡ fold with_default (map row_for parts) shape.rules
 rows_read program parts readable fresh =
-    matches_are program (all_words parts)
+    ap (λ words. matches_of board_app (program ∷ words)) (same_words parts)
+    ∙ (matches_are program (all_words parts)
     ∙ ap (λ rows. fold with_default rows shape.rules)
-    (rows_walked parts [] nothing_held false readable refl refl fresh)
+    (rows_walked parts [] nothing_held false readable refl refl fresh))
 
 module _ (parts : List Part) (rows : List Row) (is : rows ≡ fold with_default (map row_for parts) shape.rules)
   where

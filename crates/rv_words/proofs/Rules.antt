@@ -2,7 +2,7 @@
 use Rattle.std.proofs.Common.{◌≡◌, ◌∙◌, ℕ, Bool, true, false, List, [], ◌∷◌, ◌++◌, Option, Some, None, refl, sym, ap, append-nil}
 use Rattle.std.specs.Prelude.{◌==◌, ◌&&◌, ◌||◌, not, codes, fold, is_some, map, if◌then◌else◌}
 use Rattle.std.proofs.lemmas.List.{map-append}
-use Rattle.std.specs.List.{list_all, list_any}
+use Rattle.std.specs.List.{flat_map, list_all, list_any}
 use Rattle.std.specs.Str.{bytes_eq}
 use Rattle.clap.specs.Lexer.{long_of, short_of}
 use Rattle.clap.specs.Simple.{Shape, argument_words, built, entered, filled, with_index}
@@ -13,7 +13,8 @@ use Rattle.clap.specs.declared.parser.matches.ValueSource.TheVariants.{CommandLi
 use Rattle.rv_words.specs.Board.{OptionName, board_app, commands, input, name_of, pages, slots, source_rule, steps}
 use Rattle.rv_words.specs.Chain.{input_rule, commands_rule, steps_rule, pages_rule, slots_rule}
 use Rattle.rv_words.proofs.BoardParse.{board_simple}
-use Rattle.rv_words.specs.Rules.{Part, TakenByRules, all_words, are_new, given_by, is_allowed, is_plain, is_readable, may_be, named, source, value_in}
+use Rattle.rv_words.specs.Parts.{TakenByRules, all_words, may_be}
+use Rattle.rv_words.specs.Rules.{Part, are_new, given_by, is_allowed, is_plain, is_readable, named, source, value_in, words_of}
 
 -- ---- tests
 
@@ -137,7 +138,8 @@ no_flag_alone : (x : ℕ) (t : Bool) → (x == 45) ≡ t → IsNoFlag (x ∷ [])
 no_flag_alone x true is = record { long = rw is refl; short = rw is refl; dashes = rw is refl }
 no_flag_alone x false is = record { long = rw is refl; short = rw is refl; dashes = rw is refl }
 
-no_flag_by : (x y : ℕ) (more : Text) (t : Bool) → (x == 45) ≡ t → not t ≡ true → IsNoFlag (x ∷ y ∷ more)
+no_flag_by : (x y : ℕ) (more : Text) (t : Bool) → (x == 45) ≡ t → ((t && false) || not t) ≡ true
+    → IsNoFlag (x ∷ y ∷ more)
 no_flag_by x y more true is plain = absurd cc
 no_flag_by x y more false is plain = record { long = rw is refl; short = rw is refl; dashes = rw is refl }
 
@@ -515,6 +517,12 @@ takes_is program words =
     board_simple
     ∙ (ap (built_takes (built board_app) nothing_held) (arguments program words) ∙ built_is words)
 
+pub same_words : (parts : List Part) → flat_map words_of parts ≡ all_words parts
+same_words [] = refl
+same_words (part ∷ more) = ap (λ words. words_of part ++ words) (same_words more)
+
 pub parts_are_taken : TakenByRules
 parts_are_taken program parts readable =
-    takes_is program (all_words parts) ∙ (walk_parts parts nothing_held false readable ∙ uses_are parts [])
+    takes_is program (flat_map words_of parts)
+    ∙ (ap (passes (between nothing_held 1)) (same_words parts)
+    ∙ (walk_parts parts nothing_held false readable ∙ uses_are parts []))

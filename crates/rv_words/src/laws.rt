@@ -1,26 +1,37 @@
 //! Laws of the words of the command line: `clap`'s meaning covers them, and they read as rules.
-ghost use Rattle.std.specs.Prelude.{codes};
-ghost use Rattle.rv_words.specs.Rules.{AsksForHelp, HasMeaning, ReadByRules, TakenByRules};
+ghost use Rattle.std.specs.Prelude.{◌≡◌, ◌&&◌, [], ◌∷◌, List, codes, true};
+ghost use Rattle.std.specs.List.{flat_map, list_all};
+ghost use Rattle.clap.specs.Faults.{is_simple_and_free};
+ghost use Rattle.clap.specs.Words.{Text, fault_of, matches_of, takes};
+ghost use Rattle.clap.specs.declared.error.kind.ErrorKind.TheVariants.{DisplayHelp};
+ghost use Rattle.rv_words.specs.Board.{board_app};
+ghost use Rattle.rv_words.specs.Rules.{Part, ReadsAs, are_new, is_allowed, is_readable, words_of};
 
 /// Law: the command is one of those of which `clap`'s meaning says the matches and the errors. So what
 /// `read_words` ensures by them says something of all words.
 pub fn words_have_a_meaning()
-    ensures { HasMeaning }
+    ensures { is_simple_and_free board_app ≡ true }
 {}
 
 /// Law: `--help` or `-h` in the first place asks for help, whatever follows.
 pub fn help_is_answered()
-    ensures long { AsksForHelp (codes "--help") }
-    ensures short { AsksForHelp (codes "-h") }
+    ensures long { (program : Text) (more : List Text)
+        → fault_of board_app (program ∷ codes "--help" ∷ more) ≡ DisplayHelp ∷ [] }
+    ensures short { (program : Text) (more : List Text)
+        → fault_of board_app (program ∷ codes "-h" ∷ more) ≡ DisplayHelp ∷ [] }
 {}
 
 /// Law: words that name options, each with its value after it or joined to it by `=`, and the source beside
 /// them, are taken exactly where each value is allowed, a number in its range, and nothing is given twice.
 pub fn words_are_taken_by_rules()
-    ensures { TakenByRules }
+    ensures { (program : Text) (parts : List Part) → list_all is_readable parts ≡ true
+        → takes board_app (program ∷ flat_map words_of parts) ≡ (list_all is_allowed parts && are_new [] parts) }
 {}
 
-/// Law: where such words are taken, they mean what they give, with the defaults of what they don't give.
+/// Law: where such words are taken, they mean what they give, with the defaults of what they don't give:
+/// `read_words` reads its fields from these matches.
 pub fn words_are_read_by_rules()
-    ensures { ReadByRules }
+    ensures { (program : Text) (parts : List Part) → list_all is_readable parts ≡ true
+        → takes board_app (program ∷ flat_map words_of parts) ≡ true
+        → ReadsAs parts (matches_of board_app (program ∷ flat_map words_of parts)) }
 {}

@@ -4,8 +4,7 @@
 //! them, and exits with the status of the run. The lines of faults go to the standard error.
 #![tactic(auto)]
 
-ghost use Rattle.std.specs.Prelude.{◌≡◌, IfOk, false};
-ghost use Rattle.rv_texts.specs.Readers.{IsSoundIf};
+ghost use Rattle.std.specs.Prelude.{◌≡◌, IfOk, IfSome, false};
 
 use rv_cli::{
     CliFault, Ending, FileIn, FileOut, MemoryIn, NoRun, Options, Origin, TextIn, TextName, Words,
@@ -31,7 +30,7 @@ fn open_named(
     text: TextName,
     path: Option<&str>,
 ) -> Result<Option<FileIn<File>>, CliFault>
-    ensures { IfOk result (IsSoundIf (λ f. f.has_failed)) }
+    ensures { IfOk result (λ file. IfSome file (λ f. f.has_failed ≡ false)) }
 {
     let Some(path) = path else {
         return Ok(None);
@@ -50,7 +49,7 @@ fn print_run<S: TextIn, I: TextIn>(
 ) -> Result<Ending, CliFault>
     requires source { S.has_failed source.old ≡ false }
     requires inputs { I.has_failed inputs.old ≡ false }
-    requires commands { IsSoundIf (λ f. f.has_failed) commands.old }
+    requires commands { IfSome commands.old (λ f. f.has_failed ≡ false) }
 {
     let mut out = FileOut::new(rt.stdout());
     run_text(rt.alloc(), source, inputs, commands, options, &mut out)

@@ -6,13 +6,16 @@ pub returns-in_default-clause-err : goal.returns-in_default-clause-err
 returns-in_default-clause-err g c =
     inl (
       search rules,
-      inl (record {
-        bytes = c.loop-count.text.items;
-        gave = Consumes-kept _ _ _ c.loop-count.text.items c.loop-count.invariant.gave
-            c.in_default.ensures.bytes;
-        within = omega (arith, c.loop-count.invariant.within);
-        is = c.in_default.ensures.err;
-      }),
+      inl (
+        record {
+          bytes = c.loop-count.text.items;
+          gave = Consumes-kept _ _ _ c.loop-count.text.items c.loop-count.invariant.gave
+              c.in_default.ensures.bytes;
+          enough = omega arith;
+          within = omega (arith, c.loop-count.invariant.within);
+        },
+        c.in_default.ensures.err,
+      ),
     )
 
 pub returns-then-len-count-clause-err : goal.returns-then-len-count-clause-err
@@ -25,14 +28,14 @@ returns-then-len-count-clause-err g c =
         bytes = c.loop-count.text.items ++ more;
         gave = Consumes-trans _ _ _ c.loop-count.text.items more c.loop-count.invariant.gave
             c.in-Ok.ensures.bytes.0;
-        more = omega (
+        enough = omega (
           arith,
           length-append c.loop-count.text.items more,
           length-take c.in-Ok.count c.read.new.buffer,
           c.if-len-count.true,
           c.len.ensures,
         );
-        left = omega (
+        within = omega (
           arith,
           length-append c.loop-count.text.items more,
           length-take c.in-Ok.count c.read.new.buffer,
@@ -48,18 +51,21 @@ returns-then-is_err-clause-err g c =
     let within = c.in-Ok.ensures.within in
     inr (
       refl,
-      record {
-        bytes = c.loop-count.text.items ++ more;
-        gave = Consumes-trans _ _ _ c.loop-count.text.items more c.loop-count.invariant.gave
-            c.in-Ok.ensures.bytes.0;
-        within = omega (
-          arith,
-          length-append c.loop-count.text.items more,
-          length-take c.in-Ok.count c.read.new.buffer,
-          c.if-len-count.false,
-          c.len.ensures,
-          c.loop-count.invariant.within,
-        );
-        is = search rules;
-      },
+      (
+        record {
+          bytes = c.loop-count.text.items ++ more;
+          gave = Consumes-trans _ _ _ c.loop-count.text.items more c.loop-count.invariant.gave
+              c.in-Ok.ensures.bytes.0;
+          enough = omega arith;
+          within = omega (
+            arith,
+            length-append c.loop-count.text.items more,
+            length-take c.in-Ok.count c.read.new.buffer,
+            c.if-len-count.false,
+            c.len.ensures,
+            c.loop-count.invariant.within,
+          );
+        },
+        search rules,
+      ),
     )

@@ -1,5 +1,5 @@
--- Laws: texts and options have one output.
--- To audit: public contracts cite this.
+-- Texts and options have one output, as it is proved.
+-- Not to audit: the contract of the law says the same.
 use Rattle.std.specs.Prelude.{◌≡◌}
 use Rattle.rv_texts.specs.Readers.{Texts}
 use Rattle.rv_words.specs.declared.Options.{Options}
