@@ -1,3 +1,4 @@
 pub mod Stands
 pub mod Running
 pub mod Outward
+pub mod Keeping

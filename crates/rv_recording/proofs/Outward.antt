@@ -1,14 +1,14 @@
 -- Runs out of calls, step by step.
-use Rattle.std.proofs.Common.{◌≡◌, ◌∙◌, ℕ, suc, ◌+◌, ◌<◌, ◌==◌, refl, sym, ap, subst, arith, inl, inr}
+use Rattle.std.proofs.Common.{◌≡◌, ◌∙◌, ℕ, suc, ◌+◌, ◌<◌, ◌==◌, refl, sym, ap, inl, inr}
 use Rattle.std.proofs.Math.Numerals.{add-one}
-use Rattle.std.specs.Prelude.{◌⊎◌, Option, Some, None, Result, Ok, Err}
+use Rattle.std.specs.Prelude.{Option, Some, None, Result, Ok, Err}
 use Rattle.rv_base.specs.declared.memory.NoMemory.{NoMemory}
 use Rattle.rv_monitor.specs.State.{IsInTime, after}
 use Rattle.rv_monitor.specs.Stops.{steps_between}
 use Rattle.rv_recording.specs.Recording.{RecordingState}
-use Rattle.rv_recording.specs.Until.{TakesOne, HasRun, IsRefusedIn, end_after}
-use Rattle.rv_recording.specs.Out.{HasRunOut, IsRefusedOut, open_at, open_of_step, out_at}
-use Rattle.rv_recording.specs.OutSteps.{StepsOut}
+use Rattle.rv_recording.specs.Until.{HasRun, IsRefusedIn}
+use Rattle.rv_recording.specs.Out.{open_at, open_of_step, out_at}
+use Rattle.rv_recording.specs.Steps.{StepsOut, TakesOne, end_after}
 use Rattle.rv_recording.specs.declared.until.End.{End}
 use Rattle.rv_recording.specs.declared.until.End.TheVariants.{Limit, Stuck}
 use Rattle.rv_recording.proofs.Running.{Going, begins, goes_on, ended, limit, refused, taken_is, due_is, due_at, one_more}
@@ -70,7 +70,7 @@ module _ (first : ℕ) (old : RecordingState) where
 
   pub ends_out : (now new : RecordingState) (calls left most n : ℕ) (end : End) → n < most
       → GoingOut first old now calls n → StepsOut calls left now new (Ok (Some end))
-      → HasRunOut first most old new end
+      → HasRun ends most old new end
   ends_out now new calls left most n end k g (inl t) =
       ended ends old now new most n _ end (out_is now calls left n g t.1) k g.going (inl (t.0, t.2))
   ends_out now new calls left most n end k g (inr t) =
@@ -87,7 +87,7 @@ module _ (first : ℕ) (old : RecordingState) where
       t.2 ∙ (g.number ∙ ap (open_at first old.session.timed) (taken_is old new n (t.1 ∙ g.going.state)))
 
   pub refused_out : (now new : RecordingState) (calls left most n : ℕ) (why : NoMemory) → n < most
-      → GoingOut first old now calls n → StepsOut calls left now new (Err why) → IsRefusedOut first most old new
+      → GoingOut first old now calls n → StepsOut calls left now new (Err why) → IsRefusedIn ends most old new
   refused_out now new calls left most n why k g t =
       refused ends old now new most n (ends n) why k g.going (t.0, t.1)
 
@@ -99,7 +99,7 @@ module _ (first : ℕ) (old : RecordingState) where
       (due_is old new n (due_at ends old now new n g.going t.0)))
 
   pub limit_out : (now : RecordingState) (calls most : ℕ) → GoingOut first old now calls most
-      → HasRunOut first most old now Limit
+      → HasRun ends most old now Limit
   limit_out now calls most g = limit ends old now most g.going
 
   pub open_limit : (now : RecordingState) (calls most : ℕ) → GoingOut first old now calls most

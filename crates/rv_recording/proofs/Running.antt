@@ -1,13 +1,14 @@
 -- Runs, step by step.
 use Rattle.std.proofs.Common.{◌≡◌, ◌∙◌, ℕ, ◌+◌, ◌-◌, ◌<◌, ◌≤◌, refl, sym, ap, subst, arith, inl, inr, ⊎_elim}
-use Rattle.std.specs.Prelude.{◌⊎◌, Option, Some, None, Result, Ok, Err}
+use Rattle.std.specs.Prelude.{Option, Some, None, Ok, Err}
 use Rattle.std.proofs.lemmas.Bool.{cases_lt}
 use Rattle.rv_base.specs.declared.memory.NoMemory.{NoMemory}
 use Rattle.rv_monitor.specs.State.{IsInTime, after, with_due}
 use Rattle.rv_monitor.specs.Stops.{may_step, steps_between}
 use Rattle.rv_monitor.proofs.Steps.{after_none, after_more}
 use Rattle.rv_recording.specs.Recording.{RecordingState, with_timed}
-use Rattle.rv_recording.specs.Until.{TakesOne, GoesOn, EndsAs, HasRun, HasRunUntil, IsRefusedIn, IsRefusedUntil, end_at, end_of_step}
+use Rattle.rv_recording.specs.Until.{GoesOn, EndsAs, HasRun, IsRefusedIn, until_at}
+use Rattle.rv_recording.specs.Steps.{TakesOne, end_of_step}
 use Rattle.rv_recording.specs.declared.until.Condition.{Condition}
 use Rattle.rv_recording.specs.declared.until.End.{End}
 use Rattle.rv_recording.specs.declared.until.End.TheVariants.{Limit, Stuck}
@@ -116,7 +117,7 @@ module _ (ends : ℕ → Option End) (old : RecordingState) where
 
 -- why the run ends with the next step
 pub end_is : (condition : Condition) (old now : RecordingState) (n : ℕ)
-    → Going (end_at condition old.session) old now n
-    → end_of_step condition now.session.breakpoints now.session.timed ≡ end_at condition old.session n
+    → Going (until_at condition old.session) old now n
+    → end_of_step condition now.session.breakpoints now.session.timed ≡ until_at condition old.session n
 end_is condition old now n g =
     ap (λ (r : RecordingState). end_of_step condition r.session.breakpoints r.session.timed) g.state

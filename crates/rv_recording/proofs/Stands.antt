@@ -1,12 +1,13 @@
 -- What the calls of a session leave is a recording as well.
-use Rattle.std.proofs.Common.{◌≡◌, ◌∙◌, ℕ, ◌-◌, ◌≤◌, Bool, true, false, List, [], ◌∷◌, length, refl, sym, ap, subst, arith, inl, inr}
+use Rattle.std.proofs.Common.{◌≡◌, ◌∙◌, ℕ, ◌-◌, ◌<◌, ◌≤◌, Bool, true, false, List, [], ◌∷◌, length, refl, sym, ap, subst, arith, inl, inr}
 use Rattle.std.proofs.lemmas.Bool.Decides.{nat_tests}
 use Rattle.std.specs.FinSet as set
 use Rattle.std.specs.List.{list_all}
-use Rattle.std.specs.Prelude.{◌⊎◌, ◌&&◌, nat_le, nat_lt, is_none, min, Option, Some, None, Result, Ok, Err, OnOk, OnErr, IfOk, OnOk}
+use Rattle.std.specs.Prelude.{◌⊎◌, ◌&&◌, nat_le, nat_lt, is_none, min, Option, Some, None, Result, Ok, Err, OnOk, OnErr, OnOk}
 use Rattle.rv_base.specs.declared.memory.NoMemory.{NoMemory}
 use Rattle.rv_hart.specs.declared.trap.Outcome.{Outcome}
 use Rattle.rv_board.specs.Boot.{boot_fault, start}
+use Rattle.rv_board.specs.Move.{run}
 use Rattle.rv_board.specs.State.{BoardState, halted_of}
 use Rattle.rv_board.proofs.Runs.{run_append}
 use Rattle.rv_lists.specs.Text.{HasSteps}
@@ -16,19 +17,25 @@ use Rattle.rv_lists.specs.declared.input.TimedInput.{TimedInput}
 use Rattle.rv_program.specs.Program.{Assembly}
 use Rattle.rv_commands.specs.declared.command.Command.{Command}
 use Rattle.rv_commands.specs.declared.command.Command.TheVariants.{Step, Go, SetBreak, ClearBreak, Registers, ControlRegister, Memory, Instruction, Traps, Edges, Quit, Nothing}
-use Rattle.rv_monitor.specs.Commands.{Leaves, LeavesRefused, going_for}
+use Rattle.rv_monitor.specs.Commands.{Leaves, LeavesRefused}
+use Rattle.rv_monitor.specs.TimedCalls.{begun_again, going_for}
 use Rattle.rv_monitor.specs.Events.{events_of, inputs_at}
 use Rattle.rv_monitor.specs.Laws.{IsReached}
-use Rattle.rv_monitor.specs.State.{Addresses, SessionState, TimedState, begun, begun_again, after, with_due, given, most_of, with_break, without_break}
+use Rattle.rv_monitor.specs.Resumed.{resumed, resumed_at}
+use Rattle.rv_monitor.specs.State.{Addresses, SessionState, TimedState, begun, after, with_due, given, most_of, with_break, without_break}
 use Rattle.rv_monitor.specs.State as monitor
 use Rattle.rv_monitor.specs.Stops.{Took, WasRefused, stop_of, TakesStep}
 use Rattle.rv_monitor.specs.TimedCalls.{HasStopped, IsRefused}
 use Rattle.rv_monitor.specs.declared.stop.Stop.{Stop}
-use Rattle.rv_monitor.proofs.Given.{after_begun, due_begun, given_stands}
-use Rattle.rv_monitor.proofs.SessionCalls.{took_was, took_others, refused_was, refused_others, again_was, again_others}
-use Rattle.rv_monitor.proofs.Reached.{begun_stands, stopped_stands, refused_stands, step_stands, due_is_reached, rewound}
+use Rattle.rv_monitor.proofs.Given.{after_begun, due_begun, given_stands, reached_steps}
+use Rattle.rv_monitor.proofs.Resumed.{resumed_back}
+use Rattle.rv_monitor.proofs.SessionCalls.{took_was, took_others, refused_was, refused_others, on_was, on_others}
+use Rattle.rv_monitor.proofs.Reached.{begun_stands, stopped_stands, refused_stands, step_stands, due_is_reached}
 use Rattle.rv_opening.specs.Opening.{IsOpened}
-use Rattle.rv_recording.specs.Recording.{RecordingState, IsRun, IsRecorded, gone_back}
+use Rattle.rv_recording.specs.Recording.{RecordingState, IsRun, gone_back}
+use Rattle.rv_recording.specs.Recorded.{IsRecorded}
+use Rattle.rv_recording.specs.Kept.{KeptBoard, AreKept, AreWithin}
+use Rattle.rv_recording.proofs.Keeping.{kept_with}
 
 le : (m n : ℕ) → m ≤ n → nat_le m n ≡ true
 le m n h = grind (arith, nat_tests)
@@ -63,6 +70,12 @@ is_run first s r = run_by first s r.rising r.state
 
 -- ---- the recording before its first step
 
+-- a recording with the states that it keeps
+abbrev Stands : SessionState → ℕ → ℕ → List KeptBoard → Type 0
+Stands s p q ks =
+    IsRecorded (record { session = s; pages = p; slots = q })
+    × AreKept (start s.program.bytes p) s.timed.inputs ks
+
 begun_is : (s : SessionState) (board : BoardState) (program : Assembly) (inputs : List TimedInput)
     (pages slots : ℕ) → boot_fault (length program.bytes) pages slots ≡ None → never_falls inputs ≡ true
     → HasSteps inputs → s ≡ monitor.start board inputs program 9999999999 → board ≡ start program.bytes pages
@@ -79,10 +92,12 @@ begun_is s board program inputs pages slots boots rising small is booted =
 
 pub opened_is : (source inputs : List ℕ) (pages slots : ℕ) (s : SessionState)
     → IsOpened source inputs pages slots 9999999999 s → never_falls s.timed.inputs ≡ true
-    → HasSteps s.timed.inputs → IsRecorded (record { session = s; pages = pages; slots = slots })
-opened_is source inputs pages slots s opens rising small =
-    begun_is s (start s.program.bytes pages) s.program s.timed.inputs pages slots opens.boots rising small
-    opens.state refl
+    → HasSteps s.timed.inputs → (ks : List KeptBoard) → ks ≡ [] → Stands s pages slots ks
+opened_is source inputs pages slots s opens rising small ks none = (
+  begun_is s (start s.program.bytes pages) s.program s.timed.inputs pages slots opens.boots rising small
+      opens.state refl,
+  subst (AreKept (start s.program.bytes pages) s.timed.inputs) (sym none) tt,
+)
 
 -- ---- what calls leave
 
@@ -117,13 +132,19 @@ steps_inserted (y ∷ ys) x h k =
     (steps_inserted ys x
     (and_right (nat_le y.step 9999999999) (list_all (λ z. nat_le z.step 9999999999) ys) h) k)
 
+given_kept : (first : BoardState) (t : TimedState) (input : Input) (ks : List KeptBoard)
+    → never_falls t.inputs ≡ true → AreWithin t.taken ks → AreKept first t.inputs ks
+    → AreKept first (given t input).inputs ks
+unfolding with_due
+given_kept first t input ks rising within h = kept_with first t.inputs t.taken input ks rising within h
+
 given_steps : (t : TimedState) (input : Input) → HasSteps t.inputs → t.taken ≤ 9999999999
     → HasSteps (given t input).inputs
 unfolding with_due
 given_steps t input h k =
     steps_inserted t.inputs (record { step = t.taken; input = input }) h (le t.taken 9999999999 k)
 
-module _ (s new : SessionState) (p q : ℕ) (h : IsRecorded (record { session = s; pages = p; slots = q })) where
+module _ (s new : SessionState) (p q : ℕ) (ks : List KeptBoard) (h : Stands s p q ks) where
   abbrev first : BoardState
   first = start s.program.bytes p
 
@@ -131,66 +152,71 @@ module _ (s new : SessionState) (p q : ℕ) (h : IsRecorded (record { session = 
   after_call = record { session = new; pages = p; slots = q }
 
   stands : new.program ≡ s.program → new.limit ≡ s.limit → IsReached first new.timed
-      → HasSteps new.timed.inputs → IsRecorded after_call
-  stands same limit r small = record {
-    boots = rw same h.boots;
-    reached = rw same r;
-    steps = small;
-    limit = limit ∙ h.limit;
-  }
+      → HasSteps new.timed.inputs → AreKept first new.timed.inputs ks → Stands new p q ks
+  stands same limit r small kept = (
+    record {
+      boots = rw same h.0.boots;
+      reached = rw same r;
+      steps = small;
+      limit = limit ∙ h.0.limit;
+    },
+    rw same kept,
+  )
 
   timed_stands : new ≡ record s { timed = new.timed } → IsReached first new.timed
-      → new.timed.inputs ≡ s.timed.inputs → IsRecorded after_call
+      → new.timed.inputs ≡ s.timed.inputs → Stands new p q ks
   timed_stands e r same =
-      stands (ap (λ u. u.program) e) (ap (λ u. u.limit) e) r (subst HasSteps (sym same) h.steps)
+      stands (ap (λ u. u.program) e) (ap (λ u. u.limit) e) r (subst HasSteps (sym same) h.0.steps)
+      (subst (λ (xs : List TimedInput). AreKept first xs ks) (sym same) h.1)
 
-  same_timed : new.program ≡ s.program → new.limit ≡ s.limit → new.timed ≡ s.timed → IsRecorded after_call
+  same_timed : new.program ≡ s.program → new.limit ≡ s.limit → new.timed ≡ s.timed → Stands new p q ks
   same_timed same limit e =
-      stands same limit (subst (IsReached first) (sym e) h.reached)
-      (subst (λ (t : TimedState). HasSteps t.inputs) (sym e) h.steps)
+      stands same limit (subst (IsReached first) (sym e) h.0.reached)
+      (subst (λ (t : TimedState). HasSteps t.inputs) (sym e) h.0.steps)
+      (subst (λ (t : TimedState). AreKept first t.inputs ks) (sym e) h.1)
 
-  unchanged : new ≡ s → IsRecorded after_call
+  unchanged : new ≡ s → Stands new p q ks
   unchanged e = same_timed (ap (λ u. u.program) e) (ap (λ u. u.limit) e) (ap (λ u. u.timed) e)
 
   stopped : (a : Addresses) (most : ℕ) (stop : Stop) → HasStopped a most s.timed new.timed stop
-      → new ≡ record s { timed = new.timed } → IsRecorded after_call
+      → new ≡ record s { timed = new.timed } → Stands new p q ks
   stopped a most stop st e =
-      timed_stands e (stopped_stands first s.timed new.timed h.reached a most stop st)
+      timed_stands e (stopped_stands first s.timed new.timed h.0.reached a most stop st)
       (inputs_kept a most s.timed new.timed _ st.state)
 
   refused : (a : Addresses) (most : ℕ) → IsRefused a most s.timed new.timed
-      → new ≡ record s { timed = new.timed } → IsRecorded after_call
+      → new ≡ record s { timed = new.timed } → Stands new p q ks
   refused a most re e =
-      timed_stands e (refused_stands first s.timed new.timed h.reached a most re)
+      timed_stands e (refused_stands first s.timed new.timed h.0.reached a most re)
       (refused_kept s.timed new.timed _ re.state)
 
-  took : (a : Addresses) (n : ℕ) → Took a n s new → IsRecorded after_call
+  took : (a : Addresses) (n : ℕ) → Took a n s new → Stands new p q ks
   took a n t =
       stopped a (most_of s n) (stop_of a s new) (took_was a n s new t) (took_others a n s new t)
 
-  was_refused : (a : Addresses) (n : ℕ) → WasRefused a n s new → IsRecorded after_call
+  was_refused : (a : Addresses) (n : ℕ) → WasRefused a n s new → Stands new p q ks
   was_refused a n w = refused a (most_of s n) (refused_was a n s new w) (refused_others a n s new w)
 
   pub called : (a : Addresses) (n : ℕ) (r : Result Stop NoMemory) → OnOk r (Took a n s new)
-      → OnErr r (WasRefused a n s new) → IsRecorded after_call
+      → OnErr r (WasRefused a n s new) → Stands new p q ks
   called a n (Ok stop) ok err = took a n ok
   called a n (Err refusal) ok err = was_refused a n err
 
-  pub one_step : (r : Result (Option Outcome) NoMemory) → TakesStep s new r → IsRecorded after_call
+  pub one_step : (r : Result (Option Outcome) NoMemory) → TakesStep s new r → Stands new p q ks
   one_step (Ok (Some outcome)) t =
       let timed = ap (λ u. u.timed) t.1 in
       let running = none_is (halted_of s.timed.board) (and_left _ _ t.0) in
       timed_stands (t.1 ∙ ap (λ (u : TimedState). record s { timed = u }) (sym timed))
-      (step_stands first s.timed new.timed h.reached running timed) (inputs_kept set.empty 1 s.timed new.timed 1 timed)
+      (step_stands first s.timed new.timed h.0.reached running timed) (inputs_kept set.empty 1 s.timed new.timed 1 timed)
   one_step (Ok None) t = unchanged t.1
   one_step (Err refusal) t =
       let timed = ap (λ u. u.timed) t.1 in
       timed_stands (t.1 ∙ ap (λ (u : TimedState). record s { timed = u }) (sym timed))
-      (due_is_reached first s.timed new.timed h.reached timed) (due_kept s.timed new.timed timed)
+      (due_is_reached first s.timed new.timed h.0.reached timed) (due_kept s.timed new.timed timed)
 
   -- ---- commands
 
-  pub left : (c : Option Command) → Leaves c s new → IsRecorded after_call
+  pub left : (c : Option Command) → Leaves c s new → Stands new p q ks
   left None e = unchanged e
   left (Some (Step n)) t = took set.empty n t
   left (Some (Go n)) t = took s.breakpoints (going_for s n) t
@@ -207,11 +233,11 @@ module _ (s new : SessionState) (p q : ℕ) (h : IsRecorded (record { session = 
   left (Some Quit) e = unchanged e
   left (Some Nothing) e = unchanged e
 
-  step_refused : (a : Addresses) (n : ℕ) → (new ≡ s) ⊎ WasRefused a n s new → IsRecorded after_call
+  step_refused : (a : Addresses) (n : ℕ) → (new ≡ s) ⊎ WasRefused a n s new → Stands new p q ks
   step_refused a n (inl e) = unchanged e
   step_refused a n (inr w) = was_refused a n w
 
-  pub left_refused : (c : Option Command) → LeavesRefused c s new → IsRecorded after_call
+  pub left_refused : (c : Option Command) → LeavesRefused c s new → Stands new p q ks
   left_refused None e = unchanged e
   left_refused (Some (Step n)) f = step_refused set.empty n f
   left_refused (Some (Go n)) f = step_refused s.breakpoints (going_for s n) f
@@ -227,66 +253,62 @@ module _ (s new : SessionState) (p q : ℕ) (h : IsRecorded (record { session = 
   left_refused (Some Nothing) f = absurd f
 
   pub commanded : {A : Type 0} (c : Option Command) (r : Result A NoMemory) → OnOk r (Leaves c s new)
-      → OnErr r (LeavesRefused c s new) → IsRecorded after_call
+      → OnErr r (LeavesRefused c s new) → Stands new p q ks
   commanded c (Ok a) ok err = left c ok
   commanded c (Err refusal) ok err = left_refused c err
 
   -- ---- breakpoints
 
   pub broken : (r : Result Unit NoMemory) (addr : ℕ) → OnOk r (new ≡ with_break s addr) → OnErr r (new ≡ s)
-      → IsRecorded after_call
+      → Stands new p q ks
   broken (Ok u) addr e err = same_timed (ap (λ u. u.program) e) (ap (λ u. u.limit) e) (ap (λ u. u.timed) e)
   broken (Err refusal) addr ok e = unchanged e
 
-  pub cleared : (addr : ℕ) → new ≡ without_break s addr → IsRecorded after_call
+  pub cleared : (addr : ℕ) → new ≡ without_break s addr → Stands new p q ks
   cleared addr e = same_timed (ap (λ u. u.program) e) (ap (λ u. u.limit) e) (ap (λ u. u.timed) e)
 
   -- ---- inputs
 
-  pub gave : (r : Result Unit NoMemory) (input : Input) → s.timed.taken ≤ s.limit
-      → OnOk r (new ≡ record s { timed = given s.timed input }) → OnErr r (new ≡ s) → IsRecorded after_call
-  gave (Ok u) input most e err =
+  pub gave : (r : Result Unit NoMemory) (input : Input) → s.timed.taken ≤ s.limit → AreWithin s.timed.taken ks
+      → OnOk r (new ≡ record s { timed = given s.timed input }) → OnErr r (new ≡ s) → Stands new p q ks
+  gave (Ok u) input most within e err =
       let timed : new.timed ≡ given s.timed input = ap (λ u. u.timed) e in
       stands (ap (λ u. u.program) e) (ap (λ u. u.limit) e)
-      (subst (IsReached first) (sym timed) (given_stands first s.timed input h.reached))
+      (subst (IsReached first) (sym timed) (given_stands first s.timed input h.0.reached))
       (subst (λ (t : TimedState). HasSteps t.inputs) (sym timed)
-      (given_steps s.timed input h.steps (omega (arith, h.limit))))
-  gave (Err refusal) input most ok e = unchanged e
+      (given_steps s.timed input h.0.steps (omega (arith, h.0.limit))))
+      (subst (λ (t : TimedState). AreKept first t.inputs ks) (sym timed)
+      (given_kept first s.timed input ks h.0.reached.rising within h.1))
+  gave (Err refusal) input most within ok e = unchanged e
 
   -- ---- going back
 
-  module _ (board : BoardState) (booted : board ≡ first) (n : ℕ) (below : n ≤ s.timed.taken)
-      (within : s.timed.taken ≤ s.limit) where
-    same_most : min n s.limit ≡ n
+  module _ (board : BoardState) (k n : ℕ) (run_is : board ≡ run first (events_of s.timed.inputs 0 k))
+      (before : k ≤ n) (below : n ≤ s.timed.taken) (within : s.timed.taken ≤ s.limit) where
+    same_most : min (n - k) (s.limit - k) ≡ n - k
     same_most = omega arith
 
-    module _ (t : Took set.empty n (begun_again s board) new) where
+    module _ (t : Took set.empty (n - k) (resumed_at s board k) new) where
       abbrev stop : Stop
-      stop = stop_of set.empty (begun_again s board) new
+      stop = stop_of set.empty (resumed_at s board k) new
 
-      st : HasStopped set.empty (min n s.limit) (begun board s.timed.inputs) new.timed stop
-      st = again_was n s new board t
+      st : HasStopped set.empty (n - k) (resumed board s.timed.inputs k) new.timed stop
+      st =
+          subst (λ (m : ℕ). HasStopped set.empty m (resumed board s.timed.inputs k) new.timed stop) same_most
+          (on_was (n - k) s new board k t)
 
       e : new ≡ record s { timed = new.timed }
-      e = again_others n s new board t
-
-      st_first : HasStopped set.empty n (begun first s.timed.inputs) new.timed stop
-      st_first = subst (λ (b : BoardState). HasStopped set.empty n (begun b s.timed.inputs) new.timed stop) booted
-          (subst (λ (m : ℕ). HasStopped set.empty m (begun board s.timed.inputs) new.timed stop) same_most st)
-
-      all_taken : new.timed.taken ≡ n
-      all_taken = rewound first s.timed new.timed n stop h.reached below st_first
+      e = on_others (n - k) s new board k t
 
       back_is : new.timed ≡ after (begun first s.timed.inputs) n
-      back_is =
-          let k : new.timed.taken - 0 ≡ n = omega (arith, all_taken) in
-          st_first.state ∙ ap (after (begun first s.timed.inputs)) k
+      back_is = resumed_back first s.timed h.0.reached board k n new.timed stop run_is before below st
 
-      pub back_stands : IsRecorded after_call
+      goes : (j : ℕ) → j < n → halted_of (after (begun first s.timed.inputs) j).board ≡ None
+      goes j l = h.0.reached.running j (omega arith)
+
+      pub back_stands : Stands new p q ks
       back_stands =
-          timed_stands e
-          (stopped_stands first (begun first s.timed.inputs) new.timed
-          (begun_stands first s.timed.inputs h.reached.rising) set.empty n stop st_first)
+          timed_stands e (reached_steps first s.timed.inputs n new.timed h.0.reached.rising back_is goes)
           (inputs_kept set.empty n (begun first s.timed.inputs) new.timed n back_is)
 
       pub went_back : after_call ≡ gone_back (record { session = s; pages = p; slots = q }) n
@@ -294,7 +316,7 @@ module _ (s new : SessionState) (p q : ℕ) (h : IsRecorded (record { session = 
           ap (λ (u : SessionState). record { session = u; pages = p; slots = q })
           (e ∙ ap (λ (t : TimedState). record s { timed = t }) back_is)
 
-    pub back_any : (r : Result Stop NoMemory) → OnOk r (Took set.empty n (begun_again s board) new)
-        → OnErr r (new ≡ s) → IsRecorded after_call
+    pub back_any : (r : Result Stop NoMemory) → OnOk r (Took set.empty (n - k) (resumed_at s board k) new)
+        → OnErr r (new ≡ s) → Stands new p q ks
     back_any (Ok stop) ok err = back_stands ok
     back_any (Err refusal) ok err = unchanged err

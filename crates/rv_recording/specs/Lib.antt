@@ -1,4 +1,6 @@
 pub mod Recording
 pub mod Until
 pub mod Out
-pub mod OutSteps
+pub mod Steps
+pub mod Recorded
+pub mod Kept

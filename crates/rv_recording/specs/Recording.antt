@@ -1,12 +1,10 @@
 -- To audit: public contracts cite this.
 -- A session that can be run again: its board is the run of the recorded events from reset on.
-use Rattle.std.specs.Prelude.{◌≡◌, ◌⊎◌, ℕ, ◌++◌, length, None}
-use Rattle.rv_board.specs.Boot.{boot_fault, start}
+use Rattle.std.specs.Prelude.{◌≡◌, ◌⊎◌, ℕ, ◌++◌}
+use Rattle.rv_board.specs.Boot.{start}
 use Rattle.rv_board.specs.Move.{run}
-use Rattle.rv_board.specs.State.{BoardState}
-use Rattle.rv_lists.specs.Text.{HasSteps}
+use Rattle.rv_board.specs.BoardState.{BoardState}
 use Rattle.rv_monitor.specs.Events.{events_of, inputs_at}
-use Rattle.rv_monitor.specs.Laws.{IsReached}
 use Rattle.rv_monitor.specs.State.{SessionState, TimedState, begun, after}
 
 -- a session, and the pages and slots of its board
@@ -31,16 +29,9 @@ with_timed r timed = record r { session = record r.session { timed = timed } }
 abbrev pub gone_back : RecordingState → ℕ → RecordingState
 gone_back r n = with_timed r (after (begun (first_board r) r.session.timed.inputs) n)
 
--- the board is the run of the recorded events: those of the steps taken, each after the inputs of its time, and
--- then the inputs of the next step, or none of them
+-- the board is the run of the recorded events: those of the steps taken, each after the inputs of its time,
+-- and then the inputs of the next step, or none of them
 abbrev pub IsRun : BoardState → TimedState → Type 0
 IsRun first s =
     (s.board ≡ run first (events_of s.inputs 0 s.taken))
     ⊎ (s.board ≡ run first (events_of s.inputs 0 s.taken ++ inputs_at s.inputs s.taken))
-
--- what holds of every recording
-pub record IsRecorded (r : RecordingState) : Type 0 where
-  pub boots : boot_fault (length r.session.program.bytes) r.pages r.slots ≡ None
-  pub reached : IsReached (first_board r) r.session.timed
-  pub steps : HasSteps r.session.timed.inputs
-  pub limit : r.session.limit ≡ last_step

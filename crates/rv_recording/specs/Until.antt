@@ -1,17 +1,18 @@
 -- To audit: public contracts cite this.
--- A run until a condition holds: it takes a step before it asks, and ends after the first step at which the
--- condition holds.
-use Rattle.std.specs.Prelude.{◌≡◌, ◌⊎◌, ℕ, ◌+◌, ◌-◌, ◌<◌, ◌≤◌, ◌==◌, ◌&&◌, not, nat_le, nat_lt, Bool, true, false, if◌then◌else◌, slice_index, Option, Some, None, is_some, Result, Ok, Err, length}
+-- A run, which ends after the first step with which it comes to what it goes on for: for the run until a
+-- condition holds, that the condition holds after it.
+use Rattle.std.specs.Prelude.{◌≡◌, ◌⊎◌, ℕ, ◌-◌, ◌<◌, ◌≤◌, ◌&&◌, not, nat_le, nat_eq, nat_lt, Bool, true, false, if◌then◌else◌, slice_index, Option, Some, None, is_some, length}
+use Rattle.std.specs.Option.{option_eq, option_map_or}
 use Rattle.std.specs.FinSet as set
-use Rattle.rv_base.specs.declared.memory.NoMemory.{NoMemory}
 use Rattle.rv_isa.specs.Alu.{is_taken}
 use Rattle.rv_isa.specs.declared.op.Cond.TheVariants.{Eq, Ne, Lt, Ge}
 use Rattle.rv_hart.specs.declared.trap.Outcome.{Outcome}
 use Rattle.rv_hart.specs.declared.trap.Outcome.TheVariants.{Trapped}
-use Rattle.rv_board.specs.State.{BoardState, pc_of, halted_of}
-use Rattle.rv_board.specs.Move.{step_outcome, writes}
+use Rattle.rv_hart.specs.Step.{step}
+use Rattle.rv_board.specs.BoardState.{BoardState}
+use Rattle.rv_board.specs.Move.{writes}
 use Rattle.rv_board.specs.declared.event.Event.TheVariants.{Step}
-use Rattle.rv_monitor.specs.State.{Addresses, SessionState, TimedState, after, with_due}
+use Rattle.rv_monitor.specs.State.{SessionState, TimedState, after, with_due}
 use Rattle.rv_monitor.specs.Stops.{may_step, steps_between}
 use Rattle.rv_monitor.specs.Views.{word_of}
 use Rattle.rv_recording.specs.Recording.{RecordingState, with_timed}
@@ -40,55 +41,34 @@ relates AtMost a b = is_taken Ge b a
 relates Greater a b = is_taken Lt b a
 relates AtLeast a b = is_taken Ge a b
 
--- whether a value is there and compares so with a word
-abbrev pub compares : Option ℕ → Relation → ℕ → Bool
-compares None relation word = false
-compares (Some value) relation word = relates relation value word
-
--- whether a value is another than before
-abbrev pub differs : Option ℕ → Option ℕ → Bool
-differs None None = false
-differs (Some a) (Some b) = not (a == b)
-differs _ _ = true
-
-abbrev pub has_trapped : Outcome → Bool
-has_trapped (Trapped cause epc tval) = true
-has_trapped _ = false
-
 -- whether a condition holds after a step that did that, on the board that it left
 unfoldable pub holds : Condition → Outcome → BoardState → Bool
-holds Trap did b = has_trapped did
+holds Trap (Trapped cause epc tval) b = true
+holds Trap did b = false
 holds (Console sent) did b = nat_lt sent (length b.machine.bus.serial.sent)
-holds (At addr size) did b = nat_le addr (pc_of b) && nat_lt (pc_of b - addr) size
-holds (Changed watched old) did b = differs (value_of b watched) old
-holds (Compares watched relation word) did b = compares (value_of b watched) relation word
+holds (At addr size) did b = nat_le addr b.machine.pc && nat_lt (b.machine.pc - addr) size
+holds (Changed watched old) did b = not (option_eq nat_eq (value_of b watched) old)
+holds (Compares watched relation word) did b =
+    option_map_or (λ value. relates relation value word) (value_of b watched) false
+
+-- whether it holds after the next step of a state
+unfoldable pub comes : Condition → TimedState → Bool
+comes condition s = holds condition (step (with_due s).board.machine).1 (after s 1).board
 
 -- ---- the steps of a run
 
--- why a run ends after a step, if it does, by whether it has come to what it goes on for
-abbrev pub end_after : Bool → Addresses → BoardState → Option End
-end_after reached breakpoints b =
-    if is_some (halted_of b) then Some Halted
-    else (if reached then Some Reached
-    else (if set.contains breakpoints (pc_of b) then Some Breakpoint else None))
+-- why a run from a session on ends after its step number i, counted from 0, if it does, by whether it has
+-- come to what it goes on for
+abbrev pub end_at : (ℕ → Bool) → SessionState → ℕ → Option End
+end_at reached s i =
+    let b = (after (after s.timed i) 1).board in
+    if is_some b.machine.bus.halt then Some Halted
+    else (if reached i then Some Reached
+    else (if set.contains s.breakpoints b.machine.pc then Some Breakpoint else None))
 
--- why a run until a condition holds ends after the next step of a state, if it does
-unfoldable pub end_of_step : Condition → Addresses → TimedState → Option End
-end_of_step condition breakpoints s =
-    end_after (holds condition (step_outcome (with_due s).board) (after s 1).board) breakpoints (after s 1).board
-
--- why it ends after the step number i from a session on, counted from 0, if it does
-abbrev pub end_at : Condition → SessionState → ℕ → Option End
-end_at condition s i = end_of_step condition s.breakpoints (after s.timed i)
-
--- a call for one step of a run took it, and tells why the run ends with it, if it does, which is `end`; or there
--- was none to be taken; or memory ran out at it
-abbrev pub TakesOne : Option End → RecordingState → RecordingState → Result (Option End) NoMemory → Type 0
-TakesOne end old new (Ok told) =
-    ((new ≡ with_timed old (after old.session.timed 1)) × (told ≡ end))
-    ⊎ ((may_step old.session ≡ false) × (new ≡ old) × (told ≡ Some Stuck))
-TakesOne end old new (Err refused) =
-    (new ≡ with_timed old (with_due old.session.timed)) × (writes new.session.timed.board Step ≡ true)
+-- the same of a run until a condition holds
+abbrev pub until_at : Condition → SessionState → ℕ → Option End
+until_at condition s = end_at (λ i. comes condition (after s.timed i)) s
 
 -- the first n steps don't end a run, by why it ends after each step
 abbrev pub GoesOn : (ℕ → Option End) → ℕ → Type 0
@@ -115,10 +95,3 @@ pub record IsRefusedIn (ends : ℕ → Option End) (most : ℕ) (old new : Recor
   pub state : new ≡ with_timed old
       (with_due (after old.session.timed (steps_between old.session.timed new.session.timed)))
   pub next_writes : writes new.session.timed.board Step ≡ true
-
--- the run until a condition holds
-abbrev pub HasRunUntil : Condition → ℕ → RecordingState → RecordingState → End → Type 0
-HasRunUntil condition most old new end = HasRun (end_at condition old.session) most old new end
-
-abbrev pub IsRefusedUntil : Condition → ℕ → RecordingState → RecordingState → Type 0
-IsRefusedUntil condition most old new = IsRefusedIn (end_at condition old.session) most old new

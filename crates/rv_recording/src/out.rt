@@ -5,9 +5,9 @@ ghost use Rattle.rv_isa.specs.Meaning.{means};
 ghost use Rattle.rv_board.specs.State.{pc_of};
 ghost use Rattle.rv_monitor.specs.Stops.{steps_between};
 ghost use Rattle.rv_monitor.specs.Views.{word_of};
-ghost use Rattle.rv_recording.specs.Out.{HasRunOut, IsRefusedOut, entered, open_after, open_at, open_by, open_of_step};
-ghost use Rattle.rv_recording.specs.Until.{end_after};
-ghost use Rattle.rv_recording.specs.OutSteps.{StepsOut};
+ghost use Rattle.rv_recording.specs.Out.{entered, open_after, open_at, open_by, open_of_step, out_at};
+ghost use Rattle.rv_recording.specs.Until.{HasRun, IsRefusedIn};
+ghost use Rattle.rv_recording.specs.Steps.{StepsOut, end_after};
 
 use crate::Recording;
 use crate::until::{End, end_after};
@@ -96,8 +96,8 @@ impl Recording {
     ///
     /// `NoMemory` if memory runs out at a step. The steps before it are taken.
     pub fn run_out(&mut self, calls: &mut u64, most: u64) -> Result<End, NoMemory>
-        ensures ok { IfOk result (HasRunOut calls.old most self.old self.new) }
-        ensures err { OnErr result (IsRefusedOut calls.old most self.old self.new) }
+        ensures ok { IfOk result (HasRun (out_at calls.old self.old.session) most self.old self.new) }
+        ensures err { OnErr result (IsRefusedIn (out_at calls.old self.old.session) most self.old self.new) }
         ensures calls { calls.new ≡ open_at calls.old self.old.session.timed
             (steps_between self.old.session.timed self.new.session.timed) }
     {

@@ -1,9 +1,11 @@
 //! Recordings.
 ghost use Rattle.std.specs.Prelude.{◌≡◌, ◌-◌, ◌++◌, ◌≤◌, true, false, min, Ok, Err, OnOk, OnErr, IfOk, IfErr, vec_capacity, vec_len};
 ghost use Rattle.std.specs.FinSet as set;
-ghost use Rattle.rv_lists.specs.Text.{list_text, ReadsAs};
-ghost use Rattle.rv_lists.specs.Timed.{never_falls};
+ghost use Rattle.rv_board.specs.Move.{run};
+ghost use Rattle.rv_lists.specs.Text.{list_text};
+ghost use Rattle.rv_lists.specs.Timed.{never_falls, IsRead};
 ghost use Rattle.rv_monitor.specs.Commands.{Leaves, LeavesRefused, answer, command_in, next_of};
+ghost use Rattle.rv_monitor.specs.Events.{events_of};
 ghost use Rattle.rv_monitor.specs.Laws.{IsReached};
 ghost use Rattle.rv_monitor.specs.Room.{LacksRoom};
 ghost use Rattle.rv_monitor.specs.State.{given, with_break, without_break};
@@ -11,6 +13,7 @@ ghost use Rattle.rv_monitor.specs.Stops.{Took, WasRefused, stop_of, TakesStep};
 ghost use Rattle.rv_recording.specs.Recording.{IsRun, first_board, gone_back, last_step, with_timed};
 ghost use Rattle.rv_opening.specs.Opening.{Opens};
 
+use crate::kept::KeptStates;
 use rv_base::NoMemory;
 use rv_board::BootedBoard;
 use rv_cache::DecodeCache;
@@ -31,6 +34,8 @@ pub struct Recording {
     session: Session<PagedRam, DecodeCache>,
     pages: u32,
     slots: u32,
+    /// States on the way, which going back begins at.
+    kept: KeptStates,
 }
 
 // Hand-written: a derived `Drop` would be proved anew at each exit (docs/PROVING.md).
@@ -41,6 +46,7 @@ impl Drop for Recording {
             session: _,
             pages: _,
             slots: _,
+            kept: _,
         } = self;
     }
 }
@@ -50,7 +56,10 @@ impl Model for Recording {
     ghost use Rattle.std.specs.FinSet as set;
     ghost use Rattle.std.specs.Ordering.{nat_cmp};
     ghost use Rattle.rv_plic.specs.Codes.{plic_code};
-    ghost use Rattle.rv_recording.specs.Recording.{RecordingState, IsRecorded};
+    ghost use Rattle.rv_board.specs.Boot.{start};
+    ghost use Rattle.rv_recording.specs.Kept.{AreKept};
+    ghost use Rattle.rv_recording.specs.Recording.{RecordingState};
+    ghost use Rattle.rv_recording.specs.Recorded.{IsRecorded};
 
     ghost Value = { RecordingState };
 
@@ -58,7 +67,8 @@ impl Model for Recording {
 
     ghost view = { λ r. record { session = r.session; pages = r.pages; slots = r.slots } };
 
-    ghost invariant = { λ r. IsRecorded (record { session = r.session; pages = r.pages; slots = r.slots }) };
+    ghost invariant = { λ r. IsRecorded (record { session = r.session; pages = r.pages; slots = r.slots })
+        × AreKept (start r.session.program.bytes r.pages) r.session.timed.inputs r.kept };
 }
 
 impl Recording {
@@ -91,6 +101,7 @@ impl Recording {
             session,
             pages,
             slots,
+            kept: KeptStates::new(alloc),
         })
     }
 
@@ -140,7 +151,7 @@ impl Recording {
     /// `NoMemory` if memory runs out.
     pub fn inputs_text(&self, alloc: Global) -> Result<Vec<u8>, NoMemory>
         ensures text { IfOk result (λ text. text.items ≡ list_text self.now.session.timed.inputs) }
-        ensures read { IfOk result (λ text. ReadsAs text.items self.now.session.timed.inputs) }
+        ensures read { IfOk result (λ text. IsRead text.items (Ok self.now.session.timed.inputs)) }
     {
         let inputs = self.session.inputs();
         list_text(alloc, inputs)
@@ -157,6 +168,7 @@ impl Recording {
         ensures err { OnErr result (WasRefused set.empty n self.old.session self.new.session) }
         ensures others { self.new ≡ with_timed self.old self.new.session.timed }
     {
+        self.kept.keep(self.alloc, &self.session);
         self.session.step(n)
     }
 
@@ -173,6 +185,7 @@ impl Recording {
             (WasRefused self.old.session.breakpoints n self.old.session self.new.session) }
         ensures others { self.new ≡ with_timed self.old self.new.session.timed }
     {
+        self.kept.keep(self.alloc, &self.session);
         self.session.go(n)
     }
 
@@ -185,6 +198,7 @@ impl Recording {
         ensures step { TakesStep self.old.session self.new.session result }
         ensures others { self.new ≡ record self.old { session = self.new.session } }
     {
+        self.kept.keep(self.alloc, &self.session);
         self.session.take_step()
     }
 
@@ -199,12 +213,15 @@ impl Recording {
         ensures err { OnErr result (self.new ≡ self.old) }
     {
         // It tells that no step has more than ten digits.
-        let _steps = self.session.taken();
+        let steps = self.session.taken();
+        // The events of the states after the present step will be others.
+        self.kept.forget_after(steps);
         self.session.give(input)
     }
 
-    /// Goes back to after the first `steps` steps, by taking them again from reset on, if more were taken.
-    /// All inputs and breakpoints stay; the inputs of the next step are to be given.
+    /// Goes back to after the first `steps` steps, if more were taken: by taking them again, from a state on
+    /// that was kept on the way, or else from reset. All inputs and breakpoints stay; the inputs of the next
+    /// step are to be given.
     ///
     /// # Errors
     ///
@@ -214,14 +231,33 @@ impl Recording {
         ensures err { OnErr result (self.new ≡ self.old) }
     {
         let count = steps.min(self.session.taken());
-        let program = self.session.program();
-        let Ok(board) = BootedBoard::boot(self.alloc, program, self.pages, self.slots) else {
-            return Err(NoMemory);
+        let (board, taken) = match self.board_before(count) {
+            Ok(start) => start,
+            Err(NoMemory) => return Err(NoMemory),
         };
-        match self.session.rewind(board, count) {
+        match self.session.resume(board, taken, count - taken) {
             Ok(_) => Ok(()),
             Err(NoMemory) => Err(NoMemory),
         }
+    }
+
+    /// Returns a board that has taken some of the first `count` steps, and their number: a copy of the newest
+    /// state that is kept of them, or the board at reset.
+    fn board_before(&self, count: u64) -> Result<(BootedBoard, u64), NoMemory>
+        ensures within { IfOk result (λ start. start.1 ≤ count) }
+        ensures run { IfOk result (λ start. start.0
+            ≡ run (first_board self.now) (events_of self.now.session.timed.inputs 0 start.1)) }
+    {
+        let Some(kept) = self.kept.latest(count) else {
+            let program = self.session.program();
+            return match BootedBoard::boot(self.alloc, program, self.pages, self.slots) {
+                Ok(board) => Ok((board, 0)),
+                Err(_) => Err(NoMemory),
+            };
+        };
+        let cache = DecodeCache::new(self.alloc, self.slots)?;
+        let board = kept.board().try_clone(self.alloc, cache)?;
+        Ok((board, kept.steps()))
     }
 
     /// Makes an address a breakpoint.

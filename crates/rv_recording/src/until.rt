@@ -1,6 +1,7 @@
 //! Runs until a condition holds.
 ghost use Rattle.std.specs.Prelude.{◌≡◌, IfOk, OnErr};
-ghost use Rattle.rv_recording.specs.Until.{HasRunUntil, IsRefusedUntil, TakesOne, differs, end_after, end_of_step, holds, relates, value_of};
+ghost use Rattle.rv_recording.specs.Until.{HasRun, IsRefusedIn, holds, relates, until_at, value_of};
+ghost use Rattle.rv_recording.specs.Steps.{TakesOne, end_after, end_of_step};
 
 use crate::Recording;
 use rv_base::NoMemory;
@@ -49,7 +50,7 @@ pub enum Condition {
         /// The address of the first byte.
         address: u32,
         /// The number of bytes.
-        size: u32,
+        size: usize,
     },
     /// What is watched has another value than before.
     Changed {
@@ -112,17 +113,6 @@ impl Watched {
     }
 }
 
-/// Returns whether a value is another than before.
-fn differs(value: Option<u32>, old: Option<u32>) -> bool
-    ensures { result ≡ differs value old }
-{
-    match (value, old) {
-        (None, None) => false,
-        (Some(value), Some(old)) => value != old,
-        _ => true,
-    }
-}
-
 impl Condition {
     /// Returns whether the condition holds after a step that did that, on the board that it left.
     #[tactic(auto, unfolding(crate::specs::Until::holds))]
@@ -134,9 +124,9 @@ impl Condition {
             Condition::Console(sent) => board.console().len() > sent,
             Condition::At { address, size } => {
                 let pc = board.pc();
-                address <= pc && pc - address < size
+                address <= pc && ((pc - address) as usize) < size
             }
-            Condition::Changed { watched, old } => differs(watched.value(board), old),
+            Condition::Changed { watched, old } => watched.value(board) != old,
             Condition::Compares {
                 watched,
                 relation,
@@ -168,7 +158,7 @@ pub(crate) fn end_after(reached: bool, session: &Session<PagedRam, DecodeCache>)
 
 impl Recording {
     /// Takes a step, and returns why a run until a condition ends with it, if it does.
-    #[tactic(auto, unfolding(crate::specs::Until::end_of_step))]
+    #[tactic(auto, unfolding(crate::specs::Until::comes))]
     fn step_until(&mut self, condition: Condition) -> Result<Option<End>, NoMemory>
         ensures { TakesOne (end_of_step condition self.old.session.breakpoints self.old.session.timed) self.old self.new result }
     {
@@ -189,8 +179,8 @@ impl Recording {
     ///
     /// `NoMemory` if memory runs out at a step. The steps before it are taken.
     pub fn run_until(&mut self, condition: Condition, most: u64) -> Result<End, NoMemory>
-        ensures ok { IfOk result (HasRunUntil condition most self.old self.new) }
-        ensures err { OnErr result (IsRefusedUntil condition most self.old self.new) }
+        ensures ok { IfOk result (HasRun (until_at condition self.old.session) most self.old self.new) }
+        ensures err { OnErr result (IsRefusedIn (until_at condition self.old.session) most self.old self.new) }
     {
         // It tells that the inputs of all steps so far were given.
         let _board = self.session().board();

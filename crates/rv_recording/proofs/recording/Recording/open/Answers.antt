@@ -7,3 +7,4 @@ pub invariant_of-result : goal.invariant_of-result
 invariant_of-result c =
     opened_is c.args.source.now c.args.inputs.now c.args.pages c.args.slots c.in-Ok.session c.in-Ok.ensures.opened
     (ap never_falls (sym c.inputs-inputs.ensures.value) ∙ c.inputs-inputs.ensures.rising) c.in-Ok.ensures.steps
+    c.new.result c.new.ensures

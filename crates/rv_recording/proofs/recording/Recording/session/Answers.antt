@@ -8,4 +8,4 @@ pub returns-clause-run : goal.returns-clause-run
 returns-clause-run c =
     subst (λ (r : RecordingState). IsRun (first_board r) r.session.timed) c.self.view_is
     (is_run (start c.self.inside.session.program.bytes c.self.inside.pages) c.self.inside.session.timed
-    c.self.invariant.reached)
+    c.self.invariant.0.reached)
