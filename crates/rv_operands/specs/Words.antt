@@ -1,0 +1,46 @@
+-- Not to audit: private contracts alone cite this.
+-- The only one of some words, and inputs that are read one after the other.
+use Rattle.std.specs.Prelude.{◌≡◌, ℕ, Bool, true, false, List, [], ◌∷◌, ◌++◌, codes, map, length, ◌==◌, if◌then◌else◌, option_and_then, Option, Some, None}
+use Rattle.std.specs.Option.{option_map, option_map_or}
+use Rattle.rv_base.specs.Tables.{lookup}
+use Rattle.rv_lists.specs.declared.input.Input.{Input}
+use Rattle.rv_lists.specs.declared.input.Input.TheVariants.{Rx}
+use Rattle.rv_operands.specs.Operands.{base, escapes, line_with_bytes}
+use Rattle.rv_asm.specs.Lines.{Listed, address_of, bytes_of}
+use Rattle.rv_recording.specs.declared.until.Condition.{Condition}
+use Rattle.rv_recording.specs.declared.until.Condition.TheVariants.{Trap, Console}
+use Rattle.rv_board.specs.State.{BoardState}
+
+abbrev pub only_of : List (List ℕ) → Option (List ℕ)
+only_of (word ∷ []) = Some word
+only_of _ = None
+
+-- the byte of an escape
+abbrev pub escape_of : ℕ → Option ℕ
+escape_of b = lookup (b ∷ []) escapes
+
+-- the inputs of the bytes of a text
+abbrev pub text_inputs : Option (List ℕ) → Option (List Input)
+text_inputs bytes = option_map (map (λ b. Rx b)) bytes
+
+-- inputs were appended to others, or can't be read
+abbrev pub Reads : List Input → List Input → Option (List Input) → Bool → Type 0
+Reads old new inputs true = option_map (λ xs. old ++ xs) inputs ≡ Some new
+Reads old new inputs false = inputs ≡ None
+
+-- the value of a base, which is 0 where there is only a sign
+abbrev pub base_or_zero : Listed → BoardState → List ℕ → Option ℕ
+base_or_zero l b name = if length name == 0 then Some 0 else base l b name
+
+-- the address of the first line from one on that has bytes
+abbrev pub next_address : Listed → ℕ → Option ℕ
+next_address l n = option_and_then (address_of l) (line_with_bytes l n)
+
+-- the number of bytes of a line, or of the next that has some
+abbrev pub size_from : Listed → ℕ → ℕ
+size_from l n = option_map_or (λ k. length (bytes_of l k)) (line_with_bytes l n) 1
+
+-- the conditions that words name
+abbrev pub event_of : BoardState → List ℕ → Option Condition
+event_of b word =
+    lookup word ((codes "trap", Trap) ∷ (codes "console", Console (length b.machine.bus.serial.sent)) ∷ [])

@@ -1,0 +1,126 @@
+//! What a run goes on for.
+ghost use Rattle.std.specs.Prelude.{◌≡◌, [], ◌∷◌};
+ghost use Rattle.rv_base.specs.Tables.{lookup};
+ghost use Rattle.rv_base.specs.Words.{words};
+ghost use Rattle.rv_operands.specs.Operands.{at, condition, relations, watched};
+ghost use Rattle.rv_operands.specs.Words.{event_of, size_from};
+
+use crate::place::{Scope, line_with_bytes};
+use crate::word::{between, line_number, only_word};
+use rv_base::{first_word, has_word, look_up};
+use rv_isa::reg_named;
+use rv_recording::{Condition, Relation, Watched};
+
+/// The signs of relations.
+static RELATIONS: [(&str, Relation); 7] = [
+    ("=", Relation::Equal),
+    ("==", Relation::Equal),
+    ("!=", Relation::Different),
+    ("<", Relation::Less),
+    ("<=", Relation::AtMost),
+    (">", Relation::Greater),
+    (">=", Relation::AtLeast),
+];
+
+/// Returns the relation of a sign.
+#[tactic(auto, unfolding(crate::specs::Operands::relations))]
+fn relation(sign: &[u8]) -> Option<Relation>
+    ensures { result ≡ lookup sign.now relations }
+{
+    look_up(&RELATIONS, sign)
+}
+
+impl<'a> Scope<'a> {
+    /// Returns what a word watches: a register, or the word of memory at an address between brackets.
+    #[tactic(auto, unfolding(crate::specs::Operands::watched))]
+    fn watched(&self, word: &[u8]) -> Option<Watched>
+        ensures { result ≡ watched self.now.listing.now self.now.board.now word.now }
+    {
+        if let Some(register) = reg_named(word) {
+            return Some(Watched::Register(register));
+        }
+        let address = self.address(between(b'[', b']', word)?)?;
+        Some(Watched::Word(address))
+    }
+
+    /// Returns the number of bytes of a line, or of the next that has some, or 1 where none has.
+    fn size(&self, line: usize) -> usize
+        ensures { result ≡ size_from self.now.listing.now line }
+    {
+        let listing = self.listing;
+        match line_with_bytes(listing, line) {
+            Some(line) => listing.bytes(line).len(),
+            None => 1,
+        }
+    }
+
+    /// Returns the condition of a place in the source or in memory: pc is there.
+    #[tactic(auto, unfolding(crate::specs::Operands::at))]
+    fn at(&self, word: &[u8]) -> Option<Condition>
+        ensures { result ≡ at self.now.listing.now self.now.board.now word.now }
+    {
+        match line_number(word) {
+            Some(line) => {
+                let listing = self.listing;
+                let address = listing.address(line as usize)?;
+                let size = self.size(line as usize);
+                Some(Condition::At { address, size })
+            }
+            None => {
+                let address = self.sum(word)?;
+                Some(Condition::At { address, size: 1 })
+            }
+        }
+    }
+
+    /// Returns the condition of a word alone.
+    fn event(&self, word: &[u8]) -> Option<Condition>
+        ensures { result ≡ event_of self.now.board.now word.now }
+    {
+        if b"trap".as_slice() == word {
+            return Some(Condition::Trap);
+        }
+        if b"console".as_slice() == word {
+            let board = self.board;
+            return Some(Condition::Console(board.console().len()));
+        }
+        None
+    }
+
+    /// Returns the condition of one word: that what it watches changes, what it names, or that pc is there.
+    #[tactic(auto, unfolding(crate::specs::Operands::condition))]
+    fn alone(&self, word: &[u8]) -> Option<Condition>
+        ensures { result ≡ condition self.now.listing.now self.now.board.now (word.now ∷ []) }
+    {
+        if let Some(watched) = self.watched(word) {
+            // A copy: for the borrow checker the call moves its argument.
+            let asked = watched;
+            let old = asked.value(self.board);
+            return Some(Condition::Changed { watched, old });
+        }
+        match self.event(word) {
+            Some(condition) => Some(condition),
+            None => self.at(word),
+        }
+    }
+
+    /// Reads the operands of `until`.
+    #[tactic(auto, unfolding(crate::specs::Operands::condition))]
+    pub fn condition(&self, operands: &[u8]) -> Option<Condition>
+        ensures { result ≡ condition self.now.listing.now self.now.board.now (words operands.now) }
+    {
+        let (word, rest) = first_word(operands)?;
+        let Some((sign, rest)) = first_word(rest) else {
+            return self.alone(word);
+        };
+        let value = only_word(rest)?;
+        let watched = self.watched(word)?;
+        let relation = relation(sign)?;
+        let value = self.value(value)?;
+        Some(Condition::Compares {
+            watched,
+            relation,
+            value,
+        })
+    }
+}

@@ -1,0 +1,124 @@
+//! Inputs.
+ghost use Rattle.std.specs.Prelude.{◌≡◌, ◌++◌, [], ◌∷◌, IfOk, OnOk};
+ghost use Rattle.std.specs.Option.{option_map};
+ghost use Rattle.rv_base.specs.Words.{words};
+ghost use Rattle.rv_lists.specs.Timed.{all_of, byte_input, driven, level_of, source_of};
+ghost use Rattle.rv_operands.specs.Operands.{bytes_inputs, unescaped};
+ghost use Rattle.rv_lists.specs.declared.input.Input.TheVariants.{Rx};
+ghost use Rattle.rv_operands.specs.Words.{Reads, escape_of, text_inputs};
+
+use crate::word::{between, only_word, trimmed};
+use rv_base::{NoMemory, decimal, first_word, hex_byte, look_up};
+use rv_lists::Input;
+use rv_plic::Source;
+use std::alloc::Global;
+
+/// Reads an interrupt source.
+#[tactic(auto, unfolding(rv_lists::specs::Timed::source_of))]
+fn source(word: &[u8]) -> Option<Source>
+    ensures { result ≡ source_of word.now }
+{
+    let number = decimal(31, word)?;
+    Source::new(number as u8)
+}
+
+/// The levels of an interrupt line: low and high.
+static LEVELS: [(&str, bool); 2] = [("0", false), ("1", true)];
+
+/// Reads a level.
+#[tactic(auto, unfolding(rv_lists::specs::Timed::level_of))]
+fn level(word: &[u8]) -> Option<bool>
+    ensures { result ≡ level_of word.now }
+{
+    look_up(&LEVELS, word)
+}
+
+/// Reads the operands of `line`: a source and its level.
+pub fn read_line_input(operands: &[u8]) -> Option<Input>
+    ensures { option_map (λ input. input ∷ []) result ≡ driven (words operands.now) }
+{
+    let (number, rest) = first_word(operands)?;
+    let source = source(number)?;
+    let high = level(only_word(rest)?)?;
+    Some(Input::Line { source, high })
+}
+
+/// Appends the byte that the serial port receives.
+fn append(out: &mut Vec<Input>, byte: u8) -> Result<(), NoMemory>
+    ensures { OnOk result (out.new.items ≡ out.old.items ++ Rx byte ∷ []) }
+{
+    match out.push(Input::Rx(byte)) {
+        Ok(()) => Ok(()),
+        Err(_) => Err(NoMemory),
+    }
+}
+
+/// Reads words of two hexadecimal digits, and appends an input for each. Returns whether all can be read.
+fn read_words(text: &[u8], out: &mut Vec<Input>) -> Result<bool, NoMemory>
+    ensures { IfOk result (Reads out.old.items out.new.items (all_of byte_input (words text.now))) }
+{
+    let Some((word, rest)) = first_word(text) else {
+        return Ok(true);
+    };
+    let Some(byte) = hex_byte(word) else {
+        return Ok(false);
+    };
+    append(out, byte)?;
+    read_words(rest, out)
+}
+
+/// The bytes that stand for others after a backslash.
+static ESCAPES: [(&str, u8); 6] = [
+    ("n", b'\n'),
+    ("r", b'\r'),
+    ("t", b'\t'),
+    ("0", 0),
+    ("\"", b'"'),
+    ("\\", b'\\'),
+];
+
+/// Returns the byte that an escape stands for, by what follows its backslash.
+#[tactic(auto, unfolding(crate::specs::Operands::escapes))]
+fn escaped(byte: u8) -> Option<u8>
+    ensures { result ≡ escape_of byte }
+{
+    look_up(&ESCAPES, &[byte])
+}
+
+/// Reads a text with escapes, and appends an input for each byte. Returns whether all can be read.
+fn read_text(text: &[u8], out: &mut Vec<Input>) -> Result<bool, NoMemory>
+    ensures { IfOk result (Reads out.old.items out.new.items (text_inputs (unescaped text.now))) }
+{
+    let [first, rest @ ..] = text else {
+        return Ok(true);
+    };
+    if *first != b'\\' {
+        append(out, *first)?;
+        return read_text(rest, out);
+    }
+    let [byte, rest @ ..] = rest else {
+        return Ok(false);
+    };
+    let Some(byte) = escaped(*byte) else {
+        return Ok(false);
+    };
+    append(out, byte)?;
+    read_text(rest, out)
+}
+
+/// Reads the operands of `rx`: a text between quotes, or words of two hexadecimal digits.
+///
+/// # Errors
+///
+/// `NoMemory` if memory runs out.
+#[tactic(auto, unfolding(crate::specs::Operands::bytes_inputs))]
+pub fn read_bytes_inputs(alloc: Global, operands: &[u8]) -> Result<Option<Vec<Input>>, NoMemory>
+    ensures { IfOk result (λ read. option_map (λ inputs. inputs.items) read ≡ bytes_inputs operands.now) }
+{
+    let mut inputs = Vec::new(alloc);
+    let can_read = match between(b'"', b'"', trimmed(operands)) {
+        Some(text) => read_text(text, &mut inputs)?,
+        None => read_words(operands, &mut inputs)?,
+    };
+    if can_read { Ok(Some(inputs)) } else { Ok(None) }
+}

@@ -1,0 +1,130 @@
+//! Texts, words and numbers.
+ghost use Rattle.std.specs.Prelude.{◌≡◌, ◌-◌, ◌&&◌, None, drop, length, nat_le, take};
+ghost use Rattle.std.specs.Option.{option_map};
+ghost use Rattle.std.specs.List.{position_or_len, prefix_len, suffix_len};
+ghost use Rattle.rv_base.specs.Words.{is_blank, words};
+ghost use Rattle.rv_commands.specs.Addresses.{address_of, hexadecimal};
+ghost use Rattle.rv_operands.specs.Operands.{between, line_number, number, operands, trimmed};
+ghost use Rattle.rv_operands.specs.Words.{only_of};
+
+use rv_base::{decimal, first_word, has_word, hex_digit, is_blank, low_word};
+
+/// Returns the only word of a text.
+pub fn only_word<'a>(text: &'a [u8]) -> Option<&'a [u8]>
+    ensures { option_map (λ w. w.now) result ≡ only_of (words text.now) }
+{
+    let (word, rest) = first_word(text)?;
+    if has_word(rest) { None } else { Some(word) }
+}
+
+/// Returns the operands of a line: the text that follows its first word.
+#[tactic(auto, unfolding(crate::specs::Operands::operands))]
+pub fn operands_of(line: &[u8]) -> &[u8]
+    ensures { result.now ≡ operands line.now }
+{
+    from_blank(without_blanks(line))
+}
+
+/// Returns a text from its first blank on.
+fn from_blank(text: &[u8]) -> &[u8]
+    ensures { result.now ≡ drop (position_or_len is_blank text.now) text.now }
+{
+    match text {
+        [b, rest @ ..] if !is_blank(*b) => from_blank(rest),
+        _ => text,
+    }
+}
+
+/// Returns a text without the blanks before it.
+fn without_blanks(text: &[u8]) -> &[u8]
+    ensures { result.now ≡ drop (prefix_len is_blank text.now) text.now }
+{
+    match text {
+        [b, rest @ ..] if is_blank(*b) => without_blanks(rest),
+        _ => text,
+    }
+}
+
+/// Returns what stands between two signs, the first and the last byte of a text.
+#[tactic(auto, unfolding(crate::specs::Operands::between))]
+pub(crate) fn between(left: u8, right: u8, text: &[u8]) -> Option<&[u8]>
+    ensures { option_map (λ t. t.now) result ≡ between left right text.now }
+{
+    if text.len() > 1 && text[0] == left && text[text.len() - 1] == right {
+        return Some(&text[1..text.len() - 1]);
+    }
+    None
+}
+
+/// Returns whether an address may have this number of hexadecimal digits.
+fn is_digit_count(count: usize) -> bool
+    ensures { result ≡ (nat_le 1 count && nat_le count 8) }
+{
+    1 <= count && count <= 8
+}
+
+/// Reads one to eight hexadecimal digits of either case.
+pub(crate) fn hexadecimal(digits: &[u8]) -> Option<u32>
+    ensures { result ≡ hexadecimal digits.now }
+{
+    if !is_digit_count(digits.len()) {
+        return None;
+    }
+    let mut sum: u32 = 0;
+    for digit in digits {
+        let value = hex_digit(*digit)?;
+        sum = 16 * sum + u32::from(value);
+    }
+    Some(sum)
+}
+
+/// Reads `0x` and a hexadecimal number.
+#[tactic(auto, unfolding(rv_commands::specs::Addresses::address_of))]
+fn prefixed(word: &[u8]) -> Option<u32>
+    ensures { result ≡ address_of (λ name. None) word.now }
+{
+    if word.starts_with(b"0x") {
+        return hexadecimal(word.split_at(2).1);
+    }
+    None
+}
+
+/// Reads a number without a sign: decimal, or hexadecimal after `0x`.
+#[tactic(auto, unfolding(crate::specs::Operands::number))]
+pub fn number(word: &[u8]) -> Option<u32>
+    ensures { result ≡ number word.now }
+{
+    match decimal(0xffff_ffff, word) {
+        Some(value) => Some(low_word(value)),
+        None => prefixed(word),
+    }
+}
+
+/// Returns the number of a line, as `12` or `12:`.
+#[tactic(auto, unfolding(crate::specs::Operands::line_number))]
+pub fn line_number(word: &[u8]) -> Option<u64>
+    ensures { result ≡ line_number word.now }
+{
+    if word.ends_with(b":") {
+        return decimal(0xffff_ffff, word.split_at(word.len() - 1).0);
+    }
+    decimal(0xffff_ffff, word)
+}
+
+/// Returns a text without the blanks after it.
+fn without_blanks_after(text: &[u8]) -> &[u8]
+    ensures { result.now ≡ take (length text.now - suffix_len is_blank text.now) text.now }
+{
+    match text {
+        [rest @ .., b] if is_blank(*b) => without_blanks_after(rest),
+        _ => text,
+    }
+}
+
+/// Returns a text without the blanks at its ends.
+#[tactic(auto, unfolding(crate::specs::Operands::trimmed))]
+pub(crate) fn trimmed(text: &[u8]) -> &[u8]
+    ensures { result.now ≡ trimmed text.now }
+{
+    without_blanks(without_blanks_after(text))
+}
