@@ -1,15 +1,17 @@
 //! Labels with their distances, and instructions.
+ghost use Rattle.std.specs.Prelude.{◌==◌, ◌++◌, [], codes, if◌then◌else◌};
+ghost use Rattle.std.specs.Fmt.{decimal};
 ghost use Rattle.rv_isa.specs.Meaning.{means};
 ghost use Rattle.rv_answers.specs.Answer.{Appended};
-ghost use Rattle.rv_answers.specs.Places.{distance_text, instruction_text, label_text};
+ghost use Rattle.rv_answers.specs.Places.{instruction_text, label_text};
 
 use crate::Answer;
 use rv_isa::decode;
 
 /// Appends a distance from a label.
-#[tactic(auto, using(crate::proofs::Pieces::then, crate::proofs::Pieces::nothing), unfolding(crate::specs::Places::distance_text))]
+#[tactic(auto, using(crate::proofs::Pieces::then, crate::proofs::Pieces::nothing))]
 fn append_distance(distance: u32, answer: &mut Answer)
-    ensures { Appended answer.old answer.new (distance_text distance) }
+    ensures { Appended answer.old answer.new (if distance == 0 then [] else codes "+" ++ decimal distance) }
 {
     if distance > 0 {
         answer.say("+");

@@ -1,6 +1,9 @@
 //! Rows of a list of the source.
+ghost use Rattle.std.specs.Prelude.{◌++◌, codes};
+ghost use Rattle.std.specs.Option.{option_map_or};
+ghost use Rattle.rv_base.specs.Digits.{hex};
 ghost use Rattle.rv_answers.specs.Answer.{Appended};
-ghost use Rattle.rv_answers.specs.Places.{bytes_text, cell_text, mark, row_text, word_text};
+ghost use Rattle.rv_answers.specs.Places.{cell_text, mark, row_text};
 
 use crate::Answer;
 
@@ -27,9 +30,10 @@ fn append_mark(stands: bool, sign: &str, answer: &mut Answer)
 }
 
 /// Appends the address of a line and the first word there.
-#[tactic(auto, using(crate::proofs::Pieces::then), unfolding(crate::specs::Places::bytes_text))]
+#[tactic(auto, using(crate::proofs::Pieces::then))]
 fn append_bytes(address: u32, word: Option<u32>, has_more: bool, answer: &mut Answer)
-    ensures { Appended answer.old answer.new (bytes_text address word has_more) }
+    ensures { Appended answer.old answer.new (hex 8 address ++ codes "  "
+        ++ option_map_or (hex 8) word (codes "        ") ++ mark has_more (codes "+") ++ codes " ") }
 {
     answer.word(address);
     answer.say("  ");
@@ -40,7 +44,7 @@ fn append_bytes(address: u32, word: Option<u32>, has_more: bool, answer: &mut An
 
 /// Appends the first word of a line.
 fn append_word(word: Option<u32>, answer: &mut Answer)
-    ensures { Appended answer.old answer.new (word_text word) }
+    ensures { Appended answer.old answer.new (option_map_or (hex 8) word (codes "        ")) }
 {
     match word {
         Some(word) => answer.word(word),
@@ -49,8 +53,9 @@ fn append_word(word: Option<u32>, answer: &mut Answer)
 }
 
 /// Appends where a line lies, or spaces where it has no bytes.
+#[tactic(auto, unfolding(crate::specs::Places::cell_text))]
 fn append_cell(row: Row, answer: &mut Answer)
-    ensures { Appended answer.old answer.new (cell_text row.address row.word row.has_more) }
+    ensures { Appended answer.old answer.new (cell_text row) }
 {
     match row.address {
         Some(address) => append_bytes(address, row.word, row.has_more, answer),
@@ -61,8 +66,7 @@ fn append_cell(row: Row, answer: &mut Answer)
 /// Appends a row of a list of the source.
 #[tactic(auto, using(crate::proofs::Pieces::then), unfolding(crate::specs::Places::row_text))]
 pub fn append_row(row: Row, number: usize, text: &[u8], answer: &mut Answer)
-    ensures { Appended answer.old answer.new
-        (row_text row.is_here row.is_marked row.address row.word row.has_more number text.now) }
+    ensures { Appended answer.old answer.new (row_text row number text.now) }
 {
     append_mark(row.is_here, ">", answer);
     append_mark(row.is_marked, "*", answer);

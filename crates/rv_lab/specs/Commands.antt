@@ -1,20 +1,22 @@
 -- To audit: public contracts cite this.
 -- What each command leaves of a lab (this project's own: docs/LAB.md).
-use Rattle.std.specs.Prelude.{◌≡◌, ◌⊎◌, ℕ, zero, suc, ◌-◌, ◌≤◌, ◌==◌, if◌then◌else◌, min, Bool, true, false, List, [], ◌∷◌, Option, Some, None, IfSome}
+use Rattle.std.specs.Prelude.{◌≡◌, ℕ, zero, suc, ◌-◌, ◌==◌, if◌then◌else◌, min, Bool, true, false, List, [], ◌∷◌, fold, Option, Some, None, IfSome, MatchOption, unwrap_or}
 use Rattle.std.specs.FinSet as set
 use Rattle.rv_base.specs.Numbers.{decimal}
 use Rattle.rv_base.specs.Words.{words}
+use Rattle.rv_board.specs.State.{BoardState}
+use Rattle.rv_lists.specs.Timed.{driven}
 use Rattle.rv_lists.specs.declared.input.Input.{Input}
 use Rattle.rv_monitor.specs.Commands.{command_in}
 use Rattle.rv_monitor.specs.Commands as monitor
-use Rattle.rv_monitor.specs.State.{Addresses, SessionState, TimedState, after, given, with_break, without_break}
+use Rattle.rv_monitor.specs.State.{Addresses, SessionState, after, given, with_break, without_break}
 use Rattle.rv_monitor.specs.Stops as stops
 use Rattle.rv_monitor.specs.Stops.{may_step, steps_between}
 use Rattle.rv_recording.specs.Recording.{RecordingState, gone_back, last_step, with_timed}
-use Rattle.rv_recording.specs.Until.{HasRunUntil}
-use Rattle.rv_recording.specs.Out.{HasRunOut, open_at}
-use Rattle.rv_recording.specs.declared.until.Condition.{Condition}
+use Rattle.rv_recording.specs.Until.{HasRun, until_at}
+use Rattle.rv_recording.specs.Out.{open_at, out_at}
 use Rattle.rv_recording.specs.declared.until.End.{End}
+use Rattle.rv_operands.specs.Operands.{break_address, bytes_inputs, condition}
 use Rattle.rv_lab.specs.State.{LabState}
 use Rattle.rv_lab.specs.declared.plan.Plan.{Plan}
 use Rattle.rv_lab.specs.declared.plan.Goal.{Goal}
@@ -34,8 +36,8 @@ pub record Took (breakpoints : Addresses) (n : ℕ) (old new : RecordingState) :
 abbrev pub RunsFor : Goal → ℕ → RecordingState → RecordingState → Type 0
 RunsFor goal.Count n old new = Took set.empty n old new
 RunsFor goal.Break n old new = Took old.session.breakpoints n old new
-RunsFor (goal.Out calls) n old new = (end : End) × HasRunOut calls n old new end
-RunsFor (goal.Until condition) n old new = (end : End) × HasRunUntil condition n old new end
+RunsFor (goal.Out calls) n old new = (end : End) × HasRun (out_at calls old.session) n old new end
+RunsFor (goal.Until condition) n old new = (end : End) × HasRun (until_at condition old.session) n old new end
 
 -- what the run goes on for after it
 abbrev pub goal_after : Goal → RecordingState → RecordingState → Goal
@@ -53,8 +55,7 @@ pub record GoesOn (p : Plan) (old new : LabState) : Type 0 where
 
 -- a call that goes on with the run that isn't over, if there is one
 abbrev pub Continues : Option Plan → LabState → LabState → Type 0
-Continues None old new = new ≡ old
-Continues (Some plan) old new = GoesOn plan old new
+Continues plan old new = MatchOption plan (new ≡ old) (λ p. GoesOn p old new)
 
 -- ---- commands that move the board
 
@@ -78,23 +79,19 @@ StepsBy false n old new = Begins goal.Count n (record old { count = n }) new
 abbrev pub Steps : ℕ → LabState → LabState → Type 0
 Steps n old new = StepsBy (n == 1) n old new
 
--- `trace`: n steps at most
+-- `trace`: n steps, or those that there are
 abbrev pub stepped_by : ℕ → RecordingState → RecordingState
 stepped_by zero r = r
 stepped_by (suc k) r = stepped_by k (stepped r)
 
 abbrev pub Traced : ℕ → LabState → LabState → Type 0
-Traced n old new = (k : ℕ) × ((k ≤ n) × (new ≡ record old { recording = stepped_by k old.recording }))
+Traced n old new = new ≡ record old { recording = stepped_by n old.recording }
 
--- `u`: the lab after its first n steps
-abbrev pub backed : LabState → ℕ → LabState
-backed l n = record l {
-  recording = gone_back l.recording n;
-  before = (gone_back l.recording n).session.timed.taken;
-}
-
+-- `u`: n steps back, from where the next command is compared with the board
 abbrev pub GoesBack : ℕ → LabState → LabState → Type 0
-GoesBack n old new = new ≡ backed old (old.recording.session.timed.taken - n)
+GoesBack n old new =
+    let back = gone_back old.recording (old.recording.session.timed.taken - n) in
+    new ≡ record old { recording = back; before = back.session.timed.taken }
 
 -- ---- the others
 
@@ -102,16 +99,9 @@ GoesBack n old new = new ≡ backed old (old.recording.session.timed.taken - n)
 abbrev pub with_session : LabState → SessionState → LabState
 with_session l s = record l { recording = record l.recording { session = s } }
 
-abbrev pub given_all : TimedState → List Input → TimedState
-given_all s [] = s
-given_all s (input ∷ more) = given_all (given s input) more
-
 abbrev pub with_inputs : LabState → List Input → LabState
 with_inputs l inputs =
-    record l { recording = with_timed l.recording (given_all l.recording.session.timed inputs) }
-
-abbrev pub Gave : LabState → LabState → Type 0
-Gave old new = (inputs : List Input) × (new ≡ with_inputs old inputs)
+    record l { recording = with_timed l.recording (fold given l.recording.session.timed inputs) }
 
 -- `monitor`
 abbrev pub Monitors : List ℕ → LabState → LabState → Type 0
@@ -121,16 +111,19 @@ Monitors line old new =
 
 -- ---- a command
 
--- the number that the operands give, or the usual one without operands
+-- the board by which operands are read
+abbrev pub board : LabState → BoardState
+board l = l.recording.session.timed.board
+
+-- the number of some words, or the usual one where there are none
 abbrev pub count_of : ℕ → ℕ → List (List ℕ) → Option ℕ
 count_of usual most [] = Some usual
 count_of usual most (word ∷ []) = decimal most word
 count_of usual most _ = None
 
--- a command with a count, which changes nothing where the count can't be read
-abbrev pub Counts : (ℕ → LabState → LabState → Type 0) → Option ℕ → LabState → LabState → Type 0
-Counts Does None old new = new ≡ old
-Counts Does (Some n) old new = Does n old new
+-- what a command does by its operands, which changes nothing where they can't be read
+abbrev pub Reads : {A : Type 0} → Option A → (A → LabState → LabState → Type 0) → LabState → LabState → Type 0
+Reads meaning Does old new = MatchOption meaning (new ≡ old) (λ x. Does x old new)
 
 -- an empty line
 abbrev pub Repeats : Command → LabState → LabState → Type 0
@@ -140,26 +133,30 @@ Repeats Over old new = Begins (goal.Out 0) 1000000 old new
 Repeats _ old new = new ≡ old
 
 -- the lab that a command leaves which takes no step, by its operands; all others only look
-abbrev pub Changes : Command → List (List ℕ) → LabState → LabState → Type 0
+abbrev pub Changes : Command → List ℕ → LabState → LabState → Type 0
 Changes Break operands old new =
-    (new ≡ old) ⊎ ((a : ℕ) × (new ≡ with_session old (with_break old.recording.session a)))
+    Reads (break_address old.listing (board old) (words operands))
+    (λ a before after. after ≡ with_session before (with_break before.recording.session a)) old new
 Changes Clear operands old new =
-    (new ≡ old) ⊎ ((a : ℕ) × (new ≡ with_session old (without_break old.recording.session a)))
-Changes Receive operands old new = Gave old new
-Changes Line operands old new = Gave old new
-Changes Monitor operands old new = (line : List ℕ) × ((words line ≡ operands) × Monitors line old new)
+    Reads (break_address old.listing (board old) (words operands))
+    (λ a before after. after ≡ with_session before (without_break before.recording.session a)) old new
+Changes Receive operands old new = new ≡ with_inputs old (unwrap_or (bytes_inputs operands) [])
+Changes Line operands old new = new ≡ with_inputs old (unwrap_or (driven (words operands)) [])
+Changes Monitor operands old new = Monitors operands old new
 Changes _ operands old new = new ≡ old
 
 -- the lab that a command leaves
-abbrev pub Leaves : Command → List (List ℕ) → LabState → LabState → Type 0
-Leaves Step operands old new = Counts Steps (count_of 1 1000000000 operands) old new
-Leaves Go operands old new = Counts (Begins goal.Break) (count_of 1000000 1000000000 operands) old new
+abbrev pub Leaves : Command → List ℕ → LabState → LabState → Type 0
+Leaves Step operands old new = Reads (count_of 1 1000000000 (words operands)) Steps old new
+Leaves Go operands old new = Reads (count_of 1000000 1000000000 (words operands)) (Begins goal.Break) old new
 Leaves Over operands old new = Begins (goal.Out 0) 1000000 old new
 Leaves Finish operands old new = Begins (goal.Out 1) 1000000 old new
-Leaves Until operands old new = (new ≡ old) ⊎ ((c : Condition) × Begins (goal.Until c) 1000000 old new)
-Leaves Trace operands old new = Counts (λ n before after. Traced n (begun before) after) (count_of 10 1000 operands) old new
+Leaves Until operands old new =
+    Reads (condition old.listing (board old) (words operands)) (λ c. Begins (goal.Until c) 1000000) old new
+Leaves Trace operands old new =
+    Reads (count_of 10 1000 (words operands)) (λ n before after. Traced n (begun before) after) old new
 Leaves Back operands old new =
-    Counts GoesBack (count_of (old.recording.session.timed.taken - old.before) last_step operands) old new
+    Reads (count_of (old.recording.session.timed.taken - old.before) last_step (words operands)) GoesBack old new
 Leaves Again operands old new = Repeats old.again old new
 Leaves command operands old new = Changes command operands old new
 

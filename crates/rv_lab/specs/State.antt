@@ -12,8 +12,8 @@ use Rattle.rv_lab.specs.declared.command.Command.{Command}
 use Rattle.rv_lab.specs.declared.plan.Plan.{Plan}
 
 -- a source with its listing and the recording of its image; the number of steps before the last command that
--- moved the board; what an empty line repeats, and the steps of the last `s`; the run that isn't over; and the
--- most steps of a call
+-- moved the board; what an empty line repeats, and the steps of the last `s`; the run that isn't over; and
+-- the most steps of a call
 pub record LabState : Type 0 where
   pub source : List ℕ
   pub listing : Listed
@@ -24,6 +24,7 @@ pub record LabState : Type 0 where
   pub plan : Option Plan
   pub piece : ℕ
 
--- what no command changes: the source, its listing, the program, the sizes of its board, and the steps of a call
+-- what no command changes: the source, its listing, the program, the sizes of its board, and the steps of a
+-- call
 abbrev pub setup : LabState → List ℕ × Listed × Assembly × ℕ × ℕ × ℕ
 setup l = (l.source, l.listing, l.recording.session.program, l.recording.pages, l.recording.slots, l.piece)

@@ -4,6 +4,7 @@ use Rattle.std.specs.Prelude.{ℕ, List, [], ◌∷◌, length, nat_lt, codes, i
 use Rattle.rv_base.specs.Limits.{line_limit}
 use Rattle.rv_base.specs.Tables.{lookup}
 use Rattle.rv_base.specs.Words.{words, begins_comment}
+use Rattle.rv_operands.specs.Operands.{operands}
 use Rattle.rv_lab.specs.declared.command.Command.{Command}
 use Rattle.rv_lab.specs.declared.command.Command.TheVariants.{Step, Go, Over, Finish, Until, Trace, Back, Where, Break, Clear, Registers, ControlRegister, Memory, Instruction, Traps, Edges, Why, Devices, Receive, Line, Save, Monitor, Help, Quit, Again, StepOnce, Nothing}
 use Rattle.rv_lab.specs.declared.command.Command.TheVariants as command
@@ -35,17 +36,20 @@ other_words =
 abbrev pub command_of : List ℕ → Command
 command_of word = unwrap_or (lookup (unwrap_or (lookup word other_words) word) commands) Nothing
 
--- the command of the words of a line, with its operands; an empty line repeats a command
-abbrev pub said : List (List ℕ) → Command × List (List ℕ)
-said [] = (Again, [])
-said (word ∷ operands) = (if begins_comment word then Nothing else command_of word, operands)
+-- the command of a line: an empty one repeats a command; a comment and one of more than 1,024 bytes do
+-- nothing
+abbrev pub said : List ℕ → Command
+said line = if nat_lt line_limit (length line) then Nothing else of_words (words line) where
+  of_words : List (List ℕ) → Command
+  of_words [] = Again
+  of_words (word ∷ operands) = if begins_comment word then Nothing else command_of word
 
--- the command of a line; one of more than 1,024 bytes does nothing
-unfoldable pub read : List ℕ → Command × List (List ℕ)
-read line = if nat_lt line_limit (length line) then (Nothing, words line) else said (words line)
+-- the command of a line with its operands
+unfoldable pub read : List ℕ → Command × List ℕ
+read line = (said line, operands line)
 
--- what an empty line repeats after a command: a step or list command, a single step after another that moves the
--- board, and else what it repeated before
+-- what an empty line repeats after a command: a step or list command, a single step after another that moves
+-- the board, and else what it repeated before
 abbrev pub repeated : Command → Command → Command
 repeated Step before = Step
 repeated Over before = Over

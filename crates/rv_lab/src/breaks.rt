@@ -2,44 +2,38 @@
 ghost use Rattle.std.specs.Prelude.{◌≡◌, OnOk};
 ghost use Rattle.rv_base.specs.Words.{words};
 ghost use Rattle.rv_lab.specs.declared.command.Command.TheVariants as command;
-ghost use Rattle.rv_lab.specs.Commands.{Changes};
+ghost use Rattle.rv_operands.specs.Operands.{break_address};
+ghost use Rattle.rv_lab.specs.Commands.{Changes, board};
 ghost use Rattle.rv_lab.specs.State.{setup};
 
 use crate::lab::{Lab, Next};
-use crate::operands::{line_number, only_word};
 use rv_answers::Answer;
 use rv_base::{NoMemory, RAM_BASE, has_word};
+use rv_operands::{line_number, only_word};
 
 /// The words of memory in a page.
 const PAGE_WORDS: u32 = 1024;
 
 impl Lab {
-    /// Returns the address of a breakpoint: what an address stands for, where a line without bytes stands for
-    /// the next one that has some. Where there is none, that is answered.
-    fn break_address(&self, command: &str, operands: &[u8], answer: &mut Answer) -> Option<u32> {
-        let Some(word) = only_word(operands) else {
-            answer.say(command);
-            answer.say(": one line, address or name is wanted\n");
-            return None;
-        };
-        match line_number(word) {
-            Some(line) => self.line_with_bytes(line as usize, answer),
-            None => self.first_address(command, operands, answer),
-        }
+    /// Returns the address of a breakpoint, where its operands have one.
+    fn break_address(&self, operands: &[u8]) -> Option<u32>
+        ensures { result ≡ break_address self.now.listing (board self.now) (words operands.now) }
+    {
+        self.scope().break_address(operands)
     }
 
-    /// Returns the address of the first line from this one on that has bytes. Where there is none, that is
-    /// answered.
-    fn line_with_bytes(&self, from: usize, answer: &mut Answer) -> Option<u32> {
-        for line in from..=self.listing.len() {
-            if self.size(line) > 0 {
-                return self.listing.address(line);
-            }
+    /// Says why some operands are no address of a breakpoint.
+    fn refuse_place(&self, command: &str, operands: &[u8], answer: &mut Answer) {
+        let Some(word) = only_word(operands) else {
+            answer.say(command);
+            return answer.say(": one line, address or name is wanted\n");
+        };
+        if line_number(word).is_none() {
+            return self.refuse_address(command, word, answer);
         }
         let count = self.listing.len() as u64;
         let form = "no line with an instruction or data is there; the source has %d line%{s||s}\n";
         answer.fill(form, &[count, count]);
-        None
     }
 
     /// Executes `b`.
@@ -49,13 +43,14 @@ impl Lab {
         answer: &mut Answer,
     ) -> Result<Next, NoMemory>
         ensures setup { setup self.new ≡ setup self.old }
-        ensures leaves { OnOk result (Changes command.Break (words operands.now) self.old self.new) }
+        ensures leaves { OnOk result (Changes command.Break operands.now self.old self.new) }
     {
-        if !has_word(operands) {
-            self.list_breaks(answer);
-            return Ok(Next::More);
-        }
-        let Some(address) = self.break_address("b", operands, answer) else {
+        let Some(address) = self.break_address(operands) else {
+            if has_word(operands) {
+                self.refuse_place("b", operands, answer);
+            } else {
+                self.list_breaks(answer);
+            }
             return Ok(Next::More);
         };
         self.recording.set_break(address)?;
@@ -71,10 +66,10 @@ impl Lab {
     /// Executes `d`.
     pub(crate) fn clear_command(&mut self, operands: &[u8], answer: &mut Answer)
         ensures setup { setup self.new ≡ setup self.old }
-        ensures leaves { Changes command.Clear (words operands.now) self.old self.new }
+        ensures leaves { Changes command.Clear operands.now self.old self.new }
     {
-        let Some(address) = self.break_address("d", operands, answer) else {
-            return;
+        let Some(address) = self.break_address(operands) else {
+            return self.refuse_place("d", operands, answer);
         };
         let was_there = self.recording.clear_break(address);
         answer.say(if was_there {

@@ -2,13 +2,13 @@
 ghost use Rattle.std.specs.Prelude.{◌≡◌, unwrap_or};
 ghost use Rattle.std.specs.Option.{option_map};
 ghost use Rattle.rv_base.specs.Tables.{lookup};
-ghost use Rattle.rv_base.specs.Words.{words};
 ghost use Rattle.rv_lab.specs.Rows.{canonical, named};
-ghost use Rattle.rv_lab.specs.Words.{command_of, commands, other_words, read, repeated};
+ghost use Rattle.rv_lab.specs.Words.{command_of, commands, other_words, read, repeated, said};
 
 use crate::nearest::Nearest;
 use rv_answers::Answer;
 use rv_base::{LINE_LIMIT, begins_comment, first_word, look_up};
+use rv_operands::operands_of;
 use std::alloc::Global;
 
 /// What a line asks for.
@@ -389,27 +389,28 @@ pub(crate) fn read_command<'a>(
     alloc: Global,
     answer: &mut Answer,
 ) -> CommandLine<'a>
-    ensures { (result.command, words result.operands.now) ≡ read line.now }
+    ensures { (result.command, result.operands.now) ≡ read line.now }
+{
+    let command = said(line, alloc, answer);
+    let operands = operands_of(line);
+    CommandLine { command, operands }
+}
+
+/// Returns the command of a line.
+fn said(line: &[u8], alloc: Global, answer: &mut Answer) -> Command
+    ensures { result ≡ said line.now }
 {
     if line.len() > LINE_LIMIT {
         answer.say("a line has at most 1024 bytes\n");
-        return CommandLine {
-            command: Command::Nothing,
-            operands: line,
-        };
+        return Command::Nothing;
     }
-    let Some((word, operands)) = first_word(line) else {
-        return CommandLine {
-            command: Command::Again,
-            operands: line,
-        };
+    let Some((word, _)) = first_word(line) else {
+        return Command::Again;
     };
-    let command = if begins_comment(word) {
-        Command::Nothing
-    } else {
-        command_of(word, alloc, answer)
-    };
-    CommandLine { command, operands }
+    if begins_comment(word) {
+        return Command::Nothing;
+    }
+    command_of(word, alloc, answer)
 }
 
 /// Returns the command of a word, or `Nothing` where it is no command, which is answered.

@@ -1,6 +1,5 @@
 //! The execution of a command.
 ghost use Rattle.std.specs.Prelude.{◌≡◌, OnOk};
-ghost use Rattle.rv_base.specs.Words.{words};
 ghost use Rattle.rv_lab.specs.Commands.{Changes, Leaves, Repeats};
 ghost use Rattle.rv_lab.specs.State.{setup};
 
@@ -18,7 +17,7 @@ impl Lab {
         answer: &mut Answer,
     ) -> Result<Next, NoMemory>
         ensures setup { setup self.new ≡ setup self.old }
-        ensures leaves { OnOk result (Leaves command (words operands.now) self.old self.new) }
+        ensures leaves { OnOk result (Leaves command operands.now self.old self.new) }
     {
         match command {
             Command::Step => self.step_command(operands, answer),
@@ -58,7 +57,7 @@ impl Lab {
         answer: &mut Answer,
     ) -> Result<Next, NoMemory>
         ensures setup { setup self.new ≡ setup self.old }
-        ensures changes { OnOk result (Changes command (words operands.now) self.old self.new) }
+        ensures changes { OnOk result (Changes command operands.now self.old self.new) }
     {
         match command {
             Command::List => self.list_command(operands, answer),

@@ -1,9 +1,9 @@
 //! Help.
 use crate::command::{commands, row_of};
 use crate::lab::Lab;
-use crate::operands::only_word;
 use rv_answers::Answer;
 use rv_base::has_word;
+use rv_operands::only_word;
 
 /// The width of a command's form in the list.
 const FORM_WIDTH: usize = 20;

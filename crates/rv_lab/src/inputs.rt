@@ -1,150 +1,21 @@
 //! Inputs by hand, and what was done as texts for rvboard.
 ghost use Rattle.std.specs.Prelude.{◌≡◌, [], ◌∷◌, OnOk};
-ghost use Rattle.rv_base.specs.Words.{words};
 ghost use Rattle.rv_lab.specs.declared.command.Command.TheVariants as command;
-ghost use Rattle.rv_lab.specs.Commands.{Changes, Gave, Monitors, with_inputs};
+ghost use Rattle.rv_lab.specs.Commands.{Changes, Monitors, with_inputs};
 ghost use Rattle.rv_lab.specs.State.{setup};
 ghost use Rattle.rv_answers.specs.Answer.{Appended};
 ghost use Rattle.rv_lab.specs.Saved.{steps_text};
 ghost use Rattle.rv_lists.specs.Text.{list_text};
 
 use crate::lab::{Lab, Next};
-use crate::operands::only_word;
-use rv_answers::{Answer, cut_at};
-use rv_base::{NoMemory, decimal, first_word, has_word, hex_byte, look_up};
+use rv_answers::Answer;
+use rv_base::{NoMemory, first_word, has_word};
 use rv_lists::Input;
 use rv_monitor::Next as Monitored;
-use rv_plic::Source;
+use rv_operands::{only_word, read_bytes_inputs, read_line_input};
 
 /// The most steps of a command of the monitor.
 const MOST_STEPS: u64 = 1_000_000_000;
-
-/// Returns the byte that an escape stands for, by what follows its backslash.
-fn escaped(byte: u8) -> Option<u8> {
-    match byte {
-        b'n' => Some(b'\n'),
-        b'r' => Some(b'\r'),
-        b't' => Some(b'\t'),
-        b'0' => Some(0),
-        b'"' | b'\\' => Some(byte),
-        _ => None,
-    }
-}
-
-/// The first byte that `rx` receives, and the text of those that follow it.
-#[derive(Clone, Copy)]
-struct First<'a> {
-    byte: u8,
-    rest: &'a [u8],
-}
-
-/// Returns the first byte that a text between quotes stands for.
-fn first_of_text<'a>(text: &'a [u8]) -> Option<First<'a>> {
-    match text {
-        [b'\\', byte, rest @ ..] => {
-            let byte = escaped(*byte)?;
-            Some(First { byte, rest })
-        }
-        [b'\\'] | [] => None,
-        [byte, rest @ ..] => Some(First { byte: *byte, rest }),
-    }
-}
-
-/// Returns the byte that the first of some words of two hexadecimal digits stands for.
-fn first_of_words<'a>(words: &'a [u8]) -> Option<First<'a>> {
-    let (word, rest) = first_word(words)?;
-    let byte = hex_byte(word)?;
-    Some(First { byte, rest })
-}
-
-/// What `rx` receives: a text between quotes, or words of two hexadecimal digits.
-#[derive(Clone, Copy)]
-struct Received<'a> {
-    text: &'a [u8],
-    is_quoted: bool,
-}
-
-impl<'a> Received<'a> {
-    /// Whether a byte follows.
-    fn has_more(&self) -> bool {
-        if self.is_quoted {
-            !self.text.is_empty()
-        } else {
-            has_word(self.text)
-        }
-    }
-
-    /// Returns the next byte, if it can be read.
-    fn next(&mut self) -> Option<u8> {
-        let first = if self.is_quoted {
-            first_of_text(self.text)?
-        } else {
-            first_of_words(self.text)?
-        };
-        self.text = first.rest;
-        Some(first.byte)
-    }
-
-    /// Returns the number of bytes, if each can be read.
-    fn count(self) -> Option<u64> {
-        let mut left = self;
-        let mut count: u64 = 0;
-        for _ in 0..self.text.len() {
-            if !left.has_more() {
-                break;
-            }
-            let _byte = left.next()?;
-            count = count.saturating_add(1);
-        }
-        Some(count)
-    }
-}
-
-/// Returns a text without the blanks at its end.
-fn without_blanks(text: &[u8]) -> &[u8] {
-    let mut count = 0;
-    for (index, byte) in text.iter().enumerate() {
-        if *byte != b' ' && *byte != b'\t' {
-            count = index.saturating_add(1);
-        }
-    }
-    text.split_at(count.min(text.len())).0
-}
-
-/// Returns what stands between the quotes of some operands, if they are a text between quotes.
-fn quoted<'a>(operands: &'a [u8]) -> Option<&'a [u8]> {
-    let (before, text) = cut_at(operands, b'"');
-    let text = without_blanks(text);
-    if has_word(before) || text.len() < 2 || !text.ends_with(b"\"") {
-        return None;
-    }
-    Some(&text[1..text.len() - 1])
-}
-
-/// Returns what the operands of `rx` ask for.
-fn bytes_of<'a>(operands: &'a [u8]) -> Received<'a> {
-    match quoted(operands) {
-        Some(text) => Received {
-            text,
-            is_quoted: true,
-        },
-        None => Received {
-            text: operands,
-            is_quoted: false,
-        },
-    }
-}
-
-/// The levels of an interrupt line.
-static LEVELS: [(&str, bool); 2] = [("0", false), ("1", true)];
-
-/// Reads the source and the level of an interrupt line.
-fn read_line_input(operands: &[u8]) -> Option<Input> {
-    let (word, rest) = first_word(operands)?;
-    let source = Source::new(decimal(31, word)? as u8)?;
-    let high = look_up(&LEVELS, only_word(rest)?)?;
-    Some(Input::Line { source, high })
-}
 
 /// Returns the name under which a command line asks to save, if it has one.
 pub fn saved_name<'a>(line: &'a [u8]) -> Option<&'a [u8]> {
@@ -184,21 +55,17 @@ impl Lab {
         self.recording.give(input)
     }
 
-    /// Gives the board the bytes that are received before the next step, at most `most`.
-    #[tactic(auto, using(crate::proofs::Runs::gave_none, crate::proofs::Runs::gave_more))]
-    fn give_bytes(&mut self, received: Received<'_>, most: usize) -> Result<(), NoMemory>
+    /// Gives the board inputs before the next step.
+    #[tactic(auto, using(crate::proofs::Given::gave_no, crate::proofs::Given::gave_list))]
+    fn give_all(&mut self, inputs: &[Input]) -> Result<(), NoMemory>
         ensures setup { setup self.new ≡ setup self.old }
-        ensures given { OnOk result (Gave self.old self.new) }
+        ensures given { OnOk result (self.new ≡ with_inputs self.old inputs.now) }
     {
-        let mut left = received;
-        if most == 0 {
-            return Ok(());
-        }
-        let Some(byte) = left.next() else {
+        let [input, rest @ ..] = inputs else {
             return Ok(());
         };
-        self.give(Input::Rx(byte))?;
-        self.give_bytes(left, most - 1)
+        self.give(*input)?;
+        self.give_all(rest)
     }
 
     /// Executes `rx`.
@@ -208,30 +75,28 @@ impl Lab {
         answer: &mut Answer,
     ) -> Result<Next, NoMemory>
         ensures setup { setup self.new ≡ setup self.old }
-        ensures leaves { OnOk result (Changes command.Receive (words operands.now) self.old self.new) }
+        ensures leaves { OnOk result (Changes command.Receive operands.now self.old self.new) }
     {
-        let received = bytes_of(operands);
-        match received.count() {
-            Some(count) if count > 0 => {
-                self.give_bytes(received, received.text.len())?;
-                self.tell_given(count, answer);
-            }
-            _ => answer.say(
+        let inputs = read_bytes_inputs(self.alloc, operands)?.unwrap_or(Vec::new(self.alloc));
+        self.give_all(&inputs)?;
+        if inputs.is_empty() {
+            answer.say(
                 "rx: a text between quotes is wanted, in which \\n \\r \\t \\0 \\\" \\\\ may stand, or bytes of two hexadecimal digits each; `help rx` has an example\n",
-            ),
+            );
+        } else {
+            self.tell_given(inputs.len() as u64, answer);
         }
         Ok(Next::More)
     }
 
     /// Executes `line`.
-    #[tactic(auto, using(crate::proofs::Runs::gave))]
     pub(crate) fn line_command(
         &mut self,
         operands: &[u8],
         answer: &mut Answer,
     ) -> Result<Next, NoMemory>
         ensures setup { setup self.new ≡ setup self.old }
-        ensures leaves { OnOk result (Changes command.Line (words operands.now) self.old self.new) }
+        ensures leaves { OnOk result (Changes command.Line operands.now self.old self.new) }
     {
         let Some(input) = read_line_input(operands) else {
             answer.say(

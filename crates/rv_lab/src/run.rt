@@ -1,9 +1,10 @@
 //! Commands that move the board.
-ghost use Rattle.std.specs.Prelude.{◌≡◌, ◌≤◌, Ok, Some, None, true, OnOk, ℕ};
-ghost use Rattle.rv_base.specs.Words.{words};
+ghost use Rattle.std.specs.Prelude.{◌≡◌, ◌≤◌, Ok, Some, None, true, false, IfOk, OnOk, ℕ};
 ghost use Rattle.rv_lab.specs.declared.command.Command.TheVariants as command;
 ghost use Rattle.rv_lab.specs.declared.plan.Goal.TheVariants as goal;
-ghost use Rattle.rv_lab.specs.Commands.{Begins, Continues, GoesOn, Leaves, Repeats, RunsFor, Steps, Traced, backed, begun, goal_after, stepped};
+ghost use Rattle.rv_lab.specs.Commands.{Begins, Continues, GoesOn, Leaves, Repeats, RunsFor, Steps, Traced, begun, goal_after, stepped};
+ghost use Rattle.rv_monitor.specs.Stops.{may_step};
+ghost use Rattle.rv_lab.specs.Rows.{backed};
 ghost use Rattle.rv_lab.specs.State.{setup};
 
 use crate::lab::{Lab, Next};
@@ -146,7 +147,7 @@ impl Lab {
         answer: &mut Answer,
     ) -> Result<Next, NoMemory>
         ensures setup { setup self.new ≡ setup self.old }
-        ensures leaves { OnOk result (Leaves command.Step (words operands.now) self.old self.new) }
+        ensures leaves { OnOk result (Leaves command.Step operands.now self.old self.new) }
     {
         match count_or(operands, 1, MOST_STEPS) {
             Some(count) => self.run_steps(count, answer),
@@ -164,7 +165,7 @@ impl Lab {
         answer: &mut Answer,
     ) -> Result<Next, NoMemory>
         ensures setup { setup self.new ≡ setup self.old }
-        ensures leaves { OnOk result (Leaves command.Go (words operands.now) self.old self.new) }
+        ensures leaves { OnOk result (Leaves command.Go operands.now self.old self.new) }
     {
         match count_or(operands, USUAL_STEPS, MOST_STEPS) {
             Some(count) => self.run(Goal::Break, count, answer),
@@ -198,7 +199,7 @@ impl Lab {
         answer: &mut Answer,
     ) -> Result<Next, NoMemory>
         ensures setup { setup self.new ≡ setup self.old }
-        ensures leaves { OnOk result (Leaves command.Until (words operands.now) self.old self.new) }
+        ensures leaves { OnOk result (Leaves command.Until operands.now self.old self.new) }
     {
         match self.read_condition(operands, answer) {
             Some(condition) => self.run(Goal::Until(condition), USUAL_STEPS, answer),
@@ -210,6 +211,7 @@ impl Lab {
     fn trace_step(&mut self, answer: &mut Answer) -> Result<bool, NoMemory>
         ensures setup { setup self.new ≡ setup self.old }
         ensures step { OnOk result (self.new ≡ record self.old { recording = stepped self.old.recording }) }
+        ensures over { IfOk result (λ goes_on. goes_on ≡ false → may_step self.new.recording.session ≡ false) }
     {
         let before = Registers::of(self.board());
         let at = self.board().pc();
@@ -225,7 +227,7 @@ impl Lab {
     }
 
     /// Takes steps, at most `count`, and tells each in a line.
-    #[tactic(auto, using(crate::proofs::Runs::traced_none, crate::proofs::Runs::traced_one, crate::proofs::Runs::traced_more))]
+    #[tactic(auto, using(crate::proofs::Runs::traced_none, crate::proofs::Runs::traced_last))]
     fn trace_steps(&mut self, count: u64, answer: &mut Answer) -> Result<(), NoMemory>
         ensures setup { setup self.new ≡ setup self.old }
         ensures traced { OnOk result (Traced count self.old self.new) }
@@ -246,7 +248,7 @@ impl Lab {
         answer: &mut Answer,
     ) -> Result<Next, NoMemory>
         ensures setup { setup self.new ≡ setup self.old }
-        ensures leaves { OnOk result (Leaves command.Trace (words operands.now) self.old self.new) }
+        ensures leaves { OnOk result (Leaves command.Trace operands.now self.old self.new) }
     {
         let Some(count) = count_or(operands, 10, MOST_TRACED) else {
             refuse_count("trace", operands, answer);
@@ -282,7 +284,7 @@ impl Lab {
         answer: &mut Answer,
     ) -> Result<Next, NoMemory>
         ensures setup { setup self.new ≡ setup self.old }
-        ensures leaves { OnOk result (Leaves command.Back (words operands.now) self.old self.new) }
+        ensures leaves { OnOk result (Leaves command.Back operands.now self.old self.new) }
     {
         let now = self.recording.steps();
         let usual = now.saturating_sub(self.last.steps);

@@ -2,10 +2,11 @@
 ghost use Rattle.std.specs.Prelude.{◌≡◌};
 
 use crate::lab::Lab;
-use crate::operands::{count_or, line_number};
+use crate::operands::count_or;
 use rv_answers::{Answer, Row, append_row};
 use rv_base::{cut_lines, first_word};
 use rv_monitor::word_at;
+use rv_operands::line_number;
 
 /// How many lines `l` lists where no number is given.
 const USUAL_LINES: u64 = 11;
@@ -61,7 +62,7 @@ impl Lab {
         if let Some(line) = line_number(word) {
             return Some(line as usize);
         }
-        let Some(address) = self.address(word) else {
+        let Some(address) = self.scope().address(word) else {
             self.refuse_address("l", word, answer);
             return None;
         };

@@ -1,4 +1,4 @@
--- To audit: public contracts cite this.
+-- Not to audit: how a handle points to its state, for one proof by hand. No contract of a call cites this.
 -- The state that a handle lends.
 use base.Fml.{Fml}
 use denote.Ref.{MutBor}

@@ -1,4 +1,4 @@
--- To audit: public contracts cite this.
+-- Not to audit: how a handle points to its state, for one proof by hand. No contract of a call cites this.
 -- What a handle owns: what a box of the page's state does.
 use base.Fml.{Fml, ftrue}
 use base.Stored.{Coded}
