@@ -1,5 +1,5 @@
 //! Whole runs of the texts of a row, as the program `rvboard` does them.
-ghost use Rattle.rv_texts.specs.Readers.{IsSoundIf};
+ghost use Rattle.std.specs.Prelude.{◌≡◌, IfSome, false};
 
 use crate::row::{Row, argument, number};
 use rv_base::{NoMemory, cut_lines};
@@ -20,7 +20,7 @@ fn options(numbers: &[u8]) -> Options {
 
 /// Returns a reader of the commands, where there are any.
 fn commands_in(commands: Option<&[u8]>) -> Option<MemoryIn<'_>>
-    ensures { IsSoundIf (λ m. m.has_failed) result }
+    ensures { IfSome result (λ m. m.has_failed ≡ false) }
 {
     commands.map(MemoryIn::new)
 }
