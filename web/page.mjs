@@ -12,6 +12,7 @@ import { registersHtml } from "./views.mjs";
 const TYPED = 200; // milliseconds without a key before what is typed is assembled
 const STEPS = 1000000000; // the most steps of a command
 const REPLAYED = 3000000; // the most steps that are run again in one piece to go back
+const RECENT = 10000000; // the steps behind the present where the lab has kept states close to each other
 const LABELS = 1000; // the most labels that are shown in memory
 const PAGES = 256; // of memory, unless others are asked for, as rvboard has them
 const MOST = 65535; // the largest number of pages that can be passed: the lab refuses it
@@ -127,10 +128,11 @@ async function showDone(line, text) {
     say(text.trimEnd());
 }
 
-// Goes back to a step. From far behind it the board runs there in pieces, so that a pause comes through.
+// Goes back to a step: by the lab's own command to one near to the start or to the present, where a state
+// was kept not far before it. Else the board runs there from reset in pieces, so that a pause comes through.
 async function goBack(to) {
     const line = `u ${steps - to}`;
-    if (to <= REPLAYED || to > STEPS) return command(line);
+    if (to <= REPLAYED || steps - to <= RECENT || to > STEPS) return command(line);
     await work(async () => {
         await call("command", `u ${steps}`);
         await call("command", `s ${to}`);

@@ -73,7 +73,7 @@ async function inputWhileRunning() {
     same("and what was sent", await page.run(`document.getElementById("inputs").value`), inputs);
 }
 
-// The program runs for 160 million steps, so that the way back shows its progress on a fast machine too.
+// The program runs for 160 million steps, so that a run to its middle shows its progress on a fast machine too.
 async function backFromFar() {
     await open(fs.readFileSync(`${top}/bench/loop.s`, "utf8").replace("TURNS,4000000", "TURNS,20000000"));
     await press("R", "halted with code");
@@ -81,8 +81,11 @@ async function backFromFar() {
     await press("B", "back at step");
     const [before, now] = [end, await where()].map((it) => Number(it.match(/step (.*)$/)[1].replaceAll(",", "")));
     same("a step back from a long run is one step", now, before - 1);
+    await press("0", "back at step 0");
+    await lab("c 80000000", "still running");
+    await press("R", "halted with code");
     await pauseWhenRunning();
-    await press("B", "paused");
+    await press("Z", "paused");
     check("a long way back can be paused", true);
     await press("0", "back at step 0");
     contains("reset is step 0", await where(), /step 0$/);
