@@ -115,7 +115,8 @@ impl Operation {
         self.row().2
     }
 
-    /// Returns the mnemonic and the function codes: those that the word doesn't have are 0.
+    /// Returns the mnemonic and the function codes: those that the word doesn't have are 0. It is a table, as long
+    /// as there are operations.
     #[tactic(auto, unfolding(crate::specs::Table::mnemonic, crate::specs::Kinds::funct3, crate::specs::Kinds::funct7))]
     fn row(self) -> (&'static str, u32, u32)
         ensures mnemonic { result.0.now ≡ mnemonic self }
