@@ -124,6 +124,16 @@ async function breakpointsStay() {
 const inPanel = (name, part) => `document.getElementById("panel-${name}").querySelector(${quoted(part)})`;
 const panelHas = (name, text) => page.until(`${inPanel(name, "*")}.parentElement.textContent.includes(${quoted(text)})`);
 
+// Opens the tab of the memory at an address.
+async function showMemory(where) {
+    await page.click("#tab-memory");
+    await page.run(`(() => {
+        const input = document.getElementById("memory-where");
+        input.value = ${quoted(where)};
+        input.dispatchEvent(new Event("change"));
+    })()`);
+}
+
 async function views() {
     const line = lineOf("session", "add:");
     await choose("session");
@@ -138,12 +148,7 @@ async function views() {
     await answers(`breakpoint at line ${line}`);
     await idle();
     contains("a click in the listing sets a breakpoint", await page.text("#gutter"), new RegExp(`●${line}`));
-    await page.click("#tab-memory");
-    await page.run(`(() => {
-        const where = document.getElementById("memory-where");
-        where.value = "table";
-        where.dispatchEvent(new Event("change"));
-    })()`);
+    await showMemory("table");
     await panelHas("memory", "8000003c");
     const row = () => page.run(`${inPanel("memory", "tbody tr")}.innerText`);
     contains("memory is shown as bytes, with labels", await row(), /^8000003c\s+01 00 00 00 02 00 .*table/);
@@ -163,12 +168,7 @@ async function stack() {
     await choose("recursion");
     await lab("until print", "stopped after");
     await lab("s 2", "stopped after");
-    await page.click("#tab-memory");
-    await page.run(`(() => {
-        const where = document.getElementById("memory-where");
-        where.value = "sp";
-        where.dispatchEvent(new Event("change"));
-    })()`);
+    await showMemory("sp");
     await panelHas("memory", "◀ sp");
     check("the stack is marked in memory", true);
 }
