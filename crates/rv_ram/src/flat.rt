@@ -42,7 +42,11 @@ impl FlatMemory {
 }
 
 impl ByteMemory for FlatMemory {
+    ghost use Rattle.std.specs.Prelude.{false};
+
     ghost bytes = { λ m. m };
+
+    ghost wants_room = { λ bytes off width value. false };
 
     fn size(&self) -> u32 {
         self.bytes.len() as u32

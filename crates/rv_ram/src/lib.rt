@@ -12,7 +12,6 @@ mod values;
 ghost use Rattle.std.specs.Prelude.{◌≡◌, ◌+◌, ◌*◌, ◌%◌, ◌^◌, ◌<◌, ◌≤◌, true, false, length, slice_index, OnOk, OnErr};
 ghost use Rattle.rv_isa.specs.Width.{bytes_of};
 ghost use Rattle.rv_ram.specs.Bytes.{value_at, put};
-ghost use Rattle.rv_ram.specs.Pages.{is_zero_page, wants_page};
 
 pub use flat::FlatMemory;
 pub use paged::PagedRam;
@@ -25,14 +24,17 @@ pub const PAGE_BYTES: u32 = 4096;
 /// A memory, seen as its bytes by their offsets from its first byte.
 ///
 /// The bytes of a word stand low byte first (RISC-V Unprivileged ISA 20191213, section 1.4). A write may have
-/// to make room for its page of 4096 bytes: it is refused where the allocator has none, and then leaves every
-/// byte as it was. Only a write that stores something other than zeros in a page that has only zeros may be
-/// refused.
+/// to make room: it is refused where the allocator has none, and then leaves every byte as it was. Each memory
+/// says itself which writes those are.
 pub trait ByteMemory: Drop {
     ghost use Rattle.std.specs.Prelude.{List, ℕ};
+    ghost use Rattle.rv_ram.specs.Room.{RoomRule};
 
     /// The bytes, from offset 0 on.
     ghost bytes: { Self → List ℕ };
+
+    /// Which writes may have to make room, by the bytes before them.
+    ghost wants_room: { RoomRule };
 
     /// Returns the number of bytes: 4096 for each of 1 to 4096 pages. It never changes.
     fn size(&self) -> u32
@@ -59,14 +61,14 @@ pub trait ByteMemory: Drop {
         requires aligned { off % bytes_of width ≡ 0 }
         ensures ok { OnOk result (bytes self.new ≡ put (bytes self.old) off (bytes_of width) value) }
         ensures err { OnErr result (bytes self.new ≡ bytes self.old) }
-        ensures room { OnErr result (wants_page (bytes self.old) off width value ≡ true) };
+        ensures room { OnErr result (wants_room (bytes self.old) off width value ≡ true) };
 
-    /// Writes as `write` does where no room has to be made. Returns whether it wrote: it may refuse only a
-    /// page that has only zeros, and then leaves every byte as it was. It never allocates.
+    /// Writes as `write` does where no room has to be made. Returns whether it wrote: where it didn't, it leaves
+    /// every byte as it was. It never allocates.
     fn overwrite(&mut self, off: u32, width: Width, value: u32) -> bool
         requires in_range { off + bytes_of width ≤ length (bytes self.old) }
         requires aligned { off % bytes_of width ≡ 0 }
         ensures written { result ≡ true → bytes self.new ≡ put (bytes self.old) off (bytes_of width) value }
         ensures refused { result ≡ false → bytes self.new ≡ bytes self.old }
-        ensures blank { result ≡ false → is_zero_page (bytes self.old) off ≡ true };
+        ensures room { result ≡ false → wants_room (bytes self.old) off width value ≡ true };
 }

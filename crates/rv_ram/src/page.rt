@@ -109,6 +109,7 @@ impl Page {
         ensures written { result ≡ true → self.new.bytes ≡ put self.old.bytes at (bytes_of width) value }
         ensures refused { result ≡ false → self.new ≡ self.old }
         ensures blank { result ≡ false → self.old.bytes ≡ zeros 4096 }
+        ensures nonzero { result ≡ false → is_zero width value ≡ false }
     {
         let bytes = &mut self.bytes;
         if bytes.is_empty() {

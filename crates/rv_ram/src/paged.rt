@@ -95,7 +95,11 @@ impl PagedRam {
 }
 
 impl ByteMemory for PagedRam {
+    ghost use Rattle.rv_ram.specs.Pages.{wants_page};
+
     ghost bytes = { λ m. m.bytes };
+
+    ghost wants_room = { wants_page };
 
     #[tactic(auto, using(crate::proofs::Table::length_all_bytes))]
     fn size(&self) -> u32 {
