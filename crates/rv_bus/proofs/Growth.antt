@@ -3,6 +3,7 @@
 use Rattle.std.proofs.Common.{◌≡◌, ◌∙◌, ℕ, true, ap, refl}
 use Rattle.std.specs.Prelude.{is_some}
 use Rattle.rv_isa.specs.declared.op.Width.{Width}
+use Rattle.rv_ram.specs.Room.{RoomRule}
 use Rattle.rv_mmio.specs.declared.serial.SerialReg.TheVariants.{Tx, Rx, Status}
 use Rattle.rv_bus.specs.State.{BusState}
 use Rattle.rv_bus.specs.Access.{store, writes}
@@ -12,21 +13,22 @@ use Rattle.rv_bus.proofs.Rows as rows
 use Rattle.rv_bus.specs.declared.locations.Location.{Location}
 use Rattle.rv_bus.specs.declared.locations.Location.TheVariants.{Ram, Halt, Timer, Plic, Serial, Nowhere}
 
-at_location : (b : BusState) (v : ℕ) (w : Width) (p : Location) → wants_room_at b p w v ≡ true
+at_location : (rule : RoomRule) (b : BusState) (v : ℕ) (w : Width) (p : Location)
+    → wants_room_at rule b p w v ≡ true
     → (is_written p ≡ true) × (is_some (store_at b p w v) ≡ true)
-at_location b v w (Ram off) is = (refl, refl)
-at_location b v w (Serial Tx) is = (refl, refl)
-at_location b v w (Serial Rx) is = absurd cc
-at_location b v w (Serial Status) is = absurd cc
-at_location b v w Halt is = absurd cc
-at_location b v w (Timer off) is = absurd cc
-at_location b v w (Plic off) is = absurd cc
-at_location b v w Nowhere is = absurd cc
+at_location rule b v w (Ram off) is = (refl, refl)
+at_location rule b v w (Serial Tx) is = (refl, refl)
+at_location rule b v w (Serial Rx) is = absurd cc
+at_location rule b v w (Serial Status) is = absurd cc
+at_location rule b v w Halt is = absurd cc
+at_location rule b v w (Timer off) is = absurd cc
+at_location rule b v w (Plic off) is = absurd cc
+at_location rule b v w Nowhere is = absurd cc
 
-pub room_stores : (b : BusState) (a v : ℕ) (w : Width) → wants_room b a w v ≡ true
+pub room_stores : (rule : RoomRule) (b : BusState) (a v : ℕ) (w : Width) → wants_room rule b a w v ≡ true
     → (writes b a ≡ true) × (is_some (store b a w v) ≡ true)
 unfolding wants_room
-room_stores b a v w is =
-    let at = at_location b v w (location b a w) is in
+room_stores rule b a v w is =
+    let at = at_location rule b v w (location b a w) is in
     let row = rows.at_location b a w in
     (row.writes ∙ at.0, ap is_some (row.store v) ∙ at.1)

@@ -5,7 +5,6 @@ ghost use Rattle.rv_isa.specs.Width.{bytes_of};
 ghost use Rattle.rv_base.specs.Limits.{ram_base};
 ghost use Rattle.rv_ram.specs.Bytes.{put, value_at};
 ghost use Rattle.rv_ram.specs.Table.{HasPages};
-ghost use Rattle.rv_ram.specs.Pages.{is_zero_page};
 ghost use Rattle.rv_mmio.specs.Serial as serial;
 ghost use Rattle.rv_bus.specs.State.{BusState, reset};
 ghost use Rattle.rv_plic.specs.Plic as plic;
@@ -224,9 +223,8 @@ impl<M: ByteMemory> Bus<M> {
     }
 
     /// Stores the low bytes of a value at an address that is a multiple of their number. A refused store
-    /// changes nothing. It may be out of memory only where room has to be made: for a page of the memory that
-    /// has only zeros, where something else is stored, or in the console where it has none, which is at most
-    /// once in 4096 bytes.
+    /// changes nothing. It may be out of memory only where room has to be made: in the memory, by the memory's
+    /// own rule, or in the console where it has none, which is at most once in 4096 bytes.
     #[tactic(auto, using(crate::proofs::Others::fetch_put), unfolding(crate::specs::Room::wants_room))]
     pub fn store(&mut self, addr: u32, width: Width, value: u32) -> Result<(), StoreRefusal>
         requires { addr % bytes_of width ≡ 0 }
@@ -234,7 +232,7 @@ impl<M: ByteMemory> Bus<M> {
         ensures err { OnErr result (self.new ≡ self.old) }
         ensures fault { IfErr result (λ e. e ≡ refusal.Fault → store self.old addr width value ≡ None) }
         ensures memory { IfErr result (λ e. e ≡ refusal.NoMemory → writes self.old addr ≡ true) }
-        ensures room { IfErr result (λ e. e ≡ refusal.NoMemory → wants_room self.old addr width value ≡ true) }
+        ensures room { IfErr result (λ e. e ≡ refusal.NoMemory → wants_room M.wants_room self.old addr width value ≡ true) }
         ensures others { (a : ℕ) → a % 4 ≡ 0 → a ≢ addr / 4 * 4 → fetch self.new.ram a ≡ fetch self.old.ram a }
     {
         match self.location(addr, width) {
@@ -249,8 +247,7 @@ impl<M: ByteMemory> Bus<M> {
     }
 
     /// Writes the low bytes of a value at an offset of the memory, where no room has to be made. Returns
-    /// whether it wrote: it may refuse only a page that has only zeros, and then changes nothing. It never
-    /// allocates.
+    /// whether it wrote: where it didn't, it changes nothing. It never allocates.
     #[inline(always)]
     #[tactic(auto, using(crate::proofs::Others::fetch_put))]
     pub fn overwrite_ram(&mut self, off: u32, width: Width, value: u32) -> bool
@@ -258,7 +255,7 @@ impl<M: ByteMemory> Bus<M> {
         requires aligned { off % bytes_of width ≡ 0 }
         ensures written { result ≡ true → self.new ≡ record self.old { ram = put self.old.ram off (bytes_of width) value } }
         ensures refused { result ≡ false → self.new ≡ self.old }
-        ensures blank { result ≡ false → is_zero_page self.old.ram off ≡ true }
+        ensures room { result ≡ false → M.wants_room self.old.ram off width value ≡ true }
         ensures others { (a : ℕ) → a % 4 ≡ 0 → a ≢ (ram_base + off) / 4 * 4
             → fetch self.new.ram a ≡ fetch self.old.ram a }
     {
