@@ -9,6 +9,7 @@ use Rattle.rv_isa.specs.declared.op.Width.{Width}
 use Rattle.rv_isa.specs.declared.kind.Kind.{Kind}
 use Rattle.rv_isa.specs.declared.kind.Kind.TheVariants.{Store}
 use Rattle.rv_pmp.specs.declared.access.Access.TheVariants.{Write}
+use Rattle.rv_ram.specs.Room.{RoomRule}
 use Rattle.rv_bus.specs.State.{BusState}
 use Rattle.rv_bus.specs.Access as bus
 use Rattle.rv_bus.proofs.Growth.{room_stores}
@@ -29,26 +30,26 @@ retires m addr true true None p q r = r
 retires m addr true false after p q r = absurd cc
 retires m addr false granted after p q r = absurd cc
 
-stores : (m : Machine) (w : Width) (addr v : ℕ) → store_grows m w addr v ≡ true
+stores : (rule : RoomRule) (m : Machine) (w : Width) (addr v : ℕ) → store_grows rule m w addr v ≡ true
     → (is_ok (store_effect m w addr v) && bus.writes m.bus addr) ≡ true
 unfolding store_grows store_effect
-stores m w addr v is =
+stores rule m w addr v is =
     let a = and_parts (addr % bytes_of w == 0) _ is in
     let b = and_parts (may_access m Write addr w) _ a.1 in
-    let s = room_stores m.bus addr v w b.1 in
+    let s = room_stores rule m.bus addr v w b.1 in
     and_from _ _ (retires m addr (addr % bytes_of w == 0) (may_access m Write addr w) (bus.store m.bus addr w v) a.0 b.0 s.1)
     s.0
 
-writing : (k : Kind) (m : Machine) → may_grow k m ≡ true → step.stores k m ≡ true
+writing : (rule : RoomRule) (k : Kind) (m : Machine) → may_grow rule k m ≡ true → step.stores k m ≡ true
 unfolding may_grow execute store_effect
-writing (Store w source base offset) m is = stores m w (plus (reg m base) offset) (reg m source) is
-writing k m is = absurd cc
+writing rule (Store w source base offset) m is = stores rule m w (plus (reg m base) offset) (reg m source) is
+writing rule k m is = absurd cc
 
-by_fetch : (m : Machine) (f : Result Kind Trap) → attempt_grows m f ≡ true
+by_fetch : (rule : RoomRule) (m : Machine) (f : Result Kind Trap) → attempt_grows rule m f ≡ true
     → option_map_or (λ k. step.stores k m) (result_ok f) false ≡ true
-by_fetch m (Ok k) is = writing k m is
-by_fetch m (Err t) is = absurd cc
+by_fetch rule m (Ok k) is = writing rule k m is
+by_fetch rule m (Err t) is = absurd cc
 
-pub room_writes : (m : Machine) → wants_room m ≡ true → writes m ≡ true
+pub room_writes : (rule : RoomRule) (m : Machine) → wants_room rule m ≡ true → writes m ≡ true
 unfolding wants_room writes tries
-room_writes m is = by_fetch (ticked m) (fetched (ticked m)) is
+room_writes rule m is = by_fetch rule (ticked m) (fetched (ticked m)) is
