@@ -51,7 +51,6 @@ module _ (a : Addresses) (n : ℕ) (old new : SessionState) where
         going = h.going;
         state = e ∙ ap put h.state;
         next_writes = h.next_writes;
-        room = h.room;
       }
 
   pub refused_timed : (w : WasRefused a n old new) → new.timed ≡ with_due (after old.timed w.count)
@@ -60,7 +59,7 @@ module _ (a : Addresses) (n : ℕ) (old new : SessionState) where
   pub refused_was : WasRefused a n old new → IsRefused a (most_of old n) old.timed new.timed
   refused_was w =
       refused a (most_of old n) old.timed w.count new.timed (λ i less. w.going i (omega arith)) w.within
-      (refused_timed w) w.room
+      (refused_timed w) w.next_writes
 
   pub refused_others : WasRefused a n old new → new ≡ put new.timed
   refused_others w = w.state ∙ ap put (sym (refused_timed w))

@@ -6,8 +6,7 @@ use Rattle.rv_base.specs.declared.memory.NoMemory.{NoMemory}
 use Rattle.rv_lists.specs.declared.input.TimedInput.{TimedInput}
 use Rattle.std.proofs.lemmas.Bool.Decides.{nat_tests}
 use Rattle.rv_board.specs.State.{BoardState, halted_of}
-use Rattle.rv_board.specs.Room.{wants_room}
-use Rattle.rv_board.proofs.Growth.{room_writes}
+use Rattle.rv_board.specs.Move.{writes}
 use Rattle.rv_board.specs.declared.event.Event.TheVariants.{Step}
 use Rattle.rv_monitor.specs.declared.stop.Stop.{Stop}
 use Rattle.rv_monitor.specs.declared.stop.Stop.TheVariants.{Halted, Breakpoint, Limit}
@@ -106,15 +105,14 @@ module _ (a : Addresses) (most : ℕ) (s : TimedState) where
       (sym (ap (λ o. unwrap_or o Limit) none))
 
   pub refused : (n : ℕ) (new : TimedState) → GoesOn (n + 1) → n < most → new ≡ with_due (after s n) →
-      wants_room new.board Step ≡ true → IsRefused a most s new
+      writes new.board Step ≡ true → IsRefused a most s new
   refused n new before lt is w =
       let t = took_due s new n is in
       record {
         within = rw t lt;
         going = rw t (λ i le. before i (omega arith));
         state = is ∙ ap (λ i. with_due (after s i)) (sym t);
-        next_writes = room_writes new.board Step w;
-        room = w;
+        next_writes = w;
       }
 
 -- ---- states after which a call goes on
@@ -202,7 +200,7 @@ module _ (a : Addresses) (most : ℕ) (s : TimedState) (quiet : from (s.taken + 
       refused a most s n _ (λ i less. ap (λ x. stop_after a x i) (board_at i (omega arith))
       ∙ h.going i (omega arith)) lt
       (none_is_due b s.inputs s.place (s.taken + n) (s.taken + most) quiet (omega arith)
-      ∙ ap with_due (ran_is (omega arith) is)) h.room
+      ∙ ap with_due (ran_is (omega arith) is)) h.next_writes
 
 -- the same, by the fields of the state
 module _ (a : Addresses) (most : ℕ) (b0 : BoardState) (xs : List TimedInput) (place t : ℕ) (s : TimedState)
@@ -334,4 +332,4 @@ module _ (a : Addresses) (most : ℕ) (s : TimedState) (h : IsInTime s) (n : ℕ
           let w : k < count = rw (← is_k) r.within in
           refused a most s (n + k) new (λ i lt. goes_on (k + 1) (λ j less. r.going j (omega arith)) i
           (omega arith)) (omega arith)
-          (r.state ∙ (ap (λ i. with_due (after given i)) is_k ∙ due_by k none)) r.room
+          (r.state ∙ (ap (λ i. with_due (after given i)) is_k ∙ due_by k none)) r.next_writes

@@ -1,15 +1,16 @@
 -- Not to audit: private contracts alone cite this.
 -- The outcome of a command: the session that it leaves, and the text with its answer.
 use Rattle.std.specs.Prelude.{◌≡◌, ℕ, List, ◌++◌, Option, Result, Ok, Err}
+use Rattle.rv_ram.specs.Room.{RoomRule}
 use Rattle.rv_commands.specs.declared.command.Command.{Command}
 use Rattle.rv_monitor.specs.State.{SessionState}
 use Rattle.rv_monitor.specs.Commands.{Leaves, LeavesRefused, answer}
 use Rattle.rv_monitor.specs.Room.{LacksRoom}
 
 -- the command was executed and its answer appended to the text; or memory ran out and the text is as it was
-abbrev pub AppendsAnswer : {E : Type 0} → Option Command → ℕ → SessionState → SessionState → List ℕ → List ℕ
-    → Result Unit E → Type 0
-AppendsAnswer command room old new before after (Ok u) =
+abbrev pub AppendsAnswer : {E : Type 0} → RoomRule → Option Command → ℕ → SessionState → SessionState → List ℕ
+    → List ℕ → Result Unit E → Type 0
+AppendsAnswer rule command room old new before after (Ok u) =
     Leaves command old new × (after ≡ before ++ answer command old new)
-AppendsAnswer command room old new before after (Err e) =
-    LeavesRefused command old new × LacksRoom command room old new × (after ≡ before)
+AppendsAnswer rule command room old new before after (Err e) =
+    LeavesRefused command old new × LacksRoom rule command room old new × (after ≡ before)

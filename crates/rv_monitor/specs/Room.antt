@@ -1,8 +1,12 @@
--- The largest number of bytes that the answer of a command may have (this project's own: docs/MONITOR.md).
--- Not to audit: only the clause `room` cites this, which says when a command may be refused.
-use Rattle.std.specs.Prelude.{◌≡◌, ◌⊎◌, ℕ, ◌+◌, ◌*◌, ◌<◌, false, List, length, Option, Some, None}
+-- The largest number of bytes that the answer of a command may have (this project's own: docs/MONITOR.md), and
+-- the steps for which room may have to be made.
+-- Not to audit: only the clauses `room` cite this, which say when a call may be refused.
+use Rattle.std.specs.Prelude.{◌≡◌, ◌⊎◌, ℕ, ◌+◌, ◌*◌, ◌<◌, true, false, List, length, Option, Some, None}
 use Rattle.std.specs.FinSet as set
 use Rattle.std.specs.Int.{div_ceil}
+use Rattle.rv_ram.specs.Room.{RoomRule}
+use Rattle.rv_board.specs.Room.{wants_room}
+use Rattle.rv_board.specs.declared.event.Event.TheVariants as event
 use Rattle.rv_commands.specs.declared.command.Command.{Command}
 use Rattle.rv_commands.specs.declared.command.Command.TheVariants.{Step, Go, SetBreak, ClearBreak, Registers, ControlRegister, Memory, Instruction, Traps, Edges, Quit, Nothing}
 use Rattle.rv_monitor.specs.TimedCalls.{going_for}
@@ -55,14 +59,21 @@ longest (Some (Edges source)) s = edges_room
 longest (Some Quit) s = 0
 longest (Some Nothing) s = 0
 
+-- the next step of a session may have to make room, by the rule of its memory
+abbrev pub NextWantsRoom : RoomRule → SessionState → Type 0
+NextWantsRoom rule s = wants_room rule s.timed.board event.Step ≡ true
+
 -- memory ran out where the text had room for this many bytes: those are fewer than the longest answer of the
--- command has, since room for that is made before anything changes; or it was at a step, or at a new
--- breakpoint where the breakpoints had no room
-abbrev pub LacksRoom : Option Command → ℕ → SessionState → SessionState → Type 0
-LacksRoom (Some (Step n)) room old new = (room < longest (Some (Step n)) old) ⊎ WasRefused set.empty n old new
-LacksRoom (Some (Go n)) room old new =
-    (room < longest (Some (Go n)) old) ⊎ WasRefused old.breakpoints (going_for old n) old new
-LacksRoom (Some (SetBreak addr)) room old new =
+-- command has, since room for that is made before anything changes; or it was at a step that may have to make
+-- room, or at a new breakpoint where the breakpoints had no room
+abbrev pub LacksRoom : RoomRule → Option Command → ℕ → SessionState → SessionState → Type 0
+LacksRoom rule (Some (Step n)) room old new =
+    ((room < longest (Some (Step n)) old) × (new ≡ old))
+    ⊎ (WasRefused set.empty n old new × NextWantsRoom rule new)
+LacksRoom rule (Some (Go n)) room old new =
+    ((room < longest (Some (Go n)) old) × (new ≡ old))
+    ⊎ (WasRefused old.breakpoints (going_for old n) old new × NextWantsRoom rule new)
+LacksRoom rule (Some (SetBreak addr)) room old new =
     (room < longest (Some (SetBreak addr)) old)
     ⊎ ((set.contains old.breakpoints addr ≡ false) × (old.room ≡ 0))
-LacksRoom command room old new = room < longest command old
+LacksRoom rule command room old new = room < longest command old

@@ -7,7 +7,6 @@ use Rattle.rv_hart.specs.declared.trap.Outcome.{Outcome}
 use Rattle.rv_hart.specs.Step.{step}
 use Rattle.rv_board.specs.BoardState.{BoardState}
 use Rattle.rv_board.specs.Move.{writes}
-use Rattle.rv_board.specs.Room.{wants_room}
 use Rattle.rv_board.specs.declared.event.Event.TheVariants.{Step}
 use Rattle.rv_monitor.specs.declared.stop.Stop.{Stop}
 use Rattle.rv_monitor.specs.declared.stop.Stop.TheVariants.{Halted, Breakpoint, Limit}
@@ -39,14 +38,13 @@ stop_of breakpoints old new =
     unwrap_or (stop_after breakpoints new.timed.board (steps_between old.timed new.timed)) Limit
 
 -- memory ran out at a step of a call for n steps: the steps before it were taken, and the inputs before it
--- were given, and nothing else changed; the step is one that writes, and room has to be made for it
+-- were given, and nothing else changed; the step is one that writes
 pub record WasRefused (breakpoints : Addresses) (n : ℕ) (old new : SessionState) : Type 0 where
   pub count : ℕ
   pub within : count < most_of old n
   pub going : (i : ℕ) → i ≤ count → stop_after breakpoints (after old.timed i).board i ≡ None
   pub state : new ≡ record old { timed = with_due (after old.timed count) }
   pub next_writes : writes new.timed.board Step ≡ true
-  pub room : wants_room new.timed.board Step ≡ true
 
 -- ---- one step
 
@@ -63,4 +61,4 @@ TakesStep old new (Ok (Some outcome)) =
 TakesStep old new (Ok None) = (may_step old ≡ false) × (new ≡ old)
 TakesStep old new (Err refused) =
     (may_step old ≡ true) × (new ≡ record old { timed = with_due old.timed })
-    × (writes new.timed.board Step ≡ true) × (wants_room new.timed.board Step ≡ true)
+    × (writes new.timed.board Step ≡ true)

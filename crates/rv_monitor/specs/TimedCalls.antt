@@ -2,7 +2,6 @@
 -- When a call over a board with its timed inputs ends, by the number of steps between two states.
 use Rattle.std.specs.Prelude.{◌≡◌, ℕ, ◌<◌, ◌≤◌, true, Option, None, unwrap_or, is_some}
 use Rattle.rv_board.specs.Move.{writes}
-use Rattle.rv_board.specs.Room.{wants_room}
 use Rattle.rv_board.specs.declared.event.Event.TheVariants.{Step}
 use Rattle.rv_monitor.specs.declared.stop.Stop.{Stop}
 use Rattle.rv_monitor.specs.declared.stop.Stop.TheVariants.{Limit}
@@ -32,10 +31,9 @@ pub record HasStopped (breakpoints : Addresses) (most : ℕ) (old new : TimedSta
   pub word : stop ≡ unwrap_or (stop_after breakpoints new.board (steps_between old new)) Limit
 
 -- memory ran out at a step of a call: the steps before it were taken, and the inputs before it were given;
--- the step is one that writes, and room has to be made for it
+-- the step is one that writes
 pub record IsRefused (breakpoints : Addresses) (most : ℕ) (old new : TimedState) : Type 0 where
   pub within : steps_between old new < most
   pub going : (i : ℕ) → i ≤ steps_between old new → stop_after breakpoints (after old i).board i ≡ None
   pub state : new ≡ with_due (after old (steps_between old new))
   pub next_writes : writes new.board Step ≡ true
-  pub room : wants_room new.board Step ≡ true

@@ -10,6 +10,7 @@ ghost use Rattle.rv_monitor.specs.Events.{events_of};
 ghost use Rattle.rv_monitor.specs.Laws.{IsReached};
 ghost use Rattle.rv_monitor.specs.Resumed.{resumed_at};
 ghost use Rattle.rv_monitor.specs.State.{TimedState, IsInTime, start, begun, count_before, after, with_due, with_break, without_break, given};
+ghost use Rattle.rv_monitor.specs.Room.{NextWantsRoom};
 ghost use Rattle.rv_monitor.specs.Stops.{Took, WasRefused, stop_of, TakesStep};
 
 use crate::breakpoints::Breakpoints;
@@ -158,6 +159,7 @@ impl<M: ByteMemory, C: Decoded> Session<M, C> {
         ensures took { OnOk result (Took set.empty n self.old self.new) }
         ensures stop { IfOk result (λ stop. stop ≡ stop_of set.empty self.old self.new) }
         ensures err { OnErr result (WasRefused set.empty n self.old self.new) }
+        ensures room { OnErr result (NextWantsRoom M.wants_room self.new) }
     {
         let most = n.min(self.limit - self.timed.taken());
         self.timed.advance(most, None)
@@ -174,6 +176,7 @@ impl<M: ByteMemory, C: Decoded> Session<M, C> {
         ensures took { OnOk result (Took self.old.breakpoints n self.old self.new) }
         ensures stop { IfOk result (λ stop. stop ≡ stop_of self.old.breakpoints self.old self.new) }
         ensures err { OnErr result (WasRefused self.old.breakpoints n self.old self.new) }
+        ensures room { OnErr result (NextWantsRoom M.wants_room self.new) }
     {
         let most = n.min(self.limit - self.timed.taken());
         self.timed.advance(most, self.breakpoints.if_any())
@@ -186,7 +189,8 @@ impl<M: ByteMemory, C: Decoded> Session<M, C> {
     ///
     /// As those of [`step`](Session::step).
     pub fn take_step(&mut self) -> Result<Option<Outcome>, NoMemory>
-        ensures { TakesStep self.old self.new result }
+        ensures step { TakesStep self.old self.new result }
+        ensures room { OnErr result (NextWantsRoom M.wants_room self.new) }
     {
         if self.board().halted().is_some() || self.timed.taken() >= self.limit {
             return Ok(None);
