@@ -29,7 +29,7 @@ command_in line s = command_of line (value_of s.program.symbols)
 -- the session after a command; `c` without a number may take as many steps as the session may take in all
 abbrev pub Leaves : Option Command → SessionState → SessionState → Type 0
 Leaves (Some (Step n)) old new = Took set.empty n old new
-Leaves (Some (Go n)) old new = Took old.breakpoints (unwrap_or n old.limit) old new
+Leaves (Some (Go n)) old new = Took old.breakpoints.addresses (unwrap_or n old.limit) old new
 Leaves (Some (SetBreak addr)) old new = new ≡ with_break old addr
 Leaves (Some (ClearBreak addr)) old new = new ≡ without_break old addr
 Leaves _ old new = new ≡ old
@@ -38,7 +38,8 @@ Leaves _ old new = new ≡ old
 -- answers nothing does not allocate
 abbrev pub LeavesRefused : Option Command → SessionState → SessionState → Type 0
 LeavesRefused (Some (Step n)) old new = (new ≡ old) ⊎ WasRefused set.empty n old new
-LeavesRefused (Some (Go n)) old new = (new ≡ old) ⊎ WasRefused old.breakpoints (unwrap_or n old.limit) old new
+LeavesRefused (Some (Go n)) old new =
+    (new ≡ old) ⊎ WasRefused old.breakpoints.addresses (unwrap_or n old.limit) old new
 LeavesRefused (Some Quit) old new = ⊥
 LeavesRefused (Some Nothing) old new = ⊥
 LeavesRefused _ old new = new ≡ old
@@ -56,10 +57,11 @@ stop_word Limit = codes "limit"
 abbrev pub answer : Option Command → SessionState → SessionState → List ℕ
 answer None old new = line (codes "?")
 answer (Some (Step n)) old new = stop_text new.timed.board (stop_word (stop_of set.empty old new))
-answer (Some (Go n)) old new = stop_text new.timed.board (stop_word (stop_of old.breakpoints old new))
+answer (Some (Go n)) old new =
+    stop_text new.timed.board (stop_word (stop_of old.breakpoints.addresses old new))
 answer (Some (SetBreak addr)) old new = line (codes "break " ++ hex 8 addr)
 answer (Some (ClearBreak addr)) old new =
-    line (if set.contains old.breakpoints addr then codes "clear " ++ hex 8 addr else codes "no break")
+    line (if set.contains old.breakpoints.addresses addr then codes "clear " ++ hex 8 addr else codes "no break")
 answer (Some Registers) old new = registers_text old.timed.board
 answer (Some (ControlRegister name csr)) old new = control_register_text old.timed.board name csr
 answer (Some (Memory addr count)) old new = memory_text old.timed.board addr count

@@ -1,7 +1,6 @@
-pub mod BreakRoom
 pub mod Events
-pub mod State
 pub mod Breaks
+pub mod State
 pub mod Stops
 pub mod TimedCalls
 pub mod Laws

@@ -72,8 +72,8 @@ LacksRoom rule (Some (Step n)) room old new =
     ⊎ (WasRefused set.empty n old new × NextWantsRoom rule new)
 LacksRoom rule (Some (Go n)) room old new =
     ((room < longest (Some (Go n)) old) × (new ≡ old))
-    ⊎ (WasRefused old.breakpoints (going_for old n) old new × NextWantsRoom rule new)
+    ⊎ (WasRefused old.breakpoints.addresses (going_for old n) old new × NextWantsRoom rule new)
 LacksRoom rule (Some (SetBreak addr)) room old new =
     (room < longest (Some (SetBreak addr)) old)
-    ⊎ ((set.contains old.breakpoints addr ≡ false) × (old.room ≡ 0))
+    ⊎ ((set.contains old.breakpoints.addresses addr ≡ false) × (old.breakpoints.room ≡ 0))
 LacksRoom rule command room old new = room < longest command old

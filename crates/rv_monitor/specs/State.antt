@@ -11,7 +11,7 @@ use Rattle.rv_board.specs.Move.{run}
 use Rattle.rv_lists.specs.Timed.{never_falls, inserted}
 use Rattle.rv_lists.specs.declared.input.Input.{Input}
 use Rattle.rv_lists.specs.declared.input.TimedInput.{TimedInput}
-use Rattle.rv_monitor.specs.BreakRoom.{room_after}
+use Rattle.rv_monitor.specs.Breaks.{Breaks, no_breaks, with_addresses}
 use Rattle.rv_monitor.specs.Events.{inputs_at, events_of}
 
 -- sets of addresses
@@ -25,14 +25,13 @@ pub record TimedState : Type 0 where
   pub place : ℕ
   pub taken : ℕ
 
--- that with the program that was booted, the largest number of steps that may be taken, the breakpoints, and
--- how many more of them there is room for without allocating
+-- that with the program that was booted, the largest number of steps that may be taken, and the breakpoints,
+-- which are a set of addresses (`breakpoints.addresses`)
 pub record SessionState : Type 0 where
   pub timed : TimedState
   pub program : Assembly
   pub limit : ℕ
-  pub breakpoints : Addresses
-  pub room : ℕ
+  pub breakpoints : Breaks
 
 -- the inputs that are left to be given
 abbrev pub rest : TimedState → List TimedInput
@@ -55,8 +54,7 @@ start board inputs program limit =
       timed = begun board inputs;
       program = program;
       limit = limit;
-      breakpoints = set.empty;
-      room = 0;
+      breakpoints = no_breaks;
     }
 
 -- the largest number of steps that a call for n may take
@@ -68,14 +66,12 @@ most_of s n = min n (s.limit - s.timed.taken)
 -- a session with one breakpoint more
 abbrev pub with_break : SessionState → ℕ → SessionState
 with_break s address =
-    record s {
-      breakpoints = set.insert s.breakpoints address;
-      room = room_after s.breakpoints s.room address;
-    }
+    record s { breakpoints = with_addresses s.breakpoints (set.insert s.breakpoints.addresses address) }
 
--- a session with one breakpoint less, which gives no room back
+-- a session with one breakpoint less
 abbrev pub without_break : SessionState → ℕ → SessionState
-without_break s address = record s { breakpoints = set.remove s.breakpoints address }
+without_break s address =
+    record s { breakpoints = with_addresses s.breakpoints (set.remove s.breakpoints.addresses address) }
 
 -- ---- steps
 

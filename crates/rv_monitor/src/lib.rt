@@ -11,7 +11,7 @@ mod timed;
 mod views;
 
 pub use command::Next;
-pub use session::{Session, calls_join, given_as_listed};
+pub use session::{Session, breakpoints_are_a_set, calls_join, given_as_listed};
 pub use stop::Stop;
 pub use views::{
     STOP_BYTES, mode_letter, word_at, write_control_register, write_edges, write_instruction,

@@ -6,11 +6,12 @@ ghost use Rattle.rv_board.specs.State.{BoardState};
 ghost use Rattle.rv_lists.specs.Timed.{inserted, never_falls};
 ghost use Rattle.rv_lists.specs.declared.input.Input.{Input};
 ghost use Rattle.rv_lists.specs.declared.input.TimedInput.{TimedInput};
+ghost use Rattle.rv_program.specs.Program.{Assembly};
 ghost use Rattle.rv_monitor.specs.Events.{events_of};
 ghost use Rattle.rv_monitor.specs.Laws.{IsReached};
 ghost use Rattle.rv_monitor.specs.Resumed.{resumed_at};
-ghost use Rattle.rv_monitor.specs.State.{TimedState, IsInTime, start, begun, count_before, after, with_due, with_break, without_break, given};
 ghost use Rattle.rv_monitor.specs.Room.{NextWantsRoom};
+ghost use Rattle.rv_monitor.specs.State.{TimedState, SessionState, IsInTime, start, begun, count_before, after, with_due, with_break, without_break, given};
 ghost use Rattle.rv_monitor.specs.Stops.{Took, WasRefused, stop_of, TakesStep};
 
 use crate::breakpoints::Breakpoints;
@@ -62,7 +63,7 @@ impl<M: ByteMemory, C: Decoded> Model for Session<M, C> {
 
     ghost coded = { Prim.hlevel (codes, plic_code, set.code {R = nat_cmp} coded_ℕ) };
 
-    ghost view = { λ s. record { timed = s.timed; program = s.program; limit = s.limit; breakpoints = s.breakpoints.addresses; room = s.breakpoints.room } };
+    ghost view = { λ s. record { timed = s.timed; program = s.program; limit = s.limit; breakpoints = s.breakpoints } };
 
     ghost invariant = { λ s. s.timed.taken ≤ s.limit };
 }
@@ -120,7 +121,7 @@ impl<M: ByteMemory, C: Decoded> Session<M, C> {
 
     /// Returns whether an address is a breakpoint.
     pub fn has_break(&self, address: u32) -> bool
-        ensures { result ≡ set.contains self.now.breakpoints address }
+        ensures { result ≡ set.contains self.now.breakpoints.addresses address }
     {
         self.breakpoints.contains(address)
     }
@@ -134,15 +135,15 @@ impl<M: ByteMemory, C: Decoded> Session<M, C> {
     pub fn set_break(&mut self, address: u32) -> Result<(), NoMemory>
         ensures ok { OnOk result (self.new ≡ with_break self.old address) }
         ensures err { OnErr result (self.new ≡ self.old) }
-        ensures absent { OnErr result (set.contains self.old.breakpoints address ≡ false) }
-        ensures room { OnErr result (self.old.room ≡ 0) }
+        ensures absent { OnErr result (set.contains self.old.breakpoints.addresses address ≡ false) }
+        ensures room { OnErr result (self.old.breakpoints.room ≡ 0) }
     {
         self.breakpoints.insert(address)
     }
 
     /// Removes a breakpoint, and returns whether it was there.
     pub fn clear_break(&mut self, address: u32) -> bool
-        ensures was { result ≡ set.contains self.old.breakpoints address }
+        ensures was { result ≡ set.contains self.old.breakpoints.addresses address }
         ensures gone { self.new ≡ without_break self.old address }
     {
         self.breakpoints.remove(address)
@@ -173,9 +174,9 @@ impl<M: ByteMemory, C: Decoded> Session<M, C> {
     /// As those of [`step`](Session::step).
     #[tactic(auto, using(crate::proofs::SessionCalls::took, crate::proofs::SessionCalls::word, crate::proofs::SessionCalls::was_refused))]
     pub fn go(&mut self, n: u64) -> Result<Stop, NoMemory>
-        ensures took { OnOk result (Took self.old.breakpoints n self.old self.new) }
-        ensures stop { IfOk result (λ stop. stop ≡ stop_of self.old.breakpoints self.old self.new) }
-        ensures err { OnErr result (WasRefused self.old.breakpoints n self.old self.new) }
+        ensures took { OnOk result (Took self.old.breakpoints.addresses n self.old self.new) }
+        ensures stop { IfOk result (λ stop. stop ≡ stop_of self.old.breakpoints.addresses self.old self.new) }
+        ensures err { OnErr result (WasRefused self.old.breakpoints.addresses n self.old self.new) }
         ensures room { OnErr result (NextWantsRoom M.wants_room self.new) }
     {
         let most = n.min(self.limit - self.timed.taken());
@@ -282,6 +283,16 @@ pub fn calls_join()
     // After memory ran out at a step, the next call goes on with that step, and gives no input again.
     ensures again { (s : TimedState) → IsInTime s → (k j : ℕ)
         → after (with_due (after s k)) (1 + j) ≡ after s (k + (1 + j)) }
+{}
+
+/// Law: the breakpoints of a session are a set of addresses, which is empty before its first step.
+pub fn breakpoints_are_a_set()
+    ensures none { (board : BoardState) (inputs : List TimedInput) (program : Assembly) (limit : ℕ)
+        → (start board inputs program limit).breakpoints.addresses ≡ set.empty }
+    ensures more { (s : SessionState) (address : ℕ)
+        → (with_break s address).breakpoints.addresses ≡ set.insert s.breakpoints.addresses address }
+    ensures less { (s : SessionState) (address : ℕ)
+        → (without_break s address).breakpoints.addresses ≡ set.remove s.breakpoints.addresses address }
 {}
 
 /// Law: an input that is given by hand is the same as one that stood in the list from the start.

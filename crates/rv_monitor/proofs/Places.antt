@@ -1,0 +1,61 @@
+-- The room for breakpoints after one was set or removed.
+use Rattle.std.proofs.Common.{◌≡◌, ◌∙◌, ℕ, ◌+◌, ◌-◌, ◌<◌, ◌≤◌, Bool, true, false, cond, sym, refl, ap, arith}
+use Rattle.std.proofs.lemmas.Bool.{false≢true}
+use Rattle.std.proofs.lemmas.Bool.Decides.{nat_tests}
+use Rattle.std.specs.Prelude.{◌==◌, if◌then◌else◌, nat_lt}
+use Rattle.std.specs.Cmp.{nat_cmp_total}
+use Rattle.std.specs.FinSet.{contains, insert, remove, len, len-insert, len-remove}
+use Rattle.rv_monitor.specs.Breaks.{Breaks, room_after}
+
+-- one of two numbers, by a test whose answer is known
+first_of : (c : Bool) (a b : ℕ) → c ≡ true → (if c then a else b) ≡ a
+first_of true a b e = refl
+first_of false a b e = absurd (false≢true e)
+
+second_of : (c : Bool) (a b : ℕ) → c ≡ false → (if c then a else b) ≡ b
+second_of true a b e = absurd (false≢true (sym e))
+second_of false a b e = refl
+
+where_less : (n m a b : ℕ) → n < m → (if nat_lt n m then a else b) ≡ a
+where_less n m a b h = first_of (nat_lt n m) a b (grind (arith, nat_tests))
+
+where_not : (n m a b : ℕ) → m ≤ n → (if nat_lt n m then a else b) ≡ b
+where_not n m a b h = second_of (nat_lt n m) a b (grind (arith, nat_tests))
+
+-- the number of addresses after one was set, which was there or wasn't
+same_count : (b : Breaks) (x : ℕ) → contains b.addresses x ≡ true
+    → len (insert b.addresses x) ≡ len b.addresses
+same_count b x h =
+    len-insert nat_cmp_total b.addresses x ∙ ap (λ c. cond c (len b.addresses) (len b.addresses + 1)) h
+
+one_counted : (b : Breaks) (x : ℕ) → contains b.addresses x ≡ false
+    → len (insert b.addresses x) ≡ len b.addresses + 1
+one_counted b x h =
+    len-insert nat_cmp_total b.addresses x ∙ ap (λ c. cond c (len b.addresses) (len b.addresses + 1)) h
+
+no_longer : (c : Bool) (n : ℕ) → cond c (n - 1) n ≤ n
+no_longer true n = omega arith
+no_longer false n = omega arith
+
+-- an address that was there already takes no place
+pub one_there : (b : Breaks) (x : ℕ) → contains b.addresses x ≡ true → b.room ≡ room_after b (insert b.addresses x)
+unfolding room_after
+one_there b x h =
+    let count = same_count b x h in
+    sym (where_not (len b.addresses) (len (insert b.addresses x)) _ b.room (omega (arith, count)))
+
+-- another takes one, of nine that were made where there was none
+pub one_more : (b : Breaks) (x : ℕ) → contains b.addresses x ≡ false
+    → room_after b (insert b.addresses x) ≡ (if b.room == 0 then 9 else b.room) - 1
+unfolding room_after
+one_more b x h =
+    let count = one_counted b x h in
+    where_less (len b.addresses) (len (insert b.addresses x)) _ b.room (omega (arith, count))
+
+-- and to remove one gives none back
+pub one_less : (b : Breaks) (x : ℕ) → room_after b (remove b.addresses x) ≡ b.room
+unfolding room_after
+one_less b x =
+    let count = len-remove nat_cmp_total b.addresses x in
+    let most = no_longer (contains b.addresses x) (len b.addresses) in
+    where_not (len b.addresses) (len (remove b.addresses x)) _ b.room (omega (arith, count, most))
