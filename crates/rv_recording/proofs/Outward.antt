@@ -28,7 +28,7 @@ none_is end h = cc
 -- a step by its end alone
 takes : (calls left : ℕ) (old new : RecordingState) (r : Result (Option End) NoMemory)
     → StepsOut calls left old new r
-    → TakesOne (end_after (left == 0) old.session.breakpoints (after old.session.timed 1).board) old new r
+    → TakesOne (end_after (left == 0) old.session.breakpoints.addresses (after old.session.timed 1).board) old new r
 takes calls left old new (Ok end) (inl t) = inl (t.0, t.2)
 takes calls left old new (Ok end) (inr t) = inr (t.0, t.1, t.3)
 takes calls left old new (Err why) t = (t.0, t.1)
@@ -53,12 +53,12 @@ module _ (first : ℕ) (old : RecordingState) where
   -- why the run ends with that step
   out_is : (now : RecordingState) (calls left n : ℕ) → GoingOut first old now calls n
       → left ≡ open_of_step calls now.session.timed
-      → end_after (left == 0) now.session.breakpoints (after now.session.timed 1).board ≡ ends n
+      → end_after (left == 0) now.session.breakpoints.addresses (after now.session.timed 1).board ≡ ends n
   out_is now calls left n g e =
-      ap (λ (k : ℕ). end_after (k == 0) now.session.breakpoints (after now.session.timed 1).board)
+      ap (λ (k : ℕ). end_after (k == 0) now.session.breakpoints.addresses (after now.session.timed 1).board)
       (open_suc now calls left n g e)
       ∙ ap (λ (r : RecordingState). end_after (open_at first old.session.timed (suc n) == 0)
-      r.session.breakpoints (after r.session.timed 1).board) g.going.state
+      r.session.breakpoints.addresses (after r.session.timed 1).board) g.going.state
 
   pub goes_out : (now new : RecordingState) (calls left n : ℕ) → GoingOut first old now calls n
       → StepsOut calls left now new (Ok None) → GoingOut first old new left (n + 1)

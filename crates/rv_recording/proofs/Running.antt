@@ -118,6 +118,6 @@ module _ (ends : ℕ → Option End) (old : RecordingState) where
 -- why the run ends with the next step
 pub end_is : (condition : Condition) (old now : RecordingState) (n : ℕ)
     → Going (until_at condition old.session) old now n
-    → end_of_step condition now.session.breakpoints now.session.timed ≡ until_at condition old.session n
+    → end_of_step condition now.session.breakpoints.addresses now.session.timed ≡ until_at condition old.session n
 end_is condition old now n g =
-    ap (λ (r : RecordingState). end_of_step condition r.session.breakpoints r.session.timed) g.state
+    ap (λ (r : RecordingState). end_of_step condition r.session.breakpoints.addresses r.session.timed) g.state

@@ -219,7 +219,7 @@ module _ (s new : SessionState) (p q : ℕ) (ks : List KeptBoard) (h : Stands s 
   pub left : (c : Option Command) → Leaves c s new → Stands new p q ks
   left None e = unchanged e
   left (Some (Step n)) t = took set.empty n t
-  left (Some (Go n)) t = took s.breakpoints (going_for s n) t
+  left (Some (Go n)) t = took s.breakpoints.addresses (going_for s n) t
   left (Some (SetBreak addr)) e =
       same_timed (ap (λ u. u.program) e) (ap (λ u. u.limit) e) (ap (λ u. u.timed) e)
   left (Some (ClearBreak addr)) e =
@@ -240,7 +240,7 @@ module _ (s new : SessionState) (p q : ℕ) (ks : List KeptBoard) (h : Stands s 
   pub left_refused : (c : Option Command) → LeavesRefused c s new → Stands new p q ks
   left_refused None e = unchanged e
   left_refused (Some (Step n)) f = step_refused set.empty n f
-  left_refused (Some (Go n)) f = step_refused s.breakpoints (going_for s n) f
+  left_refused (Some (Go n)) f = step_refused s.breakpoints.addresses (going_for s n) f
   left_refused (Some (SetBreak addr)) e = unchanged e
   left_refused (Some (ClearBreak addr)) e = unchanged e
   left_refused (Some Registers) e = unchanged e

@@ -40,7 +40,7 @@ TakesOne end old new (Err refused) =
 abbrev pub StepsOut : (calls left : ℕ) → RecordingState → RecordingState → Result (Option End) NoMemory → Type 0
 StepsOut calls left old new (Ok end) =
     ((new ≡ with_timed old (after old.session.timed 1)) × (left ≡ open_of_step calls old.session.timed)
-    × (end ≡ end_after (left == 0) old.session.breakpoints (after old.session.timed 1).board))
+    × (end ≡ end_after (left == 0) old.session.breakpoints.addresses (after old.session.timed 1).board))
     ⊎ ((may_step old.session ≡ false) × (new ≡ old) × (left ≡ calls) × (end ≡ Some Stuck))
 StepsOut calls left old new (Err refused) =
     (new ≡ with_timed old (with_due old.session.timed)) × (writes new.session.timed.board Step ≡ true)

@@ -64,7 +64,7 @@ end_at reached s i =
     let b = (after (after s.timed i) 1).board in
     if is_some b.machine.bus.halt then Some Halted
     else (if reached i then Some Reached
-    else (if set.contains s.breakpoints b.machine.pc then Some Breakpoint else None))
+    else (if set.contains s.breakpoints.addresses b.machine.pc then Some Breakpoint else None))
 
 -- the same of a run until a condition holds
 abbrev pub until_at : Condition → SessionState → ℕ → Option End

@@ -178,11 +178,12 @@ impl Recording {
     ///
     /// As those of [`Session::step`].
     pub fn go(&mut self, n: u64) -> Result<Stop, NoMemory>
-        ensures took { OnOk result (Took self.old.session.breakpoints n self.old.session self.new.session) }
+        ensures took { OnOk result
+            (Took self.old.session.breakpoints.addresses n self.old.session self.new.session) }
         ensures stop { IfOk result
-            (λ stop. stop ≡ stop_of self.old.session.breakpoints self.old.session self.new.session) }
+            (λ stop. stop ≡ stop_of self.old.session.breakpoints.addresses self.old.session self.new.session) }
         ensures err { OnErr result
-            (WasRefused self.old.session.breakpoints n self.old.session self.new.session) }
+            (WasRefused self.old.session.breakpoints.addresses n self.old.session self.new.session) }
         ensures others { self.new ≡ with_timed self.old self.new.session.timed }
     {
         self.kept.keep(self.alloc, &self.session);
@@ -269,15 +270,15 @@ impl Recording {
         ensures ok { OnOk result
             (self.new ≡ record self.old { session = with_break self.old.session address }) }
         ensures err { OnErr result (self.new ≡ self.old) }
-        ensures absent { OnErr result (set.contains self.old.session.breakpoints address ≡ false) }
-        ensures room { OnErr result (self.old.session.room ≡ 0) }
+        ensures absent { OnErr result (set.contains self.old.session.breakpoints.addresses address ≡ false) }
+        ensures room { OnErr result (self.old.session.breakpoints.room ≡ 0) }
     {
         self.session.set_break(address)
     }
 
     /// Removes a breakpoint, and returns whether it was there.
     pub fn clear_break(&mut self, address: u32) -> bool
-        ensures was { result ≡ set.contains self.old.session.breakpoints address }
+        ensures was { result ≡ set.contains self.old.session.breakpoints.addresses address }
         ensures gone { self.new ≡ record self.old { session = without_break self.old.session address } }
     {
         self.session.clear_break(address)

@@ -141,7 +141,7 @@ impl Condition {
 
 /// Returns why a run ends after a step, if it does, by whether it has come to what it goes on for.
 pub(crate) fn end_after(reached: bool, session: &Session<PagedRam, DecodeCache>) -> Option<End>
-    ensures { result ≡ end_after reached session.now.breakpoints session.now.timed.board }
+    ensures { result ≡ end_after reached session.now.breakpoints.addresses session.now.timed.board }
 {
     let board = session.board();
     if board.halted().is_some() {
@@ -160,7 +160,8 @@ impl Recording {
     /// Takes a step, and returns why a run until a condition ends with it, if it does.
     #[tactic(auto, unfolding(crate::specs::Until::comes))]
     fn step_until(&mut self, condition: Condition) -> Result<Option<End>, NoMemory>
-        ensures { TakesOne (end_of_step condition self.old.session.breakpoints self.old.session.timed) self.old self.new result }
+        ensures { TakesOne (end_of_step condition self.old.session.breakpoints.addresses self.old.session.timed)
+            self.old self.new result }
     {
         match self.take_step() {
             Ok(Some(outcome)) => {
