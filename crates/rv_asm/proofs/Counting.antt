@@ -1,24 +1,19 @@
--- What is said of all lines by lists of their numbers is the same by recursion on a number; and so is the
--- nearest local label.
-use Rattle.std.proofs.Common.{◌≡◌, ℕ, zero, suc, ◌+◌, Bool, true, false, cond, List, [], ◌∷◌, ◌++◌, length, refl, sym, ap, ◌∙◌, arith, append-nil, add-zero}
-use Rattle.std.specs.Prelude.{map, filter, not, Option, Some, None, slice_get, ◌&&◌, ◌==◌, nat_le, nat_lt, pos}
+-- What is said of all lines by lists of their numbers is the same by recursion on a number.
+use Rattle.std.proofs.Common.{◌≡◌, ℕ, zero, suc, ◌+◌, List, [], ◌∷◌, ◌++◌, length, refl, ap, ◌∙◌, arith, append-nil, add-zero}
+use Rattle.std.specs.Prelude.{map, not, Option, Some, None, slice_get}
 use Rattle.std.specs.Option.{option_map, option_map_or, option_or, unwrap_or}
 use Rattle.std.specs.Result.{result_unwrap_or}
-use Rattle.std.specs.List.{flat_map, filter_map, cons_option, range_with_len, find, last_or}
+use Rattle.std.specs.List.{flat_map, filter_map, cons_option, range_with_len, find}
 use Rattle.std.proofs.lemmas.Grind.{flat_map-append}
 use Rattle.std.proofs.lemmas.List.{map-append}
 use Rattle.std.proofs.lemmas.List.Elements.{filter_map-append}
 use Rattle.rv_base.specs.Lines.{lines}
 use Rattle.rv_source.specs.Operands.{is_nothing}
-use Rattle.rv_tokens.specs.declared.token.Direction.{Direction}
-use Rattle.rv_tokens.specs.declared.token.Direction.TheVariants.{Backward, Forward}
 use Rattle.rv_program.specs.declared.fault.FaultKind.{FaultKind}
 use Rattle.rv_program.specs.declared.fault.AsmFault.{AsmFault}
-use Rattle.rv_asm.specs.declared.locals.LocalLabel.{LocalLabel}
-use Rattle.rv_asm.specs.Symbols.{nearest}
 use Rattle.rv_asm.specs.Layout.{phase_two_fault}
 use Rattle.rv_asm.specs.Assembly.{all_said, assembled, faults_in, first_faults, line_bytes, phase_one_fault}
-use Rattle.rv_asm.specs.Counted.{phase_three_fault, first, joined, up_to, first_fault, assembled_by, all_faults, unless_faulty, first_of, nearest_after, nearest_before, nearest_address, label_before}
+use Rattle.rv_asm.specs.Counted.{phase_three_fault, first, joined, up_to, first_fault, assembled_by, all_faults, unless_faulty, first_of}
 
 -- ---- numbers
 
@@ -123,80 +118,3 @@ assembled_is source =
       first_phase (phase_one_fault texts) (phase_two_fault said) (phase_three_fault said) (length texts),
       joined_is (λ k. result_unwrap_or (line_bytes said k) []) (length said),
     ) refl
-
--- ---- local labels
-
-abbrev address_of : LocalLabel → ℕ
-address_of d = d.address
-
-found : (p : LocalLabel → Bool) (d : LocalLabel) (ds : List LocalLabel) (b : Bool) → p d ≡ b
-    → option_map address_of (find p (d ∷ ds)) ≡ cond b (Some d.address) (option_map address_of (find p ds))
-found p d ds true e = rw e refl
-found p d ds false e = rw e refl
-
-after_is : (ds : List LocalLabel) (n line : ℕ)
-    → option_map address_of (find (λ d. (d.number == n) && nat_lt line d.line) ds) ≡ nearest_after ds n line
-after_is [] n line = refl
-after_is (d ∷ ds) n line =
-    found (λ d. (d.number == n) && nat_lt line d.line) d ds _ refl
-    ∙ ap (cond ((d.number == n) && nat_lt line d.line) (Some d.address)) (after_is ds n line)
-
-or_more : {A : Type 0} (x : Option A) (a : A) (y : Option A)
-    → option_or x (Some a) ≡ option_or (option_or x (Some a)) y
-or_more None a y = refl
-or_more (Some b) a y = refl
-
-last_more : {A : Type 0} (o : Option A) (xs : List A) → last_or o xs ≡ option_or (last_or None xs) o
-last_more None [] = refl
-last_more (Some x) [] = refl
-last_more o (x ∷ xs) =
-    last_more (Some x) xs
-    ∙ (or_more (last_or None xs) x o ∙ ap (λ y. option_or y o) (sym (last_more (Some x) xs)))
-
-or_none : {A : Type 0} (o : Option A) → o ≡ option_or o None
-or_none None = refl
-or_none (Some a) = refl
-
-kept_last : {A : Type 0} (x : A) (xs : List A) (b : Bool)
-    → last_or None (cond b (x ∷ xs) xs) ≡ option_or (last_or None xs) (cond b (Some x) None)
-kept_last x xs true = last_more (Some x) xs
-kept_last x xs false = or_none (last_or None xs)
-
-pub label_is : (ls : List (List ℕ × ℕ)) (a : ℕ) → last_or None (filter (λ l. nat_le l.1 a) ls) ≡ label_before ls a
-label_is [] a = refl
-label_is (l ∷ ls) a =
-    kept_last l (filter (λ l. nat_le l.1 a) ls) (nat_le l.1 a)
-    ∙ ap (λ o. option_or o (cond (nat_le l.1 a) (Some l) None)) (label_is ls a)
-
-address_or : (x : Option LocalLabel) (d : LocalLabel) (b : Bool)
-    → option_map address_of (option_or x (cond b (Some d) None))
-    ≡ option_or (option_map address_of x) (cond b (Some d.address) None)
-address_or None d true = refl
-address_or None d false = refl
-address_or (Some e) d b = refl
-
-before_is : (ds : List LocalLabel) (n line : ℕ)
-    → option_map address_of (last_or None (filter (λ d. (d.number == n) && nat_le d.line line) ds))
-    ≡ nearest_before ds n line
-before_is [] n line = refl
-before_is (d ∷ ds) n line =
-    let rest = filter (λ d. (d.number == n) && nat_le d.line line) ds in
-    let test = (d.number == n) && nat_le d.line line in
-    ap (option_map address_of) (kept_last d rest test)
-    ∙ address_or (last_or None rest) d test
-    ∙ ap (λ o. option_or o (cond ((d.number == n) && nat_le d.line line) (Some d.address) None)) (before_is ds n line)
-
-address_is : (ds : List LocalLabel) (n line : ℕ) (direction : Direction)
-    → option_map address_of (nearest ds n line direction) ≡ nearest_address ds n line direction
-address_is ds n line Backward = before_is ds n line
-address_is ds n line Forward = after_is ds n line
-
-mapped : (o : Option LocalLabel) → option_map (λ d. pos d.address) o ≡ option_map (λ a. pos a) (option_map address_of o)
-mapped None = refl
-mapped (Some d) = refl
-
-pub nearest_is : (ds : List LocalLabel) (n line : ℕ) (direction : Direction)
-    → option_map (λ d. pos d.address) (nearest ds n line direction)
-    ≡ option_map (λ a. pos a) (nearest_address ds n line direction)
-nearest_is ds n line direction =
-    mapped (nearest ds n line direction) ∙ ap (option_map (λ a. pos a)) (address_is ds n line direction)

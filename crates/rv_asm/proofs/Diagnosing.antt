@@ -14,11 +14,11 @@ use Rattle.rv_program.specs.declared.fault.AsmFault.{AsmFault}
 use Rattle.rv_asm.specs.declared.diagnosis.Diagnosis.{Diagnosis}
 use Rattle.rv_asm.specs.Layout.{line_at, blank, phase_two_fault, definitions}
 use Rattle.rv_asm.specs.Assembly.{first_faults, phase_one_fault, all_said, assembled}
-use Rattle.rv_asm.specs.Counted.{phase_three_fault, joined, first, first_fault, all_faults, unless_faulty, first_of, address}
+use Rattle.rv_asm.specs.Counted.{phase_three_fault, fault_on, joined, first, first_fault, all_faults, unless_faulty, first_of, address}
 use Rattle.rv_asm.specs.Symbols.{Definitions}
-use Rattle.rv_asm.specs.Steps.{Known, start, known_before, stated, labelled, stated_bytes, laid_out}
-use Rattle.rv_asm.specs.Diagnosed.{new_labels, kept, faults_of, fault_of}
-use Rattle.rv_asm.specs.Judged.{cleared, judged, LiesIn, Diagnoses, fault_on, known_after, IsFound, listed}
+use Rattle.rv_asm.specs.Steps.{Known, start, known_before, labelled, with_line, stated_bytes, laid_out}
+use Rattle.rv_asm.specs.Diagnosed.{kept, faults_of, fault_of}
+use Rattle.rv_asm.specs.Judged.{new_among, cleared, judged, LiesIn, Diagnoses, known_after, IsFound, listed}
 use Rattle.rv_asm.proofs.Counting.{firsts, phases_are, first_phase}
 use Rattle.rv_asm.proofs.Labels.{IsUpTo}
 use Rattle.rv_asm.proofs.Laying.{phase_two_is, not_stated, up_to_before}
@@ -84,10 +84,6 @@ module _ (texts rest : List (List ℕ)) (n : ℕ) (so : LeftOf texts rest n) whe
 
 -- ---- the lines that are kept
 
--- a state after one more line
-abbrev with_line : ℕ → Known → Said → Known
-with_line n s line = stated n (labelled n s line.labels) line.statement
-
 one_more : (xs : List Said) (n : ℕ) → known_before xs (suc n) ≡ with_line n (known_before xs n) (line_at xs n)
 unfolding known_before
 one_more xs n = refl
@@ -137,12 +133,8 @@ later_line ls (suc n) k h =
 abbrev IsWithin : List Said → ℕ → Type 0
 IsWithin xs n = address xs n ≤ ram_base + image_limit
 
-fault_is : (xs : List Said) (n : ℕ) → IsWithin xs n → phase_two_fault xs n ≡ fault_on n (known_before xs n) (line_at xs n)
-unfolding fault_on
-fault_is xs n within = phase_two_is xs n within
-
 after_faulty : (n : ℕ) (s : Known) (line : Said) → is_some (fault_on n s line) ≡ true →
-    known_after n s line ≡ labelled n s (new_labels s.definitions.names line.labels)
+    known_after n s line ≡ labelled n s (new_among s line.labels)
 unfolding known_after
 after_faulty n s line e = rw e refl
 
@@ -162,9 +154,9 @@ known_by xs n true within h e =
     ∙ with_same n (known_before (set xs n line) n) s (line_at (set xs n line) n) line
     (known_other xs n line n (omega arith)) here
     ∙ not_stated n (labelled n s line.labels)
-    ∙ sym (after_faulty n s (line_at xs n) (sym (ap is_some (fault_is xs n within)) ∙ e))
+    ∙ sym (after_faulty n s (line_at xs n) (sym (ap is_some (phase_two_is xs n within)) ∙ e))
 known_by xs n false within h e =
-    one_more xs n ∙ sym (after_right n (known_before xs n) (line_at xs n) (sym (ap is_some (fault_is xs n within)) ∙ e))
+    one_more xs n ∙ sym (after_right n (known_before xs n) (line_at xs n) (sym (ap is_some (phase_two_is xs n within)) ∙ e))
 
 unfaulty : (o : Option FaultKind) → is_some o ≡ false → o ≡ None
 unfaulty None h = refl
@@ -174,7 +166,7 @@ within_by : (xs : List Said) (n : ℕ) (b : Bool) → IsWithin xs n → n < leng
     IsWithin (cond b (set xs n (cleared xs n)) xs) (suc n)
 within_by xs n true within h e =
     let s : Known = known_before xs n in
-    let is = known_by xs n true within h e ∙ after_faulty n s (line_at xs n) (sym (ap is_some (fault_is xs n within)) ∙ e) in
+    let is = known_by xs n true within h e ∙ after_faulty n s (line_at xs n) (sym (ap is_some (phase_two_is xs n within)) ∙ e) in
     let at = ap (λ (k : Known). k.address) is in
     rw at within
 within_by xs n false within h e = within_line xs n (unfaulty (phase_two_fault xs n) e)
@@ -188,7 +180,7 @@ within_kept ls (suc n) h =
 pub judged_is : (ls : List Said) (n : ℕ) → n < length ls →
     judged ls n ≡ fault_on n (known_before (kept ls n) n) (line_at ls n)
 judged_is ls n h =
-    fault_is (kept ls n) n (within_kept ls n (omega (arith, h)))
+    phase_two_is (kept ls n) n (within_kept ls n (omega (arith, h)))
     ∙ ap (fault_on n (known_before (kept ls n) n)) (later_line ls n n (omega arith))
 
 pub known_kept : (ls : List Said) (n : ℕ) → n < length ls →

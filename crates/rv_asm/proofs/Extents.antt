@@ -9,7 +9,7 @@ use Rattle.rv_asm.specs.Symbols.{Definitions, operand_value}
 use Rattle.rv_asm.specs.Counted.{renames}
 use Rattle.rv_asm.specs.Listing.{row}
 use Rattle.rv_asm.specs.Constants.{IsKnown, is_unknown, is_instruction, size_of}
-use Rattle.rv_asm.specs.Steps.{image_end, free}
+use Rattle.rv_asm.specs.Steps.{image_end, free, unless}
 use Rattle.rv_asm.proofs.Sizes.{size_is}
 
 above : (m n : ℕ) → m < n → nat_lt m n ≡ true
@@ -23,7 +23,7 @@ fault_by renamed unknown misplaced past = cond renamed (Some DuplicateSymbol)
     (cond unknown (Some NotConstant) (cond misplaced (Some Misplaced) (cond past (Some TooLarge) None)))
 
 abbrev as_result : Option FaultKind → Result (Unit {0}) FaultKind
-as_result fault = elim fault as (λ _. Result (Unit {0}) FaultKind) [ Some kind ↦ Err kind | None ↦ Ok tt ]
+as_result fault = unless fault (Ok tt)
 
 last : (a b c d e : Bool) → a ≡ false → b ≡ false → c ≡ false → d ≡ e →
     as_result (fault_by a b c d) ≡ as_result (fault_by false false false e)

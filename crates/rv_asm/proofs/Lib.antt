@@ -16,7 +16,7 @@ pub mod Reading
 pub mod Takes
 pub mod Counting
 pub mod Whole
-pub mod Nearest
+pub mod Cuts
 pub mod Judging
 pub mod Diagnosing
 pub mod Listings

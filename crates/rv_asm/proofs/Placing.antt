@@ -14,8 +14,9 @@ use Rattle.rv_asm.specs.declared.single.Single.{Single}
 use Rattle.rv_asm.specs.Symbols.{Definitions, sum_value, operand_value}
 use Rattle.rv_asm.specs.Kept.{KindFails}
 use Rattle.rv_asm.specs.Constants.{IsKnown, size_of, constant_in, statement_bytes}
-use Rattle.rv_asm.specs.Steps.{Known, Item, IsSum, kept_bytes, waiting_bytes, item_bytes, values_of, free, after_statement, Adds}
-use Rattle.rv_asm.specs.Listing.{bytes_in, placed as placed_in}
+use Rattle.rv_asm.specs.Steps.{Known, Item, IsSum, kept_bytes, waiting_bytes, item_bytes, values_of, stated, unless, free, after_statement, Adds}
+use Rattle.rv_asm.specs.Counted.{fault_stated}
+use Rattle.rv_asm.specs.Listing.{◌>>=◌, bytes_in, placed as placed_in}
 use Rattle.rv_asm.proofs.DataBytes.{placed_one}
 use Rattle.rv_asm.proofs.Runs.{kind_fails_bind}
 use Rattle.rv_asm.proofs.Listed.{adds_pushed}
@@ -41,26 +42,37 @@ data_kept width x [] all k is none kept ds line here =
 data_kept width x (y ∷ ys) all k is none kept ds line here = cc
 
 module _ (k : ℕ) (known : Known) (statement : Statement) where
-  pub not_placed : (kind : FaultKind) → KindFails kind (free known.definitions k known.address statement) →
-      KindFails kind (after_statement k known statement)
+  freed : free known.definitions k known.address statement ≡ unless (fault_stated k known (Some statement)) (Ok tt)
+  unfolding free
+  freed = refl
+
+  stated_by : (fault : Option FaultKind) (s : Known) → unless fault (Ok s) ≡ (unless {A = Unit {0}} fault (Ok tt) >>= λ _. Ok s)
+  stated_by None s = refl
+  stated_by (Some kind) s = refl
+
+  follows : after_statement k known (Some statement)
+      ≡ (free known.definitions k known.address statement >>= λ _. Ok (stated k known (Some statement)))
   unfolding after_statement
-  not_placed kind h = kind_fails_bind kind (free known.definitions k known.address statement) _ h
+  follows = rw freed (stated_by (fault_stated k known (Some statement)) (stated k known (Some statement)))
+
+  pub not_placed : (kind : FaultKind) → KindFails kind (free known.definitions k known.address statement) →
+      KindFails kind (after_statement k known (Some statement))
+  not_placed kind h = rw follows (kind_fails_bind kind (free known.definitions k known.address statement) _ h)
 
   module _ (c : ℤ) (is : IsKnown (values_of k known) c statement) where
     pub placed : (end : ℕ) → free known.definitions k known.address statement ≡ Ok tt →
         end ≡ known.address + size_of c known.address statement
-        → after_statement k known statement ≡ Ok (record {
+        → after_statement k known (Some statement) ≡ Ok (record {
           address = end;
           definitions = record {
             names = known.definitions.names ++ constant_in c statement;
             locals = known.definitions.locals;
           };
         })
-    unfolding after_statement
     placed end fault e =
         let size = size_is (values_of k known) c known.address statement is in
         let constant = defines_is (values_of k known) c known.address statement is in
-        rw (fault, e, ← size, ← constant) refl
+        rw (follows, fault, e, ← size, ← constant) refl
 
     pub adds : (items : List Item) (item : Item) → item.line ≡ k
         → ((ds : Definitions) → item_bytes ds item

@@ -1,16 +1,12 @@
--- What is said of all lines, by recursion on the number of a line; and the nearest local label by recursion
--- on the definitions. The language is this project's own: docs/ASSEMBLER.md.
+-- What is said of all lines, by recursion on the number of a line. The language is this project's own: docs/ASSEMBLER.md.
 -- Not to audit: private contracts alone cite this.
-use Rattle.std.specs.Prelude.{ℕ, zero, suc, ◌+◌, ◌%◌, Bool, false, not, ◌||◌, ◌&&◌, ◌==◌, nat_le, nat_lt, ℤ, pos, is_some, option_and_then, List, [], ◌∷◌, ◌++◌, length, Option, Some, None, if◌then◌else◌, Result, Ok, Err}
+use Rattle.std.specs.Prelude.{ℕ, zero, suc, ◌+◌, ◌%◌, Bool, false, not, ◌&&◌, ◌==◌, nat_lt, ℤ, is_some, option_and_then, List, [], ◌∷◌, ◌++◌, length, Option, Some, None, if◌then◌else◌, Result, Ok, Err}
 use Rattle.std.specs.Option.{option_map, option_map_or, option_or}
 use Rattle.std.specs.Result.{result_err, result_unwrap_or}
 use Rattle.rv_base.specs.Lines.{lines}
 use Rattle.rv_source.specs.Reading.{Said}
-use Rattle.rv_tokens.specs.declared.token.Direction.{Direction}
-use Rattle.rv_tokens.specs.declared.token.Direction.TheVariants.{Backward, Forward}
 use Rattle.rv_base.specs.Limits.{ram_base, image_limit}
 use Rattle.rv_source.specs.declared.line.Label.{Label}
-use Rattle.rv_source.specs.declared.line.Label.TheVariants as label
 use Rattle.rv_source.specs.declared.statement.Statement.{Statement}
 use Rattle.rv_source.specs.declared.statement.Statement.TheVariants as s
 use Rattle.rv_program.specs.declared.fault.FaultKind.TheVariants.{DuplicateSymbol, NotConstant, Misplaced, TooLarge}
@@ -21,8 +17,7 @@ use Rattle.rv_asm.specs.Constants.{is_unknown, is_instruction}
 use Rattle.rv_program.specs.Program.{Assembly}
 use Rattle.rv_program.specs.declared.fault.FaultKind.{FaultKind}
 use Rattle.rv_program.specs.declared.fault.AsmFault.{AsmFault}
-use Rattle.rv_asm.specs.declared.locals.LocalLabel.{LocalLabel}
-use Rattle.rv_asm.specs.Layout.{line_at, known_before, known_on, definitions, labels_in, phase_two_fault}
+use Rattle.rv_asm.specs.Layout.{Known, line_at, known_before, labelled, definitions, labels_in, names_in, redefines, phase_two_fault}
 use Rattle.rv_asm.specs.Assembly.{all_said, line_bytes, phase_one_fault}
 
 -- ---- over the numbers below n, in their order
@@ -81,11 +76,9 @@ labels said n = joined (λ k. labels_in (address said k) (line_at said k).labels
 
 -- ---- phase two
 
--- whether the labels of a line define a name that is already defined
-abbrev pub relabels : List (List ℕ × ℤ) → List Label → Bool
-relabels known [] = false
-relabels known (label.Name name ∷ ls) = is_some (value_of known name) || relabels ((name, pos 0) ∷ known) ls
-relabels known (label.Local number ∷ ls) = relabels known ls
+-- whether labels define a name that is already defined
+abbrev pub relabels : Known → List Label → Bool
+relabels known ls = redefines known.definitions.names (names_in known.address ls)
 
 -- whether `.equ` defines a name that is already defined
 abbrev pub renames : List (List ℕ × ℤ) → Statement → Bool
@@ -101,13 +94,17 @@ fault_stated_by known early here statement =
     else (if nat_lt (ram_base + image_limit) (here + (row early here statement).size) then Some TooLarge
     else None)))
 
--- `phase_two_fault`, by `relabels` and `renames`
-abbrev pub phase_two_by : List Said → ℕ → Option FaultKind
-phase_two_by lines k =
-    let known = known_on lines k in
-    if relabels (names lines k) (line_at lines k).labels then Some DuplicateSymbol
-    else option_and_then (fault_stated_by known.definitions.names (operand_value known.definitions k known.address)
-    known.address) (line_at lines k).statement
+-- the fault in phase two of a statement of line k, by what is known at it
+abbrev pub fault_stated : ℕ → Known → Option Statement → Option FaultKind
+fault_stated k known statement = option_and_then
+    (fault_stated_by known.definitions.names (operand_value known.definitions k known.address) known.address)
+    statement
+
+-- `phase_two_fault`, by what is known before the line
+unfoldable pub fault_on : ℕ → Known → Said → Option FaultKind
+fault_on k known line =
+    if relabels known line.labels then Some DuplicateSymbol
+    else fault_stated k (labelled k known line.labels) line.statement
 
 -- ---- all faults
 
@@ -129,29 +126,3 @@ first_of (fault ∷ faults) = Some fault
 abbrev pub fault_in : {A : Type 0} → Result A AsmFault → Option AsmFault
 fault_in (Ok x) = None
 fault_in (Err fault) = Some fault
-
--- ---- local labels
-
--- the address of the nearest definition of n on a line after this one
-abbrev pub nearest_after : List LocalLabel → ℕ → ℕ → Option ℕ
-nearest_after [] number line = None
-nearest_after (d ∷ ds) number line =
-    if (d.number == number) && nat_lt line d.line then Some d.address else nearest_after ds number line
-
--- that of the nearest definition of n on this line or a line before it
-abbrev pub nearest_before : List LocalLabel → ℕ → ℕ → Option ℕ
-nearest_before [] number line = None
-nearest_before (d ∷ ds) number line =
-    option_or (nearest_before ds number line)
-    (if (d.number == number) && nat_le d.line line then Some d.address else None)
-
-abbrev pub nearest_address : List LocalLabel → ℕ → ℕ → Direction → Option ℕ
-nearest_address labels number line Backward = nearest_before labels number line
-nearest_address labels number line Forward = nearest_after labels number line
-
--- ---- labels
-
--- the last label at an address or before it
-abbrev pub label_before : List (List ℕ × ℕ) → ℕ → Option (List ℕ × ℕ)
-label_before [] a = None
-label_before (l ∷ ls) a = option_or (label_before ls a) (if nat_le l.1 a then Some l else None)

@@ -1,21 +1,21 @@
 -- The lines of a refused source, one by one.
 -- The language is this project's own: docs/ASSEMBLER.md.
 -- Not to audit: private contracts alone cite this.
-use Rattle.std.specs.Prelude.{◌≡◌, ℕ, suc, ◌+◌, ◌-◌, ◌≤◌, ◌<◌, List, [], ◌∷◌, map, length, get_or, Option, Some, None, is_some, option_and_then, if◌then◌else◌, Result, Ok, IfSome}
+use Rattle.std.specs.Prelude.{◌≡◌, ℕ, suc, ◌+◌, ◌-◌, ◌≤◌, ◌<◌, List, [], ◌∷◌, map, length, get_or, Option, Some, None, is_some, if◌then◌else◌, Result, Ok, IfSome}
 use Rattle.std.specs.Option.{option_map}
 use Rattle.std.specs.List.{All}
 use Rattle.std.specs.Result.{result_err}
 use Rattle.rv_source.specs.Reading.{Said, said}
 use Rattle.rv_tokens.specs.Faults.{Fails as LineFails}
 use Rattle.rv_tokens.specs.declared.fault.LineFault.{LineFault}
-use Rattle.rv_source.specs.declared.statement.Statement.{Statement}
+use Rattle.rv_source.specs.declared.line.Label.{Label}
 use Rattle.rv_program.specs.declared.fault.FaultKind.{FaultKind}
 use Rattle.rv_program.specs.declared.fault.AsmFault.{AsmFault}
-use Rattle.rv_program.specs.declared.fault.FaultKind.TheVariants.{DuplicateSymbol, OutOfMemory}
+use Rattle.rv_program.specs.declared.fault.FaultKind.TheVariants.{OutOfMemory}
 use Rattle.rv_asm.specs.declared.diagnosis.Diagnosis.{Diagnosis}
 use Rattle.rv_asm.specs.Symbols.{Definitions}
-use Rattle.rv_asm.specs.Counted.{relabels, names, fault_stated_by}
-use Rattle.rv_asm.specs.Steps.{Known, values_of, labelled, stated, stated_bytes, after_line}
+use Rattle.rv_asm.specs.Counted.{fault_on}
+use Rattle.rv_asm.specs.Steps.{Known, labelled, with_line, stated_bytes, after_line, known_before}
 use Rattle.rv_asm.specs.Layout.{line_at, phase_two_fault}
 use Rattle.rv_asm.specs.Diagnosed.{new_labels, kept, fault_of}
 
@@ -29,28 +29,20 @@ abbrev pub IsUnreadBy : Result Said LineFault → Option LineFault → Type 0
 IsUnreadBy r None = result_err r ≡ None
 IsUnreadBy r (Some fault) = LineFails fault r
 
--- the fault in phase two of a statement of line k, by what is known at it
-abbrev pub fault_stated : ℕ → Known → Option Statement → Option FaultKind
-fault_stated k known statement = option_and_then
-    (fault_stated_by known.definitions.names (values_of k known) known.address) statement
-
--- the fault of line k in phase two, by what is known before it
-unfoldable pub fault_on : ℕ → Known → Said → Option FaultKind
-fault_on k known line =
-    if relabels known.definitions.names line.labels then Some DuplicateSymbol
-    else fault_stated k (labelled k known line.labels) line.statement
+-- labels but those that define a name a second time
+abbrev pub new_among : Known → List Label → List Label
+new_among known ls = new_labels known.address known.definitions.names ls
 
 -- what is known after line k, which is cleared if it is faulty
 unfoldable pub known_after : ℕ → Known → Said → Known
 known_after k known line =
-    if is_some (fault_on k known line)
-    then labelled k known (new_labels known.definitions.names line.labels)
-    else stated k (labelled k known line.labels) line.statement
+    if is_some (fault_on k known line) then labelled k known (new_among known line.labels)
+    else with_line k known line
 
 -- line k without its statement, and without labels that define a name a second time
 abbrev pub cleared : List Said → ℕ → Said
 cleared lines k =
-    record { labels = new_labels (names lines k) (line_at lines k).labels; statement = None }
+    record { labels = new_among (known_before lines k) (line_at lines k).labels; statement = None }
 
 -- the fault of line k in phase two, judged by the lines that are kept before it
 abbrev pub judged : List Said → ℕ → Option FaultKind

@@ -1,9 +1,9 @@
--- Results whose faults have no line yet, what instructions wait for, and the lists of local labels.
+-- Results whose faults have no line yet, what instructions wait for, and lists of local labels.
 -- The language is this project's own: docs/ASSEMBLER.md.
 -- Not to audit: private contracts alone cite this.
-use Rattle.std.specs.Prelude.{◌≡◌, ℕ, List, [], ◌∷◌, ◌++◌, ◌^◌, ℤ, pos, negsuc, ◌+ℤ◌, ◌-ℤ◌, ◌≤ℤ◌, ◌==◌, if◌then◌else◌, ◌≤◌, ◌<◌, get_or, slice_get, length, replicate, Bool, false, not, Option, Some, None, is_some, option_and_then, Result, Ok, Err}
-use Rattle.std.specs.Option.{option_map, option_map_or, ok_or}
-use Rattle.std.specs.List.{AllByRecursion, list_all}
+use Rattle.std.specs.Prelude.{◌≡◌, ℕ, zero, suc, List, [], ◌∷◌, ◌++◌, ◌^◌, ℤ, pos, negsuc, ◌+ℤ◌, ◌-ℤ◌, ◌≤ℤ◌, ◌==◌, if◌then◌else◌, get_or, slice_get, replicate, Bool, false, not, Option, Some, None, is_some, option_and_then, Result, Ok, Err}
+use Rattle.std.specs.Option.{option_map_or, ok_or}
+use Rattle.std.specs.List.{list_all}
 use Rattle.rv_source.specs.declared.operand.Operand.{Operand}
 use Rattle.rv_source.specs.declared.operand.Part.{Part}
 use Rattle.rv_program.specs.declared.fault.FaultKind.{FaultKind}
@@ -98,25 +98,17 @@ nops n = replicate n (OpImm Addi 0 0 (pos 0))
 abbrev pub fails : (ℤ → Bool) → Option ℤ → Bool
 fails test v = not (option_map_or test v false)
 
--- ---- lists of local labels
-
 -- from -n to n
 pub record IsNear (n : ℕ) (v : ℤ) : Type 0 where
   pub low : pos 0 ≤ℤ (v +ℤ pos n)
   pub high : v ≤ℤ pos n
 
--- the definitions of number n
-abbrev pub of_number : ℕ → List LocalLabel → List LocalLabel
-of_number n [] = []
-of_number n (d ∷ ds) = if d.number == n then d ∷ of_number n ds else of_number n ds
+-- ---- lists of local labels
 
--- the address of definition i, if there is one
-abbrev pub address_at : List LocalLabel → ℕ → Option ℕ
-address_at ds i = option_map (λ d. d.address) (slice_get ds i)
-
--- all definitions are of number n
-abbrev pub AreOf : ℕ → List LocalLabel → Type 0
-AreOf n ds = AllByRecursion (λ d. d.number ≡ n) ds
+-- the last of the first n elements
+abbrev pub last_of : {A : Type 0} → List A → ℕ → Option A
+last_of xs zero = None
+last_of xs (suc k) = slice_get xs k
 
 -- one more definition in the list of its number, or no change if memory ran out
 abbrev pub Files : {A E : Type 0} → List (List LocalLabel) → List (List LocalLabel) → LocalLabel →
@@ -124,19 +116,3 @@ abbrev pub Files : {A E : Type 0} → List (List LocalLabel) → List (List Loca
 Files old new d (Ok x) =
     (n : ℕ) → get_or new n [] ≡ (if d.number == n then get_or old n [] ++ d ∷ [] else get_or old n [])
 Files old new d (Err e) = (n : ℕ) → get_or new n [] ≡ get_or old n []
-
--- the lines of the definitions never fall
-abbrev pub Rises : List LocalLabel → Type 0
-Rises [] = Unit {0}
-Rises (d ∷ ds) = AllByRecursion (λ e. d.line ≤ e.line) ds × Rises ds
-
--- the first n definitions are on this line or before it, and the others after it
-pub record IsCut (ds : List LocalLabel) (line n : ℕ) : Type 0 where
-  pub within : n ≤ length ds
-  pub before : (k : ℕ) (d : LocalLabel) → k < n → (get_or ds k d).line ≤ line
-  pub after : (k : ℕ) (d : LocalLabel) → n ≤ k → k < length ds → line < (get_or ds k d).line
-
--- list n has the definitions of number n, and the lines never fall
-pub record AreListed (lists : List (List LocalLabel)) (ds : List LocalLabel) : Type 0 where
-  pub each : (n : ℕ) → get_or lists n [] ≡ of_number n ds
-  pub rises : Rises ds

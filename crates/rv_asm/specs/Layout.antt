@@ -83,7 +83,7 @@ definitions lines = (known_before lines (length lines)).definitions
 -- whether names define one that is already defined
 abbrev pub redefines : List (List ℕ × ℤ) → List (List ℕ × ℤ) → Bool
 redefines known [] = false
-redefines known (d ∷ ds) = is_some (value_of known d.0) || redefines (d ∷ known) ds
+redefines known (d ∷ ds) = is_some (value_of known d.0) || redefines (known ++ d ∷ []) ds
 
 -- the fault of line k in phase two
 unfoldable pub phase_two_fault : List Said → ℕ → Option FaultKind

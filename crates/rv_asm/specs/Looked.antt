@@ -1,7 +1,7 @@
 -- The lines of a listing, one by one, and looked up.
 -- The language is this project's own: docs/ASSEMBLER.md.
 -- Not to audit: private contracts alone cite this.
-use Rattle.std.specs.Prelude.{◌≡◌, ℕ, suc, ◌+◌, ◌-◌, ◌≤◌, ◌<◌, List, ◌++◌, length, get_or, Ok}
+use Rattle.std.specs.Prelude.{◌≡◌, ℕ, suc, ◌+◌, ◌-◌, ◌<◌, List, ◌++◌, length, get_or, Ok}
 use Rattle.std.specs.List.{flat_map, range_with_len}
 use Rattle.std.specs.List.Sorted.{IsNonDecreasing, IsNonDecreasingBy}
 use Rattle.rv_base.specs.Limits.{ram_base}
@@ -19,21 +19,9 @@ pub record Lists (k : ℕ) (text : List ℕ) (old new : Known) (labels more : Li
   pub after : after_line k old line ≡ Ok new
   pub appends : more ≡ labels ++ labels_in old.address line.labels
 
--- the first n numbers are at most m, and the others above it
-pub record IsCutAt (xs : List ℕ) (m n : ℕ) : Type 0 where
-  pub within : n ≤ length xs
-  pub before : (k : ℕ) → k < n → get_or xs k 0 ≤ m
-  pub after : (k : ℕ) → n ≤ k → k < length xs → m < get_or xs k 0
-
 -- the addresses of labels never fall
 abbrev pub LabelsRise : List (List ℕ × ℕ) → Type 0
 LabelsRise ls = IsNonDecreasingBy (λ l. l.1) ls
-
--- the first n labels are at an address or before it, and the others after it
-pub record LabelsCutAt (ls : List (List ℕ × ℕ)) (a n : ℕ) : Type 0 where
-  pub within : n ≤ length ls
-  pub before : (k : ℕ) (d : List ℕ × ℕ) → k < n → (get_or ls k d).1 ≤ a
-  pub after : (k : ℕ) (d : List ℕ × ℕ) → n ≤ k → k < length ls → a < (get_or ls k d).1
 
 -- the lines of a listing lie one after the other over the whole image, and so do its labels
 pub record LiesWhole (l : Listed) : Type 0 where

@@ -1,27 +1,24 @@
 -- The states of the assembler from line to line. proofs/ proves that they add up to Assembly.antt.
 -- Not to audit: private contracts alone cite this.
-use Rattle.std.specs.Prelude.{◌≡◌, ◌<◌, ◌≤◌, ℕ, suc, ◌+◌, List, [], ◌∷◌, ◌++◌, length, ℤ, pos, Option, Some, None, is_some, if◌then◌else◌, Result, Ok, Err}
+use Rattle.std.specs.Prelude.{◌≡◌, ◌<◌, ◌≤◌, ℕ, suc, ◌+◌, List, [], ◌∷◌, ◌++◌, length, ℤ, pos, Option, Some, None, Result, Ok, Err}
 use Rattle.std.specs.Option.{option_map}
 use Rattle.std.specs.Result.{result_err, result_unwrap_or}
 use Rattle.rv_base.specs.Limits.{ram_base, image_limit}
 use Rattle.rv_source.specs.Reading.{Said}
 use Rattle.rv_source.specs.declared.expression.Atom.{Atom}
 use Rattle.rv_source.specs.declared.expression.Term.{Term}
-use Rattle.rv_source.specs.declared.line.Label.{Label}
-use Rattle.rv_source.specs.declared.line.Label.TheVariants as label
 use Rattle.rv_source.specs.declared.statement.Statement.{Statement}
 use Rattle.rv_program.specs.declared.fault.FaultKind.{FaultKind}
-use Rattle.rv_program.specs.declared.fault.FaultKind.TheVariants.{DuplicateSymbol}
 use Rattle.rv_program.specs.declared.fault.AsmFault.{AsmFault}
 use Rattle.rv_asm.specs.declared.fixup.Waiting.{Waiting}
 use Rattle.rv_asm.specs.declared.kept.Kept.{Kept}
 use Rattle.rv_asm.specs.declared.kept.Kept.TheVariants as kept
 use Rattle.rv_asm.specs.declared.single.Single.{Single}
-use Rattle.rv_asm.specs.Symbols.{Definitions, value_of, atom_value, sum_value, operand_value}
+use Rattle.rv_asm.specs.Symbols.{Definitions, atom_value, sum_value, operand_value}
 pub use Rattle.rv_asm.specs.Layout.{Known, labelled, stated}
 unfoldable pub use Rattle.rv_asm.specs.Layout.{known_before}
 use Rattle.rv_asm.specs.Layout.{line_at, row_at, phase_two_fault}
-use Rattle.rv_asm.specs.Counted.{fault_stated_by, first_fault, joined}
+use Rattle.rv_asm.specs.Counted.{fault_stated_by, fault_stated, fault_on, first_fault, joined}
 use Rattle.rv_asm.specs.Listing.{◌>>=◌, bytes}
 use Rattle.rv_asm.specs.Assembly.{phase_one_fault, all_said}
 use Rattle.rv_asm.specs.Constants.{KeptLine, stated_in, statement_bytes}
@@ -107,36 +104,26 @@ start = record { address = ram_base; definitions = record { names = []; locals =
 abbrev pub values_of : ℕ → Known → Valuation
 values_of k known = operand_value known.definitions k known.address
 
--- with a label of line k; DuplicateSymbol if its name is already defined
-unfoldable pub newly_labelled : ℕ → Known → Label → Result Known FaultKind
-newly_labelled k known (label.Name name) =
-    if is_some (value_of known.definitions.names name) then Err DuplicateSymbol
-    else Ok (labelled k known (label.Name name ∷ []))
-newly_labelled k known (label.Local number) = Ok (labelled k known (label.Local number ∷ []))
+-- following line k
+abbrev pub with_line : ℕ → Known → Said → Known
+with_line k known line = stated k (labelled k known line.labels) line.statement
 
-abbrev pub all_labelled : ℕ → Known → List Label → Result Known FaultKind
-all_labelled k known ls = run (newly_labelled k) known ls
+-- a result, unless there is a fault
+abbrev pub unless : {E A : Type 0} → Option E → Result A E → Result A E
+unless (Some fault) m = Err fault
+unless None m = m
 
 -- nothing, or the fault of a statement of line k in phase two
 unfoldable pub free : Definitions → ℕ → ℕ → Statement → Result (Unit {0}) FaultKind
-free ds k here statement =
-    elim (fault_stated_by ds.names (operand_value ds k here) here statement) as
-    (λ _. Result (Unit {0}) FaultKind) [
-      | Some kind ↦ Err kind
-      | None ↦ Ok tt
-    ]
+free ds k here statement = unless (fault_stated_by ds.names (operand_value ds k here) here statement) (Ok tt)
 
-unfoldable pub after_statement : ℕ → Known → Statement → Result Known FaultKind
-after_statement k known statement =
-    free known.definitions k known.address statement >>= λ _. Ok (stated k known (Some statement))
+-- following a statement of line k, or its fault
+unfoldable pub after_statement : ℕ → Known → Option Statement → Result Known FaultKind
+after_statement k known statement = unless (fault_stated k known statement) (Ok (stated k known statement))
 
-abbrev pub after_optional : ℕ → Known → Option Statement → Result Known FaultKind
-after_optional k known None = Ok known
-after_optional k known (Some statement) = after_statement k known statement
-
--- with one more line, which is line k
+-- following line k, or its fault
 unfoldable pub after_line : ℕ → Known → Said → Result Known FaultKind
-after_line k known line = all_labelled k known line.labels >>= λ s. after_optional k s line.statement
+after_line k known line = unless (fault_on k known line) (Ok (with_line k known line))
 
 -- the bytes of the statement of line k, once all symbols are known
 abbrev pub stated_bytes : Definitions → ℕ → Known → Option Statement → Result (List ℕ) FaultKind
@@ -156,10 +143,6 @@ abbrev pub AddsLine : ℕ → Known → Said → List Item → List Item → Typ
 AddsLine k known line = AddsOptional k (labelled k known line.labels) line.statement
 
 -- ---- the first two phases
-
-abbrev pub unless : {A : Type 0} → Option AsmFault → Result A AsmFault → Result A AsmFault
-unless (Some fault) m = Err fault
-unless None m = m
 
 -- what is known before line n, or the first fault of the lines before it in phase two
 unfoldable pub laid_out : List Said → ℕ → Result Known AsmFault

@@ -1,7 +1,7 @@
 -- The symbols of a source, and the values of expressions.
 -- To audit: public contracts cite this.
 -- The language is this project's own: docs/ASSEMBLER.md.
-use Rattle.std.specs.Prelude.{ℕ, ◌&&◌, List, [], ◌∷◌, ◌++◌, ℤ, pos, ◌+ℤ◌, ◌-ℤ◌, filter, Option, Some, None, option_and_then, ◌==◌, nat_le, nat_lt, if◌then◌else◌}
+use Rattle.std.specs.Prelude.{ℕ, List, [], ◌∷◌, ◌++◌, ℤ, pos, ◌+ℤ◌, ◌-ℤ◌, filter, Option, Some, None, option_and_then, ◌==◌, nat_le, nat_lt, if◌then◌else◌}
 use Rattle.std.specs.List.{find, last_or}
 use Rattle.std.specs.Option.{option_map}
 pub use Rattle.rv_program.specs.Program.{value_of}
@@ -23,11 +23,15 @@ pub record Definitions : Type 0 where
 abbrev pub followed : Definitions → List (List ℕ × ℤ) → List LocalLabel → Definitions
 followed ds names locals = record { names = ds.names ++ names; locals = ds.locals ++ locals }
 
--- the nearest definition of n: `nb` means the last on this line or a line before it, `nf` the first on a line
--- after it
-abbrev pub nearest : List LocalLabel → ℕ → ℕ → Direction → Option LocalLabel
-nearest ds n line Backward = last_or None (filter (λ d. (d.number == n) && nat_le d.line line) ds)
-nearest ds n line Forward = find (λ d. (d.number == n) && nat_lt line d.line) ds
+-- the definitions of number n
+abbrev pub of_number : ℕ → List LocalLabel → List LocalLabel
+of_number n = filter (λ d. d.number == n)
+
+-- the nearest of the definitions of a number: `b` means the last on this line or a line before it, `f` the first
+-- on a line after it
+abbrev pub nearest : List LocalLabel → ℕ → Direction → Option LocalLabel
+nearest ds line Backward = last_or None (filter (λ d. nat_le d.line line) ds)
+nearest ds line Forward = find (λ d. nat_lt line d.line) ds
 
 -- the value of an atom on a line, in a statement at the address `here`
 abbrev pub atom_value : Definitions → ℕ → ℕ → Atom → Option ℤ
@@ -35,7 +39,7 @@ atom_value ds line here (Number n) = Some (pos n)
 atom_value ds line here (Character b) = Some (pos b)
 atom_value ds line here (Symbol name) = value_of ds.names name
 atom_value ds line here (Local number direction) =
-    option_map (λ d. pos d.address) (nearest ds.locals number line direction)
+    option_map (λ d. pos d.address) (nearest (of_number number ds.locals) line direction)
 atom_value ds line here Here = Some (pos here)
 
 -- the value of an expression: the sum of its terms as whole numbers, if each atom has a value

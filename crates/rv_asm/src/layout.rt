@@ -6,7 +6,7 @@ use crate::extent::extent_of;
 use crate::locals::LocalLabel;
 use crate::placement::PlacedStatement;
 use crate::symbols::{Scope, Symbols};
-use rv_base::{NoMemory, RAM_BASE};
+use rv_base::RAM_BASE;
 use rv_program::Names;
 use rv_source::{Label, Statement};
 use std::alloc::{AllocError, Global};
@@ -45,10 +45,9 @@ impl Known {
     ghost use Rattle.rv_source.specs.Reading.{said};
     ghost use Rattle.rv_asm.specs.Kept.{KindBecomes};
     ghost use Rattle.rv_asm.specs.Counted.{relabels};
-    ghost use Rattle.rv_asm.specs.Steps.{start, values_of, labelled, newly_labelled, all_labelled, after_statement, after_line, Adds, AddsLine};
+    ghost use Rattle.rv_asm.specs.Steps.{start, values_of, labelled, after_statement, after_line, Adds, AddsLine};
     ghost use Rattle.rv_asm.specs.Constants.{IsKnown, statement_in};
-    ghost use Rattle.rv_asm.specs.Diagnosed.{new_labels};
-    ghost use Rattle.rv_asm.specs.Judged.{Keeps};
+    ghost use Rattle.rv_asm.specs.Judged.{Keeps, new_among};
 
     pub fn new(alloc: Global) -> Self
         ensures { result ≡ start }
@@ -59,44 +58,6 @@ impl Known {
         }
     }
 
-    /// Defines a label as the current address.
-    #[tactic(auto, unfolding(crate::specs::Steps::newly_labelled))]
-    fn label(&mut self, alloc: Global, line: usize, label: &Label) -> Result<(), FaultKind>
-        requires { All (λ d. d.line ≤ line) self.old.definitions.locals }
-        ensures known { KindBecomes self.new result (newly_labelled line self.old label.now) }
-        ensures same { IfErr result (λ kind. Keeps kind self.old self.new) }
-    {
-        match label {
-            Label::Name(name) => {
-                if self.symbols.names.value(name.bytes()).is_some() {
-                    return Err(FaultKind::DuplicateSymbol);
-                }
-                let address = i64::from(self.address);
-                self.symbols.names.define(alloc, name.bytes(), address)?;
-                Ok(())
-            }
-            Label::Local(number) => {
-                let label = LocalLabel {
-                    number: *number,
-                    line,
-                    address: self.address,
-                };
-                self.symbols.locals.define(alloc, label)
-            }
-        }
-    }
-
-    /// Defines the labels of a line, from left to right.
-    pub fn labels(&mut self, alloc: Global, line: usize, labels: &[Label]) -> Result<(), FaultKind>
-        requires { All (λ d. d.line ≤ line) self.old.definitions.locals }
-        ensures { KindBecomes self.new result (all_labelled line self.old labels.now) }
-    {
-        for label in labels {
-            self.label(alloc, line, label)?;
-        }
-        Ok(())
-    }
-
     /// Returns the symbols defined so far.
     pub fn symbols(&self) -> &Symbols
         ensures { result.now ≡ self.now.definitions }
@@ -104,34 +65,52 @@ impl Known {
         &self.symbols
     }
 
+    /// Defines a label as the current address, unless its name is already defined. Returns whether it is.
+    fn label(&mut self, alloc: Global, line: usize, label: &Label) -> Result<bool, AllocError>
+        requires { All (λ d. d.line ≤ line) self.old.definitions.locals }
+        ensures known { OnOk result (self.new ≡ labelled line self.old (new_among self.old (label.now ∷ []))) }
+        ensures old { IfOk result (λ old. old ≡ relabels self.old (label.now ∷ [])) }
+    {
+        match label {
+            Label::Name(name) => {
+                if self.symbols.names.value(name.bytes()).is_some() {
+                    return Ok(true);
+                }
+                let address = i64::from(self.address);
+                self.symbols.names.define(alloc, name.bytes(), address)?;
+                Ok(false)
+            }
+            Label::Local(number) => {
+                let label = LocalLabel {
+                    number: *number,
+                    line,
+                    address: self.address,
+                };
+                self.symbols.locals.define(alloc, label)?;
+                Ok(false)
+            }
+        }
+    }
+
     /// Defines the labels of a line but those whose name is already defined, from left to right. Returns the
     /// index of the first that is left out.
-    #[tactic(auto, using(crate::proofs::Labels::up_to_newly, crate::proofs::Labels::up_to_same, crate::proofs::Judging::left_out_twice))]
     pub fn new_labels(
         &mut self,
         alloc: Global,
         line: usize,
         labels: &[Label],
-    ) -> Result<Option<usize>, NoMemory>
+    ) -> Result<Option<usize>, AllocError>
         requires { All (λ d. d.line ≤ line) self.old.definitions.locals }
-        ensures known { OnOk result (self.new ≡ labelled line self.old (new_labels self.old.definitions.names labels.now)) }
-        ensures index { IfOk result (λ i. is_some i ≡ relabels self.old.definitions.names labels.now) }
+        ensures known { OnOk result (self.new ≡ labelled line self.old (new_among self.old labels.now)) }
+        ensures index { IfOk result (λ i. is_some i ≡ relabels self.old labels.now) }
         ensures within { IfOk result (λ i. IfSome i (λ n. n < length labels.now)) }
     {
-        let [first, rest @ ..] = labels else {
-            return Ok(None);
-        };
-        match self.label(alloc, line, first) {
-            Ok(()) => match self.new_labels(alloc, line, rest)? {
-                Some(index) => Ok(Some(index + 1)),
-                None => Ok(None),
-            },
-            Err(FaultKind::DuplicateSymbol) => {
-                self.new_labels(alloc, line, rest)?;
-                Ok(Some(0))
-            }
-            Err(_) => Err(NoMemory),
+        let mut left_out = None;
+        for index in 0..labels.len() {
+            let is_old = self.label(alloc, line, &labels[index])?;
+            left_out = left_out.or(is_old.then_some(index));
         }
+        Ok(left_out)
     }
 
     /// Returns the scope of a statement of a line at the current address.
@@ -156,7 +135,7 @@ impl Known {
         line: usize,
         statement: &Statement,
     ) -> Result<i64, FaultKind>
-        ensures known { KindBecomes self.new result (after_statement line self.old statement.now) }
+        ensures known { KindBecomes self.new result (after_statement line self.old (Some statement.now)) }
         ensures same { IfErr result (λ kind. Keeps kind self.old self.new) }
         ensures constant { IfOk result (λ c. IsKnown (values_of line self.old) c statement.now) }
     {
@@ -180,7 +159,7 @@ impl Known {
     ) -> Result<(), FaultKind>
         requires counted { line < 0xffffffffffffffff }
         requires said { statement_in text.now ≡ Some statement.now }
-        ensures known { KindBecomes self.new result (after_statement line self.old statement.now) }
+        ensures known { KindBecomes self.new result (after_statement line self.old (Some statement.now)) }
         ensures items { OnOk result (Adds line self.old statement.now items.old.items items.new.items) }
     {
         let address = self.address;
@@ -208,7 +187,9 @@ impl Known {
         ensures known { KindBecomes self.new result (after_line number self.old (record { labels = labels.now; statement = statement.now })) }
         ensures items { OnOk result (AddsLine number self.old (record { labels = labels.now; statement = statement.now }) items.old.items items.new.items) }
     {
-        self.labels(alloc, number, labels)?;
+        if self.new_labels(alloc, number, labels)?.is_some() {
+            return Err(FaultKind::DuplicateSymbol);
+        }
         match statement {
             Some(statement) => self.place(alloc, number, text, statement, items),
             None => Ok(()),

@@ -1,7 +1,7 @@
 //! The lines of an accepted source with their addresses and their bytes, and its labels.
-ghost use Rattle.std.specs.Prelude.{◌≡◌, ◌≤◌, ◌<◌, ◌+◌, ◌++◌, ℕ, suc, Ok, IfOk, OnOk, length};
-ghost use Rattle.std.specs.List.{All, flat_map, range_with_len};
-ghost use Rattle.std.specs.List.Sorted.{IsNonDecreasing};
+ghost use Rattle.std.specs.Prelude.{◌≡◌, ◌≤◌, ◌<◌, ◌+◌, ◌++◌, ℕ, suc, List, true, false, nat_le, filter, get_or, None, Ok, IfOk, OnOk, length};
+ghost use Rattle.std.specs.List.{All, flat_map, last_or, range_with_len};
+ghost use Rattle.std.specs.List.Sorted.{IsNonDecreasing, IsPartitionPoint};
 ghost use Rattle.std.specs.Option.{option_map};
 ghost use Rattle.rv_base.specs.Lines.{lines};
 ghost use Rattle.rv_program.specs.Faults.{Gives};
@@ -9,7 +9,8 @@ ghost use Rattle.rv_asm.specs.Assembly.{all_said, line_bytes};
 ghost use Rattle.rv_asm.specs.Lines.{listed, bytes_of};
 ghost use Rattle.rv_asm.specs.Layout.{labels_in};
 ghost use Rattle.rv_asm.specs.Counted.{address, labels, up_to};
-ghost use Rattle.rv_asm.specs.Looked.{Lists, LabelsRise, IsCutAt, LabelsCutAt};
+ghost use Rattle.rv_asm.specs.Kept.{last_of};
+ghost use Rattle.rv_asm.specs.Looked.{Lists, LabelsRise};
 
 use crate::assembler::assemble;
 use crate::layout::Known;
@@ -115,7 +116,8 @@ fn find_places(alloc: Global, source: &[u8]) -> Result<Places, NoMemory>
 /// Returns how many numbers are no greater than `most`.
 fn count_up_to(numbers: &[u32], most: u32) -> usize
     requires { IsNonDecreasing numbers.now }
-    ensures { IsCutAt numbers.now most result }
+    ensures within { result ≤ length numbers.now }
+    ensures point { IsPartitionPoint (λ n. nat_le n most ≡ true) (λ n. nat_le n most ≡ false) numbers.now result }
 {
     numbers.partition_point(|number| *number <= most)
 }
@@ -123,7 +125,9 @@ fn count_up_to(numbers: &[u32], most: u32) -> usize
 /// Returns how many labels are at an address or before it.
 fn count_labels(labels: &[PlacedName], address: u32) -> usize
     requires { LabelsRise labels.now }
-    ensures { LabelsCutAt labels.now address result }
+    ensures within { result ≤ length labels.now }
+    ensures before { (k : ℕ) → (d : List ℕ × ℕ) → k < result → (get_or labels.now k d).1 ≤ address }
+    ensures last { last_or None (filter (λ l. nat_le l.1 address) labels.now) ≡ last_of labels.now result }
 {
     labels.partition_point(|label| label.address <= address)
 }

@@ -1,13 +1,13 @@
 //! Local labels, which may be defined any number of times.
-ghost use Rattle.std.specs.Prelude.{◌≡◌, ◌<◌, ℕ, [], get_or, length, OnOk};
-ghost use Rattle.rv_asm.specs.Kept.{Rises, IsCut, Files};
+ghost use Rattle.std.specs.Prelude.{◌≡◌, ◌≤◌, ◌<◌, ℕ, [], get_or, length, OnOk};
+ghost use Rattle.std.specs.List.{All};
+ghost use Rattle.rv_asm.specs.Kept.{Files};
 
-use crate::FaultKind;
 use rv_tokens::Direction;
 use std::alloc::{AllocError, Global};
 use std::marker::Model;
 
-/// A definition of a local label. Public because definitions name it; no call returns one.
+/// A definition of a local label.
 #[derive(Clone, Copy)]
 pub struct LocalLabel {
     /// Its line, counted from 0.
@@ -18,14 +18,6 @@ pub struct LocalLabel {
     pub number: u16,
 }
 
-/// Returns the number of definitions on a line or before it.
-fn count_up_to(labels: &[LocalLabel], line: usize) -> usize
-    requires { Rises labels.now }
-    ensures { IsCut labels.now line result }
-{
-    labels.partition_point(|label| label.line <= line)
-}
-
 /// The definitions of one number, in order of lines.
 #[derive(Drop)]
 struct Repeated {
@@ -34,17 +26,21 @@ struct Repeated {
 
 impl Model for Repeated {
     ghost use Rattle.std.specs.Prelude.{List};
+    ghost use Rattle.std.specs.List.Sorted.{IsNonDecreasingBy};
     ghost use Rattle.rv_asm.specs.declared.locals.LocalLabel.{LocalLabel};
 
     ghost Value = { List LocalLabel };
 
     ghost view = { λ r. r.labels.items };
+
+    ghost invariant = { λ r. IsNonDecreasingBy (λ d. d.line) r.labels.items };
 }
 
 impl Repeated {
-    ghost use Rattle.std.specs.Prelude.{◌≡◌, [], ◌∷◌, ◌++◌, OnOk, OnErr};
-    ghost use Rattle.rv_asm.specs.Counted.{nearest_address};
-    ghost use Rattle.rv_asm.specs.Kept.{Rises, AreOf, address_at};
+    ghost use Rattle.std.specs.Prelude.{◌≡◌, ◌≤◌, [], ◌∷◌, ◌++◌, None, filter, nat_le, nat_lt, slice_get, OnOk, OnErr};
+    ghost use Rattle.std.specs.List.{All, find, last_or};
+    ghost use Rattle.rv_asm.specs.Symbols.{nearest};
+    ghost use Rattle.rv_asm.specs.Kept.{last_of};
 
     fn new(alloc: Global) -> Self
         ensures { result ≡ [] }
@@ -55,6 +51,7 @@ impl Repeated {
     }
 
     fn push(&mut self, label: LocalLabel) -> Result<(), AllocError>
+        requires { All (λ d. d.line ≤ label.line) self.old }
         ensures ok { OnOk result (self.new ≡ self.old ++ label ∷ []) }
         ensures err { OnErr result (self.new ≡ self.old) }
     {
@@ -62,25 +59,23 @@ impl Repeated {
         Ok(())
     }
 
-    /// Returns the address of the definition at an index, if there is one.
-    fn address(&self, index: usize) -> Option<u32>
-        ensures { result ≡ address_at self.now index }
+    /// Returns the number of definitions on a line or before it.
+    fn count_up_to(&self, line: usize) -> usize
+        ensures last { last_or None (filter (λ d. nat_le d.line line) self.now) ≡ last_of self.now result }
+        ensures next { find (λ d. nat_lt line d.line) self.now ≡ slice_get self.now result }
     {
-        let label = self.labels.get(index).copied()?;
-        Some(label.address)
+        self.labels.partition_point(|label| label.line <= line)
     }
 
-    /// Returns the address that a reference on a line stands for, or None if there is no such definition.
-    fn nearest(&self, number: u16, direction: Direction, line: usize) -> Option<u32>
-        requires rises { Rises self.now }
-        requires one { AreOf number self.now }
-        ensures { result ≡ nearest_address self.now number line direction }
+    /// Returns the definition that a reference on a line means, if there is one.
+    fn nearest(&self, direction: Direction, line: usize) -> Option<LocalLabel>
+        ensures { result ≡ nearest self.now line direction }
     {
-        let count = count_up_to(&self.labels, line);
+        let count = self.count_up_to(line);
         match direction {
             Direction::Backward if count == 0 => None,
-            Direction::Backward => self.address(count - 1),
-            Direction::Forward => self.address(count),
+            Direction::Backward => self.labels.get(count - 1).copied(),
+            Direction::Forward => self.labels.get(count).copied(),
         }
     }
 }
@@ -98,6 +93,7 @@ fn make_room(alloc: Global, lists: &mut Vec<Repeated>, number: usize) -> Result<
 
 /// Appends a definition to the list of its number.
 fn file(alloc: Global, lists: &mut Vec<Repeated>, label: LocalLabel) -> Result<(), AllocError>
+    requires { All (λ d. d.line ≤ label.line) (get_or lists.old.items label.number []) }
     ensures { Files lists.old.items lists.new.items label result }
 {
     let number = usize::from(label.number);
@@ -123,22 +119,21 @@ impl Drop for Locals {
 }
 
 impl Model for Locals {
-    ghost use Rattle.std.specs.Prelude.{List};
+    ghost use Rattle.std.specs.Prelude.{◌≡◌, ℕ, List, [], get_or};
     ghost use Rattle.rv_asm.specs.declared.locals.LocalLabel.{LocalLabel};
-    ghost use Rattle.rv_asm.specs.Kept.{AreListed};
+    ghost use Rattle.rv_asm.specs.Symbols.{of_number};
 
     ghost Value = { List LocalLabel };
 
     ghost view = { λ l. l.labels.items };
 
-    ghost invariant = { λ l. AreListed l.by_number.items l.labels.items };
+    ghost invariant = { λ l. (n : ℕ) → get_or l.by_number.items n [] ≡ of_number n l.labels.items };
 }
 
 impl Locals {
-    ghost use Rattle.std.specs.Prelude.{◌≡◌, ◌≤◌, [], ◌∷◌, ◌++◌, Ok};
+    ghost use Rattle.std.specs.Prelude.{◌≡◌, ◌≤◌, [], ◌∷◌, ◌++◌, OnOk};
     ghost use Rattle.std.specs.List.{All};
-    ghost use Rattle.rv_asm.specs.Kept.{KindBecomes};
-    ghost use Rattle.rv_asm.specs.Counted.{nearest_address};
+    ghost use Rattle.rv_asm.specs.Symbols.{of_number, nearest};
 
     pub fn new(alloc: Global) -> Self
         ensures { result ≡ [] }
@@ -150,30 +145,26 @@ impl Locals {
     }
 
     /// Defines a label. Its line is no earlier than those of the definitions before it.
-    pub fn define(&mut self, alloc: Global, label: LocalLabel) -> Result<(), FaultKind>
+    pub fn define(&mut self, alloc: Global, label: LocalLabel) -> Result<(), AllocError>
         requires { All (λ d. d.line ≤ label.line) self.old }
-        ensures { KindBecomes self.new result (Ok (self.old ++ label ∷ [])) }
+        ensures { OnOk result (self.new ≡ self.old ++ label ∷ []) }
     {
-        if self.labels.push(label).is_err() {
-            return Err(FaultKind::OutOfMemory);
-        }
+        self.labels.push(label)?;
         match file(alloc, &mut self.by_number, label) {
             Ok(()) => Ok(()),
-            Err(_) => {
+            Err(refused) => {
                 self.labels.truncate(self.labels.len() - 1);
-                Err(FaultKind::OutOfMemory)
+                Err(refused)
             }
         }
     }
 
-    /// Returns the address that a reference on a line stands for, or None if there is no such definition.
-    pub fn nearest(&self, number: u16, direction: Direction, line: usize) -> Option<u32>
-        ensures { result ≡ nearest_address self.now number line direction }
+    /// Returns the definition that a reference on a line means, if there is one.
+    pub fn nearest(&self, number: u16, direction: Direction, line: usize) -> Option<LocalLabel>
+        ensures { result ≡ nearest (of_number number self.now) line direction }
     {
-        let place = usize::from(number);
-        if place >= self.by_number.len() {
-            return None;
-        }
-        self.by_number[place].nearest(number, direction, line)
+        self.by_number
+            .get(usize::from(number))?
+            .nearest(direction, line)
     }
 }

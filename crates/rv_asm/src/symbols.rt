@@ -71,7 +71,6 @@ pub struct Scope<'a> {
 
 impl<'a> Scope<'a> {
     /// Returns the value of an atom, or None if its symbol isn't defined.
-    #[tactic(auto, using(crate::proofs::Counting::nearest_is))]
     pub fn atom(&self, atom: &Atom) -> Option<i64>
         ensures value { result ≡ atom_value self.now.symbols.now self.now.line self.now.here atom.now }
         ensures word { IfSome result (λ v. is_word v ≡ true) }
@@ -82,8 +81,8 @@ impl<'a> Scope<'a> {
             Atom::Character(b) => Some(i64::from(*b)),
             Atom::Symbol(name) => symbols.names.value(name.bytes()),
             Atom::Local { number, direction } => {
-                let address = symbols.locals.nearest(*number, *direction, self.line)?;
-                Some(i64::from(address))
+                let label = symbols.locals.nearest(*number, *direction, self.line)?;
+                Some(i64::from(label.address))
             }
             Atom::Here => Some(i64::from(self.here)),
         }

@@ -2,8 +2,6 @@ use Rattle.std.proofs.Common.{◌≡◌, ◌∙◌, ap, sym, refl, true, false}
 use Rattle.std.specs.Prelude.{is_some, Some, None, Ok}
 use Rattle.rv_source.specs.Reading.{Said, said}
 use Rattle.rv_asm.specs.Counted.{relabels}
-use Rattle.rv_asm.specs.Steps.{labelled}
-use Rattle.rv_asm.specs.Diagnosed.{new_labels}
 use Rattle.rv_asm.proofs.Reading.{read_statement}
 use Rattle.rv_asm.proofs.Judging.{duplicate, unstated, stated_ok, stated_not}
 use Rattle.rv_asm.proofs.faults.judge.Goals as goal
@@ -14,10 +12,9 @@ returns-in-Some c =
     let line : Said = record { labels = c.in-Ok.line.labels; statement = c.in-Ok-statement.statement } in
     let read : said c.args.text.now ≡ Ok line = read_statement c.args.text.now c.in-Ok.line
     c.in-Ok-statement.statement c.in-Ok.ensures.written c.in-Ok-statement.ensures in
-    let twice : relabels old.definitions.names line.labels ≡ true =
-    sym (ap is_some (sym c.in-Some.is) ∙ c.in_ok-index.ensures.index ∙ ap (relabels old.definitions.names) c.labels.ensures) in
-    let new = c.in_ok-index.ensures.known
-    ∙ ap (λ ls. labelled c.args.number old (new_labels old.definitions.names ls)) c.labels.ensures in
+    let twice : relabels old line.labels ≡ true =
+    sym (ap is_some (sym c.in-Some.is) ∙ c.in_ok-index.ensures.index ∙ ap (relabels old) c.labels.ensures) in
+    let new = rw c.labels.ensures at c.in_ok-index.ensures.known in
     duplicate c.args.number c.args.text.now old c.new_labels.new.self line read (Some c.diagnosed.result) twice new
     c.diagnosed.ensures
 
@@ -27,10 +24,9 @@ returns-in_default-statement-2 c =
     let line : Said = record { labels = c.in-Ok.line.labels; statement = c.in-Ok-statement.statement } in
     let read : said c.args.text.now ≡ Ok line = read_statement c.args.text.now c.in-Ok.line
     c.in-Ok-statement.statement c.in-Ok.ensures.written c.in-Ok-statement.ensures in
-    let once : relabels old.definitions.names line.labels ≡ false =
-    sym (ap is_some (sym c.in_default-2.is) ∙ c.in_ok-index.ensures.index ∙ ap (relabels old.definitions.names) c.labels.ensures) in
-    let new = c.in_ok-index.ensures.known
-    ∙ ap (λ ls. labelled c.args.number old (new_labels old.definitions.names ls)) c.labels.ensures in
+    let once : relabels old line.labels ≡ false =
+    sym (ap is_some (sym c.in_default-2.is) ∙ c.in_ok-index.ensures.index ∙ ap (relabels old) c.labels.ensures) in
+    let new = rw c.labels.ensures at c.in_ok-index.ensures.known in
     unstated c.args.number c.args.text.now old c.new_labels.new.self line read None c.new_labels.new.self once new
     refl c.in_default-statement-2.is (record { kind = refl; line = tt; from = tt; to = tt })
 
@@ -40,13 +36,11 @@ returns-in-Ok-advance c =
     let line : Said = record { labels = c.in-Ok.line.labels; statement = c.in-Ok-statement.statement } in
     let read : said c.args.text.now ≡ Ok line = read_statement c.args.text.now c.in-Ok.line
     c.in-Ok-statement.statement c.in-Ok.ensures.written c.in-Ok-statement.ensures in
-    let once : relabels old.definitions.names line.labels ≡ false =
-    sym (ap is_some (sym c.in_default-2.is) ∙ c.in_ok-index.ensures.index ∙ ap (relabels old.definitions.names) c.labels.ensures) in
-    let new = c.in_ok-index.ensures.known
-    ∙ ap (λ ls. labelled c.args.number old (new_labels old.definitions.names ls)) c.labels.ensures in
+    let once : relabels old line.labels ≡ false =
+    sym (ap is_some (sym c.in_default-2.is) ∙ c.in_ok-index.ensures.index ∙ ap (relabels old) c.labels.ensures) in
+    let new = rw c.labels.ensures at c.in_ok-index.ensures.known in
     stated_ok c.args.number c.args.text.now old c.advance.new.self line read None c.new_labels.new.self once new
-    c.in-Some-statement.statement c.in-Some-statement.is c.in-Ok-advance.ensures.known
-    (record { kind = refl; line = tt; from = tt; to = tt })
+    (rw c.in-Some-statement.is c.in-Ok-advance.ensures.known) (record { kind = refl; line = tt; from = tt; to = tt })
 
 pub returns : goal.returns
 returns c =
@@ -54,11 +48,9 @@ returns c =
     let line : Said = record { labels = c.in-Ok.line.labels; statement = c.in-Ok-statement.statement } in
     let read : said c.args.text.now ≡ Ok line = read_statement c.args.text.now c.in-Ok.line
     c.in-Ok-statement.statement c.in-Ok.ensures.written c.in-Ok-statement.ensures in
-    let once : relabels old.definitions.names line.labels ≡ false =
-    sym (ap is_some (sym c.in_default-2.is) ∙ c.in_ok-index.ensures.index ∙ ap (relabels old.definitions.names) c.labels.ensures) in
-    let new = c.in_ok-index.ensures.known
-    ∙ ap (λ ls. labelled c.args.number old (new_labels old.definitions.names ls)) c.labels.ensures in
+    let once : relabels old line.labels ≡ false =
+    sym (ap is_some (sym c.in_default-2.is) ∙ c.in_ok-index.ensures.index ∙ ap (relabels old) c.labels.ensures) in
+    let new = rw c.labels.ensures at c.in_ok-index.ensures.known in
     stated_not c.args.number c.args.text.now old c.advance.new.self line read (Some c.diagnosed-2.result)
-    c.new_labels.new.self once new c.in-Some-statement.statement c.in-Some-statement.is c.in-Err.kind
-    c.in-Err.ensures.known c.in-Err.ensures.same (rw c.number.ensures at c.if-number-eq12.false)
-    c.diagnosed-2.ensures
+    c.new_labels.new.self once new c.in-Err.kind (rw c.in-Some-statement.is c.in-Err.ensures.known)
+    c.in-Err.ensures.same (rw c.number.ensures at c.if-number-eq12.false) c.diagnosed-2.ensures

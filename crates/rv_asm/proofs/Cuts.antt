@@ -1,0 +1,54 @@
+-- Lists in order of a number, looked up by binary search: the place at which the number passes one.
+use Rattle.std.proofs.Common.{◌≡◌, ◌∙◌, ℕ, zero, suc, ◌<◌, ◌≤◌, true, false, List, [], ◌∷◌, length, take, get_or, ◌-◌, ap, sym, refl, arith, leb}
+use Rattle.std.proofs.lemmas.Option.{slice_get-get_or}
+use Rattle.std.specs.Prelude.{Option, Some, None, filter, nat_le, nat_lt, slice_get}
+use Rattle.std.specs.List.{find, last_or}
+use Rattle.std.specs.List.Sorted.{IsPartitionPoint}
+use Rattle.std.proofs.lemmas.Bool.Decides.{nat_tests}
+use Rattle.rv_asm.specs.Kept.{last_of}
+
+last_taken : {X : Type 0} (o : Option X) (xs : List X) (k : ℕ) → k < length xs →
+    last_or o (take (suc k) xs) ≡ slice_get xs k
+last_taken o [] k h = absurd (omega arith)
+last_taken o (x ∷ xs) zero h = refl
+last_taken {X} o (x ∷ xs) (suc k) h = last_taken (Some x) xs k (omega arith)
+
+pub last_some : {X : Type 0} (xs : List X) (i : ℕ) (x : X) → (i ≡ 0 → ⊥) → x ≡ get_or xs (i - 1) x → i ≤ length xs →
+    last_of xs i ≡ Some x
+last_some xs zero x h e p = absurd (h refl)
+last_some xs (suc i) x h e p =
+    let at : suc i - 1 ≡ i = omega arith in
+    slice_get-get_or xs i x (omega arith) ∙ ap (λ y. Some y) (sym (rw at at e))
+
+module _ {X : Type 0} (n : X → ℕ) (t : ℕ) where
+  -- n is at most t for the first i elements, and above it for the others
+  abbrev pub IsCut : List X → ℕ → Type 0
+  IsCut xs i = IsPartitionPoint (λ x. leb (n x) t ≡ true) (λ x. leb (n x) t ≡ false) xs i
+
+  rest : (x : X) (xs : List X) (i : ℕ) → IsCut (x ∷ xs) (suc i) → IsCut xs i
+  rest x xs i c = (λ k d p q. c.0 (suc k) d (omega arith) (omega arith), λ k d p q. c.1 (suc k) d (omega arith) (omega arith))
+
+  none : (x : X) (xs : List X) → IsCut (x ∷ xs) zero → IsCut xs zero
+  none x xs c = (λ k d p q. absurd (omega arith), λ k d p q. c.1 (suc k) d (omega arith) (omega arith))
+
+  first : (xs : List X) (i : ℕ) → i ≤ length xs → IsCut xs i → filter (λ x. nat_le (n x) t) xs ≡ take i xs
+  first [] zero h c = refl
+  first [] (suc i) h c = absurd (omega arith)
+  first (x ∷ xs) zero h c = rw (c.1 zero x (omega arith) (omega arith)) (first xs zero (omega arith) (none x xs c))
+  first (x ∷ xs) (suc i) h c =
+      rw (c.0 zero x (omega arith) (omega arith)) (ap (λ ys. x ∷ ys) (first xs i (omega arith) (rest x xs i c)))
+
+  pub last_cut : (xs : List X) (i : ℕ) → i ≤ length xs → IsCut xs i →
+      last_or None (filter (λ x. nat_le (n x) t) xs) ≡ last_of xs i
+  last_cut xs zero h c = rw (first xs zero h c) refl
+  last_cut xs (suc k) h c = rw (first xs (suc k) h c) (last_taken None xs k (omega arith))
+
+  pub next_cut : (xs : List X) (i : ℕ) → i ≤ length xs → IsCut xs i →
+      find (λ x. nat_lt t (n x)) xs ≡ slice_get xs i
+  next_cut [] i h c = refl
+  next_cut (x ∷ xs) zero h c =
+      let above : nat_lt t (n x) ≡ true = let e = c.1 zero x (omega arith) (omega arith) in grind (arith, nat_tests) in
+      rw above refl
+  next_cut (x ∷ xs) (suc i) h c =
+      let below : nat_lt t (n x) ≡ false = let e = c.0 zero x (omega arith) (omega arith) in grind (arith, nat_tests) in
+      rw below (next_cut xs i (omega arith) (rest x xs i c))
