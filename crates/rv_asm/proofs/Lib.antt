@@ -1,9 +1,7 @@
 pub mod Sums
 pub mod Singles
 pub mod Distances
-pub mod Nops
 pub mod Writing
-pub mod Padded
 pub mod DataBytes
 pub mod Sizes
 pub mod Extents

@@ -3,7 +3,7 @@ use Rattle.std.proofs.Common.{◌≡◌, ℕ, zero, suc, ◌+◌, ◌-◌, ◌<�
 use Rattle.std.specs.Prelude.{Option, None, Some, Result, Ok, Err, IfOk, ◌⊎◌}
 use Rattle.std.specs.Option.{option_map}
 use Rattle.std.specs.Result.{result_err, result_unwrap_or}
-use Rattle.std.proofs.lemmas.List.{get_or-map}
+use Rattle.std.proofs.lemmas.List.{get_or-map, get_or-drop, drop-drop}
 use Rattle.rv_source.specs.Reading.{Said, said, written, statement_of}
 use Rattle.rv_source.specs.Written.{Written}
 use Rattle.rv_source.specs.declared.line.Label.{Label}
@@ -39,20 +39,7 @@ pub laid_out-zero : (ls : List Said) → laid_out ls 0 ≡ Ok start
 unfolding laid_out first known_before
 laid_out-zero ls = refl
 
--- ---- no local label that is laid out is on a later line
-
-up_to_by : (ls : List Said) (n : ℕ) (fault : Option AsmFault) (s : Known) →
-    unless fault (Ok (known_before ls n)) ≡ Ok s → IsUpTo n s
-up_to_by ls n (Some fault) s e = absurd cc
-up_to_by ls n None s e = let same : known_before ls n ≡ s = cc in rw (← same) (up_to_before ls n)
-
-pub up_to_laid_out : (ls : List Said) (n : ℕ) (layout : Result Known AsmFault) →
-    Gives (λ s. s) layout (laid_out ls n) → IfOk layout (IsUpTo n)
-unfolding laid_out
-up_to_laid_out ls n (Err fault) h = tt
-up_to_laid_out ls n (Ok s) h = up_to_by ls n (first_fault _ n) s h
-
--- ---- what the items write
+-- ---- what is known before a line
 
 known_by : (ls : List Said) (n : ℕ) (fault : Option AsmFault) (s : Known) →
     unless fault (Ok (known_before ls n)) ≡ Ok s → s ≡ known_before ls n
@@ -62,6 +49,15 @@ known_by ls n None s e = cc
 pub known_is : (ls : List Said) (n : ℕ) (s : Known) → laid_out ls n ≡ Ok s → s ≡ known_before ls n
 unfolding laid_out
 known_is ls n s e = known_by ls n (first_fault _ n) s e
+
+-- no local label that is laid out is on a later line
+
+pub up_to_laid_out : (ls : List Said) (n : ℕ) (layout : Result Known AsmFault) →
+    Gives (λ s. s) layout (laid_out ls n) → IfOk layout (IsUpTo n)
+up_to_laid_out ls n (Err fault) h = tt
+up_to_laid_out ls n (Ok s) h = rw (known_is ls n s h) (up_to_before ls n)
+
+-- ---- what the items write
 
 pub writes_line : (ls : List Said) (n : ℕ) (old new : Option AsmFault) (known : Known)
     (items after : List Item)
@@ -95,11 +91,11 @@ pub record IsAt {X : Type 0} (xs : List X) (n : ℕ) (x : X) (ys : List X) (d : 
 
 pub dropped : {X : Type 0} (xs : List X) (n : ℕ) (x : X) (ys : List X) (d : X) → drop n xs ≡ x ∷ ys →
     IsAt xs n x ys d
-dropped [] zero x ys d e = absurd cc
-dropped [] (suc n) x ys d e = absurd cc
-dropped (y ∷ xs) zero x ys d e = record { below = omega arith; item = cc; after = cc }
-dropped (y ∷ xs) (suc n) x ys d e = let r = dropped xs n x ys d e
-    in record { below = omega (arith, r.below); item = r.item; after = r.after }
+dropped xs n x ys d e = record {
+  below = omega (arith, length-drop n xs, ap length e);
+  item = rw add-zero at (sym (get_or-drop n xs 0 d)) ∙ ap (λ zs. get_or zs 0 d) e;
+  after = rw add-one at (sym (drop-drop 1 n xs)) ∙ ap (drop 1) e;
+}
 
 -- out of memory, or the fault of the line
 unread_kind : (fault : LineFault) (r : Result Said LineFault) → LineFails fault r →
@@ -142,22 +138,15 @@ module _ (texts rest : List (List ℕ)) (n : ℕ) (so : SoFar texts rest n) wher
 
     -- a line that can't be read
     module _ (fault : LineFault) where
-      unread_fault : said text ≡ Err fault → first_fault (phase_one_fault texts) (suc n)
-          ≡ Some (record { line = suc n; kind = kind_of fault })
-      unfolding first
-      unread_fault is =
-          let e : said (get_or texts n []) ≡ Err fault = ap said next.item ∙ is in
-          let some : phase_one_fault texts n ≡ Some (kind_of fault) =
-          ap (λ r. option_map kind_of (result_err r)) e in
-          rw (so.none, some) refl
-
       unread_all : said text ≡ Err fault → lines_laid_out texts
           ≡ Err (record { line = n + 1; kind = kind_of fault })
-      unfolding lines_laid_out
+      unfolding lines_laid_out first
       unread_all is =
-          let more = first_more (phase_one_fault texts) (suc n) (length texts)
-          (record { line = suc n; kind = kind_of fault }) (omega (arith, next.below)) (unread_fault is) in
-          rw (more, add-one) refl
+          let some : phase_one_fault texts n ≡ Some (kind_of fault) =
+          ap (λ r. option_map kind_of (result_err r)) (ap said next.item ∙ is) in
+          let here : first_fault (phase_one_fault texts) (suc n) ≡ Some (record { line = suc n; kind = kind_of fault }) =
+          rw (so.none, some) refl in
+          rw (first_more (phase_one_fault texts) (suc n) (length texts) _ (omega (arith, next.below)) here, add-one) refl
 
       unread_by : (at : AsmFault) → ((kind_of fault ≡ OutOfMemory) ⊎ (said text ≡ Err fault)) →
           IsFaultAt (n + 1) (kind_of fault) at → Fails at (lines_laid_out texts)

@@ -1,8 +1,7 @@
 -- Faults that are passed on, and runs element by element.
-use Rattle.std.proofs.Common.{◌≡◌, ℕ, suc, ◌+◌, ◌<◌, ◌≤◌, List, [], ◌∷◌, ◌++◌, drop, get_or, length, ap, sym, ◌∙◌, refl, add-one}
+use Rattle.std.proofs.Common.{◌≡◌, ℕ, ◌+◌, ◌<◌, ◌≤◌, List, [], ◌∷◌, ◌++◌, drop, get_or, length, ap, sym, ◌∙◌, refl, add-one}
 use Rattle.std.specs.Prelude.{Result, Ok, Err}
-use Rattle.std.proofs.Math.Seq.{drop-cons}
-use Rattle.std.proofs.lemmas.List.{drop_all}
+use Rattle.std.proofs.lemmas.List.{at_drop_more, at_drop_all}
 use Rattle.rv_program.specs.declared.fault.FaultKind.{FaultKind}
 use Rattle.rv_program.specs.declared.fault.FaultKind.TheVariants.{OutOfMemory}
 use Rattle.rv_program.specs.declared.fault.AsmFault.{AsmFault}
@@ -54,21 +53,17 @@ run_append step s (x ∷ xs) ys =
     (λ t. run_append step t xs ys)
     ∙ sym (bind_bind (step s x) (λ t. run step t xs) (λ u. run step u ys))
 
-module _ {S X E : Type 0} (step : S → X → Result S E) (s : S) (xs : List X) (i : ℕ) where
-  pub run_at : (d : X) → i < length xs → run step s (drop i xs)
-      ≡ (step s (get_or xs i d) >>= λ t. run step t (drop (i + 1) xs))
-  unfolding run
-  run_at d h =
-      let e : drop i xs ≡ get_or xs i d ∷ drop (suc i) xs = drop-cons xs i d h in rw (e, add-one) refl
-
-  pub run_end : length xs ≤ i → run step s (drop i xs) ≡ Ok s
-  unfolding run
-  run_end h = let e : drop i xs ≡ [] = drop_all i xs h in rw e refl
+pub run_end : {S X E : Type 0} (step : S → X → Result S E) (s : S) (xs : List X) (i : ℕ) → length xs ≤ i →
+    run step s (drop i xs) ≡ Ok s
+unfolding run
+run_end step s xs i h = at_drop_all (run step s) xs i h
 
 module _ {S X E : Type 0} (step : S → X → Result S E) (s : S) (xs : List X) (i : ℕ) (x : X)
     (item : x ≡ get_or xs i x) (within : i < length xs) where
   pub run_item : run step s (drop i xs) ≡ (step s x >>= λ u. run step u (drop (i + 1) xs))
-  run_item = run_at step s xs i x within ∙ ap (λ y. step s y >>= λ u. run step u (drop (i + 1) xs)) (sym item)
+  unfolding run
+  run_item = at_drop_more (run step s) xs i x within
+      ∙ ap (λ y. step s y >>= λ u. run step u (drop (i + 1) xs)) (sym item)
 
   pub run_more : (t : S) → step s x ≡ Ok t → run step s (drop i xs) ≡ run step t (drop (i + 1) xs)
   run_more t e = run_item ∙ ap (λ r. r >>= λ u. run step u (drop (i + 1) xs)) e

@@ -1,29 +1,28 @@
 -- The rows of statements, by the values that must be known; and a statement has as many bytes as its row
 -- says.
-use Rattle.std.proofs.Common.{◌≡◌, ◌∙◌, ℕ, zero, suc, ◌+◌, ◌*◌, ◌^◌, ◌%◌, ◌==◌, Bool, true, false, List, [], ◌∷◌, ◌++◌, length, replicate, ℤ, ap, refl, arith, length-append}
-use Rattle.std.specs.Prelude.{◌&&◌, ◌||◌, not, is_some, Option, Some, None, option_and_then, Result, Ok}
-use Rattle.std.specs.Option.{option_map}
-use Rattle.std.specs.List.{concat}
+use Rattle.std.proofs.Common.{◌≡◌, ◌∙◌, ℕ, ◌+◌, ◌*◌, ◌^◌, ◌%◌, ◌==◌, Bool, true, false, List, [], ◌∷◌, ◌++◌, length, replicate, ℤ, ap, refl, arith, length-append}
+use Rattle.std.specs.Prelude.{◌&&◌, ◌||◌, not, is_some, take, Option, Some, None, if◌then◌else◌, Result, Ok}
+use Rattle.std.specs.Int.{to_le_bytes, w32}
 use Rattle.std.proofs.lemmas.List.{length-replicate}
 use Rattle.rv_isa.specs.Number.{modulo}
 use Rattle.rv_isa.specs.Width.{bytes_of}
 use Rattle.rv_isa.specs.declared.kind.Kind.{Kind}
 use Rattle.rv_isa.specs.declared.kind.Kind.TheVariants.{Auipc}
-use Rattle.rv_isa.specs.declared.op.Width.TheVariants.{One}
+use Rattle.rv_isa.specs.declared.op.Width.{Width}
+use Rattle.rv_isa.specs.declared.op.Width.TheVariants.{One, Two, Four}
 use Rattle.rv_source.specs.declared.operand.Operand.{Operand}
 use Rattle.rv_source.specs.Operands.{part_of}
 use Rattle.rv_source.specs.declared.statement.Statement.{Statement}
 use Rattle.rv_source.specs.declared.statement.Statement.TheVariants as s
 use Rattle.rv_program.specs.declared.fault.FaultKind.{FaultKind}
 use Rattle.rv_asm.specs.Symbols.{value_of}
-use Rattle.rv_asm.specs.Values.{part_value, far, hi, lo, loading}
+use Rattle.rv_asm.specs.Values.{fits, byte, part_value, far, hi, lo, loading, gap}
 use Rattle.rv_asm.specs.Layout.{redefines}
-use Rattle.rv_asm.specs.Listing.{bytes, bytes_in, code, filled, space, row}
+use Rattle.rv_asm.specs.Listing.{bytes, bytes_in, code, filled, padding, space, row}
 use Rattle.rv_asm.specs.Kept.{Valuation}
 use Rattle.rv_asm.specs.Counted.{renames}
 use Rattle.rv_asm.specs.Constants.{IsTaken, IsKnown, is_unknown, is_instruction, size_of, constant_in, statement_bytes}
-use Rattle.rv_asm.proofs.DataBytes.{placed_one, space_bytes, bytes_counted, placed_counted}
-use Rattle.rv_asm.proofs.Padded.{length_bytes, padded, power_is_regular, multiple_is_regular}
+use Rattle.rv_asm.proofs.DataBytes.{Counts, placed_one, space_bytes, then_counted, mapped_counted, placed_counted}
 
 -- ---- what a row asks
 
@@ -56,6 +55,15 @@ module _ (early : Valuation) (here : ℕ) where
   renamed known (s.Space size (Some fill)) = refl
   renamed known statement = refl
 
+-- ---- how many bytes instructions and padding have
+
+length_bytes : (kinds : List Kind) → length (bytes kinds) ≡ 4 * length kinds
+length_bytes [] = refl
+length_bytes (k ∷ ks) = let h = length_bytes ks in omega arith
+
+length_padding : (n : ℕ) → length (padding n) ≡ n
+length_padding n = length-append (replicate (n % 4) 0) _ ∙ (rw (length-replicate, length_bytes, length-replicate) (omega arith))
+
 -- ---- the value that must be known is all that a row takes from the symbols of its line
 
 space_size : (n : ℕ) (fill : Option Operand) → (space n fill).size ≡ n
@@ -77,8 +85,8 @@ module _ (early : Valuation) (c : ℤ) (here : ℕ) where
   unfolding IsKnown row
   size_is (s.Li rd e) k = rw k.0 (length_bytes (loading rd (modulo c (2 ^ 32))))
   size_is (s.Space size fill) k = rw k.0 (space_size (modulo c (2 ^ 32)) fill)
-  size_is (s.Align power) k = rw k.0 (padded here (2 ^ modulo c (2 ^ 32)) (power_is_regular c k.1))
-  size_is (s.Balign multiple) k = rw k.0 (padded here (modulo c (2 ^ 32)) (multiple_is_regular c k.1))
+  size_is (s.Align power) k = rw k.0 (length_padding (gap here (2 ^ modulo c (2 ^ 32))))
+  size_is (s.Balign multiple) k = rw k.0 (length_padding (gap here (modulo c (2 ^ 32))))
   size_is statement k = refl
 
   pub defines_is : (statement : Statement) → IsKnown early c statement →
@@ -105,47 +113,33 @@ module _ (early : Valuation) (c : ℤ) (here : ℕ) where
 ready_counted : (xs bs : List ℕ) → ◌≡◌ {A = Result (List ℕ) FaultKind} (Ok xs) (Ok bs) → length bs ≡ length xs
 ready_counted xs bs h = let e : bs ≡ xs = cc in ap length e
 
-then_counted : {A : Type 0} (f : A → Option (List ℕ)) (n : ℕ)
-    → ((a : A) (bs : List ℕ) → f a ≡ Some bs → length bs ≡ n)
-    → (o : Option A) (bs : List ℕ) → option_and_then f o ≡ Some bs → length bs ≡ n
-then_counted f n each None bs h = absurd cc
-then_counted f n each (Some a) bs h = each a bs h
+code_counted : (here : ℕ) (before : List Kind) (kind : Kind) → Counts (code here before kind) (4 * (length before + 1))
+code_counted here before kind = mapped_counted (λ k. bytes (before ++ k ∷ [])) (filled here kind) _
+    (λ k. length_bytes (before ++ k ∷ []) ∙ ap (λ n. 4 * n) (length-append before (k ∷ [])))
 
-code_by : (before : List Kind) (o : Option Kind) (bs : List ℕ)
-    → option_map (λ k. bytes (before ++ k ∷ [])) o ≡ Some bs → length bs ≡ 4 * (length before + 1)
-code_by before None bs h = absurd cc
-code_by before (Some k) bs h =
-    let e : bs ≡ bytes (before ++ k ∷ []) = cc in
-    ap length e ∙ length_bytes (before ++ k ∷ []) ∙ ap (λ n. 4 * n) (length-append before (k ∷ []))
-
-code_counted : (here : ℕ) (before : List Kind) (kind : Kind) (v : ℤ) (bs : List ℕ)
-    → code here before kind v ≡ Some bs → length bs ≡ 4 * (length before + 1)
-code_counted here before kind v bs h = code_by before (filled here kind v) bs h
-
-copies_counted : (n : ℕ) (o : Option (List ℕ)) (bs : List ℕ) → ((cs : List ℕ) → o ≡ Some cs → length cs ≡ 1)
-    → option_map (λ bs. concat (replicate n bs)) o ≡ Some bs → length bs ≡ n
-copies_counted n None bs one h = absurd cc
-copies_counted n (Some cs) bs one h =
-    let e : bs ≡ concat (replicate n cs) = cc in ap length e ∙ by n cs (one cs refl)
+bytes_counted : (width : Width) → Counts (bytes_in width) (bytes_of width)
+bytes_counted width v bs h = by width (fits width v) (modulo v (2 ^ 32)) h
   where
-    by : (n : ℕ) (cs : List ℕ) → length cs ≡ 1 → length (concat (replicate n cs)) ≡ n
-    by zero cs one = refl
-    by (suc n) cs one = length-append cs (concat (replicate n cs)) ∙ (rw (one, by n cs one) (omega arith))
+    by : (width : Width) (b : Bool) (n : ℕ) → (if b then Some (take (bytes_of width) (to_le_bytes w32 n)) else None) ≡ Some bs
+        → length bs ≡ bytes_of width
+    by width false n h = absurd cc
+    by One true n h = let e : take 1 (to_le_bytes w32 n) ≡ bs = cc in rw (← e) refl
+    by Two true n h = let e : take 2 (to_le_bytes w32 n) ≡ bs = cc in rw (← e) refl
+    by Four true n h = let e : take 4 (to_le_bytes w32 n) ≡ bs = cc in rw (← e) refl
 
 module _ (early late : Valuation) (here : ℕ) (bs : List ℕ) where
   space_counted : (n : ℕ) (fill : Option Operand) → (space n fill).contents late ≡ Ok bs → length bs ≡ (space n fill).size
   space_counted n None h = ready_counted (replicate n 0) bs h
-  space_counted n (Some x) h =
-      placed_counted late _ n (λ v bs h. copies_counted n (bytes_in One v) bs (bytes_counted One v) h) (x ∷ []) bs h
+  space_counted n (Some x) h = placed_counted late _ n
+      (mapped_counted (replicate n) byte n (λ b. length-replicate n b)) (x ∷ []) bs h
 
   pub statement_size : (statement : Statement) → (row early here statement).contents late ≡ Ok bs →
       length bs ≡ (row early here statement).size
   unfolding row
   statement_size (s.WithValue kind x) h =
-      placed_counted late _ 4 (λ v. then_counted _ 4 (code_counted here [] kind) (part_value (part_of x) v)) (x ∷ []) bs h
-  statement_size (s.Far scratch kind x) h =
-      placed_counted late _ 8
-      (λ v. then_counted _ 8 (λ d. code_counted here (Auipc scratch (hi d) ∷ []) kind (lo d)) (far here v)) (x ∷ []) bs h
+      placed_counted late _ 4 (then_counted _ (part_value (part_of x)) 4 (code_counted here [] kind)) (x ∷ []) bs h
+  statement_size (s.Far scratch kind x) h = placed_counted late _ 8
+      (then_counted _ (far here) 8 (λ d. code_counted here (Auipc scratch (hi d) ∷ []) kind (lo d))) (x ∷ []) bs h
   statement_size (s.Data width xs) h = placed_counted late (bytes_in width) (bytes_of width) (bytes_counted width) xs bs h
   statement_size (s.Space size fill) h = space_counted _ fill h
   statement_size statement h = ready_counted _ bs h

@@ -70,8 +70,8 @@ statement_bytes c late here (s.Data width xs) = placed (bytes_in width) xs late
 statement_bytes c late here (s.Bytes bs) = Ok bs
 statement_bytes c late here (s.Space size fill) =
     fill_of late fill >>= λ b. Ok (replicate (modulo c (2 ^ 32)) b)
-statement_bytes c late here (s.Align power) = Ok (padding here (gap here (2 ^ modulo c (2 ^ 32))))
-statement_bytes c late here (s.Balign multiple) = Ok (padding here (gap here (modulo c (2 ^ 32))))
+statement_bytes c late here (s.Align power) = Ok (padding (gap here (2 ^ modulo c (2 ^ 32))))
+statement_bytes c late here (s.Balign multiple) = Ok (padding (gap here (modulo c (2 ^ 32))))
 statement_bytes c late here (s.Constant name x) = Ok []
 statement_bytes c late here s.Marker = Ok []
 

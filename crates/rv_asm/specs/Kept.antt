@@ -1,26 +1,24 @@
 -- Results whose faults have no line yet, what instructions wait for, and lists of local labels.
 -- The language is this project's own: docs/ASSEMBLER.md.
 -- Not to audit: private contracts alone cite this.
-use Rattle.std.specs.Prelude.{◌≡◌, ℕ, zero, suc, List, [], ◌∷◌, ◌++◌, ◌^◌, ℤ, pos, negsuc, ◌+ℤ◌, ◌-ℤ◌, ◌≤ℤ◌, ◌==◌, if◌then◌else◌, get_or, slice_get, replicate, Bool, false, not, Option, Some, None, is_some, option_and_then, Result, Ok, Err}
-use Rattle.std.specs.Option.{option_map_or, ok_or}
-use Rattle.std.specs.List.{list_all}
+use Rattle.std.specs.Prelude.{◌≡◌, ℕ, zero, suc, List, [], ◌∷◌, ◌++◌, ◌^◌, ℤ, pos, negsuc, ◌+ℤ◌, ◌-ℤ◌, ◌≤ℤ◌, ◌==◌, if◌then◌else◌, get_or, slice_get, replicate, Bool, false, not, Option, Some, None, is_some, option_and_then, Result, Ok, Err, ◌≤◌, ◌<◌, length, is_none}
+use Rattle.std.specs.Option.{option_map_or, ok_or, option_map}
+use Rattle.std.specs.List.{list_all, AllByRecursion, list_any}
 use Rattle.rv_source.specs.declared.operand.Operand.{Operand}
 use Rattle.rv_source.specs.declared.operand.Part.{Part}
 use Rattle.rv_program.specs.declared.fault.FaultKind.{FaultKind}
 use Rattle.rv_program.specs.declared.fault.FaultKind.TheVariants.{OutOfMemory, Undefined, OutOfRange}
 use Rattle.rv_asm.specs.declared.locals.LocalLabel.{LocalLabel}
 use Rattle.rv_isa.specs.declared.kind.Kind.{Kind}
-use Rattle.rv_isa.specs.Number.{modulo}
 use Rattle.rv_isa.specs.declared.kind.Kind.TheVariants.{OpImm, Auipc}
 use Rattle.rv_isa.specs.declared.op.ImmOp.TheVariants.{Addi}
-use Rattle.rv_isa.specs.declared.op.Width.TheVariants.{One}
 use Rattle.rv_asm.specs.declared.fixup.Waiting.{Waiting}
 use Rattle.rv_asm.specs.declared.fixup.Waiting.TheVariants as w
 use Rattle.rv_asm.specs.declared.instructions.Instructions.{Instructions}
 use Rattle.rv_asm.specs.declared.instructions.Instructions.TheVariants as i
 use Rattle.rv_asm.specs.declared.symbols.Scope.{Scope}
 use Rattle.rv_asm.specs.Symbols.{operand_value}
-use Rattle.rv_asm.specs.Values.{fits, field, part_value, far, hi, lo}
+use Rattle.rv_asm.specs.Values.{field, byte, part_value, far, hi, lo}
 use Rattle.rv_asm.specs.Listing.{◌>>=◌, code, bytes_in}
 
 -- ---- results whose fault has no line yet
@@ -79,24 +77,22 @@ pair here scratch kind v = option_and_then (λ d. code here (Auipc scratch (hi d
 -- the byte that fills a space: 0 if none is given
 abbrev pub fill_of : Valuation → Option Operand → Result ℕ FaultKind
 fill_of value None = Ok 0
-fill_of value (Some x) = wanted (λ v. if fits One v then Some (modulo v (2 ^ 8)) else None) (value x)
+fill_of value (Some x) = wanted byte (value x)
 
 abbrev pub with_value : ℕ → Waiting → ℤ → Option (List ℕ)
 with_value here (w.Near kind part) v = near here kind part v
 with_value here (w.Far scratch kind) v = pair here scratch kind v
 with_value here (w.Data width) v = bytes_in width v
 
--- whether each operand has a value
-abbrev pub are_known : Valuation → List Operand → Bool
-are_known value xs = list_all (λ x. is_some (value x)) xs
+-- whether an operand has no value
+abbrev pub has_unknown : Valuation → List Operand → Bool
+has_unknown value xs = list_any (λ x. is_none (value x)) xs
 
 -- n instructions `nop`
 abbrev pub nops : ℕ → List Kind
 nops n = replicate n (OpImm Addi 0 0 (pos 0))
 
--- whether a value isn't known, or fails a test
-abbrev pub fails : (ℤ → Bool) → Option ℤ → Bool
-fails test v = not (option_map_or test v false)
+-- ---- lists of local labels
 
 -- from -n to n
 pub record IsNear (n : ℕ) (v : ℤ) : Type 0 where

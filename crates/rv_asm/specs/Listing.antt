@@ -1,9 +1,9 @@
 -- What each statement stands for: a table with a row a statement.
 -- To audit: public contracts cite this.
 -- The language is this project's own: docs/ASSEMBLER.md.
-use Rattle.std.specs.Prelude.{ℕ, ◌-◌, ◌*◌, ◌/◌, ◌%◌, ◌^◌, Bool, true, false, ◌&&◌, ◌==◌, length, take, List, [], ◌∷◌, ◌++◌, replicate, min, ℤ, pos, negsuc, Option, Some, None, is_none, option_and_then, Result, Ok, Err, if◌then◌else◌}
+use Rattle.std.specs.Prelude.{ℕ, ◌*◌, ◌/◌, ◌%◌, ◌^◌, Bool, true, false, ◌&&◌, ◌==◌, length, take, List, [], ◌∷◌, ◌++◌, replicate, ℤ, pos, negsuc, Option, Some, None, is_none, option_and_then, Result, Ok, Err, if◌then◌else◌}
 use Rattle.std.specs.Option.{option_map, option_map_or, unwrap_or}
-use Rattle.std.specs.List.{filter_map, flat_map, list_any, concat}
+use Rattle.std.specs.List.{flat_map, list_any}
 use Rattle.std.specs.Int.{to_le_bytes, w32}
 use Rattle.rv_base.specs.Limits.{image_limit}
 use Rattle.rv_isa.specs.Number.{modulo}
@@ -13,7 +13,6 @@ use Rattle.rv_isa.specs.declared.kind.Kind.{Kind}
 use Rattle.rv_isa.specs.declared.kind.Kind.TheVariants.{Lui, Auipc, Jal, Jalr, Branch, Load, Store, OpImm, Shift, CsrImm}
 use Rattle.rv_isa.specs.declared.op.ImmOp.TheVariants.{Addi}
 use Rattle.rv_isa.specs.declared.op.Width.{Width}
-use Rattle.rv_isa.specs.declared.op.Width.TheVariants.{One}
 pub use Rattle.rv_tokens.specs.Faults.{◌>>=◌}
 use Rattle.rv_source.specs.declared.operand.Operand.{Operand}
 use Rattle.rv_source.specs.Operands.{part_of}
@@ -21,7 +20,7 @@ use Rattle.rv_source.specs.declared.statement.Statement.{Statement}
 use Rattle.rv_source.specs.declared.statement.Statement.TheVariants as s
 use Rattle.rv_program.specs.declared.fault.FaultKind.{FaultKind}
 use Rattle.rv_program.specs.declared.fault.FaultKind.TheVariants.{Undefined, OutOfRange}
-use Rattle.rv_asm.specs.Values.{is_between, is_word, fits, immediate, field, distance, hi, lo, part_value, far, loading, gap}
+use Rattle.rv_asm.specs.Values.{is_between, is_word, fits, immediate, field, byte, distance, hi, lo, part_value, far, loading, gap}
 
 -- ---- instructions
 
@@ -56,9 +55,10 @@ abbrev pub bytes_in : Width → ℤ → Option (List ℕ)
 bytes_in width v =
     if fits width v then Some (take (bytes_of width) (to_le_bytes w32 (modulo v (2 ^ 32)))) else None
 
--- n bytes of padding: zeros up to a multiple of 4 or the end of the padding, then `nop` instructions
-abbrev pub padding : ℕ → ℕ → List ℕ
-padding here n = let zeros = min n (gap here 4) in replicate zeros 0 ++ bytes (replicate ((n - zeros) / 4) (OpImm Addi 0 0 (pos 0)))
+-- n bytes of padding, up to a multiple of a power of two: zeros up to a multiple of 4 or the end, then `nop`
+-- instructions
+abbrev pub padding : ℕ → List ℕ
+padding n = replicate (n % 4) 0 ++ bytes (replicate (n / 4) (OpImm Addi 0 0 (pos 0)))
 
 -- a power of two from 1 to 4096
 abbrev pub is_multiple : ℤ → Bool
@@ -85,18 +85,19 @@ ready alignment bs = record
 -- range
 abbrev pub placed : (ℤ → Option (List ℕ)) → List Operand → (Operand → Option ℤ) → Result (List ℕ) FaultKind
 placed place xs value =
-    let vs = filter_map value xs in
+    let bytes = λ (x : Operand). option_and_then place (value x) in
     if list_any (λ x. is_none (value x)) xs then Err Undefined
-    else (if list_any (λ v. is_none (place v)) vs then Err OutOfRange else Ok (concat (filter_map place vs)))
+    else (if list_any (λ x. is_none (bytes x)) xs then Err OutOfRange
+    else Ok (flat_map (λ x. unwrap_or (bytes x) []) xs))
 
 -- n bytes for each operand, by its value
 abbrev pub waiting : ℕ → ℕ → (ℤ → Option (List ℕ)) → List Operand → Row
 waiting alignment n place xs = record (ready alignment []) { size = n * length xs; contents = placed place xs }
 
--- n bytes of the value that fills them, which is 0 if none is given
+-- n times the byte that fills a space, which is 0 if none is given
 abbrev pub space : ℕ → Option Operand → Row
 space n None = ready 1 (replicate n 0)
-space n (Some fill) = waiting 1 n (λ v. option_map (λ bs. concat (replicate n bs)) (bytes_in One v)) (fill ∷ [])
+space n (Some fill) = waiting 1 n (λ v. option_map (replicate n) (byte v)) (fill ∷ [])
 
 -- what depends on a value, as a word, that must be known on the line of the statement and pass a test
 abbrev pub asking : Option ℤ → (ℤ → Bool) → (ℕ → Row) → Row
@@ -114,8 +115,8 @@ row early here (s.Data width xs) = waiting 1 (bytes_of width) (bytes_in width) x
 row early here (s.Bytes bs) = ready 1 bs
 row early here (s.Space size fill) = asking (early size) (is_between (pos 0) (pos image_limit)) (λ n. space n fill)
 row early here (s.Align power) =
-    asking (early power) (is_between (pos 0) (pos 12)) (λ n. ready 1 (padding here (gap here (2 ^ n))))
-row early here (s.Balign multiple) = asking (early multiple) is_multiple (λ n. ready 1 (padding here (gap here n)))
+    asking (early power) (is_between (pos 0) (pos 12)) (λ n. ready 1 (padding (gap here (2 ^ n))))
+row early here (s.Balign multiple) = asking (early multiple) is_multiple (λ n. ready 1 (padding (gap here n)))
 row early here (s.Constant name x) =
     asking (early x) is_word (λ w. record (ready 1 []) { defines = (name, unwrap_or (early x) (pos 0)) ∷ [] })
 row early here s.Marker = ready 1 []

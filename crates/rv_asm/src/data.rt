@@ -13,28 +13,20 @@ ghost use Rattle.rv_asm.specs.Values.{fits, gap};
 ghost use Rattle.rv_program.specs.declared.fault.FaultKind.TheVariants.{OutOfRange};
 
 use crate::FaultKind;
-use crate::instructions::{addi, write_instr, zero};
-use crate::values::{bits, fits, gap};
-use rv_isa::Width;
-use std::alloc::AllocError;
+use crate::instructions::{addi, write_instr};
+use crate::values::{bits, fits};
+use rv_isa::{Reg, Width};
 
-/// Appends the low bytes of a value, as many as the width has, lowest first.
+/// Appends the low bytes of a value, as many as the width has, lowest first, if it fits.
 #[tactic(auto, using(crate::proofs::DataBytes::width_within))]
-pub fn write_value(width: Width, value: i64, out: &mut Vec<u8>) -> Result<(), AllocError>
-    ensures { OnOk result (out.new.items ≡ out.old.items ++ take (bytes_of width) (to_le_bytes w32 (modulo value (2 ^ 32)))) }
-{
-    let bytes = bits(value).to_le_bytes();
-    out.extend_from_slice(&bytes[..width.bytes() as usize])
-}
-
-/// Appends a value in a width, if it fits.
 pub fn write_fitting(width: Width, value: i64, out: &mut Vec<u8>) -> Result<(), FaultKind>
     ensures { KindBecomes out.new.items result (appended out.old.items (ok_or (bytes_in width value) OutOfRange)) }
 {
     if !fits(width, value) {
         return Err(FaultKind::OutOfRange);
     }
-    write_value(width, value, out)?;
+    let bytes = bits(value).to_le_bytes();
+    out.extend_from_slice(&bytes[..width.bytes() as usize])?;
     Ok(())
 }
 
@@ -42,8 +34,7 @@ pub fn write_fitting(width: Width, value: i64, out: &mut Vec<u8>) -> Result<(), 
 pub fn fill(count: u32, byte: u8, out: &mut Vec<u8>) -> Result<(), FaultKind>
     ensures { KindBecomes out.new.items result (Ok (out.old.items ++ replicate count byte)) }
 {
-    let end = out.len() + count as usize;
-    out.resize(end, byte)?;
+    out.resize(out.len() + count as usize, byte)?;
     Ok(())
 }
 
@@ -51,21 +42,17 @@ pub fn fill(count: u32, byte: u8, out: &mut Vec<u8>) -> Result<(), FaultKind>
 fn write_nops(count: u32, out: &mut Vec<u8>) -> Result<(), FaultKind>
     ensures { KindBecomes out.new.items result (Ok (out.old.items ++ bytes (nops count))) }
 {
-    let nop = addi(zero(), zero(), 0);
+    let nop = addi(Reg::of(0), Reg::of(0), 0);
     for _ in 0..count {
         write_instr(nop, out)?;
     }
     Ok(())
 }
 
-/// Appends padding from the address `here` to the next multiple: zeros up to a multiple of 4 or the end of
-/// the padding, then `nop` instructions.
-pub fn pad(here: u32, multiple: u32, out: &mut Vec<u8>) -> Result<(), FaultKind>
-    requires { 0 < multiple }
-    ensures { KindBecomes out.new.items result (Ok (out.old.items ++ padding here (gap here multiple))) }
+/// Appends `count` bytes of padding: zeros, and then `nop` instructions.
+pub fn pad(count: u32, out: &mut Vec<u8>) -> Result<(), FaultKind>
+    ensures { KindBecomes out.new.items result (Ok (out.old.items ++ padding count)) }
 {
-    let count = gap(here, multiple);
-    let zeros = count.min(gap(here, 4));
-    fill(zeros, 0, out)?;
-    write_nops((count - zeros) / 4, out)
+    fill(count % 4, 0, out)?;
+    write_nops(count / 4, out)
 }

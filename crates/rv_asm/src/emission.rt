@@ -1,30 +1,30 @@
 //! Phase three: evaluates the expressions of a statement and writes its bytes.
 ghost use Rattle.std.specs.Prelude.{◌≡◌};
-ghost use Rattle.rv_asm.specs.Kept.{KindBecomes, KindGives, are_known, values_in, fill_of};
+ghost use Rattle.rv_asm.specs.Kept.{KindBecomes, KindGives, has_unknown, values_in, fill_of};
 ghost use Rattle.rv_asm.specs.Listing.{bytes_in, placed};
 ghost use Rattle.rv_asm.specs.Constants.{IsTaken, statement_bytes};
 ghost use Rattle.rv_asm.specs.Steps.{appended};
 
 use crate::FaultKind;
-use crate::data::{self, pad, write_value};
+use crate::data::{self, pad};
 use crate::fixup::Waiting;
 use crate::instructions::{loading, write_instr};
 use crate::symbols::Scope;
-use crate::values::{bits, byte, fits};
+use crate::values::{bits, byte, gap};
 use rv_isa::Width;
 use rv_source::{Operand, Statement, Value};
 
-/// Returns whether each operand has a value.
-fn are_known(scope: Scope, operands: &[Operand]) -> bool
-    ensures { result ≡ are_known (values_in scope.entry) operands.now }
+/// Returns whether an operand has no value.
+fn has_unknown(scope: Scope, operands: &[Operand]) -> bool
+    ensures { result ≡ has_unknown (values_in scope.entry) operands.now }
 {
     operands
         .iter()
-        .all(|operand| scope.value(operand).is_some())
+        .any(|operand| scope.value(operand).is_none())
 }
 
 /// Appends values of a width. An undefined value is reported before one that is out of range.
-#[tactic(auto, using(crate::proofs::DataBytes::none_first))]
+#[tactic(auto, using(crate::proofs::DataBytes::placed_more, crate::proofs::DataBytes::unknown_later, crate::proofs::DataBytes::first_fails))]
 fn write_values(
     scope: Scope,
     width: Width,
@@ -36,18 +36,14 @@ fn write_values(
     let [first, rest @ ..] = values else {
         return Ok(());
     };
-    let Some(value) = scope.value(first) else {
-        return Err(FaultKind::Undefined);
-    };
-    if fits(width, value) {
-        write_value(width, value, out)?;
-        return write_values(scope, width, rest, out);
+    let waiting = Waiting::Data { width };
+    if let Err(kind) = waiting.write(scope.here, scope.value(first), out) {
+        if has_unknown(scope, rest) {
+            return Err(FaultKind::Undefined);
+        }
+        return Err(kind);
     }
-    if are_known(scope, rest) {
-        Err(FaultKind::OutOfRange)
-    } else {
-        Err(FaultKind::Undefined)
-    }
+    write_values(scope, width, rest, out)
 }
 
 impl<'a> Scope<'a> {
@@ -60,9 +56,7 @@ impl<'a> Scope<'a> {
         let Some(fill) = fill else {
             return Ok(0);
         };
-        let Some(value) = self.value(fill.operand()) else {
-            return Err(FaultKind::Undefined);
-        };
+        let value = self.value(fill.operand()).ok_or(FaultKind::Undefined)?;
         byte(value).ok_or(FaultKind::OutOfRange)
     }
 
@@ -104,8 +98,8 @@ impl<'a> Scope<'a> {
                 Ok(())
             }
             Statement::Space { fill, .. } => data::fill(bits(constant), self.fill_byte(fill)?, out),
-            Statement::Align { .. } => pad(self.here, 1 << bits(constant), out),
-            Statement::Balign { .. } => pad(self.here, bits(constant), out),
+            Statement::Align { .. } => pad(gap(self.here, 1 << bits(constant)), out),
+            Statement::Balign { .. } => pad(gap(self.here, bits(constant)), out),
             Statement::Constant { .. } | Statement::Marker => Ok(()),
         }
     }

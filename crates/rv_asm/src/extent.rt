@@ -2,17 +2,15 @@
 ghost use Rattle.std.specs.Prelude.{◌≡◌, ◌==◌, ◌&&◌, ◌%◌, ◌≤◌, ◌<◌, ◌+◌, ◌*◌, ℕ, List, ℤ, min, not, is_some, true, false, Some, IfOk, IfSome};
 ghost use Rattle.rv_isa.specs.Width.{bytes_of};
 ghost use Rattle.rv_source.specs.declared.statement.Statement.{Statement};
-ghost use Rattle.rv_asm.specs.Values.{is_between};
 ghost use Rattle.rv_asm.specs.Counted.{renames};
-ghost use Rattle.rv_asm.specs.Kept.{fails, KindGives, values_in};
-ghost use Rattle.rv_asm.specs.Listing.{is_multiple};
+ghost use Rattle.rv_asm.specs.Kept.{KindGives, values_in};
 ghost use Rattle.rv_asm.specs.Constants.{IsKnown, IsTaken, is_unknown, is_instruction, size_of};
-ghost use Rattle.rv_asm.specs.Steps.{Ends, image_end, free};
+ghost use Rattle.rv_asm.specs.Steps.{image_end, free};
 
 use crate::FaultKind;
 use crate::instructions::loading;
 use crate::symbols::{Scope, Symbols};
-use crate::values::{bits, gap, is_between};
+use crate::values::{bits, gap, is_between, is_multiple, is_word};
 use rv_base::{IMAGE_LIMIT, RAM_BASE};
 use rv_isa::Width;
 use rv_source::Statement;
@@ -26,28 +24,6 @@ pub struct Extent {
     pub end: u32,
 }
 
-/// Returns the value if it is known and lies between two bounds, both included.
-fn between(low: i64, high: i64, value: Option<i64>) -> Option<i64>
-    ensures fails { fails (is_between low high) value ≡ not (is_some result) }
-    ensures known { IfSome result (λ c. (value ≡ Some c) × (is_between low high c ≡ true)) }
-{
-    match value {
-        Some(value) if is_between(low, high, value) => Some(value),
-        _ => None,
-    }
-}
-
-/// Returns the value if it is known and a power of two from 1 to 4096.
-fn multiple(value: Option<i64>) -> Option<i64>
-    ensures fails { fails is_multiple value ≡ not (is_some result) }
-    ensures known { IfSome result (λ c. (value ≡ Some c) × (is_multiple c ≡ true)) }
-{
-    match value {
-        Some(value) if is_between(1, 4096, value) && 4096 % value == 0 => Some(value),
-        _ => None,
-    }
-}
-
 /// Returns the constant of a statement: the value that must be known on its line, because its size or a name
 /// depends on it. Other statements have the constant 0. None if the value isn't known there, or isn't in the
 /// range of the statement.
@@ -58,13 +34,24 @@ fn constant(scope: Scope, statement: &Statement) -> Option<i64>
 {
     match statement {
         Statement::Li { value, .. } | Statement::Constant { value, .. } => {
-            between(-0x8000_0000, 0xffff_ffff, scope.value(value.operand()))
+            scope.value(value.operand()).filter(|value| is_word(*value))
         }
         Statement::Space { size, .. } => {
-            between(0, IMAGE_LIMIT as i64, scope.value(size.operand()))
+            let limit = IMAGE_LIMIT as i64;
+            scope
+                .value(size.operand())
+                .filter(|size| is_between(0, limit, *size))
         }
-        Statement::Align { power } => between(0, 12, scope.value(power.operand())),
-        Statement::Balign { multiple: value } => multiple(scope.value(value.operand())),
+        Statement::Align { power } => {
+            scope
+                .value(power.operand())
+                .filter(|power| is_between(0, 12, *power))
+        }
+        Statement::Balign { multiple } => {
+            scope
+                .value(multiple.operand())
+                .filter(|value| is_multiple(*value))
+        }
         _ => Some(0),
     }
 }
@@ -94,15 +81,6 @@ fn size_of(here: u32, constant: i64, statement: &Statement) -> u32
         Statement::Balign { .. } => gap(here, bits(constant)),
         Statement::Constant { .. } | Statement::Marker => 0,
     }
-}
-
-/// Returns the address following a statement, or None if the statement ends past the largest image.
-fn end_of(here: u32, constant: i64, statement: &Statement) -> Option<u32>
-    requires { IsTaken constant statement.now }
-    ensures { Ends result (here + size_of constant here statement.now) }
-{
-    let end = here.saturating_add(size_of(here, constant, statement));
-    (end <= RAM_BASE + IMAGE_LIMIT).then_some(end)
 }
 
 /// Returns whether a statement is assembled to instructions, but its address isn't a multiple of 4.
@@ -147,8 +125,11 @@ pub fn extent_of(scope: Scope, statement: &Statement) -> Result<Extent, FaultKin
     if is_misplaced(scope.here, statement) {
         return Err(FaultKind::Misplaced);
     }
-    match end_of(scope.here, constant, statement) {
-        Some(end) => Ok(Extent { constant, end }),
-        None => Err(FaultKind::TooLarge),
+    let end = scope
+        .here
+        .saturating_add(size_of(scope.here, constant, statement));
+    if end > RAM_BASE + IMAGE_LIMIT {
+        return Err(FaultKind::TooLarge);
     }
+    Ok(Extent { constant, end })
 }

@@ -91,17 +91,12 @@ impl Waiting {
     pub fn write(self, here: u32, value: Option<i64>, out: &mut Vec<u8>) -> Result<(), FaultKind>
         ensures { KindBecomes out.new.items result (appended out.old.items (waiting_bytes here self value)) }
     {
-        let Some(value) = value else {
-            return Err(FaultKind::Undefined);
-        };
+        let value = value.ok_or(FaultKind::Undefined)?;
         let instructions = match self {
             Waiting::Near { instr, part } => near(here, instr, part, value),
             Waiting::Far { scratch, instr } => pair(here, scratch, instr, value),
             Waiting::Data { width } => return write_fitting(width, value, out),
         };
-        match instructions {
-            Some(instructions) => instructions.write(out),
-            None => Err(FaultKind::OutOfRange),
-        }
+        instructions.ok_or(FaultKind::OutOfRange)?.write(out)
     }
 }

@@ -8,7 +8,7 @@ ghost use Rattle.rv_asm.specs.Listing.{bytes};
 ghost use Rattle.rv_asm.specs.Values.{loading};
 
 use crate::FaultKind;
-use crate::values::{hi, lo};
+use crate::values::{hi, immediate, lo};
 use rv_isa::{ImmOp, Instr, Kind, Reg, encode};
 
 /// The instructions of a statement: one or two.
@@ -55,13 +55,6 @@ pub fn write_instr(instr: Instr, out: &mut Vec<u8>) -> Result<(), FaultKind>
     Ok(())
 }
 
-/// Returns the register x0.
-pub fn zero() -> Reg
-    ensures { result ≡ 0 }
-{
-    Reg::of(0)
-}
-
 // `number()` is called for its postcondition, `< 32`.
 
 fn lui(rd: Reg, imm: u32) -> Instr
@@ -94,9 +87,8 @@ pub fn addi(rd: Reg, rs1: Reg, imm: i32) -> Instr
 pub fn loading(rd: Reg, word: u32) -> Instructions
     ensures { kinds result ≡ loading rd word }
 {
-    let value = word.cast_signed();
-    if value >= -2048 && value <= 2047 {
-        return Instructions::One(addi(rd, zero(), value));
+    if let Some(imm) = immediate(i64::from(word)) {
+        return Instructions::One(addi(rd, Reg::of(0), imm));
     }
     let upper = lui(rd, hi(word));
     if word % 4096 == 0 {

@@ -1,8 +1,8 @@
 //! Conversions of the value of an expression to the field that it fills.
-ghost use Rattle.std.specs.Prelude.{◌≡◌, ◌==◌, ◌&&◌, ◌<◌, ◌≤◌, ◌^◌, Some, None, IfSome, if◌then◌else◌};
-ghost use Rattle.rv_isa.specs.declared.op.Width.TheVariants.{One};
+ghost use Rattle.std.specs.Prelude.{◌≡◌, ◌==◌, ◌&&◌, ◌<◌, ◌≤◌, ◌^◌, true, Some, None, IfSome, if◌then◌else◌};
 ghost use Rattle.rv_isa.specs.Number.{IsWithin, IsDistance, modulo};
-ghost use Rattle.rv_asm.specs.Values.{is_between, is_word, fits, immediate, distance, hi, lo, part_value, far, gap};
+ghost use Rattle.rv_asm.specs.Values.{is_between, is_word, fits, byte, immediate, distance, hi, lo, part_value, far, gap};
+ghost use Rattle.rv_asm.specs.Listing.{is_multiple};
 ghost use Rattle.rv_asm.specs.Kept.{upper_immediate, five_bits};
 
 use rv_isa::Width;
@@ -42,7 +42,7 @@ pub fn bits(value: i64) -> u32
 
 /// Converts a value to a byte, if it fits.
 pub fn byte(value: i64) -> Option<u8>
-    ensures { result ≡ (if fits One value then Some (modulo value (2 ^ 8)) else None) }
+    ensures { result ≡ byte value }
 {
     fits(Width::One, value).then_some(value.rem_euclid(0x100) as u8)
 }
@@ -82,7 +82,9 @@ pub fn five_bits(value: i64) -> Option<u8>
 fn even_between(low: i64, high: i64, offset: i64) -> Option<i32>
     requires low { IsWithin (2 ^ 20) low }
     requires high { IsWithin (2 ^ 20) high }
-    ensures { result ≡ (if is_between low high offset && (modulo offset 2 == 0) then Some offset else None) }
+    ensures value { result ≡ (if is_between low high offset && (modulo offset 2 == 0) then Some offset else None) }
+    ensures between { IfSome result (λ d. is_between low high d ≡ true) }
+    ensures even { IfSome result (λ d. modulo d 2 ≡ 0) }
 {
     if is_between(low, high, offset) && offset.rem_euclid(2) == 0 {
         Some(offset as i32)
@@ -144,11 +146,14 @@ pub fn part_value(part: Part, value: i64) -> Option<i64>
 pub fn far(here: u32, target: i64) -> Option<u32>
     ensures { result ≡ far here target }
 {
-    if is_word(target) {
-        Some(bits(target - i64::from(here)))
-    } else {
-        None
-    }
+    is_word(target).then(|| bits(target - i64::from(here)))
+}
+
+/// Returns whether a value is a power of two from 1 to 4096.
+pub fn is_multiple(value: i64) -> bool
+    ensures { result ≡ is_multiple value }
+{
+    is_between(1, 4096, value) && 4096 % value == 0
 }
 
 /// Returns the number of bytes from an address to the next multiple.
