@@ -3,3 +3,4 @@ pub mod Memory
 pub mod Readers
 pub mod Texts
 pub mod Unread
+pub mod Within

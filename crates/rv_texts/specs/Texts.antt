@@ -1,6 +1,7 @@
 -- The bytes that a reader gave and a writer took.
 -- To audit: public contracts cite this.
-use Rattle.std.specs.Prelude.{◌≡◌, ◌⊎◌, ◌+◌, ◌≤◌, ℕ, Bool, true, false, List, Option, Some, None, length, take}
+use Rattle.std.specs.Prelude.{◌≡◌, ◌⊎◌, ◌<◌, ◌≤◌, ℕ, Bool, true, false, List, Option, length, take}
+use Rattle.std.specs.Option.{option_map, option_zip}
 use Rattle.std.specs.Io.KnownBytes.{Appends, Consumes, IsAtEnd}
 use Rattle.rv_base.specs.Limits.{text_limit}
 
@@ -17,8 +18,7 @@ side bytes has_failed old new = record { old = bytes old; new = bytes new; faile
 
 -- that side, if there is one
 abbrev pub side_if : {A : Type 0} → (A → Option (List ℕ)) → (A → Bool) → Option A → Option A → Option Side
-side_if bytes has_failed (Some old) (Some new) = Some (side bytes has_failed old new)
-side_if bytes has_failed _ _ = None
+side_if bytes has_failed old new = option_map (λ p. side bytes has_failed p.0 p.1) (option_zip old new)
 
 -- ---- a reader
 
@@ -29,27 +29,18 @@ pub record Gave (reader : Side) (text : List ℕ) : Type 0 where
   pub within : length text ≤ text_limit
   pub sound : reader.failed ≡ false
 
--- the reader gave no less and no more bytes than these
-pub record GaveBytes (reader : Side) (least most : ℕ) : Type 0 where
-  pub bytes : List ℕ
-  pub gave : Consumes reader.old reader.new bytes
-  pub enough : least ≤ length bytes
-  pub within : length bytes ≤ most
-
--- the reader is in order, and gave no more than a text may have
+-- the reader is in order, and gave no more bytes than a text may have
 abbrev pub IsInOrder : Side → Type 0
-IsInOrder reader = GaveBytes reader 0 text_limit × (reader.failed ≡ false)
+IsInOrder r =
+    (bytes : List ℕ) × Consumes r.old r.new bytes × (length bytes ≤ text_limit) × (r.failed ≡ false)
 
--- the reader failed; or it gave more than a text may have, and was not called again: a call asks for 8192
--- bytes at most
+-- the reader failed, or it gave more bytes than a text may have
 abbrev pub IsUnreadable : Side → Type 0
-IsUnreadable reader =
-    (GaveBytes reader 0 text_limit × (reader.failed ≡ true))
-    ⊎ GaveBytes reader (text_limit + 1) (text_limit + 8192)
+IsUnreadable r =
+    (bytes : List ℕ) × Consumes r.old r.new bytes × ((r.failed ≡ true) ⊎ (text_limit < length bytes))
 
 -- ---- a writer
 
 -- the writer took a beginning of the text
-pub record WroteBeginning (writer : Side) (text : List ℕ) : Type 0 where
-  pub count : ℕ
-  pub took : Appends writer.old writer.new (take count text)
+abbrev pub WroteBeginning : Side → List ℕ → Type 0
+WroteBeginning writer text = (count : ℕ) × Appends writer.old writer.new (take count text)

@@ -3,6 +3,7 @@ ghost use Rattle.std.specs.Prelude.{◌≡◌, ◌≤◌, ◌<◌, ◌==◌, ◌
 ghost use Rattle.std.specs.Io.KnownBytes.{Appends, ReadConsumes, WriteAppends};
 ghost use Rattle.rv_texts.specs.Calls.{FailsToRead, WroteNone, WroteUpTo};
 ghost use Rattle.rv_texts.specs.Texts.{Gave, WroteBeginning, side};
+ghost use Rattle.rv_texts.specs.Within.{IsWithin};
 
 use crate::fault::{ReadFault, TextName};
 use rv_base::TEXT_LIMIT;
@@ -54,6 +55,7 @@ pub(crate) fn read_text<R: TextIn>(
         (side R.left R.has_failed reader.old reader.new) text.items) }
     ensures err { IfErr result (FailsToRead name
         (side R.left R.has_failed reader.old reader.new)) }
+    ensures within { IsWithin (side R.left R.has_failed reader.old reader.new) }
 {
     let mut text = Vec::new(alloc);
     let mut buffer = [0u8; 8192];

@@ -5,6 +5,7 @@ ghost use Rattle.rv_texts.specs.Unread.{Unread};
 ghost use Rattle.rv_texts.specs.Calls.{GaveIf};
 ghost use Rattle.rv_texts.specs.Readers.{AllGave};
 ghost use Rattle.rv_texts.specs.Texts.{IsInOrder, IsUnreadable, side, side_if};
+ghost use Rattle.rv_texts.specs.Within.{AreWithin, IsWithin};
 ghost use Rattle.rv_texts.specs.declared.fault.ReadFault.TheVariants.{OutOfMemory, Unreadable};
 ghost use Rattle.rv_texts.specs.declared.fault.TextName.TheVariants.{Commands, Input, Source};
 
@@ -79,6 +80,7 @@ fn read_commands<C: TextIn>(
         × IsSomeAnd (side_if C.left C.has_failed commands.old commands.new) IsUnreadable)
         ⊎ ((fault ≡ OutOfMemory)
         × IfSome (side_if C.left C.has_failed commands.old commands.new) IsInOrder)) }
+    ensures within { IfSome (side_if C.left C.has_failed commands.old commands.new) IsWithin }
     ensures there { is_some commands.new ≡ is_some commands.old }
 {
     let Some(reader) = commands else {
@@ -115,6 +117,13 @@ pub fn read_texts<S: TextIn, I: TextIn, C: TextIn>(
       commands = side_if C.left C.has_failed commands.old commands.new;
     })) }
     ensures there { is_some commands.new ≡ is_some commands.old }
+
+    // What is read of a text that is too long: no more than a buffer beyond the limit.
+    ensures within { AreWithin (record {
+      source = side S.left S.has_failed source.old source.new;
+      inputs = side I.left I.has_failed inputs.old inputs.new;
+      commands = side_if C.left C.has_failed commands.old commands.new;
+    }) }
 
     // After a reader's fault no reader that follows is touched.
     ensures after_source { IfErr result (λ fault. fault ≡ Unreadable Source → (inputs.new ≡ inputs.old)

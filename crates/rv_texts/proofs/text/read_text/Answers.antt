@@ -6,17 +6,19 @@ pub returns-in_default-clause-err : goal.returns-in_default-clause-err
 returns-in_default-clause-err g c =
     inl (
       search rules,
-      inl (
-        record {
-          bytes = c.loop-count.text.items;
-          gave = Consumes-kept _ _ _ c.loop-count.text.items c.loop-count.invariant.gave
-              c.in_default.ensures.bytes;
-          enough = omega arith;
-          within = omega (arith, c.loop-count.invariant.within);
-        },
-        c.in_default.ensures.err,
+      (
+        c.loop-count.text.items,
+        Consumes-kept _ _ _ c.loop-count.text.items c.loop-count.invariant.gave c.in_default.ensures.bytes,
+        inl c.in_default.ensures.err,
       ),
     )
+
+pub returns-in_default-clause-within : goal.returns-in_default-clause-within
+returns-in_default-clause-within g c = (
+  c.loop-count.text.items,
+  Consumes-kept _ _ _ c.loop-count.text.items c.loop-count.invariant.gave c.in_default.ensures.bytes,
+  omega (arith, c.loop-count.invariant.within),
+)
 
 pub returns-then-len-count-clause-err : goal.returns-then-len-count-clause-err
 returns-then-len-count-clause-err g c =
@@ -24,25 +26,32 @@ returns-then-len-count-clause-err g c =
     let within = c.in-Ok.ensures.within in
     inl (
       search rules,
-      inr (record {
-        bytes = c.loop-count.text.items ++ more;
-        gave = Consumes-trans _ _ _ c.loop-count.text.items more c.loop-count.invariant.gave
-            c.in-Ok.ensures.bytes.0;
-        enough = omega (
+      (
+        c.loop-count.text.items ++ more,
+        Consumes-trans _ _ _ c.loop-count.text.items more c.loop-count.invariant.gave c.in-Ok.ensures.bytes.0,
+        inr (omega (
           arith,
           length-append c.loop-count.text.items more,
           length-take c.in-Ok.count c.read.new.buffer,
           c.if-len-count.true,
           c.len.ensures,
-        );
-        within = omega (
-          arith,
-          length-append c.loop-count.text.items more,
-          length-take c.in-Ok.count c.read.new.buffer,
-          c.loop-count.invariant.within,
-          c.loop-count.invariant.room,
-        );
-      }),
+        )),
+      ),
+    )
+
+pub returns-then-len-count-clause-within : goal.returns-then-len-count-clause-within
+returns-then-len-count-clause-within g c =
+    let more = take c.in-Ok.count c.read.new.buffer in
+    let within = c.in-Ok.ensures.within in (
+      c.loop-count.text.items ++ more,
+      Consumes-trans _ _ _ c.loop-count.text.items more c.loop-count.invariant.gave c.in-Ok.ensures.bytes.0,
+      omega (
+        arith,
+        length-append c.loop-count.text.items more,
+        length-take c.in-Ok.count c.read.new.buffer,
+        c.loop-count.invariant.within,
+        c.loop-count.invariant.room,
+      ),
     )
 
 pub returns-then-is_err-clause-err : goal.returns-then-is_err-clause-err
@@ -52,20 +61,31 @@ returns-then-is_err-clause-err g c =
     inr (
       refl,
       (
-        record {
-          bytes = c.loop-count.text.items ++ more;
-          gave = Consumes-trans _ _ _ c.loop-count.text.items more c.loop-count.invariant.gave
-              c.in-Ok.ensures.bytes.0;
-          enough = omega arith;
-          within = omega (
-            arith,
-            length-append c.loop-count.text.items more,
-            length-take c.in-Ok.count c.read.new.buffer,
-            c.if-len-count.false,
-            c.len.ensures,
-            c.loop-count.invariant.within,
-          );
-        },
+        c.loop-count.text.items ++ more,
+        Consumes-trans _ _ _ c.loop-count.text.items more c.loop-count.invariant.gave c.in-Ok.ensures.bytes.0,
+        omega (
+          arith,
+          length-append c.loop-count.text.items more,
+          length-take c.in-Ok.count c.read.new.buffer,
+          c.if-len-count.false,
+          c.len.ensures,
+          c.loop-count.invariant.within,
+        ),
         search rules,
+      ),
+    )
+
+pub returns-then-is_err-clause-within : goal.returns-then-is_err-clause-within
+returns-then-is_err-clause-within g c =
+    let more = take c.in-Ok.count c.read.new.buffer in
+    let within = c.in-Ok.ensures.within in (
+      c.loop-count.text.items ++ more,
+      Consumes-trans _ _ _ c.loop-count.text.items more c.loop-count.invariant.gave c.in-Ok.ensures.bytes.0,
+      omega (
+        arith,
+        length-append c.loop-count.text.items more,
+        length-take c.in-Ok.count c.read.new.buffer,
+        c.loop-count.invariant.within,
+        c.loop-count.invariant.room,
       ),
     )
