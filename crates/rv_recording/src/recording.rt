@@ -7,7 +7,7 @@ ghost use Rattle.rv_lists.specs.Timed.{never_falls, IsRead};
 ghost use Rattle.rv_monitor.specs.Commands.{Leaves, LeavesRefused, answer, command_in, next_of};
 ghost use Rattle.rv_monitor.specs.Events.{events_of};
 ghost use Rattle.rv_monitor.specs.Laws.{IsReached};
-ghost use Rattle.rv_monitor.specs.Room.{LacksRoom};
+ghost use Rattle.rv_monitor.specs.Room.{LacksRoom, NextWantsRoom};
 ghost use Rattle.rv_monitor.specs.State.{given, with_break, without_break};
 ghost use Rattle.rv_monitor.specs.Stops.{Took, WasRefused, stop_of, TakesStep};
 ghost use Rattle.rv_recording.specs.Recording.{IsRun, first_board, gone_back, last_step, with_timed};
@@ -21,7 +21,7 @@ use rv_hart::Outcome;
 use rv_lists::{Input, TimedInput, list_text};
 use rv_monitor::{Next, Session, Stop};
 use rv_opening::{OpenFault, open_session};
-use rv_ram::PagedRam;
+use rv_ram::{ByteMemory, PagedRam};
 use std::alloc::Global;
 use std::marker::Model;
 
@@ -166,6 +166,7 @@ impl Recording {
         ensures took { OnOk result (Took set.empty n self.old.session self.new.session) }
         ensures stop { IfOk result (λ stop. stop ≡ stop_of set.empty self.old.session self.new.session) }
         ensures err { OnErr result (WasRefused set.empty n self.old.session self.new.session) }
+        ensures room { OnErr result (NextWantsRoom ⟦<PagedRam as ByteMemory>⟧.wants_room self.new.session) }
         ensures others { self.new ≡ with_timed self.old self.new.session.timed }
     {
         self.kept.keep(self.alloc, &self.session);
@@ -184,6 +185,7 @@ impl Recording {
             (λ stop. stop ≡ stop_of self.old.session.breakpoints.addresses self.old.session self.new.session) }
         ensures err { OnErr result
             (WasRefused self.old.session.breakpoints.addresses n self.old.session self.new.session) }
+        ensures room { OnErr result (NextWantsRoom ⟦<PagedRam as ByteMemory>⟧.wants_room self.new.session) }
         ensures others { self.new ≡ with_timed self.old self.new.session.timed }
     {
         self.kept.keep(self.alloc, &self.session);
@@ -197,6 +199,7 @@ impl Recording {
     /// As those of [`Session::step`].
     pub fn take_step(&mut self) -> Result<Option<Outcome>, NoMemory>
         ensures step { TakesStep self.old.session self.new.session result }
+        ensures room { OnErr result (NextWantsRoom ⟦<PagedRam as ByteMemory>⟧.wants_room self.new.session) }
         ensures others { self.new ≡ record self.old { session = self.new.session } }
     {
         self.kept.keep(self.alloc, &self.session);
@@ -298,7 +301,7 @@ impl Recording {
             ++ answer (command_in line.now self.old.session) self.old.session self.new.session) }
         ensures err { OnErr result
             (LeavesRefused (command_in line.now self.old.session) self.old.session self.new.session) }
-        ensures room { OnErr result (LacksRoom (command_in line.now self.old.session)
+        ensures room { OnErr result (LacksRoom ⟦<PagedRam as ByteMemory>⟧.wants_room (command_in line.now self.old.session)
             (vec_capacity text.old - vec_len text.old) self.old.session self.new.session) }
         ensures unwritten { OnErr result (text.new.items ≡ text.old.items) }
         ensures others { self.new ≡ record self.old { session = self.new.session } }
