@@ -100,7 +100,7 @@ took_some breakpoints n old =
 leaves_one : (c : Option Command) (old a b : SessionState) → Leaves c old a → Leaves c old b → a ≡ b
 leaves_one None old a b one two = one ∙ sym two
 leaves_one (Some (Step n)) old a b one two = took_one set.empty n old a b one two
-leaves_one (Some (Go n)) old a b one two = took_one old.breakpoints (going_for old n) old a b one two
+leaves_one (Some (Go n)) old a b one two = took_one old.breakpoints.addresses (going_for old n) old a b one two
 leaves_one (Some (SetBreak addr)) old a b one two = one ∙ sym two
 leaves_one (Some (ClearBreak addr)) old a b one two = one ∙ sym two
 leaves_one (Some other) old a b one two = one ∙ sym two
@@ -108,7 +108,7 @@ leaves_one (Some other) old a b one two = one ∙ sym two
 leaves_some : (c : Option Command) (old : SessionState) → (new : SessionState) × Leaves c old new
 leaves_some None old = (old, refl)
 leaves_some (Some (Step n)) old = took_some set.empty n old
-leaves_some (Some (Go n)) old = took_some old.breakpoints (going_for old n) old
+leaves_some (Some (Go n)) old = took_some old.breakpoints.addresses (going_for old n) old
 leaves_some (Some (SetBreak addr)) old = (with_break old addr, refl)
 leaves_some (Some (ClearBreak addr)) old = (without_break old addr, refl)
 leaves_some (Some other) old = (old, refl)
