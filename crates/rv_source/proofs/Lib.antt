@@ -2,6 +2,5 @@ mod OneValue
 pub mod Pieces
 pub mod Ranges
 pub mod Sums
-pub mod Roles
 pub mod Sets
 mod WordRows

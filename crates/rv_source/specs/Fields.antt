@@ -1,7 +1,7 @@
 -- What the operands of a row give: the fields of an instruction, and the values that it waits for.
 -- To audit: public contracts cite this.
 -- The language is this project's own: docs/ASSEMBLER.md.
-use Rattle.std.specs.Prelude.{ℕ, ℤ, ◌+◌, ◌*◌, Bool, true, false, List, [], ◌∷◌, Option, Some, None, option_and_then, is_some, if◌then◌else◌, ◌==◌, nat_lt, slice_get, pos, negsuc, codes}
+use Rattle.std.specs.Prelude.{ℕ, ℤ, ◌+◌, ◌*◌, Bool, true, false, List, [], ◌∷◌, Option, Some, None, option_and_then, if◌then◌else◌, ◌==◌, nat_lt, slice_get, pos, codes}
 use Rattle.std.specs.Option.{option_map}
 use Rattle.rv_base.specs.Tables.{lookup}
 use Rattle.rv_isa.specs.Names.{register_names, csr_names}

@@ -3,5 +3,6 @@ pub mod Fields
 pub mod Operands
 pub mod Partial
 pub mod Reading
+pub mod Sums
 pub mod Table
 pub mod Written

@@ -1,7 +1,7 @@
 -- The operands that tokens spell.
 -- To audit: public contracts cite this.
 -- The language is this project's own: docs/ASSEMBLER.md.
-use Rattle.std.specs.Prelude.{ℕ, ◌+◌, ◌-◌, Bool, true, false, not, ◌||◌, List, [], ◌∷◌, ◌++◌, take, drop, length, Option, Some, None, option_and_then, is_some, if◌then◌else◌}
+use Rattle.std.specs.Prelude.{◌≡◌, ◌↔◌, ℕ, ◌+◌, ◌-◌, Bool, true, false, List, [], ◌∷◌, ◌++◌, map, take, drop, length, Option, Some, None, option_and_then, if◌then◌else◌}
 use Rattle.std.specs.List.{flat_map, slice_split}
 use Rattle.std.specs.Option.{option_map, option_or}
 use Rattle.rv_tokens.specs.declared.token.Token.{Token}
@@ -13,7 +13,8 @@ use Rattle.rv_source.specs.declared.operand.Part.TheVariants.{Whole, High, Low}
 use Rattle.rv_source.specs.declared.operand.Form.{Form}
 use Rattle.rv_source.specs.declared.operand.Form.TheVariants as f
 use Rattle.rv_source.specs.declared.operand.Operand.{Operand}
-use Rattle.rv_source.specs.Expressions.{expression}
+use Rattle.rv_source.specs.Expressions.{IsSum, piece_of}
+use Rattle.rv_source.specs.Sums.{expression}
 
 abbrev pub is_comma : Token → Bool
 is_comma t.Comma = true
@@ -22,6 +23,10 @@ is_comma _ = false
 abbrev pub is_nothing : {A : Type 0} → List A → Bool
 is_nothing [] = true
 is_nothing (_ ∷ _) = false
+
+-- E, the expression that tokens as a whole spell: exactly the sum that they are, and none where they are no sum
+abbrev pub OneValue : Type 0
+OneValue = (ts : List Token) (terms : List Term) → IsSum (map piece_of ts) terms ↔ (expression ts ≡ Some terms)
 
 -- ---- the forms of operands
 
@@ -46,11 +51,10 @@ valued part base ts = option_map (λ e. f.Value part e base) (option_and_then ex
 -- an operand without its base, if it has one: a string, %hi(E), %lo(E), E, or 0 if nothing stands before the
 -- base
 abbrev pub form_with : Option (List ℕ) → List Token → Option Form
-form_with base [] =
-    option_map (λ name. f.Value Whole (record { negative = false; atom = a.Number 0 } ∷ []) (Some name)) base
-form_with base (t.Text bytes ∷ ts) = if is_some base || not (is_nothing ts) then None else Some (f.Text bytes)
-form_with base (t.High ∷ ts) = if is_some base then None else valued High base (enclosed ts)
+form_with None (t.Text bytes ∷ []) = Some (f.Text bytes)
+form_with None (t.High ∷ ts) = valued High None (enclosed ts)
 form_with base (t.Low ∷ ts) = valued Low base (enclosed ts)
+form_with (Some name) [] = Some (f.Value Whole (record { negative = false; atom = a.Number 0 } ∷ []) (Some name))
 form_with base ts = valued Whole base (Some ts)
 
 -- an operand, which may end in (name), its base

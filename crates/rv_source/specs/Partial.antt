@@ -1,8 +1,8 @@
 -- The rows of the program's tables, and labels that are read.
 -- Not to audit: private contracts alone cite this.
-use Rattle.std.specs.Prelude.{ℕ, pos, negsuc, Bool, false, List, [], ◌∷◌, ◌++◌, ◌==◌, length, map, slice_get, Option, Some, None, option_and_then, Result, if◌then◌else◌}
+use Rattle.std.specs.Prelude.{ℕ, pos, negsuc, Bool, false, List, [], ◌∷◌, ◌++◌, ◌==◌, length, map, slice_get, Option, Some, None, Result, if◌then◌else◌}
 use Rattle.std.specs.List.{filter_map, list_any}
-use Rattle.std.specs.Option.{option_map, option_map_or, ok_or}
+use Rattle.std.specs.Option.{option_map, ok_or}
 use Rattle.std.specs.Str.{bytes_eq}
 use Rattle.std.specs.Borrow.{Bor}
 use Rattle.rv_tokens.specs.declared.token.Token.{Token}
@@ -20,17 +20,12 @@ use Rattle.rv_source.specs.declared.row.Way.TheVariants as way
 use Rattle.rv_source.specs.declared.row.Template.TheVariants as t
 use Rattle.rv_source.specs.declared.row.Given.{Given}
 use Rattle.rv_source.specs.declared.row.Given.TheVariants as g
-use Rattle.rv_source.specs.declared.statement.Statement.TheVariants as s
 use Rattle.rv_source.specs.declared.expression.Atom.{Atom}
 use Rattle.rv_source.specs.declared.expression.Atom.TheVariants as a
-use Rattle.rv_isa.specs.declared.kind.Kind.{Kind}
 use Rattle.rv_isa.specs.declared.op.Operation.{Operation}
 use Rattle.rv_source.specs.declared.field.Fields.{Fields}
-use Rattle.rv_source.specs.declared.row.Role.{Role}
-use Rattle.rv_source.specs.Fields.{put, name_alone, zeros}
+use Rattle.rv_source.specs.Fields.{zeros}
 use Rattle.rv_source.specs.Table.{Row, These, Each, meant, near, far, pseudo_instructions, directives, markers}
-use Rattle.rv_source.specs.Reading.{labels_of, body_of}
-use Rattle.rv_source.specs.Written.{Written as Line}
 
 -- ---- operands
 
@@ -53,14 +48,6 @@ given g.Call = record zeros { rd = 1; rs1 = 1 }
 given g.Tail = record zeros { rs1 = 6 }
 given g.One = record zeros { imm = pos 1 }
 given g.Ones = record zeros { imm = negsuc 0 }
-
--- an instruction, which may wait for a value
-abbrev pub waiting : Kind → Option Operand → Statement
-waiting kind value = option_map_or (λ x. s.WithValue kind x) value (s.Instruction kind)
-
--- a name and its value
-abbrev pub constant : Fields → Option Statement
-constant f = option_and_then (λ n. option_map (λ x. s.Constant n x) f.second) (option_and_then name_alone f.value)
 
 -- the rows of a word in a table, the statement of the first row that takes the operands, and all rows of
 -- words
@@ -92,11 +79,6 @@ rows table = map (λ entry. (entry.0.now, row_of entry.1)) table
 abbrev pub fitted_or : LineFault → List Operand → List Row → Result Statement LineFault
 fitted_or unless xs rows = ok_or (first_fit xs rows) (if is_nothing rows then unless else BadOperands)
 
--- the fields with operands that are all in one role
-unfoldable pub in_role : Role → List Operand → Fields → Option Fields
-in_role role [] fields = Some fields
-in_role role (x ∷ xs) fields = option_and_then (in_role role xs) (put role x fields)
-
 -- whether a word begins with `.`
 abbrev pub has_dot : List ℕ → Bool
 has_dot [] = false
@@ -108,12 +90,6 @@ with_labels labels read = option_map (λ p. (labels ++ p.0, p.1)) read
 
 abbrev pub left_after : List Label → Option (Bor (List Token)) → Option (List Label × List Token)
 left_after labels rest = option_map (λ ts. (labels, ts.now)) rest
-
--- the labels of a line and what follows them, by its tokens
-abbrev pub line_of : List Token → Option Line
-line_of ts =
-    option_and_then (λ p. option_map (λ body. record { labels = p.0; body = body }) (body_of (length ts) p.1))
-    (labels_of ts)
 
 -- whether a word is a directive without effect
 abbrev pub is_marker : List ℕ → Bool

@@ -1,8 +1,8 @@
 -- The tables of the language, and the statement of a word with its operands.
 -- To audit: public contracts cite this.
 -- The language is this project's own: docs/ASSEMBLER.md.
-use Rattle.std.specs.Prelude.{ℕ, Bool, true, false, List, length, replicate, map, slice_get, pos, negsuc, [], ◌∷◌, ◌++◌, Option, Some, None, option_and_then, if◌then◌else◌, Result, codes}
-use Rattle.std.specs.List.{filter_map}
+use Rattle.std.specs.Prelude.{ℕ, true, false, not, ◌&&◌, List, map, slice_get, pos, negsuc, [], ◌∷◌, ◌++◌, Option, Some, None, option_and_then, if◌then◌else◌, Result, codes}
+use Rattle.std.specs.List.{filter_map, list_all}
 use Rattle.std.specs.Option.{option_map, option_map_or, ok_or}
 use Rattle.std.specs.Str.{bytes_eq}
 use Rattle.rv_isa.specs.Mnemonics.{named, blank}
@@ -22,7 +22,7 @@ use Rattle.rv_source.specs.declared.row.Role.TheVariants as r
 use Rattle.rv_source.specs.declared.row.Template.{Template}
 use Rattle.rv_source.specs.declared.row.Template.TheVariants as t
 use Rattle.rv_source.specs.Operands.{is_nothing, strings}
-use Rattle.rv_source.specs.Fields.{in_roles, zeros, instruction, name_alone}
+use Rattle.rv_source.specs.Fields.{in_roles, zeros, instruction, name_alone, takes}
 
 -- ---- the meaning of a row
 
@@ -40,7 +40,7 @@ filled t.Balign xs f = option_map (λ x. s.Balign x) f.value
 filled t.Constant xs f =
     option_and_then (λ n. option_map (λ x. s.Constant n x) f.second) (option_and_then name_alone f.value)
 
--- a row: as many operands as there are roles, each in its role; or one or more, all in one role
+-- a row: as many operands as there are roles, each in its role; or one or more, all of a form that one role takes
 pub data Row : Type 0 where
   These : List Role → Template → Fields → Row
   Each : Role → Template → Row
@@ -49,8 +49,7 @@ pub data Row : Type 0 where
 abbrev pub meant : Row → List Operand → Option Statement
 meant (These roles template fields) xs = option_and_then (filled template xs) (in_roles roles xs fields)
 meant (Each role template) xs =
-    if is_nothing xs then None
-    else option_and_then (filled template xs) (in_roles (replicate (length xs) role) xs zeros)
+    if not (is_nothing xs) && list_all (λ x. takes role x.form) xs then filled template xs zeros else None
 
 -- ---- the tables
 

@@ -27,9 +27,9 @@ pub struct Term<'a> {
 /// An expression: the sum of its terms as whole numbers. It has at most as many terms as a line has bytes,
 /// 1,024. Its view is the list of them.
 pub struct Expression<'a> {
-    first: Term<'a>,
+    pub(crate) first: Term<'a>,
     /// The terms after the first. Mostly there are none, and nothing is allocated.
-    more: Vec<Term<'a>>,
+    pub(crate) more: Vec<Term<'a>>,
 }
 
 // Hand-written: a derived `Drop` would be proved anew at each exit (docs/PROVING.md).
@@ -52,14 +52,6 @@ impl<'a> Model for Expression<'a> {
 
 impl<'a> Expression<'a> {
     ghost use Rattle.std.specs.Prelude.{◌≡◌, ◌<◌, ◌∷◌, length};
-
-    /// Makes the sum of a term and more terms.
-    pub(crate) fn new(first: Term<'a>, more: Vec<Term<'a>>) -> Self
-        requires { length more.items < 1024 }
-        ensures { result ≡ first.entry ∷ more.entry.items }
-    {
-        Expression { first, more }
-    }
 
     /// Returns the first term, and the others from left to right.
     pub fn terms(&self) -> (&Term<'a>, &[Term<'a>])

@@ -1,10 +1,11 @@
 //! Reads the operands of a row into the fields of an instruction.
-ghost use Rattle.std.specs.Prelude.{◌≡◌, ◌<◌, ◌≤◌, ◌^◌, Some, None, nat_lt, option_and_then, if◌then◌else◌};
+ghost use Rattle.std.specs.Prelude.{◌≡◌, ◌^◌, option_and_then};
+ghost use Rattle.std.specs.List.{list_all};
 ghost use Rattle.std.specs.Option.{option_map};
 ghost use Rattle.rv_isa.specs.Number.{IsWithin};
 ghost use Rattle.rv_isa.specs.Names.{csr_names, register_names};
-ghost use Rattle.rv_source.specs.Fields.{atom_alone, base, csr_of, fence_sets, immediate, entry_in, instruction, name_alone, put, in_roles, takes, zeros};
-ghost use Rattle.rv_source.specs.Partial.{given, in_role};
+ghost use Rattle.rv_source.specs.Fields.{atom_alone, base, csr_of, entry_in, fence_sets, immediate, in_roles, instruction, name_alone, put, takes};
+ghost use Rattle.rv_source.specs.Partial.{given};
 ghost use Rattle.rv_base.specs.Tables.{lookup};
 
 use crate::row::{Given, Role};
@@ -14,63 +15,41 @@ use rv_isa::{Instr, Kind, Operation, Reg, csr_named, reg_named};
 use rv_tokens::Name;
 use std::marker::Model;
 
-/// The number of a control register: 0 to 4095, whether it exists or not.
+/// A number below a bound.
+#[derive(Clone, Copy)]
+pub struct Below<const BOUND: u16>(u16);
+
+impl<const BOUND: u16> Model for Below<BOUND> {
+    ghost use Rattle.std.specs.Prelude.{ℕ, ◌<◌};
+
+    ghost Value = { ℕ };
+
+    ghost view = { λ b. b.0 };
+
+    ghost invariant = { λ b. b.0 < BOUND };
+
+    ghost inverse = { λ n. record { 0 = n } };
+}
+
+impl<const BOUND: u16> Below<BOUND> {
+    ghost use Rattle.std.specs.Prelude.{◌≡◌, ◌<◌};
+
+    /// Returns the number.
+    fn number(self) -> u16
+        ensures value { result ≡ self.entry }
+        ensures below { result < BOUND }
+    {
+        self.0
+    }
+}
+
+/// The number of a control register, whether it exists or not.
 ///
 /// RISC-V Unprivileged ISA 20191213, section 9.1.
-#[derive(Clone, Copy)]
-pub struct Csr(u16);
-
-impl Model for Csr {
-    ghost use Rattle.std.specs.Prelude.{ℕ, ◌<◌};
-
-    ghost Value = { ℕ };
-
-    ghost view = { λ c. c.0 };
-
-    ghost invariant = { λ c. c.0 < 4096 };
-
-    ghost inverse = { λ n. record { 0 = n } };
-}
-
-impl Csr {
-    ghost use Rattle.std.specs.Prelude.{◌≡◌, ◌<◌};
-
-    /// Returns the number: 0 to 4095.
-    fn number(self) -> u16
-        ensures value { result ≡ self }
-        ensures below { result < 4096 }
-    {
-        self.0
-    }
-}
+type Csr = Below<4096>;
 
 /// A set of accesses that a fence orders: `i` 8, `o` 4, `r` 2 and `w` 1, added up.
-#[derive(Clone, Copy)]
-pub struct FenceSet(u16);
-
-impl Model for FenceSet {
-    ghost use Rattle.std.specs.Prelude.{ℕ, ◌<◌};
-
-    ghost Value = { ℕ };
-
-    ghost view = { λ s. s.0 };
-
-    ghost invariant = { λ s. s.0 < 16 };
-
-    ghost inverse = { λ n. record { 0 = n } };
-}
-
-impl FenceSet {
-    ghost use Rattle.std.specs.Prelude.{◌≡◌, ◌<◌};
-
-    /// Returns the sum of the letters: 0 to 15.
-    fn bits(self) -> u16
-        ensures value { result ≡ self }
-        ensures below { result < 16 }
-    {
-        self.0
-    }
-}
+type FenceSet = Below<16>;
 
 /// What the operands of a row give: the fields of an instruction, and the operands whose values it waits for.
 #[derive(Drop)]
@@ -112,41 +91,17 @@ pub fn name_alone<'a>(operand: &Operand<'a>) -> Option<Name<'a>>
 fn register(operand: &Operand) -> Option<Reg>
     ensures { result ≡ entry_in register_names operand.now }
 {
-    match name_alone(operand) {
-        Some(name) => reg_named(name.bytes()),
-        None => None,
-    }
+    reg_named(name_alone(operand)?.bytes())
 }
 
-/// Returns the control register with a number, if it has twelve bits.
-fn numbered(number: u32) -> Option<Csr>
-    ensures { result ≡ (if nat_lt number 4096 then Some number else None) }
-{
-    if number < 4096 {
-        Some(Csr(number as u16))
-    } else {
-        None
-    }
-}
-
-/// Returns the control register with a name.
+/// Returns the control register that an operand is, by its name or its number of twelve bits.
 #[tactic(auto, using(crate::proofs::Sets::csr_below))]
-fn named(name: &Name) -> Option<Csr>
-    ensures { result ≡ lookup name.now csr_names }
-{
-    match csr_named(name.bytes()) {
-        Some(number) => Some(Csr(number)),
-        None => None,
-    }
-}
-
-/// Returns the control register that an operand is, by its name or its number.
 fn control_register(operand: &Operand) -> Option<Csr>
     ensures { result ≡ option_and_then csr_of (atom_alone operand.now) }
 {
-    match atom_alone(operand) {
-        Some(Atom::Symbol(name)) => named(name),
-        Some(Atom::Number(number)) => numbered(*number),
+    match atom_alone(operand)? {
+        Atom::Symbol(name) => Some(Below(csr_named(name.bytes())?)),
+        Atom::Number(number) if *number < 4096 => Some(Below(*number as u16)),
         _ => None,
     }
 }
@@ -170,25 +125,13 @@ static FENCE_SETS: [(&str, u16); 15] = [
     ("iorw", 15),
 ];
 
-/// Returns the set of accesses with these letters: one or more of `iorw`, in this order.
+/// Returns the set of accesses that an operand names: one or more of `iorw`, in this order.
 #[tactic(auto, using(crate::proofs::Sets::below), unfolding(crate::specs::Fields::fence_sets))]
-fn set_of(letters: &[u8]) -> Option<FenceSet>
-    ensures { result ≡ lookup letters.now fence_sets }
-{
-    match look_up(&FENCE_SETS, letters) {
-        Some(bits) => Some(FenceSet(bits)),
-        None => None,
-    }
-}
-
-/// Returns the set of accesses that an operand names.
 fn set(operand: &Operand) -> Option<FenceSet>
     ensures { result ≡ entry_in fence_sets operand.now }
 {
-    match name_alone(operand) {
-        Some(name) => set_of(name.bytes()),
-        None => None,
-    }
+    let letters = name_alone(operand)?;
+    Some(Below(look_up(&FENCE_SETS, letters.bytes())?))
 }
 
 /// Returns whether a role takes the form of an operand: a string; or a value without a base, whole or the
@@ -198,17 +141,20 @@ fn takes(role: Role, operand: &Operand) -> bool
 {
     match &operand.form {
         Form::Text(_) => matches!(role, Role::Text),
-        Form::Value {
-            part,
-            base: None,
-            ..
-        } => match part {
+        Form::Value { base: Some(_), .. } => false,
+        Form::Value { part, .. } => match part {
             Part::Whole => !matches!(role, Role::Text),
             Part::High => matches!(role, Role::Upper),
             Part::Low => matches!(role, Role::Imm),
         },
-        _ => false,
     }
+}
+
+/// Returns whether a role takes the forms of all operands.
+pub fn takes_all(role: Role, operands: &[Operand]) -> bool
+    ensures { result ≡ list_all (λ x. takes role x.form) operands.now }
+{
+    operands.iter().all(|operand| takes(role, operand))
 }
 
 /// Returns the register of the base of an operand.
@@ -216,11 +162,8 @@ fn base(operand: &Operand) -> Option<Reg>
     ensures { result ≡ base operand.now.form }
 {
     match &operand.form {
-        Form::Value {
-            base: Some(base),
-            ..
-        } => reg_named(base.bytes()),
-        _ => None,
+        Form::Value { base, .. } => reg_named(base.as_ref()?.bytes()),
+        Form::Text(_) => None,
     }
 }
 
@@ -229,69 +172,34 @@ fn base(operand: &Operand) -> Option<Reg>
 pub fn put<'t, 'a>(
     role: Role,
     operand: &'t Operand<'a>,
-    fields: Fields<'t, 'a>,
+    mut fields: Fields<'t, 'a>,
 ) -> Option<Fields<'t, 'a>>
     ensures { result ≡ put role operand.now fields.entry }
 {
     match role {
-        Role::Rd => {
-            let rd = register(operand)?;
-            Some(Fields { rd, ..fields })
-        }
-        Role::Rs1 => {
-            let rs1 = register(operand)?;
-            Some(Fields { rs1, ..fields })
-        }
-        Role::Rs2 => {
-            let rs2 = register(operand)?;
-            Some(Fields { rs2, ..fields })
-        }
+        Role::Rd => fields.rd = register(operand)?,
+        Role::Rs1 => fields.rs1 = register(operand)?,
+        Role::Rs2 => fields.rs2 = register(operand)?,
         Role::Both => {
-            let rd = register(operand)?;
-            let rs1 = rd;
-            Some(Fields { rd, rs1, ..fields })
+            fields.rd = register(operand)?;
+            fields.rs1 = fields.rd;
         }
-        Role::Csr => {
-            let csr = control_register(operand)?;
-            Some(Fields { csr, ..fields })
-        }
-        Role::Before => {
-            let before = set(operand)?;
-            Some(Fields { before, ..fields })
-        }
-        Role::After => {
-            let after = set(operand)?;
-            Some(Fields { after, ..fields })
-        }
+        Role::Csr => fields.csr = control_register(operand)?,
+        Role::Before => fields.before = set(operand)?,
+        Role::After => fields.after = set(operand)?,
         Role::Memory => {
-            let rs1 = base(operand)?;
-            let value = Some(Value::new(operand));
-            Some(Fields {
-                rs1,
-                value,
-                ..fields
-            })
+            fields.rs1 = base(operand)?;
+            fields.value = Some(Value(operand));
         }
         Role::Symbol => {
             name_alone(operand)?;
-            let value = Some(Value::new(operand));
-            Some(Fields { value, ..fields })
+            fields.value = Some(Value(operand));
         }
-        Role::Second => {
-            if !takes(role, operand) {
-                return None;
-            }
-            let second = Some(Value::new(operand));
-            Some(Fields { second, ..fields })
-        }
-        Role::Imm | Role::Upper | Role::Value | Role::Text => {
-            if !takes(role, operand) {
-                return None;
-            }
-            let value = Some(Value::new(operand));
-            Some(Fields { value, ..fields })
-        }
+        _ if !takes(role, operand) => return None,
+        Role::Second => fields.second = Some(Value(operand)),
+        _ => fields.value = Some(Value(operand)),
     }
+    Some(fields)
 }
 
 /// Returns the fields with as many operands as there are roles, each in its role.
@@ -304,72 +212,38 @@ pub fn in_roles<'t, 'a>(
     ensures { result ≡ in_roles roles.now operands.now fields.entry }
 {
     let [role, roles @ ..] = roles else {
-        return if operands.is_empty() {
-            Some(fields)
-        } else {
-            None
-        };
+        return operands.is_empty().then_some(fields);
     };
     let [operand, operands @ ..] = operands else {
         return None;
     };
-    match put(*role, operand, fields) {
-        Some(fields) => in_roles(roles, operands, fields),
-        None => None,
-    }
-}
-
-/// Returns the fields with operands that are all in one role.
-#[tactic(auto, unfolding(crate::specs::Partial::in_role))]
-pub fn in_role<'t, 'a>(
-    role: Role,
-    operands: &'t [Operand<'a>],
-    fields: Fields<'t, 'a>,
-) -> Option<Fields<'t, 'a>>
-    ensures { result ≡ in_role role operands.now fields.entry }
-{
-    let [operand, operands @ ..] = operands else {
-        return Some(fields);
-    };
-    match put(role, operand, fields) {
-        Some(fields) => in_role(role, operands, fields),
-        None => None,
-    }
-}
-
-/// Returns the fields before operands are read, but for what a row gives.
-fn zeros<'t, 'a>() -> Fields<'t, 'a>
-    ensures { result ≡ zeros }
-{
-    Fields {
-        rd: Reg::of(0),
-        rs1: Reg::of(0),
-        rs2: Reg::of(0),
-        imm: 0,
-        csr: Csr(0),
-        before: FenceSet(15),
-        after: FenceSet(15),
-        value: None,
-        second: None,
-    }
+    in_roles(roles, operands, put(*role, operand, fields)?)
 }
 
 /// Returns the fields before operands are read.
 pub fn given<'t, 'a>(fields: Given) -> Fields<'t, 'a>
     ensures { result ≡ given fields }
 {
-    let (rd, rs1) = (Reg::of(1), Reg::of(1));
-    match fields {
-        Given::Zeros => zeros(),
-        Given::Link => Fields { rd, ..zeros() },
-        Given::Return => Fields { rs1, ..zeros() },
-        Given::Call => Fields { rd, rs1, ..zeros() },
-        Given::Tail => Fields {
-            rs1: Reg::of(6),
-            ..zeros()
-        },
-        Given::One => Fields { imm: 1, ..zeros() },
-        Given::Ones => Fields { imm: -1, ..zeros() },
+    let (x0, x1, x6) = (Reg::of(0), Reg::of(1), Reg::of(6));
+    let (rd, rs1, imm) = match fields {
+        Given::Zeros => (x0, x0, 0),
+        Given::Link => (x1, x0, 0),
+        Given::Return => (x0, x1, 0),
+        Given::Call => (x1, x1, 0),
+        Given::Tail => (x0, x6, 0),
+        Given::One => (x0, x0, 1),
+        Given::Ones => (x0, x0, -1),
+    };
+    Fields {
+        rd,
+        rs1,
+        rs2: x0,
+        imm,
+        csr: Below(0),
+        before: Below(15),
+        after: Below(15),
+        value: None,
+        second: None,
     }
 }
 
@@ -390,7 +264,7 @@ fn immediate(kind: Kind, fields: &Fields) -> i32
     match kind {
         Kind::OpImm { .. } => given_imm(fields),
         Kind::Csr { .. } | Kind::CsrImm { .. } => i32::from(fields.csr.number()),
-        Kind::Fence { .. } => i32::from(16 * fields.before.bits() + fields.after.bits()),
+        Kind::Fence { .. } => i32::from(16 * fields.before.number() + fields.after.number()),
         _ => 0,
     }
 }
@@ -401,12 +275,9 @@ pub fn instruction(operation: Operation, fields: &Fields) -> Instr
     ensures { result ≡ instruction operation fields.now }
 {
     let (rd, rs1, rs2) = (fields.rd, fields.rs1, fields.rs2);
+    let (csr, before, after) = (fields.csr, fields.before, fields.after);
     // These are called for what they say of their ranges.
     let _ = (rd.number(), rs1.number(), rs2.number(), given_imm(fields));
-    let _ = (
-        fields.csr.number(),
-        fields.before.bits(),
-        fields.after.bits(),
-    );
+    let _ = (csr.number(), before.number(), after.number());
     operation.with(rd, rs1, rs2, immediate(operation.kind(), fields))
 }

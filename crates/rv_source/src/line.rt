@@ -17,7 +17,7 @@ pub enum Label<'a> {
 
 /// The operands of a statement. The view is the list of them.
 #[derive(Drop)]
-pub struct Operands<'a>(Vec<Operand<'a>>);
+pub struct Operands<'a>(pub(crate) Vec<Operand<'a>>);
 
 impl<'a> Model for Operands<'a> {
     ghost use Rattle.std.specs.Prelude.{List};
@@ -30,13 +30,6 @@ impl<'a> Model for Operands<'a> {
 
 impl<'a> Operands<'a> {
     ghost use Rattle.std.specs.Prelude.{◌≡◌};
-
-    /// Makes the list of these operands.
-    pub(crate) fn new(operands: Vec<Operand<'a>>) -> Self
-        ensures { result ≡ operands.entry.items }
-    {
-        Operands(operands)
-    }
 
     /// Returns the operands, from left to right.
     pub fn as_slice(&self) -> &[Operand<'a>]
@@ -61,8 +54,8 @@ pub enum Body<'a> {
 
 /// A line as written: its labels, a word and its operands.
 pub struct Line<'a> {
-    labels: Vec<Label<'a>>,
-    body: Body<'a>,
+    pub(crate) labels: Vec<Label<'a>>,
+    pub(crate) body: Body<'a>,
 }
 
 // Hand-written: a derived `Drop` would be proved anew at each exit (docs/PROVING.md).
@@ -83,12 +76,6 @@ impl<'a> Model for Line<'a> {
 impl<'a> Line<'a> {
     ghost use Rattle.std.specs.Prelude.{◌≡◌};
     ghost use Rattle.rv_source.specs.Reading.{statement_of};
-
-    pub(crate) fn new(labels: Vec<Label<'a>>, body: Body<'a>) -> Self
-        ensures { result ≡ record { labels = labels.entry.items; body = body.entry } }
-    {
-        Line { labels, body }
-    }
 
     /// Returns the labels, from left to right.
     pub fn labels(&self) -> &[Label<'a>]

@@ -59,15 +59,8 @@ fn enclosed<'t, 'a>(tokens: &'t [Token<'a>]) -> Option<&'t [Token<'a>]>
     ensures value { option_map (λ ts. ts.now) result ≡ enclosed tokens.now }
     ensures shorter { IfSome result (λ ts. length ts.now ≤ length tokens.now) }
 {
-    let [first, rest @ ..] = tokens else {
-        return None;
-    };
-    let (inner, last) = rest.split_at(rest.len().saturating_sub(1));
-    let [last] = last else {
-        return None;
-    };
-    match (first, last) {
-        (Token::Open, Token::Close) => Some(inner),
+    match tokens {
+        [Token::Open, inner @ .., Token::Close] => Some(inner),
         _ => None,
     }
 }
@@ -85,23 +78,24 @@ fn read_part<'a>(
     let Some(tokens) = tokens else {
         return Ok(None);
     };
-    match read_expression(alloc, tokens)? {
-        Some(sum) => Ok(Some(Form::Value { part, sum, base })),
-        None => Ok(None),
-    }
+    let Some(sum) = read_expression(alloc, tokens)? else {
+        return Ok(None);
+    };
+    Ok(Some(Form::Value { part, sum, base }))
 }
 
 /// Returns 0 with a base, if there is one.
+#[tactic(auto, unfolding(crate::specs::Sums::expression, crate::specs::Sums::sum))]
 fn zero_with<'a>(alloc: Global, base: Option<Name<'a>>) -> Option<Form<'a>>
     ensures { result ≡ form_with base.entry [] }
 {
     base.as_ref()?;
-    let zero = Term {
+    let first = Term {
         negative: false,
         atom: Atom::Number(0),
     };
-    let part = Part::Whole;
-    let sum = Expression::new(zero, Vec::new(alloc));
+    let more = Vec::new(alloc);
+    let (part, sum) = (Part::Whole, Expression { first, more });
     Some(Form::Value { part, sum, base })
 }
 
@@ -118,31 +112,13 @@ fn read_with<'a>(
         return Ok(zero_with(alloc, base));
     };
     match first {
-        Token::Text(text) => {
-            if base.is_some() || !rest.is_empty() {
-                return Ok(None);
-            }
+        Token::Text(text) if base.is_none() && rest.is_empty() => {
             Ok(Some(Form::Text(text.again())))
         }
-        Token::High => {
-            if base.is_some() {
-                return Ok(None);
-            }
-            read_part(alloc, Part::High, base, enclosed(rest))
-        }
+        Token::High if base.is_none() => read_part(alloc, Part::High, base, enclosed(rest)),
         Token::Low => read_part(alloc, Part::Low, base, enclosed(rest)),
         _ => read_part(alloc, Part::Whole, base, Some(tokens)),
     }
-}
-
-/// Reads `(name)` at the end of tokens: returns the tokens before it, and the name.
-fn based<'t, 'a>(tokens: &'t [Token<'a>]) -> (&'t [Token<'a>], Option<Name<'a>>)
-    ensures front { result.0.now ≡ take (length tokens.now - 3) tokens.now }
-    ensures base { result.1 ≡ base_of (drop (length tokens.now - 3) tokens.now) }
-    ensures shorter { length result.0.now ≤ length tokens.now }
-{
-    let (front, last) = tokens.split_at(tokens.len().saturating_sub(3));
-    (front, base(last))
 }
 
 /// Reads the form of an operand.
@@ -154,11 +130,11 @@ fn read_form<'a>(alloc: Global, tokens: &[Token<'a>]) -> Result<Option<Form<'a>>
     if let Some(form) = read_with(alloc, None, tokens)? {
         return Ok(Some(form));
     }
-    let (front, base) = based(tokens);
-    if base.is_none() {
-        return Ok(None);
+    let (front, last) = tokens.split_at(tokens.len().saturating_sub(3));
+    match base(last) {
+        None => Ok(None),
+        base => read_with(alloc, base, front),
     }
-    read_with(alloc, base, front)
 }
 
 /// Reads an operand that begins at token `first` of its line, and appends it; false if the tokens aren't one.

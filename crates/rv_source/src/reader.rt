@@ -3,7 +3,7 @@ ghost use Rattle.std.specs.Prelude.{◌≡◌, ◌≤◌, length, IfOk, IfSome};
 ghost use Rattle.rv_tokens.specs.Faults.{Gives};
 ghost use Rattle.rv_tokens.specs.Parts.{IsCutInto};
 ghost use Rattle.rv_tokens.specs.Tokens.{tokens};
-ghost use Rattle.rv_source.specs.Partial.{left_after, line_of, with_labels};
+ghost use Rattle.rv_source.specs.Partial.{left_after, with_labels};
 ghost use Rattle.rv_source.specs.Reading.{body_of, label_of, labels_of, written};
 
 use crate::line::{Body, Operands};
@@ -19,13 +19,7 @@ pub fn label_of<'a>(token: &Token<'a>) -> Option<Label<'a>>
     ensures { result ≡ label_of token.now }
 {
     match token {
-        Token::Name(name) => {
-            if is_symbol(name) {
-                Some(Label::Name(name.again()))
-            } else {
-                None
-            }
-        }
+        Token::Name(name) if is_symbol(name) => Some(Label::Name(name.again())),
         Token::Digits(n) => Some(Label::Local(*n)),
         _ => None,
     }
@@ -44,16 +38,14 @@ fn read_labels<'t, 'a>(
     let [first, second, rest @ ..] = line else {
         return Ok(Some(line));
     };
-    match second {
-        Token::Colon => match label_of(first) {
-            Some(label) => {
-                out.push(label)?;
-                read_labels(out, rest)
-            }
-            None => Ok(None),
-        },
-        _ => Ok(Some(line)),
+    if !matches!(second, Token::Colon) {
+        return Ok(Some(line));
     }
+    let Some(label) = label_of(first) else {
+        return Ok(None);
+    };
+    out.push(label)?;
+    read_labels(out, rest)
 }
 
 /// Reads the tokens after the labels of a line that has `count` tokens.
@@ -75,28 +67,11 @@ fn read_body<'a>(
     if is_marker(word.bytes()) {
         return Ok(Some(Body::Marker));
     }
-    match read_operands(alloc, count - rest.len(), rest)? {
-        Some(operands) => Ok(Some(Body::Word {
-            word: word.again(),
-            operands: Operands::new(operands),
-        })),
-        None => Ok(None),
-    }
-}
-
-/// Reads the tokens of a line.
-fn read_tokens<'a>(alloc: Global, line: &[Token<'a>]) -> Result<Option<Line<'a>>, AllocError>
-    requires { length line.now ≤ 1024 }
-    ensures { IfOk result (λ l. l ≡ line_of line.now) }
-{
-    let mut labels = Vec::new(alloc);
-    let Some(rest) = read_labels(&mut labels, line)? else {
+    let Some(operands) = read_operands(alloc, count - rest.len(), rest)? else {
         return Ok(None);
     };
-    match read_body(alloc, line.len(), rest)? {
-        Some(body) => Ok(Some(Line::new(labels, body))),
-        None => Ok(None),
-    }
+    let (word, operands) = (word.again(), Operands(operands));
+    Ok(Some(Body::Word { word, operands }))
 }
 
 /// Reads a line, without its line end. `Line::statement` says what its word and operands stand for.
@@ -110,12 +85,9 @@ pub fn read_line<'a>(alloc: Global, text: &'a [u8]) -> Result<Line<'a>, LineFaul
     ensures cut { IsCutInto text.now (tokens text.now) }
     ensures written { Gives (λ l. l) result (written text.now) }
 {
-    match cut_line(alloc, text) {
-        Ok(line) => match read_tokens(alloc, &line) {
-            Ok(Some(line)) => Ok(line),
-            Ok(None) => Err(LineFault::Syntax),
-            Err(_) => Err(LineFault::OutOfMemory),
-        },
-        Err(fault) => Err(fault),
-    }
+    let tokens = cut_line(alloc, text)?;
+    let mut labels = Vec::new(alloc);
+    let rest = read_labels(&mut labels, &tokens)?.ok_or(LineFault::Syntax)?;
+    let body = read_body(alloc, tokens.len(), rest)?.ok_or(LineFault::Syntax)?;
+    Ok(Line { labels, body })
 }

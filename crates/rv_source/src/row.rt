@@ -1,11 +1,11 @@
 //! The rows of the language's tables: what a word takes, and what it stands for.
 ghost use Rattle.std.specs.Prelude.{◌≡◌};
-ghost use Rattle.rv_source.specs.Partial.{constant, row_by, row_of, waiting};
+ghost use Rattle.rv_source.specs.Partial.{row_by, row_of};
 ghost use Rattle.rv_source.specs.Table.{filled, meant};
 
-use crate::field::{Fields, given, in_role, in_roles, instruction, name_alone};
+use crate::field::{Fields, given, in_roles, instruction, name_alone, takes_all};
 use crate::{Operand, Statement, Strings, Values};
-use rv_isa::{Instr, Operation, Width};
+use rv_isa::{Operation, Width};
 
 /// A kind of operand, and the field of an instruction that it gives.
 #[derive(Clone, Copy)]
@@ -113,104 +113,72 @@ impl Way {
             Way::Far(roles) => Row::These(roles, Template::Far(operation), Given::Zeros),
         }
     }
-
-    /// Returns the roles of the operands.
-    pub fn roles(self) -> &'static [Role] {
-        match self {
-            Way::Near(roles) | Way::Link(roles) | Way::Far(roles) => roles,
-        }
-    }
 }
 
 // ---- the statement of a row
 
-/// Returns the statement of an instruction, which may wait for a value.
-fn waiting<'t, 'a>(instr: Instr, value: Option<crate::Value<'t, 'a>>) -> Statement<'t, 'a>
-    ensures { result ≡ waiting instr value.entry }
-{
-    match value {
-        None => Statement::Instruction(instr),
-        Some(value) => Statement::WithValue { instr, value },
-    }
-}
-
-/// Returns the statement of `.equ` with these fields.
-fn constant<'t, 'a>(fields: Fields<'t, 'a>) -> Option<Statement<'t, 'a>>
-    ensures { result ≡ constant fields.entry }
-{
-    let name = name_alone(fields.value?.operand())?;
-    let value = fields.second?;
-    Some(Statement::Constant { name, value })
-}
-
 /// Returns the statement of a template with these operands, which gave these fields.
-#[tactic(auto, unfolding(crate::specs::Table::filled))]
+#[tactic(auto, unfolding(crate::specs::Fields::instruction, crate::specs::Table::filled))]
 fn fill<'t, 'a>(
     template: Template,
     operands: &'t [Operand<'a>],
-    fields: Fields<'t, 'a>,
+    mut fields: Fields<'t, 'a>,
 ) -> Option<Statement<'t, 'a>>
     ensures { result ≡ filled template operands.now fields.entry }
 {
+    let (value, second) = (fields.value.take(), fields.second.take());
     match template {
         Template::Near(operation) => {
             let instr = instruction(operation, &fields);
-            Some(waiting(instr, fields.value))
+            match value {
+                Some(value) => Some(Statement::WithValue { instr, value }),
+                None => Some(Statement::Instruction(instr)),
+            }
         }
-        Template::Far(operation) => {
-            let instr = instruction(operation, &fields);
-            let (scratch, target) = (fields.rs1, fields.value?);
-            Some(Statement::Far {
-                scratch,
-                instr,
-                target,
-            })
-        }
-        Template::Li => {
-            let (rd, value) = (fields.rd, fields.value?);
-            Some(Statement::Li { rd, value })
-        }
-        Template::Data(width) => {
-            let values = Values::new(operands);
-            Some(Statement::Data { width, values })
-        }
+        Template::Far(operation) => Some(Statement::Far {
+            scratch: fields.rs1,
+            instr: instruction(operation, &fields),
+            target: value?,
+        }),
+        Template::Li => Some(Statement::Li {
+            rd: fields.rd,
+            value: value?,
+        }),
+        Template::Data(width) => Some(Statement::Data {
+            width,
+            values: Values(operands),
+        }),
         Template::Text { terminated } => {
-            Some(Statement::Bytes(Strings::new(terminated, operands)))
+            let texts = operands;
+            Some(Statement::Bytes(Strings { terminated, texts }))
         }
-        Template::Space => {
-            let (size, fill) = (fields.value?, fields.second);
-            Some(Statement::Space { size, fill })
+        Template::Space => Some(Statement::Space {
+            size: value?,
+            fill: second,
+        }),
+        Template::Align => Some(Statement::Align { power: value? }),
+        Template::Balign => Some(Statement::Balign { multiple: value? }),
+        Template::Constant => {
+            let (name, value) = (name_alone(value?.operand())?, second?);
+            Some(Statement::Constant { name, value })
         }
-        Template::Align => {
-            let power = fields.value?;
-            Some(Statement::Align { power })
-        }
-        Template::Balign => {
-            let multiple = fields.value?;
-            Some(Statement::Balign { multiple })
-        }
-        Template::Constant => constant(fields),
     }
 }
 
 /// Returns the statement of a row with these operands, or `None` if it doesn't take them.
-#[tactic(auto, using(crate::proofs::Roles::in_one_role))]
 pub fn meant<'t, 'a>(row: Row, operands: &'t [Operand<'a>]) -> Option<Statement<'t, 'a>>
     ensures { result ≡ meant (row_of row) operands.now }
 {
     match row {
-        Row::These(roles, template, fields) => match in_roles(roles, operands, given(fields)) {
-            Some(fields) => fill(template, operands, fields),
-            None => None,
-        },
+        Row::These(roles, template, start) => {
+            let fields = in_roles(roles, operands, given(start))?;
+            fill(template, operands, fields)
+        }
         Row::Each(role, template) => {
-            if operands.is_empty() {
+            if operands.is_empty() || !takes_all(role, operands) {
                 return None;
             }
-            match in_role(role, operands, given(Given::Zeros)) {
-                Some(fields) => fill(template, operands, fields),
-                None => None,
-            }
+            fill(template, operands, given(Given::Zeros))
         }
     }
 }

@@ -37,17 +37,12 @@ fn row_in(table: &[(&str, Row)], word: &[u8], index: usize) -> Option<Row> {
 /// Returns what a word takes, as its row with an index, counted from 0, has it. The rows are tried in their
 /// order.
 pub fn shape_of(word: &[u8], index: usize) -> Option<Shape> {
-    if let Some(operation) = operation_named(word) {
-        let ways = ways_of(operation);
-        return if index < ways.len() {
-            Some(Shape::These(ways[index].roles()))
-        } else {
-            None
-        };
-    }
-    let row = match row_in(&PSEUDO_INSTRUCTIONS, word, index) {
-        Some(row) => row,
-        None => row_in(&DIRECTIVES, word, index)?,
+    let row = match operation_named(word) {
+        Some(operation) => ways_of(operation).get(index)?.row(operation),
+        None => match row_in(&PSEUDO_INSTRUCTIONS, word, index) {
+            Some(row) => row,
+            None => row_in(&DIRECTIVES, word, index)?,
+        },
     };
     match row {
         Row::These(roles, _, _) => Some(Shape::These(roles)),

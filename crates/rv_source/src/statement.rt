@@ -1,16 +1,17 @@
 //! Statements: mnemonics and directives with their operands, before expressions are evaluated.
-ghost use Rattle.std.specs.Prelude.{◌≡◌, ◌++◌, OnOk, length, min};
-ghost use Rattle.rv_source.specs.Operands.{text_of, strings};
+ghost use Rattle.std.specs.Prelude.{◌≡◌, ◌++◌, [], OnOk, length, min};
+ghost use Rattle.std.specs.Option.{option_map_or};
+ghost use Rattle.rv_source.specs.Operands.{strings, text_of};
 
 use crate::{Form, Operand};
 use rv_isa::{Instr, Reg, Width};
-use rv_tokens::Name;
+use rv_tokens::{Name, Text};
 use std::alloc::AllocError;
 use std::marker::Model;
 
 /// An operand whose value is taken, borrowed from its line. Its view is the operand.
 #[derive(Drop)]
-pub struct Value<'t, 'a>(&'t Operand<'a>);
+pub struct Value<'t, 'a>(pub(crate) &'t Operand<'a>);
 
 impl<'t, 'a> Model for Value<'t, 'a> {
     ghost use Rattle.rv_source.specs.declared.operand.Operand.{Operand};
@@ -23,13 +24,6 @@ impl<'t, 'a> Model for Value<'t, 'a> {
 impl<'t, 'a> Value<'t, 'a> {
     ghost use Rattle.std.specs.Prelude.{◌≡◌};
 
-    /// Makes the value of an operand.
-    pub(crate) fn new(operand: &'t Operand<'a>) -> Self
-        ensures { result ≡ operand.now }
-    {
-        Value(operand)
-    }
-
     /// Returns the operand.
     pub fn operand(&self) -> &'t Operand<'a>
         ensures { result.now ≡ self.now }
@@ -40,7 +34,7 @@ impl<'t, 'a> Value<'t, 'a> {
 
 /// The operands of a data directive, borrowed from their line. The view is the list of them.
 #[derive(Drop)]
-pub struct Values<'t, 'a>(&'t [Operand<'a>]);
+pub struct Values<'t, 'a>(pub(crate) &'t [Operand<'a>]);
 
 impl<'t, 'a> Model for Values<'t, 'a> {
     ghost use Rattle.std.specs.Prelude.{List};
@@ -54,13 +48,6 @@ impl<'t, 'a> Model for Values<'t, 'a> {
 impl<'t, 'a> Values<'t, 'a> {
     ghost use Rattle.std.specs.Prelude.{◌≡◌};
 
-    /// Makes the list of these operands.
-    pub(crate) fn new(operands: &'t [Operand<'a>]) -> Self
-        ensures { result ≡ operands.now }
-    {
-        Values(operands)
-    }
-
     /// Returns the operands, from left to right.
     pub fn as_slice(&self) -> &'t [Operand<'a>]
         ensures { result.now ≡ self.now }
@@ -69,23 +56,13 @@ impl<'t, 'a> Values<'t, 'a> {
     }
 }
 
-/// Returns the number of bytes of an operand that is a string.
-fn text_len(operand: &Operand) -> usize
-    ensures { result ≡ length (text_of operand.now) }
+/// Returns the string that an operand is.
+fn text_of<'t, 'a>(operand: &'t Operand<'a>) -> Option<&'t Text<'a>>
+    ensures { option_map_or (λ text. text.now) result [] ≡ text_of operand.now }
 {
     match &operand.form {
-        Form::Text(text) => text.len(),
-        _ => 0,
-    }
-}
-
-/// Appends the bytes of an operand that is a string.
-fn append_text(operand: &Operand, out: &mut Vec<u8>) -> Result<(), AllocError>
-    ensures { OnOk result (out.new.items ≡ out.old.items ++ text_of operand.now) }
-{
-    match &operand.form {
-        Form::Text(text) => text.append_to(out),
-        _ => Ok(()),
+        Form::Text(text) => Some(text),
+        Form::Value { .. } => None,
     }
 }
 
@@ -97,7 +74,9 @@ fn append(terminated: bool, texts: &[Operand], out: &mut Vec<u8>) -> Result<(), 
     let [first, rest @ ..] = texts else {
         return Ok(());
     };
-    append_text(first, out)?;
+    if let Some(text) = text_of(first) {
+        text.append_to(out)?;
+    }
     if terminated {
         out.push(0)?;
     }
@@ -112,8 +91,8 @@ fn size(terminated: bool, texts: &[Operand]) -> u32
     let [first, rest @ ..] = texts else {
         return 0;
     };
-    let bytes = text_len(first).min(0xffff_ffff) as u32;
-    bytes
+    let bytes = text_of(first).map_or(0, |text| text.len());
+    (bytes.min(0xffff_ffff) as u32)
         .saturating_add(u32::from(terminated))
         .saturating_add(size(terminated, rest))
 }
@@ -122,8 +101,8 @@ fn size(terminated: bool, texts: &[Operand]) -> u32
 /// byte 0 if they are terminated.
 #[derive(Drop)]
 pub struct Strings<'t, 'a> {
-    terminated: bool,
-    texts: &'t [Operand<'a>],
+    pub(crate) terminated: bool,
+    pub(crate) texts: &'t [Operand<'a>],
 }
 
 impl<'t, 'a> Model for Strings<'t, 'a> {
@@ -137,14 +116,6 @@ impl<'t, 'a> Model for Strings<'t, 'a> {
 
 impl<'t, 'a> Strings<'t, 'a> {
     ghost use Rattle.std.specs.Prelude.{◌≡◌, ◌++◌, OnOk, length, min};
-    ghost use Rattle.rv_source.specs.Operands.{strings};
-
-    /// Makes the strings of operands.
-    pub(crate) fn new(terminated: bool, texts: &'t [Operand<'a>]) -> Self
-        ensures { result ≡ strings terminated texts.now }
-    {
-        Strings { terminated, texts }
-    }
 
     /// Returns the number of bytes, saturated at 2^32 - 1.
     pub fn size(&self) -> u32

@@ -117,11 +117,19 @@ fn of_other_word<'t, 'a>(
     ensures { result ≡ fitted_or UnknownWord operands.now (of_word word.now words) }
 {
     if has_dot(word) {
-        let rows = from_word(&DIRECTIVES, word);
-        of_word(rows, word, operands, LineFault::UnknownWord)
+        of_word(
+            from_word(&DIRECTIVES, word),
+            word,
+            operands,
+            LineFault::UnknownWord,
+        )
     } else {
-        let rows = from_word(&PSEUDO_INSTRUCTIONS, word);
-        of_word(rows, word, operands, LineFault::UnknownWord)
+        of_word(
+            from_word(&PSEUDO_INSTRUCTIONS, word),
+            word,
+            operands,
+            LineFault::UnknownWord,
+        )
     }
 }
 
@@ -155,8 +163,7 @@ pub fn meaning<'t, 'a>(
 {
     match operation_named(word) {
         Some(operation) => {
-            let ways = ways_of(operation);
-            first_way(operation, ways, operands).ok_or(LineFault::BadOperands)
+            first_way(operation, ways_of(operation), operands).ok_or(LineFault::BadOperands)
         }
         None => of_other_word(word, operands),
     }

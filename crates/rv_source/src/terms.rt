@@ -1,7 +1,9 @@
 //! Reads expressions.
-ghost use Rattle.std.specs.Prelude.{◌≡◌, ◌<◌, ◌≤◌, ◌+◌, ◌++◌, ◌∷◌, Some, None, IfOk, length, map, if◌then◌else◌};
+ghost use Rattle.std.specs.Prelude.{◌≡◌, ◌<◌, ◌≤◌, ◌+◌, ◌++◌, Some, None, IfOk, length, map, if◌then◌else◌};
 ghost use Rattle.std.specs.Option.{option_map};
-ghost use Rattle.rv_source.specs.Expressions.{OneValue, is_symbol, piece_of, further, expression};
+ghost use Rattle.rv_source.specs.Expressions.{is_symbol, piece_of};
+ghost use Rattle.rv_source.specs.Operands.{OneValue};
+ghost use Rattle.rv_source.specs.Sums.{expression, further, with_term};
 ghost use Rattle.rv_source.specs.Partial.{name_atom};
 
 use crate::{Atom, Expression, Term};
@@ -57,7 +59,7 @@ fn piece_of<'a>(token: &Token<'a>) -> Piece<'a>
 
 /// Reads the terms after the first, each with a sign or two before it, and appends them; false if the tokens
 /// aren't that.
-#[tactic(auto, using(crate::proofs::Sums::further_more), unfolding(crate::specs::Expressions::further))]
+#[tactic(auto, using(crate::proofs::Sums::further_more), unfolding(crate::specs::Sums::further))]
 fn read_further<'a>(out: &mut Vec<Term<'a>>, tokens: &[Token<'a>]) -> Result<bool, AllocError>
     ensures reads { IfOk result (λ ok. option_map (λ ts. out.old.items ++ ts) (further (map piece_of tokens.now)) ≡ (if ok then Some out.new.items else None)) }
     ensures short { IfOk result (λ _. length out.new.items ≤ length out.old.items + length tokens.now) }
@@ -94,25 +96,26 @@ fn read_further<'a>(out: &mut Vec<Term<'a>>, tokens: &[Token<'a>]) -> Result<boo
     }
 }
 
-/// Reads an expression whose first term is read.
+/// Reads an expression by the sign and the atom of its first term and the tokens after that.
 fn read_sum<'a>(
     alloc: Global,
-    first: Term<'a>,
+    negative: bool,
+    atom: Atom<'a>,
     tokens: &[Token<'a>],
 ) -> Result<Option<Expression<'a>>, AllocError>
     requires { length tokens.now < 1024 }
-    ensures { IfOk result (λ e. e ≡ option_map (λ ts. first.entry ∷ ts) (further (map piece_of tokens.now))) }
+    ensures { IfOk result (λ e. e ≡ with_term negative atom.entry (further (map piece_of tokens.now))) }
 {
     let mut more = Vec::new(alloc);
-    if read_further(&mut more, tokens)? {
-        Ok(Some(Expression::new(first, more)))
-    } else {
-        Ok(None)
+    if !read_further(&mut more, tokens)? {
+        return Ok(None);
     }
+    let first = Term { negative, atom };
+    Ok(Some(Expression { first, more }))
 }
 
 /// Reads the tokens as a whole as an expression.
-#[tactic(auto, unfolding(crate::specs::Expressions::expression, crate::specs::Expressions::sum))]
+#[tactic(auto, unfolding(crate::specs::Sums::expression, crate::specs::Sums::sum))]
 pub fn read_expression<'a>(
     alloc: Global,
     tokens: &[Token<'a>],
@@ -124,29 +127,15 @@ pub fn read_expression<'a>(
         return Ok(None);
     };
     match piece_of(first) {
-        Piece::Atom(atom) => read_sum(
-            alloc,
-            Term {
-                negative: false,
-                atom,
-            },
-            rest,
-        ),
+        Piece::Atom(atom) => read_sum(alloc, false, atom, rest),
         Piece::Sign { minus } => {
             let [second, rest @ ..] = rest else {
                 return Ok(None);
             };
-            match piece_of(second) {
-                Piece::Atom(atom) => read_sum(
-                    alloc,
-                    Term {
-                        negative: minus,
-                        atom,
-                    },
-                    rest,
-                ),
-                _ => Ok(None),
-            }
+            let Piece::Atom(atom) = piece_of(second) else {
+                return Ok(None);
+            };
+            read_sum(alloc, minus, atom, rest)
         }
         Piece::Other => Ok(None),
     }

@@ -11,8 +11,8 @@ with-requires c =
     let rs1 = rw c.number-2.ensures.value at c.number-2.ensures.below in
     let rs2 = rw c.number-3.ensures.value at c.number-3.ensures.below in
     let csr = rw c.number-4.ensures.value at c.number-4.ensures.below in
-    let before = rw c.bits.ensures.value at c.bits.ensures.below in
-    let after = rw c.bits-2.ensures.value at c.bits-2.ensures.below in
+    let before = rw c.number-5.ensures.value at c.number-5.ensures.below in
+    let after = rw c.number-6.ensures.value at c.number-6.ensures.below in
     let fits : SFits w32 c.immediate.result = search rules in
     let back : to_z w32 (of_z w32 c.immediate.result) ≡ c.immediate.result = rw to_z-of_z refl in
     rw back
