@@ -13,7 +13,7 @@ fn is_digit_count(count: usize) -> bool
 }
 
 /// Reads one to eight hexadecimal digits of either case.
-fn hexadecimal(digits: &[u8]) -> Option<u32>
+pub fn hexadecimal(digits: &[u8]) -> Option<u32>
     ensures { result ≡ hexadecimal digits.now }
 {
     if !is_digit_count(digits.len()) {

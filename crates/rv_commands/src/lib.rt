@@ -23,6 +23,7 @@ mod command;
 mod reader;
 mod symbol_lookup;
 
+pub use address::hexadecimal;
 pub use command::Command;
 pub use reader::read_command;
 pub use symbol_lookup::SymbolLookup;

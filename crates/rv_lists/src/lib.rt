@@ -23,5 +23,6 @@ mod writer;
 
 pub use fault::TimelineFault;
 pub use input::{Input, TimedInput};
+pub use reader::line_input;
 pub use timeline::Timeline;
 pub use writer::list_text;

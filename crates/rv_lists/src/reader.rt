@@ -36,8 +36,8 @@ fn read_bytes(step: u64, text: &[u8], out: &mut Vec<TimedInput>) -> Result<(), L
     Ok(())
 }
 
-/// Reads a source and its level.
-fn line_input(text: &[u8]) -> Option<Input>
+/// Reads the words following `line`: a source and its level.
+pub fn line_input(text: &[u8]) -> Option<Input>
     ensures { option_map (λ input. input ∷ []) result ≡ driven (words text.now) }
 {
     let (number, rest) = first_word(text)?;
@@ -50,7 +50,7 @@ fn line_input(text: &[u8]) -> Option<Input>
     Some(Input::Line { source, high })
 }
 
-/// Reads the words following `line`, and appends their input.
+/// Reads the words following `line`, and appends the input.
 fn read_level(step: u64, text: &[u8], out: &mut Vec<TimedInput>) -> Result<(), LineRefusal>
     ensures { Becomes out.new.items result
         (with_inputs out.old.items step (driven (words text.now))) }
