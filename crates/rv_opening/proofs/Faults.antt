@@ -50,9 +50,9 @@ module _ (source inputs : List ℕ) (pages slots limit : ℕ) where
       → (why ≢ boot.OutOfMemory → boot_fault (length program.bytes) pages slots ≡ Some why)
       → Opens source inputs pages slots limit (Err (board_fault why))
   board_refused program timed boot.BadPages is read h =
-      record { program = program; timed = timed; assembles = is; list = read; boots = h (λ e. cc) }
+      (program, timed, is, read, h (λ e. cc))
   board_refused program timed boot.BadSlots is read h =
-      record { program = program; timed = timed; assembles = is; list = read; boots = h (λ e. cc) }
+      (program, timed, is, read, h (λ e. cc))
   board_refused program timed boot.ImageTooLarge is read h =
-      record { program = program; timed = timed; assembles = is; list = read; boots = h (λ e. cc) }
+      (program, timed, is, read, h (λ e. cc))
   board_refused program timed boot.OutOfMemory is read h = tt

@@ -45,7 +45,7 @@ module _ (source inputs : List ℕ) (pages slots limit : ℕ) where
   only_source fault is (Err (Input n)) opens kept =
       absurd (no_fault (assembled source) fault is opens.0)
   only_source fault is (Err (Board other)) opens kept =
-      let bad : Ok opens.program ≡ Err fault = sym opens.assembles ∙ is in absurd cc
+      let bad : Ok opens.0 ≡ Err fault = sym opens.2 ∙ is in absurd cc
   only_source fault is (Err OutOfMemory) opens kept = absurd (kept refl)
 
   -- ---- a timed list that is refused
@@ -60,7 +60,7 @@ module _ (source inputs : List ℕ) (pages slots limit : ℕ) where
   only_list program n is first (Err (Input m)) opens kept =
       ap (λ k. Err (Input k)) (one_line (lines inputs) m n opens.1 first)
   only_list program n is first (Err (Board other)) opens kept =
-      absurd (not_both (lines inputs) opens.timed n opens.list first)
+      absurd (not_both (lines inputs) opens.1 n opens.3 first)
   only_list program n is first (Err OutOfMemory) opens kept = absurd (kept refl)
 
   -- ---- a board that doesn't start, or does
@@ -87,7 +87,7 @@ module _ (source inputs : List ℕ) (pages slots limit : ℕ) where
         absurd (not_both (lines inputs) list n read opens.1)
     only_board fault boots (Err (Board other)) opens kept =
         let e : Some other ≡ Some fault =
-        sym opens.boots ∙ (ap fault_of (same_program opens.program opens.assembles) ∙ boots) in
+        sym opens.4 ∙ (ap fault_of (same_program opens.0 opens.2) ∙ boots) in
         let same : other ≡ fault = cc in cc
     only_board fault boots (Err OutOfMemory) opens kept = absurd (kept refl)
 
@@ -106,13 +106,13 @@ module _ (source inputs : List ℕ) (pages slots limit : ℕ) where
         absurd (not_both (lines inputs) list n read opens.1)
     only_session boots (Err (Board other)) opens kept =
         let e : Some other ≡ None =
-        sym opens.boots ∙ (ap fault_of (same_program opens.program opens.assembles) ∙ boots) in absurd cc
+        sym opens.4 ∙ (ap fault_of (same_program opens.0 opens.2) ∙ boots) in absurd cc
     only_session boots (Err OutOfMemory) opens kept = absurd (kept refl)
 
     one_by_board : (fault : Option BootFault) → fault_of program ≡ fault → One
     one_by_board (Some fault) boots = record {
       opening = Err (Board fault);
-      opens = record { program = program; timed = list; assembles = is; list = read; boots = boots };
+      opens = (program, list, is, read, boots);
       kept = λ e. cc;
       only = only_board fault boots;
     }

@@ -4,7 +4,6 @@ use Rattle.std.specs.Prelude.{◌≡◌, ℕ, ⊤, true, is_ok, List, length, No
 use Rattle.rv_asm.specs.Assembly.{assembled}
 use Rattle.rv_board.specs.Boot.{boot_fault}
 use Rattle.rv_board.specs.Boot as boot
-use Rattle.rv_board.specs.declared.event.BootFault.{BootFault}
 use Rattle.rv_lists.specs.Timed.{IsRead}
 use Rattle.rv_lists.specs.declared.fault.TimelineFault.TheVariants.{BadLine}
 use Rattle.rv_lists.specs.declared.input.TimedInput.{TimedInput}
@@ -21,19 +20,14 @@ pub record IsOpened (source inputs : List ℕ) (pages slots limit : ℕ) (s : Se
   pub boots : boot_fault (length s.program.bytes) pages slots ≡ None
   pub state : s ≡ start (boot.start s.program.bytes pages) s.timed.inputs s.program limit
 
--- a board that does not boot with these sizes, where the source and the timed list have no fault
-pub record HasNoBoard (source inputs : List ℕ) (pages slots : ℕ) (fault : BootFault) : Type 0 where
-  pub program : Assembly
-  pub timed : List TimedInput
-  pub assembles : assembled source ≡ Ok program
-  pub list : IsRead inputs (Ok timed)
-  pub boots : boot_fault (length program.bytes) pages slots ≡ Some fault
-
--- the session, or the first fault: of the source, of the timed list, of the board; or memory ran out
+-- the session, or the first fault: of the source, of the timed list, of the board, which does not boot with
+-- these sizes; or memory ran out
 abbrev pub Opens : List ℕ → List ℕ → (pages slots limit : ℕ) → Result SessionState OpenFault → Type 0
 Opens source inputs pages slots limit (Ok session) = IsOpened source inputs pages slots limit session
 Opens source inputs pages slots limit (Err (Source fault)) = assembled source ≡ Err fault
 Opens source inputs pages slots limit (Err (Input n)) =
     (is_ok (assembled source) ≡ true) × IsRead inputs (Err (BadLine n))
-Opens source inputs pages slots limit (Err (Board fault)) = HasNoBoard source inputs pages slots fault
+Opens source inputs pages slots limit (Err (Board fault)) =
+    (program : Assembly) × (timed : List TimedInput) × (assembled source ≡ Ok program)
+    × IsRead inputs (Ok timed) × (boot_fault (length program.bytes) pages slots ≡ Some fault)
 Opens source inputs pages slots limit (Err OutOfMemory) = ⊤

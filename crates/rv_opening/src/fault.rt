@@ -4,7 +4,7 @@ use rv_board::BootFault;
 use rv_lists::TimelineFault;
 
 /// Why nothing is opened.
-#[derive(Clone, Copy)]
+#[derive(Clone, Copy, Debug, PartialEq, Eq)]
 pub enum OpenFault {
     /// The source has this fault.
     Source(AsmFault),
