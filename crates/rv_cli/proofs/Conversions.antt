@@ -1,6 +1,5 @@
 -- The faults of a run are those that its texts mean.
-use Rattle.std.proofs.Common.{◌≡◌, ℕ, List, Ok, Err, refl, sym, subst}
-use Rattle.rv_board.specs.declared.event.BootFault.TheVariants as boot
+use Rattle.std.proofs.Common.{◌≡◌, ℕ, List, Ok, Err, refl}
 use Rattle.rv_monitor.specs.State.{SessionState}
 use Rattle.rv_opening.specs.declared.fault.OpenFault.{OpenFault}
 use Rattle.rv_opening.specs.declared.fault.OpenFault.TheVariants as open_fault
@@ -10,20 +9,20 @@ use Rattle.rv_texts.specs.declared.fault.ReadFault.TheVariants as read
 use Rattle.rv_texts.specs.declared.fault.TextName.TheVariants as text
 use Rattle.rv_words.specs.declared.Options.{Options}
 use Rattle.rv_cli.specs.Conversions.{unopened_fault, unread_fault}
-use Rattle.rv_cli.specs.Meanings.{IsRunOf, RefusedBy}
-use Rattle.rv_cli.specs.Output.{IsOutput, OpensFor, ends, refused}
-use Rattle.rv_cli.specs.declared.fault.CliFault.TheVariants.{ReadInput, ReadSource}
+use Rattle.rv_cli.specs.Meanings.{IsRunOf, OpensFor, RefusedBy}
+use Rattle.rv_cli.specs.Output.{IsOutput}
+use Rattle.rv_cli.specs.declared.fault.CliFault.TheVariants.{Read}
 use Rattle.rv_cli.specs.declared.fault.Ending.{Ending}
 
 -- ---- texts that were not read
 
-pub is_source : (why : ReadFault) → unread_fault why ≡ ReadSource → why ≡ read.Unreadable text.Source
+pub is_source : (why : ReadFault) → unread_fault why ≡ Read text.Source → why ≡ read.Unreadable text.Source
 is_source (read.Unreadable text.Source) e = refl
 is_source (read.Unreadable text.Input) e = cc
 is_source (read.Unreadable text.Commands) e = cc
 is_source read.OutOfMemory e = cc
 
-pub is_input : (why : ReadFault) → unread_fault why ≡ ReadInput → why ≡ read.Unreadable text.Input
+pub is_input : (why : ReadFault) → unread_fault why ≡ Read text.Input → why ≡ read.Unreadable text.Input
 is_input (read.Unreadable text.Source) e = cc
 is_input (read.Unreadable text.Input) e = refl
 is_input (read.Unreadable text.Commands) e = cc
@@ -33,15 +32,9 @@ is_input read.OutOfMemory e = cc
 
 pub opening_refused : (texts : Texts) (options : Options) (why : OpenFault) → OpensFor texts options (Err why)
     → RefusedBy (IsOutput texts options) (unopened_fault why)
-opening_refused texts options (open_fault.Source why) h = refused (open_fault.Source why) (λ e. cc) h
-opening_refused texts options (open_fault.Input n) h = refused (open_fault.Input n) (λ e. cc) h
-opening_refused texts options (open_fault.Board boot.BadPages) h =
-    refused (open_fault.Board boot.BadPages) (λ e. cc) h
-opening_refused texts options (open_fault.Board boot.BadSlots) h =
-    refused (open_fault.Board boot.BadSlots) (λ e. cc) h
-opening_refused texts options (open_fault.Board boot.ImageTooLarge) h =
-    refused (open_fault.Board boot.ImageTooLarge) (λ e. cc) h
-opening_refused texts options (open_fault.Board boot.OutOfMemory) h = tt
+opening_refused texts options (open_fault.Source why) h = (λ e. cc, h)
+opening_refused texts options (open_fault.Input n) h = (λ e. cc, h)
+opening_refused texts options (open_fault.Board why) h = (λ e. cc, h)
 opening_refused texts options open_fault.OutOfMemory h = tt
 
 -- ---- texts that open a session
@@ -50,5 +43,4 @@ pub run_ends : (texts : Texts) (options : Options) (first : SessionState) (resul
     → OpensFor texts options (Ok first) → IsRunOf texts.commands first result
     → IsOutput texts options (Ok result)
 run_ends texts options first result opens run =
-    subst (λ (r : List ℕ × Ending). IsOutput texts options (Ok r)) (sym run.is)
-    (ends first run.last run.answers opens run.done)
+    (first, run.last, run.answers, opens, run.done, run.is)

@@ -9,7 +9,8 @@ use Rattle.rv_opening.specs.declared.fault.OpenFault.TheVariants.{OutOfMemory}
 use Rattle.rv_texts.specs.Readers.{Texts}
 use Rattle.rv_words.specs.declared.Options.{Options}
 use Rattle.rv_cli.specs.OneOutput.{OneOutput}
-use Rattle.rv_cli.specs.Output.{IsOutput, OpensFor, Output, ending_of, ends, printed, refused}
+use Rattle.rv_cli.specs.Meanings.{OpensFor}
+use Rattle.rv_cli.specs.Output.{IsOutput, Output, ending_of, printed}
 use Rattle.rv_cli.proofs.OneRun.{one_done, some_done}
 
 abbrev end_of : SessionState → List ℕ → Output
@@ -29,20 +30,21 @@ module _ (texts : Texts) (options : Options) where
 
   is_output : (opening : Opening) → OpensFor texts options opening → opening ≢ Err OutOfMemory
       → IsOutput texts options (output_of opening)
-  is_output (Err fault) opens kept = refused fault (λ e. kept (ap (λ f. Err f) e)) opens
+  is_output (Err fault) opens kept = (λ e. kept (ap (λ f. Err f) e), opens)
   is_output (Ok first) opens kept =
-      let some = some_done texts.commands first in ends first some.0 some.1.0 opens some.1.1
+      let some = some_done texts.commands first in (first, some.0, some.1.0, opens, some.1.1, refl)
 
   only : (opening : Opening)
       → ((other : Opening) → OpensFor texts options other → other ≢ Err OutOfMemory → other ≡ opening)
       → (other : Output) → IsOutput texts options other → other ≡ output_of opening
-  only opening one _ (refused fault kept opens) =
-      ap output_of (one (Err fault) opens (λ e. kept (same_fault (Err fault) fault OutOfMemory refl e)))
-  only opening one _ (ends first last answers opens done) =
-      let some = some_done texts.commands first in
-      same_end last some.0 answers some.1.0 (one_done texts.commands first last some.0 answers some.1.0 done
+  only opening one (Err fault) is =
+      ap output_of (one (Err fault) is.1 (λ e. is.0 (same_fault (Err fault) fault OutOfMemory refl e)))
+  only opening one (Ok done) is =
+      let some = some_done texts.commands is.0 in
+      ap (λ d. Ok d) is.5
+      ∙ (same_end is.1 some.0 is.2 some.1.0 (one_done texts.commands is.0 is.1 some.0 is.2 some.1.0 is.4
       some.1.1)
-      ∙ ap output_of (one (Ok first) opens (λ e. cc))
+      ∙ ap output_of (one (Ok is.0) is.3 (λ e. cc)))
 
 pub one_output : OneOutput
 one_output texts options =

@@ -1,25 +1,23 @@
--- The reasons why a run has no ending, by those why its texts were not read and by what the texts mean.
-use Rattle.std.proofs.Common.{Option, Some, None, arith}
+-- The results of a run, by those of its parts and by what the texts mean.
+use Rattle.std.proofs.Common.{◌≡◌, Option, Some, None, Ok, Err, false, subst, true}
+use Rattle.std.specs.Io.KnownBytes.{Appends}
 use Rattle.std.specs.Prelude.{ℕ, IfSome, List}
 use Rattle.rv_words.specs.declared.Options.{Options}
-use Rattle.rv_texts.specs.Calls.{GaveIf}
-use Rattle.rv_texts.specs.Readers.{AllGave, Readers, Texts}
-use Rattle.rv_texts.specs.Texts.{Gave, IsInOrder, Side}
-use Rattle.rv_texts.specs.Unread.{Unread}
+use Rattle.rv_texts.specs.Readers.{Reads, GaveIf, Readers, Texts}
+use Rattle.rv_texts.specs.Texts.{Gave, IsInOrder, Side, WroteBeginning}
 use Rattle.rv_texts.specs.declared.fault.ReadFault.{ReadFault}
 use Rattle.rv_texts.specs.declared.fault.ReadFault.TheVariants as read
-use Rattle.rv_texts.specs.declared.fault.TextName.TheVariants as text
 use Rattle.rv_cli.specs.Conversions.{unread_fault}
 use Rattle.rv_cli.specs.declared.fault.CliFault.{CliFault}
-use Rattle.rv_cli.specs.declared.fault.CliFault.TheVariants.{ReadSource, ReadInput, ReadCommands, Source, Input, BadPages, BadSlots, ImageTooLarge, OutOfMemory, Write}
+use Rattle.rv_cli.specs.declared.fault.CliFault.TheVariants.{Open, OutOfMemory, Read, Write}
+use Rattle.rv_cli.specs.declared.fault.Ending.{Ending}
 use Rattle.rv_cli.specs.Meanings.{RefusedBy}
 use Rattle.rv_cli.specs.Output.{IsOutput}
-use Rattle.rv_cli.specs.Run.{Refused}
+use Rattle.rv_cli.specs.Run.{Runs}
 
 -- a reader that gave its text is in order
 in_order : (reader : Side) (text : List ℕ) → Gave reader text → IsInOrder reader
-in_order reader text g =
-    (record { bytes = text; gave = g.gave; enough = omega arith; within = g.within }, g.sound)
+in_order reader text g = (text, g.gave, g.within, g.sound)
 
 in_order_if : (reader : Option Side) (text : Option (List ℕ)) → GaveIf reader text → IfSome reader IsInOrder
 in_order_if None None g = tt
@@ -28,32 +26,40 @@ in_order_if (Some reader) (Some text) g = in_order reader text g
 in_order_if (Some reader) None g = absurd g
 
 -- readers that gave their texts are in order
-are_in_order : (r : Readers) (texts : Texts) → AllGave r texts → Unread r read.OutOfMemory
+are_in_order : (r : Readers) (texts : Texts) → Reads r (Ok texts) → Reads r (Err read.OutOfMemory)
 are_in_order r texts g = (
-  in_order r.source texts.source g.source,
-  in_order r.inputs texts.inputs g.inputs,
-  in_order_if r.commands texts.commands g.commands,
+  in_order r.source texts.source g.0,
+  in_order r.inputs texts.inputs g.1,
+  in_order_if r.commands texts.commands g.2,
 )
 
 -- the texts were not read
-pub refused_unread : (r : Readers) (out : Side) (options : Options) (why : ReadFault) → Unread r why →
-    Refused r out options (unread_fault why)
-refused_unread r out options (read.Unreadable text.Source) h = h
-refused_unread r out options (read.Unreadable text.Input) h = h
-refused_unread r out options (read.Unreadable text.Commands) h = h
+pub refused_unread : (r : Readers) (out : Side) (options : Options) (why : ReadFault) → Reads r (Err why) →
+    Runs r out options (Err (unread_fault why))
+refused_unread r out options (read.Unreadable name) h = h
 refused_unread r out options read.OutOfMemory h = h
 
 -- the texts were read, and are refused by what they mean
 pub refused_by : (r : Readers) (out : Side) (options : Options) (texts : Texts) (fault : CliFault) →
-    AllGave r texts
-    → RefusedBy (IsOutput texts options) fault → Refused r out options fault
-refused_by r out options texts (Source fault) g h = record { texts = texts; gave = g; is = h }
-refused_by r out options texts (Input n) g h = record { texts = texts; gave = g; is = h }
-refused_by r out options texts BadPages g h = record { texts = texts; gave = g; is = h }
-refused_by r out options texts BadSlots g h = record { texts = texts; gave = g; is = h }
-refused_by r out options texts ImageTooLarge g h = record { texts = texts; gave = g; is = h }
+    Reads r (Ok texts)
+    → RefusedBy (IsOutput texts options) fault → Runs r out options (Err fault)
+refused_by r out options texts (Open fault) g h = (texts, g, h)
 refused_by r out options texts OutOfMemory g h = are_in_order r texts g
-refused_by r out options texts ReadSource g h = absurd h
-refused_by r out options texts ReadInput g h = absurd h
-refused_by r out options texts ReadCommands g h = absurd h
+refused_by r out options texts (Read name) g h = absurd h
 refused_by r out options texts Write g h = absurd h
+
+-- the text that the run prints was written
+pub ended : (r : Readers) (out : Side) (options : Options) (texts : Texts) (text bytes : List ℕ)
+    (ending : Ending)
+    → Reads r (Ok texts) → IsOutput texts options (Ok (text, ending)) → bytes ≡ text
+    → Appends out.old out.new bytes → out.failed ≡ false → Runs r out options (Ok ending)
+ended r out options texts text bytes ending read is same wrote sound =
+    (text, (texts, read, is), subst (λ (b : List ℕ). Appends out.old out.new b) same wrote, sound)
+
+-- a beginning of it was written, and the writer failed
+pub cut_short : (r : Readers) (out : Side) (options : Options) (texts : Texts) (text bytes : List ℕ)
+    (ending : Ending)
+    → Reads r (Ok texts) → IsOutput texts options (Ok (text, ending)) → bytes ≡ text
+    → WroteBeginning out bytes → out.failed ≡ true → Runs r out options (Err Write)
+cut_short r out options texts text bytes ending read is same wrote failed =
+    ((text, ending), (texts, read, is), subst (λ (b : List ℕ). WroteBeginning out b) same wrote, failed)

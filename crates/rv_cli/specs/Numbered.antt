@@ -2,14 +2,15 @@
 -- Not to audit: private contracts alone cite this.
 use Rattle.std.specs.Prelude.{ℕ, Bool, List, false, true}
 use Rattle.rv_monitor.specs.Views.{line}
+use Rattle.rv_opening.specs.declared.fault.OpenFault.TheVariants as open_fault
 use Rattle.rv_cli.specs.Faults.{row_of}
 use Rattle.rv_cli.specs.declared.fault.CliFault.{CliFault}
-use Rattle.rv_cli.specs.declared.fault.CliFault.TheVariants.{Source, Input}
+use Rattle.rv_cli.specs.declared.fault.CliFault.TheVariants.{Open}
 
 -- whether a fault's line has a number in it
 abbrev pub has_number : CliFault → Bool
-has_number (Source fault) = true
-has_number (Input line) = true
+has_number (Open (open_fault.Source fault)) = true
+has_number (Open (open_fault.Input line)) = true
 has_number other = false
 
 -- the line of a fault

@@ -59,16 +59,11 @@ Does (Some commands) old new text = Obeys (lines commands) old new text
 abbrev pub Output : Type 0
 Output = Result (List ℕ × Ending) OpenFault
 
--- the texts and sizes open a session, whose limit is the steps of the options, or they have a fault
-abbrev pub OpensFor : Texts → Options → Result SessionState OpenFault → Type 0
-OpensFor t o opening = Opens t.source t.inputs o.pages o.slots o.steps opening
-
--- a fault of the opening is the run's; a session that is opened does what is asked, and then the answers and
--- the board are printed
-pub data IsOutput (texts : Texts) (options : Options) : Output → Type 0 where
-  refused : (fault : OpenFault) → fault ≢ OutOfMemory → OpensFor texts options (Err fault)
-      → IsOutput texts options (Err fault)
-  ends : (first last : SessionState) (answers : List ℕ) → OpensFor texts options (Ok first)
-      → Does texts.commands first last answers
-      → IsOutput texts options
-      (Ok (answers ++ printed last.timed.board, ending_of last.timed.board.machine.bus.halt))
+-- a fault of the opening is the run's; a session that is opened, with the steps of the options as its limit,
+-- does what is asked, and then the answers and the board are printed
+abbrev pub IsOutput : Texts → Options → Output → Type 0
+IsOutput t o (Err fault) = (fault ≢ OutOfMemory) × Opens t.source t.inputs o.pages o.slots o.steps (Err fault)
+IsOutput t o (Ok done) =
+    (old new : SessionState) × (answers : List ℕ) × Opens t.source t.inputs o.pages o.slots o.steps (Ok old)
+    × Does t.commands old new answers
+    × (done ≡ (answers ++ printed new.timed.board, ending_of new.timed.board.machine.bus.halt))

@@ -2,8 +2,9 @@
 ghost use Rattle.std.specs.Prelude.{◌≡◌, ◌++◌, Err, IfErr, IfOk, Ok, OnErr, OnOk, Some, false};
 ghost use Rattle.rv_monitor.specs.Views as spec;
 ghost use Rattle.rv_cli.specs.Shown.{IsAppended, input_line_of};
-ghost use Rattle.rv_cli.specs.Faults.{read_fault_of, row_of, source_line_of, status_of};
+ghost use Rattle.rv_cli.specs.Faults.{row_of, source_line_of, status_of};
 ghost use Rattle.rv_cli.specs.Numbered.{has_number, line_of};
+ghost use Rattle.rv_cli.specs.declared.fault.CliFault.TheVariants.{Read};
 
 use rv_base::NoMemory;
 use rv_board::BootFault;
@@ -27,30 +28,12 @@ pub enum Ending {
 /// `Display` writes the variant's name; `fault_line` appends the line that is printed.
 #[derive(Clone, Copy, Debug, PartialEq, Eq, Error)]
 pub enum CliFault {
-    /// The source's reader failed, or gave more than 16,777,216 bytes.
-    #[error("ReadSource")]
-    ReadSource,
-    /// The reader of the timed list failed, or gave more than 16,777,216 bytes.
-    #[error("ReadInput")]
-    ReadInput,
-    /// The commands' reader failed, or gave more than 16,777,216 bytes.
-    #[error("ReadCommands")]
-    ReadCommands,
-    /// The source is refused.
-    #[error("Source")]
-    Source(AsmFault),
-    /// The timed list is refused: its first refused line, counted from 1.
-    #[error("Input")]
-    Input(usize),
-    /// The number of pages of RAM is not one from 1 to 4096.
-    #[error("BadPages")]
-    BadPages,
-    /// The number of slots of the decoded cache is not a power of two from 64 to 4096.
-    #[error("BadSlots")]
-    BadSlots,
-    /// The image is larger than the RAM.
-    #[error("ImageTooLarge")]
-    ImageTooLarge,
+    /// A text's reader failed, or gave more than 16,777,216 bytes.
+    #[error("Read")]
+    Read(TextName),
+    /// The texts open no session: the source, the timed list or a size of the board is refused.
+    #[error("Open")]
+    Open(OpenFault),
     /// Memory ran out.
     #[error("OutOfMemory")]
     OutOfMemory,
@@ -80,9 +63,7 @@ impl From<ReadFault> for CliFault {
 
     fn from(why: ReadFault) -> Self {
         match why {
-            ReadFault::Unreadable(TextName::Source) => CliFault::ReadSource,
-            ReadFault::Unreadable(TextName::Input) => CliFault::ReadInput,
-            ReadFault::Unreadable(TextName::Commands) => CliFault::ReadCommands,
+            ReadFault::Unreadable(text) => CliFault::Read(text),
             ReadFault::OutOfMemory => CliFault::OutOfMemory,
         }
     }
@@ -97,13 +78,8 @@ impl From<OpenFault> for CliFault {
 
     fn from(why: OpenFault) -> Self {
         match why {
-            OpenFault::Source(fault) => CliFault::Source(fault),
-            OpenFault::Input(line) => CliFault::Input(line),
-            OpenFault::Board(BootFault::BadPages) => CliFault::BadPages,
-            OpenFault::Board(BootFault::BadSlots) => CliFault::BadSlots,
-            OpenFault::Board(BootFault::ImageTooLarge) => CliFault::ImageTooLarge,
-            OpenFault::Board(BootFault::OutOfMemory) | OpenFault::OutOfMemory =>
-                CliFault::OutOfMemory,
+            OpenFault::OutOfMemory => CliFault::OutOfMemory,
+            _ => CliFault::Open(why),
         }
     }
 }
@@ -123,11 +99,11 @@ impl From<OutFailed> for CliFault {
 /// Returns the file of a text, or the fault of the text's reader if the file can't be opened.
 pub fn file_or_fault<F: Drop>(text: TextName, file: io::Result<F>) -> Result<F, CliFault>
     ensures ok { IfOk file (λ f. result ≡ Ok f) }
-    ensures err { IfErr file (λ _. result ≡ Err (read_fault_of text)) }
+    ensures err { IfErr file (λ _. result ≡ Err (Read text)) }
 {
     match file {
         Ok(file) => Ok(file),
-        Err(_) => Err(CliFault::from(ReadFault::Unreadable(text))),
+        Err(_) => Err(CliFault::Read(text)),
     }
 }
 
@@ -165,15 +141,16 @@ fn plain_line(fault: CliFault) -> &'static str
     ensures { result.now ≡ line_of fault }
 {
     match fault {
-        CliFault::ReadSource => "cannot read source\n",
-        CliFault::ReadInput => "cannot read input\n",
-        CliFault::ReadCommands => "cannot read commands\n",
-        CliFault::BadPages => "bad pages\n",
-        CliFault::BadSlots => "bad slots\n",
-        CliFault::ImageTooLarge => "image too large\n",
-        CliFault::OutOfMemory => "out of memory\n",
+        CliFault::Read(TextName::Source) => "cannot read source\n",
+        CliFault::Read(TextName::Input) => "cannot read input\n",
+        CliFault::Read(TextName::Commands) => "cannot read commands\n",
+        CliFault::Open(OpenFault::Source(_) | OpenFault::Input(_)) => unreachable!(),
+        CliFault::Open(OpenFault::Board(BootFault::BadPages)) => "bad pages\n",
+        CliFault::Open(OpenFault::Board(BootFault::BadSlots)) => "bad slots\n",
+        CliFault::Open(OpenFault::Board(BootFault::ImageTooLarge)) => "image too large\n",
+        CliFault::Open(OpenFault::Board(BootFault::OutOfMemory)) => "out of memory\n",
+        CliFault::Open(OpenFault::OutOfMemory) | CliFault::OutOfMemory => "out of memory\n",
         CliFault::Write => "cannot write\n",
-        CliFault::Source(_) | CliFault::Input(_) => unreachable!(),
     }
 }
 
@@ -205,9 +182,22 @@ pub fn fault_line(fault: &CliFault, line: &mut Vec<u8>) -> Result<(), NoMemory>
     ensures err { OnErr result (line.new.items ≡ line.old.items) }
 {
     match *fault {
-        CliFault::Source(fault) => append_line(&SourceLine(fault), line),
-        CliFault::Input(number) => append_line(&InputLine(number), line),
+        CliFault::Open(OpenFault::Source(fault)) => append_line(&SourceLine(fault), line),
+        CliFault::Open(OpenFault::Input(number)) => append_line(&InputLine(number), line),
         other => append(plain_line(other), line),
+    }
+}
+
+/// Returns the exit status of a fault.
+fn status_of_fault(fault: CliFault) -> u8
+    ensures { result ≡ (row_of fault).1 }
+{
+    match fault {
+        CliFault::Open(OpenFault::Source(_) | OpenFault::Input(_)) => 3,
+        CliFault::Open(OpenFault::Board(BootFault::BadPages | BootFault::BadSlots)) => 3,
+        CliFault::Open(OpenFault::Board(BootFault::ImageTooLarge)) => 3,
+        CliFault::Open(OpenFault::Board(BootFault::OutOfMemory) | OpenFault::OutOfMemory) => 4,
+        CliFault::Read(_) | CliFault::OutOfMemory | CliFault::Write => 4,
     }
 }
 
@@ -223,9 +213,6 @@ pub fn exit_status(outcome: &Result<Ending, CliFault>) -> u8
         Ok(Ending::Halted(0)) => 0,
         Ok(Ending::Halted(_)) => 1,
         Ok(Ending::Running) => 2,
-        Err(CliFault::Source(_) | CliFault::Input(_)) => 3,
-        Err(CliFault::BadPages | CliFault::BadSlots | CliFault::ImageTooLarge) => 3,
-        Err(CliFault::ReadSource | CliFault::ReadInput | CliFault::ReadCommands) => 4,
-        Err(CliFault::OutOfMemory | CliFault::Write) => 4,
+        Err(fault) => status_of_fault(*fault),
     }
 }

@@ -1,10 +1,12 @@
 //! A run, from its texts to the text that is printed.
 ghost use Rattle.std.specs.Prelude.{◌≡◌, ◌≢◌, IfErr, IfOk, IfSome, Ok, false, is_some};
-ghost use Rattle.rv_cli.specs.Output.{IsOutput, OpensFor};
-ghost use Rattle.rv_cli.specs.Meanings.{IsRunOf, RefusedBy};
-ghost use Rattle.rv_cli.specs.Run.{Ended, Refused};
+ghost use Rattle.rv_cli.specs.Output.{IsOutput};
+ghost use Rattle.rv_cli.specs.Meanings.{IsRunOf, OpensFor, RefusedBy};
+ghost use Rattle.rv_cli.specs.Run.{Runs};
 ghost use Rattle.rv_texts.specs.Texts.{side, side_if};
-ghost use Rattle.rv_cli.specs.declared.fault.CliFault.TheVariants.{ReadInput, ReadSource, Write};
+ghost use Rattle.rv_texts.specs.Within.{AreWithin};
+ghost use Rattle.rv_texts.specs.declared.fault.TextName.TheVariants.{Input, Source};
+ghost use Rattle.rv_cli.specs.declared.fault.CliFault.TheVariants.{Read, Write};
 
 use crate::fault::{CliFault, Ending};
 use crate::print::{ending, print_board};
@@ -72,10 +74,10 @@ fn open_and_run(alloc: Global, texts: &Texts, options: Options) -> Result<Printe
 ///
 /// # Errors
 ///
-/// The first fault that applies, in the order `ReadSource`, `ReadInput`, `ReadCommands`, `Source`, `Input`,
-/// `BadPages`, `BadSlots`, `ImageTooLarge`, `Write`. Only `Write` leaves anything written: a beginning of the
-/// text. After a reader's fault the readers that follow are not touched. `OutOfMemory` may stand in place of
-/// any result but a fault that a reader or the writer had.
+/// The first fault that applies, in the order `Read` of the source, the timed list and the commands, `Open` of
+/// the source, the timed list and the sizes of the board, `Write`. Only `Write` leaves anything written: a
+/// beginning of the text. After a reader's fault the readers that follow are not touched. `OutOfMemory` may
+/// stand in place of any result but a fault that a reader or the writer had.
 pub fn run_text<S: TextIn, I: TextIn, C: TextIn, W: TextOut>(
     alloc: Global,
     source: &mut S,
@@ -88,25 +90,26 @@ pub fn run_text<S: TextIn, I: TextIn, C: TextIn, W: TextOut>(
     requires inputs { I.has_failed inputs.old ≡ false }
     requires commands { IfSome commands.old (λ c. C.has_failed c ≡ false) }
     requires out { W.has_failed out.old ≡ false }
-    ensures ended { IfOk result (Ended (record {
+    ensures runs { Runs (record {
       source = side S.left S.has_failed source.old source.new;
       inputs = side I.left I.has_failed inputs.old inputs.new;
       commands = side_if C.left C.has_failed commands.old commands.new;
     })
-        (side W.taken W.has_failed out.old out.new) options) }
-    ensures refused { IfErr result (Refused (record {
-      source = side S.left S.has_failed source.old source.new;
-      inputs = side I.left I.has_failed inputs.old inputs.new;
-      commands = side_if C.left C.has_failed commands.old commands.new;
-    })
-        (side W.taken W.has_failed out.old out.new) options) }
+        (side W.taken W.has_failed out.old out.new) options result }
     ensures there { is_some commands.new ≡ is_some commands.old }
     ensures unwritten { IfErr result (λ fault. fault ≢ Write → out.new ≡ out.old) }
 
+    // What is read of a text that is too long: no more than a buffer beyond the limit.
+    ensures within { AreWithin (record {
+      source = side S.left S.has_failed source.old source.new;
+      inputs = side I.left I.has_failed inputs.old inputs.new;
+      commands = side_if C.left C.has_failed commands.old commands.new;
+    }) }
+
     // After a reader's fault no reader that follows is touched.
-    ensures after_source { IfErr result (λ fault. fault ≡ ReadSource → (inputs.new ≡ inputs.old)
+    ensures after_source { IfErr result (λ fault. fault ≡ Read Source → (inputs.new ≡ inputs.old)
         × (commands.new ≡ commands.old)) }
-    ensures after_inputs { IfErr result (λ fault. fault ≡ ReadInput → commands.new ≡ commands.old) }
+    ensures after_inputs { IfErr result (λ fault. fault ≡ Read Input → commands.new ≡ commands.old) }
 {
     let texts = read_texts(alloc, source, inputs, commands)?;
     let printed = open_and_run(alloc, &texts, options)?;

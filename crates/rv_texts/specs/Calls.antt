@@ -1,15 +1,11 @@
 -- The outcomes of reading a text, and of writing some bytes of it.
 -- Not to audit: private contracts alone cite this.
-use Rattle.std.specs.Prelude.{◌≡◌, ◌⊎◌, ◌<◌, ◌≤◌, ◌-◌, ℕ, true, false, [], List, length, take, drop, Option, None, IsSomeAnd, MatchOption}
+use Rattle.std.specs.Prelude.{◌≡◌, ◌⊎◌, ◌<◌, ◌≤◌, ◌-◌, ℕ, true, false, [], List, length, take, drop}
 use Rattle.std.specs.Io.KnownBytes.{Appends}
-use Rattle.rv_texts.specs.Texts.{Gave, IsInOrder, IsUnreadable, Side}
+use Rattle.rv_texts.specs.Texts.{IsInOrder, IsUnreadable, Side}
 use Rattle.rv_texts.specs.declared.fault.ReadFault.{ReadFault}
 use Rattle.rv_texts.specs.declared.fault.ReadFault.TheVariants.{OutOfMemory, Unreadable}
 use Rattle.rv_texts.specs.declared.fault.TextName.{TextName}
-
--- a reader gave a text to its end; where there is no reader, there is no text
-abbrev pub GaveIf : Option Side → Option (List ℕ) → Type 0
-GaveIf reader text = MatchOption reader (text ≡ None) (λ r. IsSomeAnd text (Gave r))
 
 -- the text is unreadable, or memory ran out while the reader was in order
 abbrev pub FailsToRead : TextName → Side → ReadFault → Type 0

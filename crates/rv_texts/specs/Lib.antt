@@ -2,5 +2,4 @@ pub mod Calls
 pub mod Memory
 pub mod Readers
 pub mod Texts
-pub mod Unread
 pub mod Within

@@ -1,9 +1,7 @@
 //! The texts of a run, read from their readers.
 ghost use Rattle.std.specs.Prelude.{◌≡◌, ◌⊎◌, IfErr, IfOk, IfSome, IsSomeAnd, false, is_some};
 ghost use Rattle.std.specs.Option.{option_map};
-ghost use Rattle.rv_texts.specs.Unread.{Unread};
-ghost use Rattle.rv_texts.specs.Calls.{GaveIf};
-ghost use Rattle.rv_texts.specs.Readers.{AllGave};
+ghost use Rattle.rv_texts.specs.Readers.{Reads, GaveIf};
 ghost use Rattle.rv_texts.specs.Texts.{IsInOrder, IsUnreadable, side, side_if};
 ghost use Rattle.rv_texts.specs.Within.{AreWithin, IsWithin};
 ghost use Rattle.rv_texts.specs.declared.fault.ReadFault.TheVariants.{OutOfMemory, Unreadable};
@@ -106,16 +104,11 @@ pub fn read_texts<S: TextIn, I: TextIn, C: TextIn>(
     requires source { S.has_failed source.old ≡ false }
     requires inputs { I.has_failed inputs.old ≡ false }
     requires commands { IfSome commands.old (λ c. C.has_failed c ≡ false) }
-    ensures ok { IfOk result (AllGave (record {
+    ensures read { Reads (record {
       source = side S.left S.has_failed source.old source.new;
       inputs = side I.left I.has_failed inputs.old inputs.new;
       commands = side_if C.left C.has_failed commands.old commands.new;
-    })) }
-    ensures err { IfErr result (Unread (record {
-      source = side S.left S.has_failed source.old source.new;
-      inputs = side I.left I.has_failed inputs.old inputs.new;
-      commands = side_if C.left C.has_failed commands.old commands.new;
-    })) }
+    }) result }
     ensures there { is_some commands.new ≡ is_some commands.old }
 
     // What is read of a text that is too long: no more than a buffer beyond the limit.

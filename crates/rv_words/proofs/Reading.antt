@@ -14,8 +14,8 @@ use Rattle.clap.specs.declared.builder.value_parser.Reading.TheVariants.{Without
 use Rattle.clap.specs.declared.parser.matches.ValueSource.TheVariants.{DefaultValue}
 use Rattle.rv_words.specs.Board.{OptionName, board_app, commands, input, name_of, pages, range_of, slots, steps}
 use Rattle.rv_words.specs.Read.{number_of}
-use Rattle.rv_words.specs.Parts.{ReadByRules, all_words, is_new, number_in}
-use Rattle.rv_words.specs.Rules.{Part, Says, are_new, given_by, is_allowed, is_plain, is_readable, named, source, value_in, words_of}
+use Rattle.rv_words.specs.Parts.{ReadByRules, all_words, is_new, number_in, given_by, value_in}
+use Rattle.rv_words.specs.Rules.{Part, Says, are_new, is_allowed, is_plain, is_readable, named, source, words_of}
 use Rattle.rv_words.proofs.Rules.{absent, any_more, arguments, between, both, has_rows, has_source, holding, holding_rows, holding_source, joined_walked, name_walked, no_flag, not_source, or_false, or_true, parts_are_taken, position_of, row_added, row_for, rows_in, rule_for, rule_of, same_words, shape, source_rows, source_rule_built, source_used, source_walked, value_walked}
 
 -- ---- the rows at the end of the walk

@@ -13,8 +13,8 @@ use Rattle.clap.specs.declared.parser.matches.ValueSource.TheVariants.{CommandLi
 use Rattle.rv_words.specs.Board.{OptionName, board_app, commands, input, name_of, pages, slots, source_rule, steps}
 use Rattle.rv_words.specs.Chain.{input_rule, commands_rule, steps_rule, pages_rule, slots_rule}
 use Rattle.rv_words.proofs.BoardParse.{board_simple}
-use Rattle.rv_words.specs.Parts.{TakenByRules, all_words, may_be}
-use Rattle.rv_words.specs.Rules.{Part, are_new, given_by, is_allowed, is_plain, is_readable, named, source, value_in, words_of}
+use Rattle.rv_words.specs.Parts.{TakenByRules, all_words, may_be, given_by, value_in}
+use Rattle.rv_words.specs.Rules.{Part, are_new, is_allowed, is_plain, is_readable, named, source, words_of}
 
 -- ---- tests
 

@@ -1,15 +1,10 @@
 -- The command `rvboard [SOURCE] [--input F] [--commands F] [--steps N] [--pages P] [--slots S]`, as the rules
 -- that `clap` parses words by.
 -- To audit: public contracts cite this.
-use Rattle.std.specs.Prelude.{ℕ, pos, List, [], ◌∷◌, Option, Some, None, codes, fold, map}
-use Rattle.std.specs.Borrow.{Bor}
+use Rattle.std.specs.Prelude.{ℕ, pos, [], ◌∷◌, Option, Some, None, codes, fold}
 use Rattle.clap.specs.Words.{App, Rule, Text, new_app, new_rule, with_rule}
 use Rattle.clap.specs.declared.builder.action.ArgAction.TheVariants.{Set}
 use Rattle.clap.specs.declared.builder.value_parser.ValueParser.TheVariants.{Signed}
-
--- the texts of the words
-abbrev pub texts_of : List (Bor Text) → List Text
-texts_of words = map (λ w. w.now) words
 
 -- ---- the options
 

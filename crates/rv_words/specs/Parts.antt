@@ -1,19 +1,26 @@
 -- The words of parts, one part after another.
 -- Not to audit: private contracts and proofs alone cite this.
-use Rattle.std.specs.Prelude.{◌≡◌, ◌&&◌, ℕ, pos, Bool, true, List, [], ◌∷◌, ◌++◌, not}
+use Rattle.std.specs.Prelude.{◌≡◌, ◌&&◌, ℕ, pos, Bool, true, List, [], ◌∷◌, ◌++◌, Some, codes, not, unwrap_or}
 use Rattle.std.specs.List.{flat_map, list_all, list_any}
 use Rattle.std.specs.Option.{option_map_or}
 use Rattle.std.specs.Str.{bytes_eq}
 use Rattle.std.specs.Str.Parse.{digits_value, without_leading_plus}
 use Rattle.clap.specs.ValueTests.{is_signed_in}
-use Rattle.clap.specs.Words.{Text, fault_of, matches_of, takes, without_minus}
+use Rattle.clap.specs.Words.{Row, Text, fault_of, first_of, matches_of, takes, without_minus}
 use Rattle.clap.specs.declared.error.kind.ErrorKind.TheVariants.{DisplayHelp}
-use Rattle.rv_words.specs.Board.{OptionName, board_app, range_of}
-use Rattle.rv_words.specs.Rules.{Part, ReadsAs, are_new, given_by, is_allowed, is_readable, words_of}
+use Rattle.rv_words.specs.Board.{OptionName, board_app, name_of, range_of}
+use Rattle.rv_words.specs.Rules.{Part, Says, are_new, given, is_allowed, is_readable, said, words_of}
 
 abbrev pub all_words : List Part → List Text
 all_words [] = []
 all_words (part ∷ more) = words_of part ++ all_words more
+
+-- what a part gives, and the text that it gives
+abbrev pub given_by : Part → Text
+given_by part = (said part).0
+
+abbrev pub value_in : Part → Text
+value_in part = (said part).1
 
 -- whether an option may have a value
 abbrev pub may_be : OptionName → Text → Bool
@@ -28,6 +35,11 @@ abbrev pub number_in : Text → ℕ
 number_in value = digits_value 10 (without_leading_plus (without_minus value))
 
 -- ---- the laws
+
+-- what parts give for each argument: where none gives the source, it is `-`
+pub record ReadsAs (parts : List Part) (rows : List Row) : Type 0 where
+  pub source : first_of (codes "source") rows ≡ Some (unwrap_or (given (codes "source") parts) (codes "-"))
+  pub options : (o : OptionName) → Says (range_of o) (name_of o) parts rows
 
 abbrev pub TakenByRules : Type 0
 TakenByRules =

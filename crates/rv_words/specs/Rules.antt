@@ -41,28 +41,23 @@ is_allowed (source text) = true
 is_allowed (named name is_joined value) =
     option_map_or (λ r. is_signed_in (pos r.least) (pos r.most) value) (range_of name) true
 
--- what a part gives: the source, or the value of an option
-abbrev pub given_by : Part → Text
-given_by (source text) = codes "source"
-given_by (named name is_joined value) = name_of name
+-- what a part gives, the source or an option, and the text that it gives for it
+abbrev pub said : Part → Text × Text
+said (source text) = (codes "source", text)
+said (named name is_joined value) = (name_of name, value)
 
 -- whether each part gives what none before it does
 abbrev pub are_new : List Part → List Part → Bool
 are_new before [] = true
 are_new before (part ∷ more) =
-    not (list_any (λ other. bytes_eq (given_by other) (given_by part)) before)
+    not (list_any (λ other. bytes_eq (said other).0 (said part).0) before)
     && are_new (before ++ part ∷ []) more
 
 -- ---- what they then mean
 
--- the text that a part gives
-abbrev pub value_in : Part → Text
-value_in (source text) = text
-value_in (named name is_joined value) = value
-
 -- the text that is given for an argument, if any part gives one
 abbrev pub given : Text → List Part → Option Text
-given id parts = option_map value_in (find (λ part. bytes_eq (given_by part) id) parts)
+given id parts = option_map (λ part. (said part).1) (find (λ part. bytes_eq (said part).0 id) parts)
 
 -- what parts give for an option: a file, if any gives one, or a number, with a sign or none, or else its
 -- default
@@ -71,8 +66,3 @@ Says None name parts rows = first_of name rows ≡ given name parts
 Says (Some r) name parts rows =
     number_of name rows
     ≡ digits_value 10 (without_leading_plus (without_minus (unwrap_or (given name parts) r.default)))
-
--- what parts give for each argument: where none gives the source, it is `-`
-pub record ReadsAs (parts : List Part) (rows : List Row) : Type 0 where
-  pub source : first_of (codes "source") rows ≡ Some (unwrap_or (given (codes "source") parts) (codes "-"))
-  pub options : (o : OptionName) → Says (range_of o) (name_of o) parts rows

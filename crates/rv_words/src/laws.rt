@@ -1,11 +1,11 @@
 //! Laws of the words of the command line: `clap`'s meaning covers them, and they read as rules.
-ghost use Rattle.std.specs.Prelude.{◌≡◌, ◌&&◌, [], ◌∷◌, List, codes, true};
+ghost use Rattle.std.specs.Prelude.{◌≡◌, ◌&&◌, [], ◌∷◌, List, Some, codes, true, unwrap_or};
 ghost use Rattle.std.specs.List.{flat_map, list_all};
 ghost use Rattle.clap.specs.Faults.{is_simple_and_free};
-ghost use Rattle.clap.specs.Words.{Text, fault_of, matches_of, takes};
+ghost use Rattle.clap.specs.Words.{Text, fault_of, first_of, matches_of, takes};
 ghost use Rattle.clap.specs.declared.error.kind.ErrorKind.TheVariants.{DisplayHelp};
-ghost use Rattle.rv_words.specs.Board.{board_app};
-ghost use Rattle.rv_words.specs.Rules.{Part, ReadsAs, are_new, is_allowed, is_readable, words_of};
+ghost use Rattle.rv_words.specs.Board.{OptionName, board_app, name_of, range_of};
+ghost use Rattle.rv_words.specs.Rules.{Part, Says, are_new, given, is_allowed, is_readable, words_of};
 
 /// Law: the command is one of those of which `clap`'s meaning says the matches and the errors. So what
 /// `read_words` ensures by them says something of all words.
@@ -28,10 +28,15 @@ pub fn words_are_taken_by_rules()
         → takes board_app (program ∷ flat_map words_of parts) ≡ (list_all is_allowed parts && are_new [] parts) }
 {}
 
-/// Law: where such words are taken, they mean what they give, with the defaults of what they don't give:
-/// `read_words` reads its fields from these matches.
+/// Law: where such words are taken, they mean what they give, with the defaults of what they don't give: `-` of
+/// the source, and those of the table of the options. `read_words` reads its fields from these matches.
 pub fn words_are_read_by_rules()
-    ensures { (program : Text) (parts : List Part) → list_all is_readable parts ≡ true
+    ensures source { (program : Text) (parts : List Part) → list_all is_readable parts ≡ true
         → takes board_app (program ∷ flat_map words_of parts) ≡ true
-        → ReadsAs parts (matches_of board_app (program ∷ flat_map words_of parts)) }
+        → first_of (codes "source") (matches_of board_app (program ∷ flat_map words_of parts))
+        ≡ Some (unwrap_or (given (codes "source") parts) (codes "-")) }
+    ensures options { (program : Text) (parts : List Part) → list_all is_readable parts ≡ true
+        → takes board_app (program ∷ flat_map words_of parts) ≡ true
+        → (o : OptionName) → Says (range_of o) (name_of o) parts
+        (matches_of board_app (program ∷ flat_map words_of parts)) }
 {}

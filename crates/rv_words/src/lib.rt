@@ -4,14 +4,15 @@
 
 ghost use Rattle.std.specs.Prelude.{◌≡◌, All, codes, IfErr, IfOk, false, map, true};
 ghost use Rattle.clap.specs.Words.{FailsBy, app_of, fault_of, kind_of, matches_of, rule_of, takes};
-ghost use Rattle.rv_words.specs.Board.{board_app, file_rule, source_rule, texts_of};
+ghost use Rattle.clap.specs.Walk.{texts};
+ghost use Rattle.rv_words.specs.Board.{board_app, file_rule, source_rule};
 ghost use Rattle.rv_words.specs.Chain.{HasRule, IsLocal, board_rules, parsed_rule};
 ghost use Rattle.rv_words.specs.Parse.{IsBoardParse};
 ghost use Rattle.rv_words.specs.Read.{IsReadFrom};
 
 mod laws;
-mod no_run;
 mod origin;
+mod status;
 
 use clap::builder::ValueParser;
 use clap::error::ErrorKind;
@@ -19,8 +20,8 @@ use clap::{Arg, ArgAction, ArgMatches, Command, Error, value_parser};
 pub use laws::{
     help_is_answered, words_are_read_by_rules, words_are_taken_by_rules, words_have_a_meaning,
 };
-pub use no_run::NoRun;
 pub use origin::Origin;
+pub use status::{REFUSED, refusal_status};
 use std::alloc::{AllocError, Global};
 
 /// The limit of a run, and the sizes of its board's memory and decoded cache.
@@ -121,10 +122,10 @@ fn board_command<'a>(alloc: Global) -> Result<Command<'a>, AllocError>
 
 /// Parses the words by the command.
 fn parse<'a>(alloc: Global, words: &'a [&'a str]) -> Result<ArgMatches<'a>, Error>
-    ensures parsed { IfOk result (IsBoardParse (texts_of words.entry.now)) }
-    ensures takes { IfErr result (λ e. takes board_app (texts_of words.entry.now) ≡ true
+    ensures parsed { IfOk result (IsBoardParse (texts words.entry.now)) }
+    ensures takes { IfErr result (λ e. takes board_app (texts words.entry.now) ≡ true
         → kind_of e ≡ ErrorKind.OutOfMemory) }
-    ensures faults { FailsBy (fault_of board_app (texts_of words.entry.now)) result }
+    ensures faults { FailsBy (fault_of board_app (texts words.entry.now)) result }
 {
     let command = board_command(alloc)?;
     command.try_get_matches_from(words)
@@ -139,14 +140,14 @@ fn parse<'a>(alloc: Global, words: &'a [&'a str]) -> Result<ArgMatches<'a>, Erro
 ///
 /// The error that `clap` gives refused words, or `ErrorKind::OutOfMemory`.
 pub fn read_words<'a>(alloc: Global, words: &'a [&'a str]) -> Result<Words<'a>, Error>
-    ensures read { IfOk result (IsReadFrom (matches_of board_app (texts_of words.entry.now))) }
+    ensures read { IfOk result (IsReadFrom (matches_of board_app (texts words.entry.now))) }
 
     // Words that the command takes fail only where memory runs out.
-    ensures takes { IfErr result (λ e. takes board_app (texts_of words.entry.now) ≡ true
+    ensures takes { IfErr result (λ e. takes board_app (texts words.entry.now) ≡ true
         → kind_of e ≡ ErrorKind.OutOfMemory) }
 
     // The error of words that it refuses is of a kind that the command gives them.
-    ensures faults { FailsBy (fault_of board_app (texts_of words.entry.now)) result }
+    ensures faults { FailsBy (fault_of board_app (texts words.entry.now)) result }
 {
     let matches = parse(alloc, words)?;
     let source = matches.get_str("source").unwrap();

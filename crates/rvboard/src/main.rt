@@ -6,9 +6,10 @@
 
 ghost use Rattle.std.specs.Prelude.{◌≡◌, IfOk, IfSome, false};
 
+use clap::error::ErrorKind;
 use rv_cli::{
-    CliFault, Ending, FileIn, FileOut, MemoryIn, NoRun, Options, Origin, TextIn, TextName, Words,
-    exit_status, fault_line, file_or_fault, read_words, run_text,
+    CliFault, Ending, FileIn, FileOut, MemoryIn, Options, Origin, REFUSED, TextIn, TextName, Words,
+    exit_status, fault_line, file_or_fault, read_words, refusal_status, run_text,
 };
 use std::alloc::AllocError;
 use std::env;
@@ -93,14 +94,12 @@ fn finish(rt: &HostRuntime, outcome: &Result<Ending, CliFault>) -> u8 {
 
 /// Prints the help that was asked for, or why the words are refused, and returns the exit status.
 fn refuse(rt: &HostRuntime, error: &clap::Error) -> u8 {
-    let why = NoRun::from(error);
-    match why {
-        NoRun::OutOfMemory => report(rt, &CliFault::OutOfMemory),
-        NoRun::Help | NoRun::Refused => {
-            let _ = error.print(rt);
-        }
+    if error.kind() == ErrorKind::OutOfMemory {
+        report(rt, &CliFault::OutOfMemory);
+    } else {
+        let _ = error.print(rt);
     }
-    why.status()
+    refusal_status(error)
 }
 
 /// Reads the words, makes the run that they ask for, and returns the exit status.
@@ -124,7 +123,7 @@ fn refuse_words(rt: &HostRuntime, error: &io::Error) -> u8 {
         return finish(rt, &Err(CliFault::OutOfMemory));
     }
     let _ = rt.stderr().write_all(b"error: a word is not UTF-8\n");
-    NoRun::Refused.status()
+    REFUSED
 }
 
 fn main(rt: HostRuntime) -> ExitCode {

@@ -10,9 +10,10 @@ mod words;
 
 use crate::talk::{TalkFault, print_answer, talk};
 use crate::words::{Words, read_words};
+use clap::error::ErrorKind;
 use rv_base::TEXT_LIMIT;
 use rv_lab::{Answer, Lab, OpenFault, append_diagnosis};
-use rv_words::NoRun;
+use rv_words::refusal_status;
 use std::alloc::AllocError;
 use std::io::{self, Write};
 use std::process::ExitCode;
@@ -107,14 +108,12 @@ fn run(rt: &HostRuntime, words: &Words<'_>) -> u8 {
 
 /// Prints the help that was asked for, or why the words are refused, and returns the exit status.
 fn refuse_words(rt: &HostRuntime, error: &clap::Error) -> u8 {
-    let why = NoRun::from(error);
-    match why {
-        NoRun::OutOfMemory => report(rt, b"out of memory\n"),
-        NoRun::Help | NoRun::Refused => {
-            let _ = error.print(rt);
-        }
+    if error.kind() == ErrorKind::OutOfMemory {
+        report(rt, b"out of memory\n");
+    } else {
+        let _ = error.print(rt);
     }
-    why.status()
+    refusal_status(error)
 }
 
 /// Reads the words, does what they ask for, and returns the exit status.

@@ -1,6 +1,6 @@
 //! The lines and the exit statuses of faults, and files that can't be opened.
 use rv_asm::{AsmFault, FaultKind};
-use rv_cli::{CliFault, TextName, exit_status, fault_line, file_or_fault};
+use rv_cli::{BootFault, CliFault, OpenFault, TextName, exit_status, fault_line, file_or_fault};
 use std::alloc::Global;
 use std::io;
 use std::test::Fail;
@@ -12,33 +12,53 @@ fn line_of(alloc: Global, fault: &CliFault) -> Result<Vec<u8>, Fail> {
     Ok(line)
 }
 
+/// Returns the fault of a board that does not boot.
+fn unbooted(fault: BootFault) -> CliFault {
+    CliFault::Open(OpenFault::Board(fault))
+}
+
 #[test]
 fn names_each_fault(rt: HostRuntime) -> Result<(), Fail> {
-    let source = CliFault::Source(AsmFault {
+    let source = OpenFault::Source(AsmFault {
         line: 3,
         kind: FaultKind::DuplicateSymbol,
     });
     let rows = [
         (
-            CliFault::ReadSource,
-            "ReadSource",
+            CliFault::Read(TextName::Source),
+            "Read",
             "cannot read source\n",
             4,
         ),
-        (CliFault::ReadInput, "ReadInput", "cannot read input\n", 4),
         (
-            CliFault::ReadCommands,
-            "ReadCommands",
+            CliFault::Read(TextName::Input),
+            "Read",
+            "cannot read input\n",
+            4,
+        ),
+        (
+            CliFault::Read(TextName::Commands),
+            "Read",
             "cannot read commands\n",
             4,
         ),
-        (CliFault::Input(3), "Input", "input line 3: refused\n", 3),
-        (source, "Source", "source line 3: E6 DuplicateSymbol\n", 3),
-        (CliFault::BadPages, "BadPages", "bad pages\n", 3),
-        (CliFault::BadSlots, "BadSlots", "bad slots\n", 3),
         (
-            CliFault::ImageTooLarge,
-            "ImageTooLarge",
+            CliFault::Open(OpenFault::Input(3)),
+            "Open",
+            "input line 3: refused\n",
+            3,
+        ),
+        (
+            CliFault::Open(source),
+            "Open",
+            "source line 3: E6 DuplicateSymbol\n",
+            3,
+        ),
+        (unbooted(BootFault::BadPages), "Open", "bad pages\n", 3),
+        (unbooted(BootFault::BadSlots), "Open", "bad slots\n", 3),
+        (
+            unbooted(BootFault::ImageTooLarge),
+            "Open",
             "image too large\n",
             3,
         ),
@@ -57,10 +77,12 @@ fn names_each_fault(rt: HostRuntime) -> Result<(), Fail> {
 #[test]
 fn an_unopened_file_is_its_reader_s_fault(rt: HostRuntime) {
     let refused: io::Result<u8> = Err(io::Error::from(io::ErrorKind::PermissionDenied));
-    assert!(rt; file_or_fault(TextName::Source, refused) == Err(CliFault::ReadSource));
+    assert!(rt; file_or_fault(TextName::Source, refused) == Err(CliFault::Read(TextName::Source)));
     let refused: io::Result<u8> = Err(io::Error::from(io::ErrorKind::NotFound));
-    assert!(rt; file_or_fault(TextName::Input, refused) == Err(CliFault::ReadInput));
+    assert!(rt; file_or_fault(TextName::Input, refused) == Err(CliFault::Read(TextName::Input)));
     let refused: io::Result<u8> = Err(io::Error::from(io::ErrorKind::NotFound));
-    assert!(rt; file_or_fault(TextName::Commands, refused) == Err(CliFault::ReadCommands));
+    assert!(rt;
+        file_or_fault(TextName::Commands, refused) == Err(CliFault::Read(TextName::Commands))
+    );
     assert!(rt; file_or_fault(TextName::Source, Ok(7u8)) == Ok(7));
 }

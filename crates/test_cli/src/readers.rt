@@ -2,7 +2,7 @@
 ghost use Rattle.std.specs.Prelude.{◌≡◌, false};
 
 use crate::runs::{DEFAULTS, HELLO};
-use rv_cli::{CliFault, Ending, MemoryIn, MemoryOut, TextOut, run_text};
+use rv_cli::{CliFault, Ending, MemoryIn, MemoryOut, OpenFault, TextName, TextOut, run_text};
 use std::alloc::Global;
 
 /// Returns a reader over memory, whose first call fails where `fails` says so.
@@ -42,11 +42,23 @@ fn run(
 #[test]
 fn stops_at_the_first_reader_that_fails(rt: HostRuntime) {
     let rows: [(&[u8], (bool, bool, bool), CliFault); 5] = [
-        (HELLO, (true, true, true), CliFault::ReadSource),
-        (HELLO, (false, true, true), CliFault::ReadInput),
-        (b"foo", (false, true, false), CliFault::ReadInput),
-        (b"foo", (false, false, true), CliFault::ReadCommands),
-        (HELLO, (false, false, false), CliFault::Input(1)),
+        (HELLO, (true, true, true), CliFault::Read(TextName::Source)),
+        (HELLO, (false, true, true), CliFault::Read(TextName::Input)),
+        (
+            b"foo",
+            (false, true, false),
+            CliFault::Read(TextName::Input),
+        ),
+        (
+            b"foo",
+            (false, false, true),
+            CliFault::Read(TextName::Commands),
+        ),
+        (
+            HELLO,
+            (false, false, false),
+            CliFault::Open(OpenFault::Input(1)),
+        ),
     ];
     for (source, fails, fault) in rows {
         let (outcome, out) = run(rt.alloc(), source, fails);

@@ -3,8 +3,8 @@ ghost use Rattle.std.specs.Prelude.{◌≡◌, false};
 
 use crate::runs::{DEFAULTS, HELLO};
 use rv_cli::{
-    CliFault, Ending, FileIn, FileOut, InFailed, MemoryIn, MemoryOut, Options, TextIn, TextOut,
-    exit_status, run_text,
+    CliFault, Ending, FileIn, FileOut, InFailed, MemoryIn, MemoryOut, Options, TextIn, TextName,
+    TextOut, exit_status, run_text,
 };
 use std::alloc::Global;
 use std::io::{self, ErrorKind, Read, Write};
@@ -86,7 +86,7 @@ fn stops_at_a_failed_read(rt: HostRuntime) {
     let mut failing = MemoryIn::new(HELLO).with_most(4).with_failure_after(1);
     let mut out = MemoryOut::new(rt.alloc());
     let outcome = run_without_commands(rt.alloc(), &mut failing, DEFAULTS, &mut out);
-    assert!(rt; outcome == Err(CliFault::ReadSource));
+    assert!(rt; outcome == Err(CliFault::Read(TextName::Source)));
     assert!(rt; failing.failed());
     assert_eq!(rt; exit_status(&outcome), 4);
     assert!(rt; out.bytes().is_empty());
@@ -96,7 +96,7 @@ fn stops_at_a_failed_read(rt: HostRuntime) {
 fn stops_at_a_source_without_an_end(rt: HostRuntime) {
     let mut out = MemoryOut::new(rt.alloc());
     let outcome = run_without_commands(rt.alloc(), &mut Endless, DEFAULTS, &mut out);
-    assert!(rt; outcome == Err(CliFault::ReadSource));
+    assert!(rt; outcome == Err(CliFault::Read(TextName::Source)));
     assert!(rt; out.bytes().is_empty());
 }
 
@@ -114,7 +114,7 @@ fn stops_at_commands_without_an_end(rt: HostRuntime) {
         DEFAULTS,
         &mut out,
     );
-    assert!(rt; outcome == Err(CliFault::ReadCommands));
+    assert!(rt; outcome == Err(CliFault::Read(TextName::Commands)));
     assert!(rt; out.bytes().is_empty());
 }
 
@@ -220,7 +220,7 @@ fn stops_at_a_failed_read_of_std(rt: HostRuntime) {
     let mut source = FileIn::new(Interrupted::new(HELLO, Some(5)));
     let mut out = MemoryOut::new(rt.alloc());
     let outcome = run_without_commands(rt.alloc(), &mut source, DEFAULTS, &mut out);
-    assert!(rt; outcome == Err(CliFault::ReadSource));
+    assert!(rt; outcome == Err(CliFault::Read(TextName::Source)));
     assert!(rt; source.failed());
     assert!(rt; out.bytes().is_empty());
 }

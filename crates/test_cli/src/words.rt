@@ -1,7 +1,7 @@
 //! The words of the command line: those that are accepted, those that are refused, and the help.
 use crate::runs::DEFAULTS;
 use clap::error::ErrorKind;
-use rv_cli::{NoRun, Options, Origin, Words, read_words};
+use rv_cli::{Options, Origin, Words, read_words, refusal_status};
 use std::alloc::{AllocError, Global};
 use std::process::Abort;
 use std::test::Fail;
@@ -104,16 +104,12 @@ fn reads_the_files(rt: HostRuntime) -> Result<(), Fail> {
     check_files(&rt, alloc, "rvboard --commands ", None, Some(""))
 }
 
-/// Checks that the words of a line are refused with an error of this kind, and why there is no run then.
+/// Checks that the words of a line are refused with an error of this kind, and the exit status then.
 fn check_refusal(rt: &impl Abort, alloc: Global, line: &str, kind: ErrorKind) -> Result<(), Fail> {
     let words = words_of(alloc, line)?;
     let read = read_words(alloc, words.as_slice());
-    let why = if kind == ErrorKind::DisplayHelp {
-        NoRun::Help
-    } else {
-        NoRun::Refused
-    };
-    assert!(rt; read.is_err_and(|e| e.kind() == kind && NoRun::from(&e) == why));
+    let status = if kind == ErrorKind::DisplayHelp { 0 } else { 3 };
+    assert!(rt; read.is_err_and(|e| e.kind() == kind && refusal_status(&e) == status));
     Ok(())
 }
 
@@ -175,13 +171,6 @@ fn a_dash_is_the_standard_input(rt: HostRuntime) -> Result<(), Fail> {
     assert!(rt; NO_WORDS.source_origin() == Origin::StandardInput);
     assert!(rt; file.source_origin() == Origin::File("./-"));
     check_words(&rt, rt.alloc(), "rvboard ./-", file)
-}
-
-#[test]
-fn tells_why_there_is_no_run(rt: HostRuntime) {
-    assert_eq!(rt; NoRun::Help.status(), 0);
-    assert_eq!(rt; NoRun::Refused.status(), 3);
-    assert_eq!(rt; NoRun::OutOfMemory.status(), 4);
 }
 
 #[test]

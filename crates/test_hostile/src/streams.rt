@@ -172,19 +172,19 @@ fn stop_at_readers(alloc: Global) -> bool {
         alloc,
         TextName::Source,
         ECHO,
-        CliFault::ReadSource,
+        CliFault::Read(TextName::Source),
         [true, false, false, false],
     ) && stops_at_reads(
         alloc,
         TextName::Input,
         INPUTS,
-        CliFault::ReadInput,
+        CliFault::Read(TextName::Input),
         [false, true, false, false],
     ) && stops_at_reads(
         alloc,
         TextName::Commands,
         COMMANDS,
-        CliFault::ReadCommands,
+        CliFault::Read(TextName::Commands),
         [false, false, true, false],
     )
 }

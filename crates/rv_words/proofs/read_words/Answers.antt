@@ -2,7 +2,7 @@ use Rattle.std.proofs.Common.{◌≡◌, ◌≤◌, ◌∙◌, rules, arith, ap,
 use Rattle.std.specs.Borrow.{Bor}
 use Rattle.std.specs.Prelude.{codes, option_map}
 use Rattle.std.specs.Str.Parse.{ParsesUnsigned, ExplainsUnsignedError, HasUnsignedDigitsIfOk}
-use Rattle.rv_words.specs.Board.{texts_of}
+use Rattle.clap.specs.Walk.{texts}
 use Rattle.rv_words.proofs.BoardParse.{number_got, text_got}
 use Rattle.rv_words.proofs.read_words.Goals as goal
 
@@ -10,7 +10,7 @@ pub unwrap-steps-requires : goal.unwrap-steps-requires
 unwrap-steps-requires c =
     let p = c.in_ok-matches.ensures.parsed in
     let n = number_got _ (λ bs r. ParsesUnsigned 32 10 bs r × ExplainsUnsignedError 10 bs r
-    × HasUnsignedDigitsIfOk bs r) 32 0 1000000000 (texts_of c.args.words.now) c.in_ok-matches.matches
+    × HasUnsignedDigitsIfOk bs r) 32 0 1000000000 (texts c.args.words.now) c.in_ok-matches.matches
     (codes "steps") c.get_one.result
     c.get_one.ensures.value (λ u x g. g.0) (omega arith) p p.steps in
     rw n.is refl
@@ -19,7 +19,7 @@ pub unwrap-pages-requires : goal.unwrap-pages-requires
 unwrap-pages-requires c =
     let p = c.in_ok-matches.ensures.parsed in
     let n = number_got _ (λ bs r. ParsesUnsigned 16 10 bs r × ExplainsUnsignedError 10 bs r
-    × HasUnsignedDigitsIfOk bs r) 16 1 4096 (texts_of c.args.words.now) c.in_ok-matches.matches
+    × HasUnsignedDigitsIfOk bs r) 16 1 4096 (texts c.args.words.now) c.in_ok-matches.matches
     (codes "pages") c.get_one-2.result
     c.get_one-2.ensures.value (λ u x g. g.0) (omega arith) p p.pages in
     rw n.is refl
@@ -28,7 +28,7 @@ pub unwrap-slots-requires : goal.unwrap-slots-requires
 unwrap-slots-requires c =
     let p = c.in_ok-matches.ensures.parsed in
     let n = number_got _ (λ bs r. ParsesUnsigned 16 10 bs r × ExplainsUnsignedError 10 bs r
-    × HasUnsignedDigitsIfOk bs r) 16 64 4096 (texts_of c.args.words.now) c.in_ok-matches.matches
+    × HasUnsignedDigitsIfOk bs r) 16 64 4096 (texts c.args.words.now) c.in_ok-matches.matches
     (codes "slots") c.get_one-3.result
     c.get_one-3.ensures.value (λ u x g. g.0) (omega arith) p p.slots in
     rw n.is refl
@@ -36,7 +36,7 @@ unwrap-slots-requires c =
 pub returns-clause-read : goal.returns-clause-read
 returns-clause-read c =
     let m = c.in_ok-matches.matches in
-    let words = texts_of c.args.words.now in
+    let words = texts c.args.words.now in
     let p = c.in_ok-matches.ensures.parsed in
     let n = number_got _ (λ bs r. ParsesUnsigned 32 10 bs r × ExplainsUnsignedError 10 bs r
     × HasUnsignedDigitsIfOk bs r) 32 0 1000000000 words m (codes "steps") c.get_one.result
