@@ -29,9 +29,6 @@ use Rattle.rv_asm.proofs.Whole.{length-said}
 
 -- ---- diagnoses are collected line by line
 
-abbrev listed_faults : ℕ → Option FaultKind → List AsmFault
-listed_faults k fault = option_map_or (λ kind. record { line = suc k; kind = kind } ∷ []) fault []
-
 pub none_found : (texts : List (List ℕ)) (fault : ℕ → Option FaultKind) →
     Diagnoses texts (all_faults fault 0) []
 unfolding joined

@@ -32,9 +32,6 @@ names_more : (here : ℕ) (l : Label) (ls : List Label) → names_in here (l ∷
 names_more here (label.Name name) ls = refl
 names_more here (label.Local number) ls = refl
 
-pub unlabelled : (k : ℕ) (known : Known) → labelled k known [] ≡ known
-unlabelled k known = rw (append-nil, append-nil) refl
-
 -- ---- where no label is left out
 
 all_by : (k : ℕ) (known : Known) (l : Label) (ls : List Label) (twice : Bool) → relabels known (l ∷ []) ≡ twice →

@@ -1,5 +1,5 @@
 -- Placing a statement.
-use Rattle.std.proofs.Common.{◌≡◌, ℕ, ◌+◌, false, List, [], ◌∷◌, ◌++◌, ℤ, length, refl, sym, ◌∙◌}
+use Rattle.std.proofs.Common.{◌≡◌, ℕ, ◌+◌, ◌<◌, ◌≤◌, get_or, arith, false, List, [], ◌∷◌, ◌++◌, ℤ, length, refl, sym, ◌∙◌}
 use Rattle.std.specs.Prelude.{Option, None, Some, is_some, Ok}
 use Rattle.rv_source.specs.declared.expression.Term.{Term}
 use Rattle.rv_source.specs.declared.statement.Statement.{Statement}
@@ -32,14 +32,15 @@ pub waiting_kept : (waiting : Waiting) (terms : List Term) (s : Single) → IsSu
 unfolding kept_bytes
 waiting_kept waiting terms s is ds line here = rw (is ds line here) refl
 
-pub data_kept : (width : Width) (x : Operand) (xs all : List Operand) (k : Kept) → x ∷ xs ≡ all → length xs ≡ 0
-    → ((ds : Definitions) (line here : ℕ) → kept_bytes ds line here k
+pub data_kept : (width : Width) (x : Operand) (xs : List Operand) (k : Kept) → x ≡ get_or xs 0 x → 1 ≤ length xs →
+    length xs < 2 → ((ds : Definitions) (line here : ℕ) → kept_bytes ds line here k
     ≡ waiting_bytes here (w.Data width) (operand_value ds line here x))
     → (ds : Definitions) (line here : ℕ) → kept_bytes ds line here k
-    ≡ placed_in (bytes_in width) all (operand_value ds line here)
-data_kept width x [] all k is none kept ds line here =
+    ≡ placed_in (bytes_in width) xs (operand_value ds line here)
+data_kept width x [] k is some short kept ds line here = absurd (omega (arith, some))
+data_kept width x (y ∷ []) k is some short kept ds line here =
     rw (← is) (kept ds line here ∙ sym (placed_one (bytes_in width) x (operand_value ds line here)))
-data_kept width x (y ∷ ys) all k is none kept ds line here = cc
+data_kept width x (y ∷ z ∷ zs) k is some short kept ds line here = absurd (omega (arith, short))
 
 module _ (k : ℕ) (known : Known) (statement : Statement) where
   freed : free known.definitions k known.address statement ≡ unless (fault_stated k known (Some statement)) (Ok tt)

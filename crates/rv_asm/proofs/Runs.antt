@@ -68,13 +68,6 @@ module _ {S X E : Type 0} (step : S → X → Result S E) (s : S) (xs : List X) 
   pub run_more : (t : S) → step s x ≡ Ok t → run step s (drop i xs) ≡ run step t (drop (i + 1) xs)
   run_more t e = run_item ∙ ap (λ r. r >>= λ u. run step u (drop (i + 1) xs)) e
 
-module _ {S X : Type 0} (step : S → X → Result S FaultKind) (s : S) (xs : List X) (i : ℕ) (x : X)
-    (item : x ≡ get_or xs i x) (within : i < length xs) where
-  -- a run fails if one of its steps does
-  pub run_fails : (kind : FaultKind) → KindFails kind (step s x) → KindFails kind (run step s (drop i xs))
-  run_fails kind h = rw (run_item step s xs i x item within)
-      (kind_fails_bind kind (step s x) (λ u. run step u (drop (i + 1) xs)) h)
-
 module _ {S X : Type 0} (step : S → X → Result S AsmFault) (s : S) (xs : List X) (i : ℕ) (x : X)
     (item : x ≡ get_or xs i x) (within : i < length xs) where
   pub run_fails_at : (fault : AsmFault) → Fails fault (step s x) → Fails fault (run step s (drop i xs))

@@ -1,6 +1,4 @@
 //! Phase two: the addresses of statements, and the symbols that lines define.
-ghost use Rattle.std.specs.Prelude.{◌≡◌, ◌++◌, ◌∷◌, [], OnOk};
-
 use crate::FaultKind;
 use crate::extent::extent_of;
 use crate::locals::LocalLabel;
@@ -11,18 +9,6 @@ use rv_program::Names;
 use rv_source::{Label, Statement};
 use std::alloc::{AllocError, Global};
 use std::marker::Model;
-
-/// Appends a statement.
-// Out of line: the drop of a refused one would be proved anew among what the caller knows.
-fn push<'a>(
-    items: &mut Vec<PlacedStatement<'a>>,
-    item: PlacedStatement<'a>,
-) -> Result<(), AllocError>
-    ensures { OnOk result (items.new.items ≡ items.old.items ++ item.entry ∷ []) }
-{
-    items.push(item)?;
-    Ok(())
-}
 
 /// The state between two statements: the address of the next one, and the symbols defined so far.
 #[derive(Drop)]
@@ -40,7 +26,7 @@ impl Model for Known {
 }
 
 impl Known {
-    ghost use Rattle.std.specs.Prelude.{◌≡◌, ◌≤◌, ◌<◌, is_some, length, Some, Ok, OnOk, IfOk, IfErr, IfSome};
+    ghost use Rattle.std.specs.Prelude.{◌≡◌, ◌≤◌, ◌<◌, ◌∷◌, [], is_some, length, Some, Ok, OnOk, IfOk, IfErr, IfSome};
     ghost use Rattle.std.specs.List.{All};
     ghost use Rattle.rv_source.specs.Reading.{said};
     ghost use Rattle.rv_asm.specs.Kept.{KindBecomes};
@@ -146,32 +132,9 @@ impl Known {
         Ok(extent.constant)
     }
 
-    /// Gives the statement of a line its place, defines its name if it is `.equ`, and moves the address past
-    /// it.
-    #[tactic(auto, using(crate::proofs::Placing::adds, crate::proofs::Sizes::taken))]
-    fn place<'a>(
-        &mut self,
-        alloc: Global,
-        line: usize,
-        text: &'a [u8],
-        statement: &Statement<'_, 'a>,
-        items: &mut Vec<PlacedStatement<'a>>,
-    ) -> Result<(), FaultKind>
-        requires counted { line < 0xffffffffffffffff }
-        requires said { statement_in text.now ≡ Some statement.now }
-        ensures known { KindBecomes self.new result (after_statement line self.old (Some statement.now)) }
-        ensures items { OnOk result (Adds line self.old statement.now items.old.items items.new.items) }
-    {
-        let address = self.address;
-        let constant = self.advance(alloc, line, statement)?;
-        let item = PlacedStatement::new(line, address, constant, text, statement);
-        push(items, item)?;
-        Ok(())
-    }
-
     /// Lays out one more line: defines its labels and places its statement. `text` is the line as written,
     /// and `number` counts from 0.
-    #[tactic(auto, unfolding(crate::specs::Steps::after_line))]
+    #[tactic(auto, using(crate::proofs::Placing::adds, crate::proofs::Sizes::taken))]
     pub fn add<'a>(
         &mut self,
         alloc: Global,
@@ -190,10 +153,16 @@ impl Known {
         if self.new_labels(alloc, number, labels)?.is_some() {
             return Err(FaultKind::DuplicateSymbol);
         }
-        match statement {
-            Some(statement) => self.place(alloc, number, text, statement, items),
-            None => Ok(()),
+        let Some(statement) = statement else {
+            return Ok(());
+        };
+        let address = self.address;
+        let constant = self.advance(alloc, number, statement)?;
+        let item = PlacedStatement::new(number, address, constant, text, statement);
+        if items.push(item).is_err() {
+            return Err(FaultKind::OutOfMemory);
         }
+        Ok(())
     }
 
     /// Returns the address of the next statement.

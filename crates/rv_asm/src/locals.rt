@@ -80,24 +80,15 @@ impl Repeated {
     }
 }
 
-/// Appends empty lists until there is one for `number`.
-fn make_room(alloc: Global, lists: &mut Vec<Repeated>, number: usize) -> Result<(), AllocError>
-    ensures same { (n : ℕ) → get_or lists.new.items n [] ≡ get_or lists.old.items n [] }
-    ensures room { OnOk result (number < length lists.new.items) }
-{
-    while lists.len() <= number {
-        lists.push(Repeated::new(alloc))?;
-    }
-    Ok(())
-}
-
-/// Appends a definition to the list of its number.
+/// Appends a definition to the list of its number, which is made if there is none.
 fn file(alloc: Global, lists: &mut Vec<Repeated>, label: LocalLabel) -> Result<(), AllocError>
     requires { All (λ d. d.line ≤ label.line) (get_or lists.old.items label.number []) }
     ensures { Files lists.old.items lists.new.items label result }
 {
     let number = usize::from(label.number);
-    make_room(alloc, lists, number)?;
+    while lists.len() <= number {
+        lists.push(Repeated::new(alloc))?;
+    }
     lists[number].push(label)
 }
 

@@ -3,7 +3,6 @@ ghost use Rattle.std.specs.Prelude.{◌≡◌, ℕ, IfSome};
 ghost use Rattle.rv_asm.specs.Symbols.{Definitions, operand_value};
 ghost use Rattle.rv_asm.specs.Constants.{statement_bytes};
 ghost use Rattle.rv_asm.specs.Kept.{KindBecomes};
-ghost use Rattle.rv_asm.specs.Listing.{bytes_in, placed};
 ghost use Rattle.rv_asm.specs.Steps.{kept_bytes, waiting_bytes, line_text_bytes, appended};
 
 use crate::FaultKind;
@@ -13,7 +12,6 @@ use crate::kept::{Kept, LineText};
 use crate::single::as_single;
 use crate::symbols::{Scope, Symbols};
 use crate::values::bits;
-use rv_isa::Width;
 use rv_source::{Form, Operand, Statement, read_line};
 use std::alloc::Global;
 use std::marker::Model;
@@ -71,23 +69,8 @@ fn waiting<'a>(waiting: Waiting, operand: &Operand<'a>) -> Option<Kept<'a>>
     Some(Kept::Waiting { waiting, value })
 }
 
-/// Returns what is kept of values of a width, or None if it isn't a single one.
-#[tactic(auto, using(crate::proofs::Placing::data_kept))]
-fn value<'a>(width: Width, values: &[Operand<'a>]) -> Option<Kept<'a>>
-    ensures { IfSome result (λ k. (ds : Definitions) → (line here : ℕ) → kept_bytes ds line here k ≡ placed (bytes_in width) values.now (operand_value ds line here)) }
-{
-    let [first, rest @ ..] = values else {
-        return None;
-    };
-    if rest.is_empty() {
-        waiting(Waiting::Data { width }, first)
-    } else {
-        None
-    }
-}
-
 /// Returns what is kept of a statement, or None if its text has to be kept.
-#[tactic(auto, unfolding(crate::specs::Constants::statement_bytes, crate::specs::Steps::kept_bytes))]
+#[tactic(auto, using(crate::proofs::Placing::data_kept), unfolding(crate::specs::Constants::statement_bytes, crate::specs::Steps::kept_bytes))]
 fn short<'a>(constant: i64, statement: &Statement<'_, 'a>) -> Option<Kept<'a>>
     ensures { IfSome result (λ k. (ds : Definitions) → (line here : ℕ) → kept_bytes ds line here k ≡ statement_bytes constant (operand_value ds line here) here statement.now) }
 {
@@ -105,7 +88,10 @@ fn short<'a>(constant: i64, statement: &Statement<'_, 'a>) -> Option<Kept<'a>>
             let (scratch, instr) = (*scratch, *instr);
             waiting(Waiting::Far { scratch, instr }, target.operand())
         }
-        Statement::Data { width, values } => value(*width, values.as_slice()),
+        Statement::Data { width, values } => match values.as_slice() {
+            [only] => waiting(Waiting::Data { width: *width }, only),
+            _ => None,
+        },
         Statement::Constant { .. } | Statement::Marker => Some(Kept::Nothing),
         _ => None,
     }
@@ -133,13 +119,11 @@ impl<'a> PlacedStatement<'a> {
         ensures at { result.line ≡ line }
         ensures bytes { (ds : Definitions) → item_bytes ds result ≡ statement_bytes constant (operand_value ds line address) address statement.now }
     {
-        let kept = match short(constant, statement) {
-            Some(kept) => kept,
-            None => Kept::Line(LineText {
-                bytes: text,
-                constant,
-            }),
-        };
+        let line_text = Kept::Line(LineText {
+            bytes: text,
+            constant,
+        });
+        let kept = short(constant, statement).unwrap_or(line_text);
         PlacedStatement {
             line,
             address,

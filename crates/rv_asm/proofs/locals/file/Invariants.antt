@@ -1,5 +1,5 @@
 use Rattle.std.proofs.Common.{◌≡◌, ℕ, ◌+◌, ◌-◌, [], length, get_or}
-use Rattle.rv_asm.proofs.locals.make_room.Given as goal
+use Rattle.rv_asm.proofs.locals.file.Given as goal
 
 abbrev pub invariant-loop-alloc : goal.invariant-loop-alloc
 invariant-loop-alloc l = (n : ℕ) → get_or l.lists.items n [] ≡ get_or l.fn.lists.items n []
