@@ -1,15 +1,14 @@
 -- The rows of the program's tables, and labels that are read.
 -- Not to audit: private contracts alone cite this.
-use Rattle.std.specs.Prelude.{ℕ, pos, negsuc, Bool, false, List, [], ◌∷◌, ◌++◌, ◌==◌, length, map, slice_get, Option, Some, None, Result, if◌then◌else◌}
-use Rattle.std.specs.List.{filter_map, list_any}
+use Rattle.std.specs.Prelude.{ℕ, pos, negsuc, Bool, false, List, [], ◌∷◌, ◌++◌, ◌==◌, map, slice_get, Option, Some, None, Result, if◌then◌else◌}
+use Rattle.std.specs.List.{filter_map, list_any, slice_split}
 use Rattle.std.specs.Option.{option_map, ok_or}
 use Rattle.std.specs.Str.{bytes_eq}
 use Rattle.std.specs.Borrow.{Bor}
 use Rattle.rv_tokens.specs.declared.token.Token.{Token}
 use Rattle.rv_tokens.specs.declared.fault.LineFault.{LineFault}
 use Rattle.rv_tokens.specs.declared.fault.LineFault.TheVariants.{BadOperands}
-use Rattle.rv_source.specs.Expressions.{is_symbol}
-use Rattle.rv_source.specs.Operands.{is_nothing, form_of}
+use Rattle.rv_source.specs.Operands.{is_comma, is_nothing}
 use Rattle.rv_source.specs.declared.operand.Operand.{Operand}
 use Rattle.rv_source.specs.declared.statement.Statement.{Statement}
 use Rattle.rv_source.specs.declared.line.Label.{Label}
@@ -20,8 +19,6 @@ use Rattle.rv_source.specs.declared.row.Way.TheVariants as way
 use Rattle.rv_source.specs.declared.row.Template.TheVariants as t
 use Rattle.rv_source.specs.declared.row.Given.{Given}
 use Rattle.rv_source.specs.declared.row.Given.TheVariants as g
-use Rattle.rv_source.specs.declared.expression.Atom.{Atom}
-use Rattle.rv_source.specs.declared.expression.Atom.TheVariants as a
 use Rattle.rv_isa.specs.declared.op.Operation.{Operation}
 use Rattle.rv_source.specs.declared.field.Fields.{Fields}
 use Rattle.rv_source.specs.Fields.{zeros}
@@ -29,13 +26,14 @@ use Rattle.rv_source.specs.Table.{Row, These, Each, meant, near, far, pseudo_ins
 
 -- ---- operands
 
--- an operand that begins at token n of its line
-abbrev pub operand : ℕ → List Token → Option Operand
-operand n ts = option_map (λ form. record { first = n; count = length ts; form = form }) (form_of ts)
+-- tokens cut at commas
+abbrev pub pieces : List Token → List (List Token)
+pieces ts = slice_split is_comma ts
 
--- what a name is in an expression
-abbrev pub name_atom : List ℕ → Atom
-name_atom name = if is_symbol name then a.Symbol name else a.Here
+-- the pieces of what follows a piece: nothing, or a comma and others
+abbrev pub pieces_after : List Token → List (List Token)
+pieces_after [] = []
+pieces_after (_ ∷ ts) = pieces ts
 
 -- ---- rows
 

@@ -43,9 +43,8 @@ impl<const BOUND: u16> Below<BOUND> {
     }
 }
 
-/// The number of a control register, whether it exists or not.
-///
-/// RISC-V Unprivileged ISA 20191213, section 9.1.
+/// The number of a control register, whether it exists or not (RISC-V Unprivileged ISA 20191213, section
+/// 9.1).
 type Csr = Below<4096>;
 
 /// A set of accesses that a fence orders: `i` 8, `o` 4, `r` 2 and `w` 1, added up.
@@ -130,8 +129,7 @@ static FENCE_SETS: [(&str, u16); 15] = [
 fn set(operand: &Operand) -> Option<FenceSet>
     ensures { result ≡ entry_in fence_sets operand.now }
 {
-    let letters = name_alone(operand)?;
-    Some(Below(look_up(&FENCE_SETS, letters.bytes())?))
+    Some(Below(look_up(&FENCE_SETS, name_alone(operand)?.bytes())?))
 }
 
 /// Returns whether a role takes the form of an operand: a string; or a value without a base, whole or the
@@ -249,20 +247,14 @@ pub fn given<'t, 'a>(fields: Given) -> Fields<'t, 'a>
 
 // ---- instructions
 
-/// Returns the immediate that is given, which has twelve bits.
-fn given_imm(fields: &Fields) -> i32
-    ensures value { result ≡ fields.now.imm }
-    ensures within { IsWithin (2 ^ 11) fields.now.imm }
-{
-    i32::from(fields.imm)
-}
-
 /// Returns the immediate of an instruction of this kind; 0 where it waits for a value.
 fn immediate(kind: Kind, fields: &Fields) -> i32
-    ensures { result ≡ immediate kind fields.now }
+    ensures value { result ≡ immediate kind fields.now }
+    ensures given { IsWithin (2 ^ 11) fields.now.imm }
 {
+    let given = i32::from(fields.imm);
     match kind {
-        Kind::OpImm { .. } => given_imm(fields),
+        Kind::OpImm { .. } => given,
         Kind::Csr { .. } | Kind::CsrImm { .. } => i32::from(fields.csr.number()),
         Kind::Fence { .. } => i32::from(16 * fields.before.number() + fields.after.number()),
         _ => 0,
@@ -277,7 +269,7 @@ pub fn instruction(operation: Operation, fields: &Fields) -> Instr
     let (rd, rs1, rs2) = (fields.rd, fields.rs1, fields.rs2);
     let (csr, before, after) = (fields.csr, fields.before, fields.after);
     // These are called for what they say of their ranges.
-    let _ = (rd.number(), rs1.number(), rs2.number(), given_imm(fields));
+    let _ = (rd.number(), rs1.number(), rs2.number());
     let _ = (csr.number(), before.number(), after.number());
     operation.with(rd, rs1, rs2, immediate(operation.kind(), fields))
 }

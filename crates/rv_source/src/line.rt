@@ -103,10 +103,9 @@ impl<'a> Line<'a> {
         match &self.body {
             Body::Nothing => Ok(None),
             Body::Marker => Ok(Some(Statement::Marker)),
-            Body::Word { word, operands } => match meaning(word.bytes(), operands.as_slice()) {
-                Ok(statement) => Ok(Some(statement)),
-                Err(fault) => Err(fault),
-            },
+            Body::Word { word, operands } => {
+                Ok(Some(meaning(word.bytes(), operands.as_slice())?))
+            }
         }
     }
 }

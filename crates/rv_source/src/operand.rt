@@ -1,9 +1,9 @@
 //! Reads operands.
-ghost use Rattle.std.specs.Prelude.{◌≡◌, ◌<◌, ◌≤◌, ◌+◌, ◌-◌, ◌++◌, ◌∷◌, [], drop, length, take, IfOk, IfSome, Some, None, if◌then◌else◌};
+ghost use Rattle.std.specs.Prelude.{◌≡◌, ◌<◌, ◌≤◌, ◌+◌, ◌++◌, ◌∷◌, [], length, IfOk, IfSome, Some, None, if◌then◌else◌};
 ghost use Rattle.std.specs.Option.{option_map};
-ghost use Rattle.std.specs.List.{position, slice_split};
+ghost use Rattle.std.specs.List.{position};
 ghost use Rattle.rv_source.specs.Operands.{base_of, enclosed, form_of, form_with, is_comma, operands, operands_of, valued};
-ghost use Rattle.rv_source.specs.Partial.{operand};
+ghost use Rattle.rv_source.specs.Partial.{pieces, pieces_after};
 
 use crate::terms::read_expression;
 use crate::{Atom, Expression, Term};
@@ -137,24 +137,6 @@ fn read_form<'a>(alloc: Global, tokens: &[Token<'a>]) -> Result<Option<Form<'a>>
     }
 }
 
-/// Reads an operand that begins at token `first` of its line, and appends it; false if the tokens aren't one.
-fn read_operand<'a>(
-    alloc: Global,
-    first: usize,
-    tokens: &[Token<'a>],
-    out: &mut Vec<Operand<'a>>,
-) -> Result<bool, AllocError>
-    requires { length tokens.now ≤ 1024 }
-    ensures { IfOk result (λ ok. option_map (λ x. out.old.items ++ x ∷ []) (operand first tokens.now) ≡ (if ok then Some out.new.items else None)) }
-{
-    let Some(form) = read_form(alloc, tokens)? else {
-        return Ok(false);
-    };
-    let count = tokens.len();
-    out.push(Operand { first, count, form })?;
-    Ok(true)
-}
-
 /// Returns the index of the first comma.
 fn comma(tokens: &[Token]) -> Option<usize>
     ensures value { result ≡ position is_comma tokens.now }
@@ -163,9 +145,18 @@ fn comma(tokens: &[Token]) -> Option<usize>
     tokens.iter().position(|t| matches!(t, Token::Comma))
 }
 
+/// Returns the tokens before the first comma, and the others.
+fn cut<'t, 'a>(tokens: &'t [Token<'a>]) -> (&'t [Token<'a>], &'t [Token<'a>])
+    ensures pieces { pieces tokens.now ≡ result.0.now ∷ pieces_after result.1.now }
+    ensures all { length result.0.now + length result.1.now ≡ length tokens.now }
+{
+    let end = comma(tokens).unwrap_or(tokens.len());
+    tokens.split_at(end)
+}
+
 /// Reads operands with commas between them, from token `first` of their line on, and appends them; false if
 /// the tokens aren't operands.
-#[tactic(auto, using(crate::proofs::Pieces::cut_pieces, crate::proofs::Pieces::one_piece), unfolding(crate::specs::Operands::operands))]
+#[tactic(auto, using(crate::proofs::Pieces::operands_more), unfolding(crate::specs::Operands::operands))]
 fn read_more<'a>(
     alloc: Global,
     first: usize,
@@ -173,15 +164,18 @@ fn read_more<'a>(
     out: &mut Vec<Operand<'a>>,
 ) -> Result<bool, AllocError>
     requires { first + length tokens.now ≤ 1024 }
-    ensures { IfOk result (λ ok. option_map (λ xs. out.old.items ++ xs) (operands first (slice_split is_comma tokens.now)) ≡ (if ok then Some out.new.items else None)) }
+    ensures { IfOk result (λ ok. option_map (λ xs. out.old.items ++ xs) (operands first (pieces tokens.now)) ≡ (if ok then Some out.new.items else None)) }
 {
-    let Some(end) = comma(tokens) else {
-        return read_operand(alloc, first, tokens, out);
-    };
-    if !read_operand(alloc, first, &tokens[..end], out)? {
+    let (piece, others) = cut(tokens);
+    let Some(form) = read_form(alloc, piece)? else {
         return Ok(false);
-    }
-    read_more(alloc, first + end + 1, tokens.split_at(end + 1).1, out)
+    };
+    let count = piece.len();
+    out.push(Operand { first, count, form })?;
+    let [_, others @ ..] = others else {
+        return Ok(true);
+    };
+    read_more(alloc, first + count + 1, others, out)
 }
 
 /// Reads the operands of a mnemonic or directive by the tokens following it, the first of which is token
@@ -196,9 +190,6 @@ pub fn read_operands<'a>(
     ensures { IfOk result (λ xs. option_map (λ xs. xs.items) xs ≡ operands_of first tokens.now) }
 {
     let mut out = Vec::new(alloc);
-    if tokens.is_empty() || read_more(alloc, first, tokens, &mut out)? {
-        Ok(Some(out))
-    } else {
-        Ok(None)
-    }
+    let read = tokens.is_empty() || read_more(alloc, first, tokens, &mut out)?;
+    Ok(read.then_some(out))
 }

@@ -35,12 +35,9 @@ fn read_labels<'t, 'a>(
     ensures reads { IfOk result (λ rest. with_labels out.old.items (labels_of line.now) ≡ left_after out.new.items rest) }
     ensures shorter { IfOk result (λ rest. IfSome rest (λ ts. length ts.now ≤ length line.now)) }
 {
-    let [first, second, rest @ ..] = line else {
+    let [first, Token::Colon, rest @ ..] = line else {
         return Ok(Some(line));
     };
-    if !matches!(second, Token::Colon) {
-        return Ok(Some(line));
-    }
     let Some(label) = label_of(first) else {
         return Ok(None);
     };

@@ -171,8 +171,7 @@ pub fn meant<'t, 'a>(row: Row, operands: &'t [Operand<'a>]) -> Option<Statement<
 {
     match row {
         Row::These(roles, template, start) => {
-            let fields = in_roles(roles, operands, given(start))?;
-            fill(template, operands, fields)
+            fill(template, operands, in_roles(roles, operands, given(start))?)
         }
         Row::Each(role, template) => {
             if operands.is_empty() || !takes_all(role, operands) {

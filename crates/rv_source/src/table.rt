@@ -92,13 +92,10 @@ fn of_word<'t, 'a>(
 fn from_word<'r>(table: &'r [(&'static str, Row)], word: &[u8]) -> &'r [(&'static str, Row)]
     ensures { of_word word.now (rows result.now) ≡ of_word word.now (rows table.now) }
 {
-    let [entry, rest @ ..] = table else {
-        return table;
-    };
-    if entry.0.as_bytes() == word {
-        return table;
+    match table {
+        [entry, rest @ ..] if entry.0.as_bytes() != word => from_word(rest, word),
+        _ => table,
     }
-    from_word(rest, word)
 }
 
 /// Returns whether a word begins with `.`, as those of the directives do.

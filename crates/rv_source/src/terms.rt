@@ -4,7 +4,6 @@ ghost use Rattle.std.specs.Option.{option_map};
 ghost use Rattle.rv_source.specs.Expressions.{is_symbol, piece_of};
 ghost use Rattle.rv_source.specs.Operands.{OneValue};
 ghost use Rattle.rv_source.specs.Sums.{expression, further, with_term};
-ghost use Rattle.rv_source.specs.Partial.{name_atom};
 
 use crate::{Atom, Expression, Term};
 use rv_tokens::{Name, Token};
@@ -27,17 +26,6 @@ pub enum Piece<'a> {
     Other,
 }
 
-/// Returns the atom of a name.
-fn name_atom<'a>(name: &Name<'a>) -> Atom<'a>
-    ensures { result ≡ name_atom name.now }
-{
-    if is_symbol(name) {
-        Atom::Symbol(name.again())
-    } else {
-        Atom::Here
-    }
-}
-
 /// Reads a token as a piece of an expression.
 fn piece_of<'a>(token: &Token<'a>) -> Piece<'a>
     ensures { result ≡ piece_of token.now }
@@ -45,7 +33,8 @@ fn piece_of<'a>(token: &Token<'a>) -> Piece<'a>
     match token {
         Token::Plus => Piece::Sign { minus: false },
         Token::Minus => Piece::Sign { minus: true },
-        Token::Name(name) => Piece::Atom(name_atom(name)),
+        Token::Name(name) if is_symbol(name) => Piece::Atom(Atom::Symbol(name.again())),
+        Token::Name(_) => Piece::Atom(Atom::Here),
         Token::Digits(n) => Piece::Atom(Atom::Number(u32::from(*n))),
         Token::Number(n) => Piece::Atom(Atom::Number(*n)),
         Token::Character(b) => Piece::Atom(Atom::Character(*b)),
@@ -67,7 +56,7 @@ fn read_further<'a>(out: &mut Vec<Term<'a>>, tokens: &[Token<'a>]) -> Result<boo
     let [first, rest @ ..] = tokens else {
         return Ok(true);
     };
-    let Piece::Sign { minus } = piece_of(first) else {
+    let Piece::Sign { minus: negative } = piece_of(first) else {
         return Ok(false);
     };
     let [second, rest @ ..] = rest else {
@@ -75,20 +64,17 @@ fn read_further<'a>(out: &mut Vec<Term<'a>>, tokens: &[Token<'a>]) -> Result<boo
     };
     match piece_of(second) {
         Piece::Atom(atom) => {
-            out.push(Term {
-                negative: minus,
-                atom,
-            })?;
+            out.push(Term { negative, atom })?;
             read_further(out, rest)
         }
-        Piece::Sign { minus: other } => {
+        Piece::Sign { minus } => {
+            let negative = negative != minus;
             let [third, rest @ ..] = rest else {
                 return Ok(false);
             };
             let Piece::Atom(atom) = piece_of(third) else {
                 return Ok(false);
             };
-            let negative = minus != other;
             out.push(Term { negative, atom })?;
             read_further(out, rest)
         }
