@@ -1,6 +1,6 @@
 //! A memory that refuses some writes.
 ghost use Rattle.std.specs.Prelude.{◌≡◌, ◌+◌, ◌<◌, ◌≤◌, ◌%◌, true, length, IsTrue, OnOk, OnErr};
-ghost use Rattle.rv_ram.specs.Pages.{is_zero_page, wants_page};
+ghost use Rattle.rv_ram.specs.Pages.{is_zero_page};
 
 use rv_base::NoMemory;
 use rv_isa::Width;
@@ -18,7 +18,11 @@ pub struct RefusingMemory {
 }
 
 impl ByteMemory for RefusingMemory {
+    ghost use Rattle.rv_ram.specs.Pages.{is_zero_page};
+
     ghost bytes = { λ s. s.memory };
+
+    ghost wants_room = { λ bytes off width value. is_zero_page bytes off };
 
     fn size(&self) -> u32 {
         self.memory.size()
@@ -70,7 +74,7 @@ fn is_zero_page(memory: &FlatMemory, off: u32) -> bool
 /// Whether a write stores a word other than 0 in a page that has only zeros.
 fn needs_page(memory: &FlatMemory, off: u32, width: Width, value: u32) -> bool
     requires { off < length memory.now }
-    ensures { IsTrue result → wants_page memory.now off width value ≡ true }
+    ensures { IsTrue result → is_zero_page memory.now off ≡ true }
 {
     match width {
         Width::Four => value != 0 && is_zero_page(memory, off),
