@@ -35,7 +35,7 @@ pub record Took (breakpoints : Addresses) (n : ℕ) (old new : RecordingState) :
 -- a call of a run, of at most n steps
 abbrev pub RunsFor : Goal → ℕ → RecordingState → RecordingState → Type 0
 RunsFor goal.Count n old new = Took set.empty n old new
-RunsFor goal.Break n old new = Took old.session.breakpoints n old new
+RunsFor goal.Break n old new = Took old.session.breakpoints.addresses n old new
 RunsFor (goal.Out calls) n old new = (end : End) × HasRun (out_at calls old.session) n old new end
 RunsFor (goal.Until condition) n old new = (end : End) × HasRun (until_at condition old.session) n old new end
 
