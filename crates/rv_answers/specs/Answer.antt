@@ -1,6 +1,6 @@
 -- To audit: public contracts cite this.
 -- The text of an answer.
-use Rattle.std.specs.Prelude.{◌≡◌, ℕ, Bool, false, List, ◌++◌}
+use Rattle.std.specs.Prelude.{◌≡◌, ℕ, ◌-◌, Bool, false, List, ◌++◌, length, replicate}
 
 -- the bytes, and whether a piece is missing at their end
 pub record Written : Type 0 where
@@ -12,3 +12,7 @@ pub record Written : Type 0 where
 pub record Appended (old new : Written) (piece : List ℕ) : Type 0 where
   pub whole : new.is_cut ≡ false → old.is_cut ≡ false
   pub bytes : new.is_cut ≡ false → new.bytes ≡ old.bytes ++ piece
+
+-- a text, and spaces up to a width
+abbrev pub padded : ℕ → List ℕ → List ℕ
+padded width text = text ++ replicate (width - length text) 32

@@ -1,2 +1,6 @@
 pub mod Answer
 pub mod Places
+pub mod Registers
+pub mod Memory
+pub mod Standing
+pub mod Traps

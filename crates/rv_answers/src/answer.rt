@@ -5,9 +5,6 @@ use rv_isa::{Instr, write_instr};
 use std::alloc::Global;
 use std::marker::Model;
 
-/// As many spaces as stand in a row at most.
-static SPACES: [u8; 24] = *b"                        ";
-
 /// Splits a text before the first of a byte, or at its end.
 pub fn cut_at<'a>(text: &'a [u8], sign: u8) -> (&'a [u8], &'a [u8]) {
     for (place, byte) in text.iter().enumerate() {
@@ -63,11 +60,11 @@ impl Model for Answer {
 }
 
 impl Answer {
-    ghost use Rattle.std.specs.Prelude.{◌≡◌, [], true, false, codes};
-    ghost use Rattle.std.specs.Fmt.{decimal};
+    ghost use Rattle.std.specs.Prelude.{◌≡◌, [], ◌∷◌, true, false, codes, replicate};
+    ghost use Rattle.std.specs.Fmt.{decimal, signed_decimal};
     ghost use Rattle.rv_base.specs.Digits.{hex};
     ghost use Rattle.rv_isa.specs.Text.{text};
-    ghost use Rattle.rv_answers.specs.Answer.{Appended};
+    ghost use Rattle.rv_answers.specs.Answer.{Appended, padded};
     ghost use Rattle.rv_answers.specs.Places.{number_text};
 
     /// Returns an empty answer. It doesn't allocate.
@@ -133,7 +130,9 @@ impl Answer {
     }
 
     /// Appends a byte.
-    pub fn byte(&mut self, byte: u8) {
+    pub fn byte(&mut self, byte: u8)
+        ensures { Appended self.old self.new (byte ∷ []) }
+    {
         self.put(&[byte]);
     }
 
@@ -160,7 +159,9 @@ impl Answer {
     }
 
     /// Appends a signed number in decimal.
-    pub fn signed(&mut self, number: i32) {
+    pub fn signed(&mut self, number: i32)
+        ensures { Appended self.old self.new (signed_decimal number) }
+    {
         let mut buffer = Buffer::new();
         self.put(buffer.format(number).as_bytes());
     }
@@ -197,13 +198,21 @@ impl Answer {
         }
     }
 
-    /// Appends `count` spaces, at most 24.
-    pub fn spaces(&mut self, count: usize) {
-        self.put(SPACES.split_at(count.min(24)).0);
+    /// Appends `count` spaces.
+    #[tactic(auto, using(crate::proofs::Pieces::nothing))]
+    pub fn spaces(&mut self, count: usize)
+        ensures { Appended self.old self.new (replicate count 32) }
+    {
+        for _ in 0..count {
+            self.byte(b' ');
+        }
     }
 
     /// Appends a text, and spaces up to a width.
-    pub fn padded(&mut self, text: &[u8], width: usize) {
+    #[tactic(auto, using(crate::proofs::Pieces::then))]
+    pub fn padded(&mut self, text: &[u8], width: usize)
+        ensures { Appended self.old self.new (padded width text.now) }
+    {
         self.put(text);
         self.spaces(width.saturating_sub(text.len()));
     }
@@ -215,10 +224,10 @@ impl Answer {
     {
         let mut buffer = Buffer::new();
         let digits = buffer.format(number).as_bytes();
-        let spaces = b"     ".split_at(5usize.saturating_sub(digits.len())).0;
+        let width = 5usize.saturating_sub(digits.len());
         self.put(digits);
         self.put(b":");
-        self.put(spaces);
+        self.spaces(width);
     }
 
     /// Appends that a text isn't what a command wants, and why.

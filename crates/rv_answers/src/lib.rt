@@ -3,9 +3,21 @@
 #![tactic(auto)]
 
 mod answer;
+mod extent;
+mod memory;
 mod places;
+mod registers;
 mod rows;
+mod standing;
+mod traps;
 
 pub use answer::{Answer, cut_at};
-pub use places::{append_instruction, append_label};
+pub use extent::{Extent, Format, read_extent};
+pub use memory::{append_bytes_row, append_escaped, append_words_row};
+pub use places::{append_instruction, append_label, append_line_number, line_text};
+pub use registers::{
+    Registers, append_changes, append_register, append_registers, append_value, register_name,
+};
 pub use rows::{Row, append_row};
+pub use standing::{append_halted, append_mode, append_step};
+pub use traps::{append_cause, append_times, append_trap, cause_name};

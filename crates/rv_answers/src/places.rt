@@ -1,12 +1,29 @@
 //! Labels with their distances, and instructions.
-ghost use Rattle.std.specs.Prelude.{◌==◌, ◌++◌, [], codes, if◌then◌else◌};
+ghost use Rattle.std.specs.Prelude.{◌≡◌, ◌==◌, ◌++◌, [], codes, get_or, if◌then◌else◌};
 ghost use Rattle.std.specs.Fmt.{decimal};
+ghost use Rattle.std.specs.Option.{option_map_or};
+ghost use Rattle.rv_base.specs.Lines.{lines};
 ghost use Rattle.rv_isa.specs.Meaning.{means};
 ghost use Rattle.rv_answers.specs.Answer.{Appended};
 ghost use Rattle.rv_answers.specs.Places.{instruction_text, label_text};
 
 use crate::Answer;
+use rv_base::cut_lines;
 use rv_isa::decode;
+
+/// Returns the text of a line of a source, counted from 0; an empty one where there is no such line.
+pub fn line_text(source: &[u8], index: usize) -> &[u8]
+    ensures { result.now ≡ get_or (lines source.now) index [] }
+{
+    let mut left = index;
+    for line in cut_lines(source) {
+        if left == 0 {
+            return line;
+        }
+        left -= 1;
+    }
+    b""
+}
 
 /// Appends a distance from a label.
 #[tactic(auto, using(crate::proofs::Pieces::then, crate::proofs::Pieces::nothing))]
@@ -28,6 +45,17 @@ pub fn append_label(name: &[u8], distance: u32, answer: &mut Answer)
     answer.put(name);
     append_distance(distance, answer);
     answer.say(">");
+}
+
+/// Appends the number of a line, if there is one.
+#[tactic(auto, using(crate::proofs::Pieces::then, crate::proofs::Pieces::nothing))]
+pub fn append_line_number(line: Option<usize>, answer: &mut Answer)
+    ensures { Appended answer.old answer.new (option_map_or (λ n. codes " line " ++ decimal n) line []) }
+{
+    if let Some(line) = line {
+        answer.say(" line ");
+        answer.number(line as u64);
+    }
 }
 
 /// Appends a word of memory and its instruction, or that no memory is there.

@@ -1,0 +1,69 @@
+-- To audit: public contracts cite this.
+-- The rows of memory, as `m` of the lab prints them (this project's own: docs/LAB.md).
+use Rattle.std.specs.Prelude.{ℕ, ◌-◌, ◌*◌, ◌==◌, List, [], ◌∷◌, ◌++◌, codes, find, if◌then◌else◌, length, map, replicate, Option, Some, None, unwrap_or}
+use Rattle.std.specs.Int.{is_in_range}
+use Rattle.std.specs.List.{flat_map}
+use Rattle.std.specs.Option.{option_map, option_map_or}
+use Rattle.rv_base.specs.Digits.{hex}
+use Rattle.rv_base.specs.Numbers.{decimal}
+use Rattle.rv_base.specs.Tables.{lookup}
+use Rattle.rv_answers.specs.declared.extent.Extent.{Extent}
+use Rattle.rv_answers.specs.declared.extent.Format.{Format}
+use Rattle.rv_answers.specs.declared.extent.Format.TheVariants.{Bytes, Words, Text}
+
+-- a byte, or `--` where no memory is
+abbrev pub byte_cell : Option ℕ → List ℕ
+byte_cell byte = option_map_or (hex 2) byte (codes "--") ++ codes " "
+
+-- a byte as a character, or a dot
+abbrev pub character : Option ℕ → ℕ
+character byte = if is_in_range 32 126 (unwrap_or byte 0) then unwrap_or byte 0 else 46
+
+-- a row of at most 16 bytes, with their characters
+unfoldable pub bytes_row : ℕ → List (Option ℕ) → List ℕ
+bytes_row address bytes =
+    hex 8 address ++ codes ": " ++ flat_map byte_cell bytes ++ replicate (3 * (16 - length bytes)) 32
+    ++ codes " " ++ map character bytes ++ codes "\n"
+
+-- a row of at most four words
+abbrev pub word_cell : Option ℕ → List ℕ
+word_cell word = codes " " ++ option_map_or (hex 8) word (codes "--------")
+
+unfoldable pub words_row : ℕ → List (Option ℕ) → List ℕ
+words_row address words = hex 8 address ++ codes ":" ++ flat_map word_cell words ++ codes "\n"
+
+-- a byte as it stands in a string: as its escape, or else as a character or its digits
+unfoldable pub escapes : List (ℕ × List ℕ)
+escapes =
+    (10, codes "\\n") ∷ (13, codes "\\r") ∷ (9, codes "\\t") ∷ (0, codes "\\0") ∷ (34, codes "\\\"")
+    ∷ (92, codes "\\\\") ∷ []
+
+abbrev pub other : ℕ → List ℕ
+other byte = if is_in_range 32 126 byte then byte ∷ [] else codes "\\x" ++ hex 2 byte
+
+unfoldable pub escaped : ℕ → List ℕ
+escaped byte = option_map_or (λ row. row.1) (find (λ row. row.0 == byte) escapes) (other byte)
+
+-- ---- operands
+
+-- how memory is shown
+unfoldable pub formats : List (List ℕ × Format)
+formats = (codes "w", Words) ∷ (codes "t", Text) ∷ (codes "b", Bytes) ∷ []
+
+-- how many are shown where no number is given
+abbrev pub usual : Format → ℕ
+usual Words = 16
+usual _ = 64
+
+-- how, by the only word, or as bytes
+abbrev pub format_of : List (List ℕ) → Option Format
+format_of [] = Some Bytes
+format_of (word ∷ []) = lookup word formats
+format_of _ = None
+
+-- how many, and how, by the words that follow WHERE: a number may come first
+unfoldable pub extent : List (List ℕ) → Option Extent
+extent [] = Some (record { count = 64; format = Bytes })
+extent (word ∷ more) =
+    option_map_or (λ n. option_map (λ f. record { count = n; format = f }) (format_of more)) (decimal 4096 word)
+    (option_map (λ f. record { count = usual f; format = f }) (format_of (word ∷ more)))

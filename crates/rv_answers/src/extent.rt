@@ -1,0 +1,83 @@
+//! How much of memory is shown, and how.
+ghost use Rattle.std.specs.Prelude.{◌≡◌, ◌≤◌, IfSome};
+ghost use Rattle.rv_base.specs.Tables.{lookup};
+ghost use Rattle.rv_base.specs.Words.{words};
+ghost use Rattle.rv_answers.specs.Memory.{extent, format_of, formats, usual};
+
+use rv_base::{decimal, first_word, has_word, look_up};
+
+/// The most bytes that are shown.
+const MOST_BYTES: u64 = 4096;
+
+/// How the bytes of memory are shown.
+#[derive(Clone, Copy)]
+pub enum Format {
+    Bytes,
+    Words,
+    Text,
+}
+
+/// How many bytes or words are shown, and how.
+#[derive(Clone, Copy)]
+pub struct Extent {
+    pub count: u64,
+    pub format: Format,
+}
+
+/// The words for how memory is shown.
+static FORMATS: [(&str, Format); 3] = [
+    ("w", Format::Words),
+    ("t", Format::Text),
+    ("b", Format::Bytes),
+];
+
+/// Returns how memory is shown, by its word.
+#[tactic(auto, unfolding(crate::specs::Memory::formats))]
+fn format_named(word: &[u8]) -> Option<Format>
+    ensures { result ≡ lookup word.now formats }
+{
+    look_up(&FORMATS, word)
+}
+
+/// Reads how memory is shown, by the only word of a text.
+fn read_format(text: &[u8]) -> Option<Format>
+    ensures { result ≡ format_of (words text.now) }
+{
+    let Some((word, rest)) = first_word(text) else {
+        return Some(Format::Bytes);
+    };
+    if has_word(rest) {
+        return None;
+    }
+    format_named(word)
+}
+
+/// Returns how many bytes or words are shown where no number is given.
+fn usual(format: Format) -> u64
+    ensures value { result ≡ usual format }
+    ensures most { result ≤ 64 }
+{
+    match format {
+        Format::Words => 16,
+        _ => 64,
+    }
+}
+
+/// Reads how many bytes or words are shown, and how.
+#[tactic(auto, unfolding(crate::specs::Memory::extent))]
+pub fn read_extent(text: &[u8]) -> Option<Extent>
+    ensures value { result ≡ extent (words text.now) }
+    ensures most { IfSome result (λ e. e.count ≤ 4096) }
+{
+    if let Some((word, rest)) = first_word(text)
+        && let Some(count) = decimal(MOST_BYTES, word)
+    {
+        let format = read_format(rest)?;
+        return Some(Extent { count, format });
+    }
+    let format = read_format(text)?;
+    Some(Extent {
+        count: usual(format),
+        format,
+    })
+}
