@@ -2,3 +2,4 @@ pub mod Stands
 pub mod Running
 pub mod Outward
 pub mod Keeping
+pub mod Ahead

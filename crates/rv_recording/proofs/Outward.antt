@@ -31,7 +31,7 @@ takes : (calls left : ℕ) (old new : RecordingState) (r : Result (Option End) N
     → TakesOne (end_after (left == 0) old.session.breakpoints.addresses (after old.session.timed 1).board) old new r
 takes calls left old new (Ok end) (inl t) = inl (t.0, t.2)
 takes calls left old new (Ok end) (inr t) = inr (t.0, t.1, t.3)
-takes calls left old new (Err why) t = (t.0, t.1)
+takes calls left old new (Err why) t = (t.0, t.1, t.2)
 
 module _ (first : ℕ) (old : RecordingState) where
   abbrev ends : ℕ → Option End
@@ -89,14 +89,14 @@ module _ (first : ℕ) (old : RecordingState) where
   pub refused_out : (now new : RecordingState) (calls left most n : ℕ) (why : NoMemory) → n < most
       → GoingOut first old now calls n → StepsOut calls left now new (Err why) → IsRefusedIn ends most old new
   refused_out now new calls left most n why k g t =
-      refused ends old now new most n (ends n) why k g.going (t.0, t.1)
+      refused ends old now new most n (ends n) why k g.going (t.0, t.1, t.2)
 
   pub open_refused : (now new : RecordingState) (calls left n : ℕ) (why : NoMemory) → GoingOut first old now calls n
       → StepsOut calls left now new (Err why)
       → left ≡ open_at first old.session.timed (steps_between old.session.timed new.session.timed)
   open_refused now new calls left n why g t =
-      t.2 ∙ (g.number ∙ ap (open_at first old.session.timed)
-      (due_is old new n (due_at ends old now new n g.going t.0)))
+      t.3 ∙ (g.number ∙ ap (open_at first old.session.timed)
+      (due_is old new n (due_at ends old now new n g.going t.1)))
 
   pub limit_out : (now : RecordingState) (calls most : ℕ) → GoingOut first old now calls most
       → HasRun ends most old now Limit

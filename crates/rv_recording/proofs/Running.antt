@@ -1,7 +1,8 @@
 -- Runs, step by step.
-use Rattle.std.proofs.Common.{◌≡◌, ◌∙◌, ℕ, ◌+◌, ◌-◌, ◌<◌, ◌≤◌, refl, sym, ap, subst, arith, inl, inr, ⊎_elim}
-use Rattle.std.specs.Prelude.{Option, Some, None, Ok, Err}
-use Rattle.std.proofs.lemmas.Bool.{cases_lt}
+use Rattle.std.proofs.Common.{◌≡◌, ◌∙◌, ℕ, ◌+◌, ◌-◌, ◌<◌, ◌≤◌, Bool, true, false, refl, sym, ap, subst, arith, inl, inr, ⊎_elim}
+use Rattle.std.specs.Prelude.{◌&&◌, nat_lt, Option, Some, None, Ok, Err}
+use Rattle.std.proofs.lemmas.Bool.Decides.{nat_tests}
+use Rattle.std.proofs.lemmas.Bool.{cases_lt, false≢true}
 use Rattle.rv_base.specs.declared.memory.NoMemory.{NoMemory}
 use Rattle.rv_monitor.specs.State.{IsInTime, after, with_due}
 use Rattle.rv_monitor.specs.Stops.{may_step, steps_between}
@@ -47,8 +48,24 @@ pub due_is : (old now : RecordingState) (n : ℕ)
 unfolding after with_due
 due_is old now n e = omega (arith, ap (λ (r : RecordingState). r.session.timed.taken) e)
 
+below : (m n : ℕ) (b : Bool) → (b && nat_lt m n) ≡ true → m < n
+below m n true h = grind (arith, nat_tests)
+below m n false h = absurd (false≢true h)
+
+-- a recording that may take a step has taken fewer than it may take
+pub allowed : (old now : RecordingState) (n : ℕ) → now ≡ stands old n → may_step now.session ≡ true
+    → n < old.session.limit - old.session.timed.taken
+unfolding after
+allowed old now n e may =
+    omega (
+      arith,
+      below now.session.timed.taken now.session.limit _ may,
+      ap (λ (r : RecordingState). r.session.timed.taken) e,
+      ap (λ (r : RecordingState). r.session.limit) e,
+    )
+
 module _ (ends : ℕ → Option End) (old : RecordingState) where
-  more_goes : (n : ℕ) → GoesOn ends n → ends n ≡ None → GoesOn ends (n + 1)
+  pub more_goes : (n : ℕ) → GoesOn ends n → ends n ≡ None → GoesOn ends (n + 1)
   more_goes n going now i l = ⊎_elim
       (λ earlier. going i earlier)
       (λ later.
@@ -72,7 +89,7 @@ module _ (ends : ℕ → Option End) (old : RecordingState) where
   }
   goes_on now new n end is g (inr t) = absurd (is_some Stuck t.2)
 
-  ran : (most n : ℕ) (new : RecordingState) (end : End) → n ≤ most → new ≡ stands old n
+  pub ran : (most n : ℕ) (new : RecordingState) (end : End) → n ≤ most → new ≡ stands old n
       → EndsAs ends new.session most n end → HasRun ends most old new end
   ran most n new end k e how =
       let same = taken_is old new n e in
@@ -104,13 +121,13 @@ module _ (ends : ℕ → Option End) (old : RecordingState) where
   pub refused : (now new : RecordingState) (most n : ℕ) (end : Option End) (why : NoMemory) → n < most
       → Going ends old now n → TakesOne end now new (Err why) → IsRefusedIn ends most old new
   refused now new most n end why k g t =
-      let is = due_at now new n g t.0 in
+      let is = due_at now new n g t.1 in
       let same = due_is old new n is in
       record {
-        within = omega (arith, same);
+        within = omega (arith, same, allowed old now n g.state t.0);
         going = subst (GoesOn ends) same g.going;
         state = subst (λ m. new ≡ with_timed old (with_due (after old.session.timed m))) same is;
-        next_writes = t.1;
+        next_writes = t.2;
       }
 
 -- ---- until a condition holds

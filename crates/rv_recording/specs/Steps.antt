@@ -33,7 +33,8 @@ TakesOne end old new (Ok told) =
     ((new ≡ with_timed old (after old.session.timed 1)) × (told ≡ end))
     ⊎ ((may_step old.session ≡ false) × (new ≡ old) × (told ≡ Some Stuck))
 TakesOne end old new (Err refused) =
-    (new ≡ with_timed old (with_due old.session.timed)) × (writes new.session.timed.board Step ≡ true)
+    (may_step old.session ≡ true) × (new ≡ with_timed old (with_due old.session.timed))
+    × (writes new.session.timed.board Step ≡ true)
 
 -- a call took a step, with the number of open calls before and after it, and tells why the run ends with it;
 -- or there was none to be taken; or memory ran out at it
@@ -43,5 +44,5 @@ StepsOut calls left old new (Ok end) =
     × (end ≡ end_after (left == 0) old.session.breakpoints.addresses (after old.session.timed 1).board))
     ⊎ ((may_step old.session ≡ false) × (new ≡ old) × (left ≡ calls) × (end ≡ Some Stuck))
 StepsOut calls left old new (Err refused) =
-    (new ≡ with_timed old (with_due old.session.timed)) × (writes new.session.timed.board Step ≡ true)
-    × (left ≡ calls)
+    (may_step old.session ≡ true) × (new ≡ with_timed old (with_due old.session.timed))
+    × (writes new.session.timed.board Step ≡ true) × (left ≡ calls)

@@ -12,7 +12,7 @@ use Rattle.rv_hart.specs.Step.{step}
 use Rattle.rv_board.specs.BoardState.{BoardState}
 use Rattle.rv_board.specs.Move.{writes}
 use Rattle.rv_board.specs.declared.event.Event.TheVariants.{Step}
-use Rattle.rv_monitor.specs.State.{SessionState, TimedState, after, with_due}
+use Rattle.rv_monitor.specs.State.{SessionState, TimedState, most_of, after, with_due}
 use Rattle.rv_monitor.specs.Stops.{may_step, steps_between}
 use Rattle.rv_monitor.specs.Views.{word_of}
 use Rattle.rv_recording.specs.Recording.{RecordingState, with_timed}
@@ -90,7 +90,7 @@ pub record HasRun (ends : ℕ → Option End) (most : ℕ) (old new : RecordingS
 
 -- memory ran out at a step of a run: those before it were taken, and the inputs before it were given
 pub record IsRefusedIn (ends : ℕ → Option End) (most : ℕ) (old new : RecordingState) : Type 0 where
-  pub within : steps_between old.session.timed new.session.timed < most
+  pub within : steps_between old.session.timed new.session.timed < most_of old.session most
   pub going : GoesOn ends (steps_between old.session.timed new.session.timed)
   pub state : new ≡ with_timed old
       (with_due (after old.session.timed (steps_between old.session.timed new.session.timed)))
