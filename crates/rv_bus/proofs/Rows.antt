@@ -7,12 +7,13 @@ use Rattle.rv_isa.specs.Width.{bytes_of}
 use Rattle.rv_isa.specs.declared.op.Width.{Width}
 use Rattle.rv_isa.specs.declared.op.Width.TheVariants.{One, Two, Four}
 use Rattle.rv_ram.specs.Bytes.{value_at}
+use Rattle.rv_mmio.specs.Timer as timer
 use Rattle.rv_mmio.specs.declared.serial.SerialReg.{SerialReg}
 use Rattle.rv_mmio.specs.declared.serial.SerialReg.TheVariants.{Tx, Rx, Status}
 use Rattle.rv_mmio.specs.declared.timer.TimerReg.{TimerReg}
 use Rattle.rv_mmio.specs.declared.timer.TimerReg.TheVariants.{Msip, MtimecmpLow, MtimecmpHigh, MtimeLow, MtimeHigh}
 use Rattle.rv_bus.specs.State.{BusState}
-use Rattle.rv_bus.specs.Table.{Window, serial_window, timer_window, window_at, windows}
+use Rattle.rv_bus.specs.Table.{Window, device, serial_at, window_at, windows}
 use Rattle.rv_bus.specs.Access.{load, store, writes, fetch, in_memory}
 use Rattle.rv_bus.specs.Locations as locations
 use Rattle.rv_bus.specs.Locations.{devices, location_in, location_of, takes}
@@ -59,12 +60,18 @@ module _ (b : BusState) (a : ℕ) (w : Width) where
       (rows_of xs ys p.1))
 
   serial_pair : (address : ℕ) (reg : SerialReg)
-      → IsPair (serial_window b w address reg) (locations.register address 1 (Serial reg))
+      → IsPair (device address 1 1 (λ off. serial_at w reg) b.serial (λ s. record b { serial = s }))
+      (locations.register address 1 (Serial reg))
   serial_pair address reg = record { same = refl; row = record { load = refl; store = λ v. refl } }
 
   timer_pair : (address : ℕ) (reg : TimerReg)
-      → IsPair (timer_window b address reg) (locations.register address 4 (Timer reg))
-  timer_pair address reg = record { same = refl; row = record { load = refl; store = λ v. refl } }
+      → IsPair (device address 1 4 (λ off. timer.at reg) b.timer (λ t. record b { timer = t }))
+      (locations.register address 4 (Timer reg))
+  timer_pair address Msip = record { same = refl; row = record { load = refl; store = λ v. refl } }
+  timer_pair address MtimecmpLow = record { same = refl; row = record { load = refl; store = λ v. refl } }
+  timer_pair address MtimecmpHigh = record { same = refl; row = record { load = refl; store = λ v. refl } }
+  timer_pair address MtimeLow = record { same = refl; row = record { load = refl; store = λ v. refl } }
+  timer_pair address MtimeHigh = record { same = refl; row = record { load = refl; store = λ v. refl } }
 
   rows : IsRow (window_at b a w) (location b a w)
   unfolding location_of

@@ -3,16 +3,17 @@
 -- the memory or the interrupt controller are there. Every other access is a fault.
 use Rattle.std.specs.Prelude.{ℕ, ◌-◌, ◌%◌, ◌^◌, ◌&&◌, nat_lt, nat_le, List, [], ◌∷◌, length, Option, find}
 use Rattle.rv_base.specs.Limits.{ram_base}
+use Rattle.rv_base.specs.Registers.{Register}
 use Rattle.rv_isa.specs.declared.op.Width.{Width}
 use Rattle.rv_isa.specs.Width.{bytes_of}
 use Rattle.rv_ram.specs.Bytes.{put, value_at}
 use Rattle.rv_plic.specs.Plic as plic
 use Rattle.rv_mmio.specs.Timer as timer
 use Rattle.rv_mmio.specs.Serial as serial
+use Rattle.rv_mmio.specs.Serial.{SerialState}
 use Rattle.rv_mmio.specs.Halt.{halted_by}
 use Rattle.rv_mmio.specs.declared.serial.SerialReg.{SerialReg}
 use Rattle.rv_mmio.specs.declared.serial.SerialReg.TheVariants.{Tx, Rx, Status}
-use Rattle.rv_mmio.specs.declared.timer.TimerReg.{TimerReg}
 use Rattle.rv_mmio.specs.declared.timer.TimerReg.TheVariants.{Msip, MtimecmpLow, MtimecmpHigh, MtimeLow, MtimeHigh}
 use Rattle.rv_bus.specs.State.{BusState}
 
@@ -30,36 +31,31 @@ abbrev pub window : ℕ → ℕ → ℕ → (ℕ → ℕ × BusState) → (ℕ �
 window first size narrowest loaded stored =
     record { first = first; size = size; narrowest = narrowest; loaded = loaded; stored = stored }
 
--- the window of a register of the serial port. A narrow load returns its low bits
-abbrev pub serial_window : BusState → Width → ℕ → SerialReg → Window
-serial_window b w address reg =
-    window address 1 1
-    (λ off. ((serial.at reg).word b.serial % 256 ^ bytes_of w, record b { serial = (serial.at reg).loaded b.serial }))
-    (λ off v. record b { serial = (serial.at reg).stored b.serial v })
+-- a window of a device, by the register at each offset, the device, and the bus with another in its place
+abbrev pub device : {D : Type 0} → ℕ → ℕ → ℕ → (ℕ → Register D) → D → (D → BusState) → Window
+device first size narrowest at state bus_of =
+    window first size narrowest (λ off. ((at off).word state, bus_of ((at off).loaded state)))
+    (λ off v. bus_of ((at off).stored state v))
 
--- the window of a register of the timer
-abbrev pub timer_window : BusState → ℕ → TimerReg → Window
-timer_window b address reg =
-    window address 1 4 (λ off. ((timer.at reg).word b.timer, b))
-    (λ off v. record b { timer = (timer.at reg).stored b.timer v })
+-- a register of the serial port for loads of a width: a narrow one returns its low bits
+abbrev pub serial_at : Width → SerialReg → Register SerialState
+serial_at w reg = record (serial.at reg) { word = λ s. (serial.at reg).word s % 256 ^ bytes_of w }
 
 -- the windows, for accesses of a width
 abbrev pub windows : BusState → Width → List Window
 windows b w =
     window ram_base (length b.ram) 1 (λ off. (value_at b.ram off (bytes_of w), b))
     (λ off v. record b { ram = put b.ram off (bytes_of w) v })
-    ∷ serial_window b w 0x10000000 Tx
-    ∷ serial_window b w 0x10000004 Rx
-    ∷ serial_window b w 0x10000008 Status
+    ∷ device 0x10000000 1 1 (λ off. serial_at w Tx) b.serial (λ s. record b { serial = s })
+    ∷ device 0x10000004 1 1 (λ off. serial_at w Rx) b.serial (λ s. record b { serial = s })
+    ∷ device 0x10000008 1 1 (λ off. serial_at w Status) b.serial (λ s. record b { serial = s })
     ∷ window 0x00100000 1 4 (λ off. (0, b)) (λ off v. record b { halt = halted_by b.halt v })
-    ∷ timer_window b 0x02000000 Msip
-    ∷ timer_window b 0x02004000 MtimecmpLow
-    ∷ timer_window b 0x02004004 MtimecmpHigh
-    ∷ timer_window b 0x0200bff8 MtimeLow
-    ∷ timer_window b 0x0200bffc MtimeHigh
-    ∷ window 0x0c000000 0x4000000 4
-    (λ off. ((plic.at off).word b.plic, record b { plic = (plic.at off).loaded b.plic }))
-    (λ off v. record b { plic = (plic.at off).stored b.plic v })
+    ∷ device 0x02000000 1 4 (λ off. timer.at Msip) b.timer (λ t. record b { timer = t })
+    ∷ device 0x02004000 1 4 (λ off. timer.at MtimecmpLow) b.timer (λ t. record b { timer = t })
+    ∷ device 0x02004004 1 4 (λ off. timer.at MtimecmpHigh) b.timer (λ t. record b { timer = t })
+    ∷ device 0x0200bff8 1 4 (λ off. timer.at MtimeLow) b.timer (λ t. record b { timer = t })
+    ∷ device 0x0200bffc 1 4 (λ off. timer.at MtimeHigh) b.timer (λ t. record b { timer = t })
+    ∷ device 0x0c000000 0x4000000 4 plic.at b.plic (λ p. record b { plic = p })
     ∷ []
 
 -- the window that takes an access of a width at an address, if there is one
