@@ -10,8 +10,8 @@ use Rattle.rv_board.specs.Room.{NextWantsRoom, RoomIsWritten, wants_room, wants_
 use Rattle.rv_board.specs.declared.event.Event.{Event}
 use Rattle.rv_board.specs.declared.event.Event.TheVariants.{Step, Line, Rx}
 
-by_halt : (rule : RoomRule) (halt : Option ℕ) (b : BoardState) (e : Event) → wants_room_by rule halt b e ≡ true
-    → writes_by halt b e ≡ true
+by_halt : (rule : RoomRule) (halt : Option ℕ) (b : BoardState) (e : Event)
+    → wants_room_by rule halt b e ≡ true → writes_by halt b e ≡ true
 by_halt rule None b Step is = hart.room_writes rule b.machine is
 by_halt rule None b (Line source high) is = absurd cc
 by_halt rule None b (Rx byte) is = absurd cc

@@ -19,7 +19,8 @@ wants_room rule b e = wants_room_by rule b.machine.bus.halt b e
 
 -- the next event of a list, after the first `done`, may have to make room
 abbrev pub NextWantsRoom : RoomRule → BoardState → List Event → ℕ → Type 0
-NextWantsRoom rule new events done = (e : Event) → slice_get events done ≡ Some e → wants_room rule new e ≡ true
+NextWantsRoom rule new events done =
+    (e : Event) → slice_get events done ≡ Some e → wants_room rule new e ≡ true
 
 -- only an event that writes may have to make room, whatever the memory's rule
 abbrev pub RoomIsWritten : Type 0

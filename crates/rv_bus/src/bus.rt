@@ -223,8 +223,8 @@ impl<M: ByteMemory> Bus<M> {
     }
 
     /// Stores the low bytes of a value at an address that is a multiple of their number. A refused store
-    /// changes nothing. It may be out of memory only where room has to be made: in the memory, by the memory's
-    /// own rule, or in the console where it has none, which is at most once in 4096 bytes.
+    /// changes nothing. It may be out of memory only where room has to be made: in the memory, by the
+    /// memory's own rule, or in the console where it has none, which is at most once in 4096 bytes.
     #[tactic(auto, using(crate::proofs::Others::fetch_put), unfolding(crate::specs::Room::wants_room))]
     pub fn store(&mut self, addr: u32, width: Width, value: u32) -> Result<(), StoreRefusal>
         requires { addr % bytes_of width ≡ 0 }
@@ -232,7 +232,8 @@ impl<M: ByteMemory> Bus<M> {
         ensures err { OnErr result (self.new ≡ self.old) }
         ensures fault { IfErr result (λ e. e ≡ refusal.Fault → store self.old addr width value ≡ None) }
         ensures memory { IfErr result (λ e. e ≡ refusal.NoMemory → writes self.old addr ≡ true) }
-        ensures room { IfErr result (λ e. e ≡ refusal.NoMemory → wants_room M.wants_room self.old addr width value ≡ true) }
+        ensures room { IfErr result (λ e. e ≡ refusal.NoMemory
+            → wants_room M.wants_room self.old addr width value ≡ true) }
         ensures others { (a : ℕ) → a % 4 ≡ 0 → a ≢ addr / 4 * 4 → fetch self.new.ram a ≡ fetch self.old.ram a }
     {
         match self.location(addr, width) {

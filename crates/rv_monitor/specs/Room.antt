@@ -1,5 +1,5 @@
--- The largest number of bytes that the answer of a command may have (this project's own: docs/MONITOR.md), and
--- the steps for which room may have to be made.
+-- The largest number of bytes that the answer of a command may have (this project's own: docs/MONITOR.md),
+-- and the steps for which room may have to be made.
 -- Not to audit: only the clauses `room` cite this, which say when a call may be refused.
 use Rattle.std.specs.Prelude.{◌≡◌, ◌⊎◌, ℕ, ◌+◌, ◌*◌, ◌<◌, true, false, List, length, Option, Some, None}
 use Rattle.std.specs.FinSet as set

@@ -83,8 +83,8 @@ impl<'a> SymbolLookup for ProgramSymbols<'a> {
 impl<M: ByteMemory, C: Decoded> Session<M, C> {
     /// Executes `s`: takes steps, and answers why they ended.
     fn answer_step(&mut self, count: u64, text: &mut Vec<u8>) -> Result<(), NoMemory>
-        ensures { AppendsAnswer M.wants_room (Some (Command.Step count)) (vec_capacity text.old - vec_len text.old)
-            self.old self.new text.old.items text.new.items result }
+        ensures { AppendsAnswer M.wants_room (Some (Command.Step count))
+            (vec_capacity text.old - vec_len text.old) self.old self.new text.old.items text.new.items result }
     {
         text.reserve(WORD_BYTES + STOP_BYTES)?;
         let stop = self.step(count)?;
@@ -93,8 +93,8 @@ impl<M: ByteMemory, C: Decoded> Session<M, C> {
 
     /// Executes `c`: takes steps up to a breakpoint, or all that are left, and answers why they ended.
     fn answer_go(&mut self, count: Option<u64>, text: &mut Vec<u8>) -> Result<(), NoMemory>
-        ensures { AppendsAnswer M.wants_room (Some (Command.Go count)) (vec_capacity text.old - vec_len text.old)
-            self.old self.new text.old.items text.new.items result }
+        ensures { AppendsAnswer M.wants_room (Some (Command.Go count))
+            (vec_capacity text.old - vec_len text.old) self.old self.new text.old.items text.new.items result }
     {
         text.reserve(WORD_BYTES + STOP_BYTES)?;
         let most = count.unwrap_or(self.limit());
@@ -104,8 +104,8 @@ impl<M: ByteMemory, C: Decoded> Session<M, C> {
 
     /// Executes `b`: sets a breakpoint, and answers its address.
     fn answer_set(&mut self, addr: u32, text: &mut Vec<u8>) -> Result<(), NoMemory>
-        ensures { AppendsAnswer M.wants_room (Some (Command.SetBreak addr)) (vec_capacity text.old - vec_len text.old)
-            self.old self.new text.old.items text.new.items result }
+        ensures { AppendsAnswer M.wants_room (Some (Command.SetBreak addr))
+            (vec_capacity text.old - vec_len text.old) self.old self.new text.old.items text.new.items result }
     {
         text.reserve(BREAK_BYTES)?;
         self.set_break(addr)?;
@@ -115,8 +115,8 @@ impl<M: ByteMemory, C: Decoded> Session<M, C> {
 
     /// Executes `d`: removes a breakpoint, and answers its address, or that there was none.
     fn answer_clear(&mut self, addr: u32, text: &mut Vec<u8>) -> Result<(), NoMemory>
-        ensures { AppendsAnswer M.wants_room (Some (Command.ClearBreak addr)) (vec_capacity text.old - vec_len text.old)
-            self.old self.new text.old.items text.new.items result }
+        ensures { AppendsAnswer M.wants_room (Some (Command.ClearBreak addr))
+            (vec_capacity text.old - vec_len text.old) self.old self.new text.old.items text.new.items result }
     {
         text.reserve(BREAK_BYTES)?;
         if self.clear_break(addr) {
@@ -130,8 +130,8 @@ impl<M: ByteMemory, C: Decoded> Session<M, C> {
     /// Executes a command, and appends its answer.
     fn answer<'a>(&mut self, command: Command<'a>, text: &mut Vec<u8>) -> Result<(), NoMemory>
         requires { IsNamed command }
-        ensures { AppendsAnswer M.wants_room (Some command.entry) (vec_capacity text.old - vec_len text.old) self.old
-            self.new text.old.items text.new.items result }
+        ensures { AppendsAnswer M.wants_room (Some command.entry) (vec_capacity text.old - vec_len text.old)
+            self.old self.new text.old.items text.new.items result }
     {
         let board = self.board();
         match command {
@@ -167,8 +167,8 @@ impl<M: ByteMemory, C: Decoded> Session<M, C> {
             ++ answer (command_in line.now self.old) self.old self.new) }
         ensures err { OnErr result (LeavesRefused (command_in line.now self.old) self.old self.new) }
         ensures room { OnErr result
-            (LacksRoom M.wants_room (command_in line.now self.old) (vec_capacity text.old - vec_len text.old) self.old
-            self.new) }
+            (LacksRoom M.wants_room (command_in line.now self.old) (vec_capacity text.old - vec_len text.old)
+            self.old self.new) }
         ensures unwritten { OnErr result (text.new.items ≡ text.old.items) }
     {
         let Some(command) = read_command(line, &ProgramSymbols(self.program())) else {

@@ -24,8 +24,8 @@ pub const PAGE_BYTES: u32 = 4096;
 /// A memory, seen as its bytes by their offsets from its first byte.
 ///
 /// The bytes of a word stand low byte first (RISC-V Unprivileged ISA 20191213, section 1.4). A write may have
-/// to make room: it is refused where the allocator has none, and then leaves every byte as it was. Each memory
-/// says itself which writes those are.
+/// to make room: it is refused where the allocator has none, and then leaves every byte as it was. Each
+/// memory says itself which writes those are.
 pub trait ByteMemory: Drop {
     ghost use Rattle.std.specs.Prelude.{List, ℕ};
     ghost use Rattle.rv_ram.specs.Room.{RoomRule};
@@ -63,8 +63,8 @@ pub trait ByteMemory: Drop {
         ensures err { OnErr result (bytes self.new ≡ bytes self.old) }
         ensures room { OnErr result (wants_room (bytes self.old) off width value ≡ true) };
 
-    /// Writes as `write` does where no room has to be made. Returns whether it wrote: where it didn't, it leaves
-    /// every byte as it was. It never allocates.
+    /// Writes as `write` does where no room has to be made. Returns whether it wrote: where it didn't, it
+    /// leaves every byte as it was. It never allocates.
     fn overwrite(&mut self, off: u32, width: Width, value: u32) -> bool
         requires in_range { off + bytes_of width ≤ length (bytes self.old) }
         requires aligned { off % bytes_of width ≡ 0 }

@@ -301,7 +301,8 @@ impl Recording {
             ++ answer (command_in line.now self.old.session) self.old.session self.new.session) }
         ensures err { OnErr result
             (LeavesRefused (command_in line.now self.old.session) self.old.session self.new.session) }
-        ensures room { OnErr result (LacksRoom ⟦<PagedRam as ByteMemory>⟧.wants_room (command_in line.now self.old.session)
+        ensures room { OnErr result
+            (LacksRoom ⟦<PagedRam as ByteMemory>⟧.wants_room (command_in line.now self.old.session)
             (vec_capacity text.old - vec_len text.old) self.old.session self.new.session) }
         ensures unwritten { OnErr result (text.new.items ≡ text.old.items) }
         ensures others { self.new ≡ record self.old { session = self.new.session } }
