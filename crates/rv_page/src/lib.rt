@@ -4,10 +4,10 @@
 //! A handle lends its state to each call, so what is only read takes no memory.
 #![tactic(auto)]
 
-ghost use Rattle.std.specs.Prelude.{◌≡◌, ◌≤◌, true, false, length, [], Some, IfSome};
+ghost use Rattle.std.specs.Prelude.{◌≡◌, ◌≤◌, ◌==◌, ◌⊎◌, ◌++◌, true, false, not, drop, length, [], Some, IfSome, is_some};
 ghost use Rattle.rv_lab.specs.State.{setup};
 ghost use Rattle.rv_lab.specs.Commands.{Continues, Obeys};
-ghost use Rattle.rv_page.specs.Pages.{Keeps, IsDone, IsLoaded, IsOpened, IsRefused, OfLabs, copied, empty, in_pieces, sent, taken, with_copied};
+ghost use Rattle.rv_page.specs.Pages.{IsOpened, IsRefused, OfLabs, copied, empty, in_pieces, sent, taken};
 
 mod copying;
 mod handle;
@@ -45,7 +45,8 @@ pub extern "C" fn page_load(
     pages: u16,
     slots: u16,
 ) -> u32
-    ensures code { IsLoaded handle.new.value result }
+    ensures code { (result ≡ 0) ⊎ (result ≡ 1) ⊎ (result ≡ 4) }
+    ensures lab { is_some handle.new.value.lab ≡ (result == 0) }
     ensures opened { result ≡ 0 → IfSome handle.new.value.lab (IsOpened source.now inputs.now pages slots) }
     ensures refused { result ≡ 1 → IsRefused source.now inputs.now pages slots }
     ensures quiet { result ≡ 0 → handle.new.value.answer.bytes ≡ [] }
@@ -61,8 +62,9 @@ pub extern "C" fn page_load(
 /// no lab.
 #[unsafe(no_mangle)]
 pub extern "C" fn page_command(handle: &mut Handle, line: &[u8], most: u64) -> u32
-    ensures code { IsDone handle.old.value result }
-    ensures lab { Keeps handle.old.value handle.new.value }
+    ensures code { result ≤ 5 }
+    ensures none { is_some handle.old.value.lab ≡ not (result == 5) }
+    ensures lab { is_some handle.new.value.lab ≡ is_some handle.old.value.lab }
     ensures setup { OfLabs handle.old.value handle.new.value (λ l m. setup m ≡ setup (in_pieces most l)) }
     ensures obeys { result ≤ 3 → OfLabs handle.old.value handle.new.value
         (λ l. Obeys line.now (in_pieces most l)) }
@@ -74,8 +76,9 @@ pub extern "C" fn page_command(handle: &mut Handle, line: &[u8], most: u64) -> u
 /// those of `page_command`.
 #[unsafe(no_mangle)]
 pub extern "C" fn page_go_on(handle: &mut Handle, most: u64) -> u32
-    ensures code { IsDone handle.old.value result }
-    ensures lab { Keeps handle.old.value handle.new.value }
+    ensures code { result ≤ 5 }
+    ensures none { is_some handle.old.value.lab ≡ not (result == 5) }
+    ensures lab { is_some handle.new.value.lab ≡ is_some handle.old.value.lab }
     ensures setup { OfLabs handle.old.value handle.new.value (λ l m. setup m ≡ setup (in_pieces most l)) }
     ensures continues { result ≤ 3 → OfLabs handle.old.value handle.new.value
         (λ l. Continues l.plan (in_pieces most l)) }
@@ -96,8 +99,9 @@ pub extern "C" fn page_steps(handle: &mut Handle) -> u64
 #[unsafe(no_mangle)]
 pub extern "C" fn page_text(handle: &mut Handle, from: usize, out: &mut [u8]) -> usize
     ensures kept { handle.new.value ≡ handle.old.value }
-    ensures count { result ≡ copied handle.old.value.answer.bytes from (length out.old) }
-    ensures bytes { out.new ≡ with_copied handle.old.value.answer.bytes from out.old }
+    ensures count { result ≡ length (copied handle.old.value.answer.bytes from (length out.old)) }
+    ensures bytes { out.new ≡ copied handle.old.value.answer.bytes from (length out.old)
+        ++ drop result out.old }
 {
     copy_from(handle.state().answer.bytes(), from, out)
 }
@@ -106,8 +110,8 @@ pub extern "C" fn page_text(handle: &mut Handle, from: usize, out: &mut [u8]) ->
 #[unsafe(no_mangle)]
 pub extern "C" fn page_console(handle: &mut Handle, from: usize, out: &mut [u8]) -> usize
     ensures kept { handle.new.value ≡ handle.old.value }
-    ensures count { result ≡ copied (sent handle.old.value) from (length out.old) }
-    ensures bytes { out.new ≡ with_copied (sent handle.old.value) from out.old }
+    ensures count { result ≡ length (copied (sent handle.old.value) from (length out.old)) }
+    ensures bytes { out.new ≡ copied (sent handle.old.value) from (length out.old) ++ drop result out.old }
 {
     copy_from(handle.state().console(), from, out)
 }

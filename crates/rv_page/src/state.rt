@@ -1,8 +1,8 @@
 //! What the page keeps between two calls.
-ghost use Rattle.std.specs.Prelude.{◌≡◌, ◌≤◌, [], IfErr, IfSome};
+ghost use Rattle.std.specs.Prelude.{◌≡◌, ◌≤◌, ◌==◌, ◌⊎◌, not, [], IfErr, IfSome, is_some};
 ghost use Rattle.rv_lab.specs.State.{setup};
 ghost use Rattle.rv_lab.specs.Commands.{Continues, Obeys};
-ghost use Rattle.rv_page.specs.Pages.{Keeps, IsDone, IsLoaded, IsOpened, IsRefused, OfLabs, empty, in_pieces, sent, taken};
+ghost use Rattle.rv_page.specs.Pages.{IsOpened, IsRefused, OfLabs, empty, in_pieces, sent, taken};
 
 use rv_base::NoMemory;
 use rv_lab::{Answer, Lab, Next, OpenFault, Sizes, append_diagnosis};
@@ -60,7 +60,8 @@ impl State {
 
     /// Opens a lab, or says in the text why there is none.
     pub(crate) fn load(&mut self, alloc: Global, source: &[u8], inputs: &[u8], sizes: Sizes) -> u32
-        ensures code { IsLoaded self.new result }
+        ensures code { (result ≡ 0) ⊎ (result ≡ 1) ⊎ (result ≡ 4) }
+        ensures lab { is_some self.new.lab ≡ (result == 0) }
         ensures opened { result ≡ 0 → IfSome self.new.lab
             (IsOpened source.now inputs.now sizes.pages sizes.slots) }
         ensures refused { result ≡ 1 → IsRefused source.now inputs.now sizes.pages sizes.slots }
@@ -83,8 +84,9 @@ impl State {
 
     /// Executes a command line, in at most `most` steps.
     pub(crate) fn command(&mut self, line: &[u8], most: u64) -> u32
-        ensures code { IsDone self.old result }
-        ensures lab { Keeps self.old self.new }
+        ensures code { result ≤ 5 }
+        ensures none { is_some self.old.lab ≡ not (result == 5) }
+        ensures lab { is_some self.new.lab ≡ is_some self.old.lab }
         ensures setup { OfLabs self.old self.new (λ l m. setup m ≡ setup (in_pieces most l)) }
         ensures obeys { result ≤ 3 → OfLabs self.old self.new (λ l. Obeys line.now (in_pieces most l)) }
     {
@@ -100,8 +102,9 @@ impl State {
 
     /// Goes on with a run, by at most `most` steps.
     pub(crate) fn go_on(&mut self, most: u64) -> u32
-        ensures code { IsDone self.old result }
-        ensures lab { Keeps self.old self.new }
+        ensures code { result ≤ 5 }
+        ensures none { is_some self.old.lab ≡ not (result == 5) }
+        ensures lab { is_some self.new.lab ≡ is_some self.old.lab }
         ensures setup { OfLabs self.old self.new (λ l m. setup m ≡ setup (in_pieces most l)) }
         ensures continues { result ≤ 3 → OfLabs self.old self.new
             (λ l. Continues l.plan (in_pieces most l)) }
