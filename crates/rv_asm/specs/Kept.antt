@@ -1,9 +1,9 @@
 -- Results whose faults have no line yet, what instructions wait for, and lists of local labels.
 -- The language is this project's own: docs/ASSEMBLER.md.
 -- Not to audit: private contracts alone cite this.
-use Rattle.std.specs.Prelude.{◌≡◌, ℕ, zero, suc, List, [], ◌∷◌, ◌++◌, ◌^◌, ℤ, pos, negsuc, ◌+ℤ◌, ◌-ℤ◌, ◌≤ℤ◌, ◌==◌, if◌then◌else◌, get_or, slice_get, replicate, Bool, false, not, Option, Some, None, is_some, option_and_then, Result, Ok, Err, ◌≤◌, ◌<◌, length, is_none}
-use Rattle.std.specs.Option.{option_map_or, ok_or, option_map}
-use Rattle.std.specs.List.{list_all, AllByRecursion, list_any}
+use Rattle.std.specs.Prelude.{◌≡◌, ℕ, zero, suc, List, [], ◌∷◌, ◌++◌, ℤ, pos, negsuc, ◌+ℤ◌, ◌-ℤ◌, ◌≤ℤ◌, ◌==◌, if◌then◌else◌, get_or, slice_get, replicate, Bool, Option, Some, None, option_and_then, Result, Ok, Err, is_none}
+use Rattle.std.specs.Option.{ok_or}
+use Rattle.std.specs.List.{list_any}
 use Rattle.rv_source.specs.declared.operand.Operand.{Operand}
 use Rattle.rv_source.specs.declared.operand.Part.{Part}
 use Rattle.rv_program.specs.declared.fault.FaultKind.{FaultKind}
@@ -91,8 +91,6 @@ has_unknown value xs = list_any (λ x. is_none (value x)) xs
 -- n instructions `nop`
 abbrev pub nops : ℕ → List Kind
 nops n = replicate n (OpImm Addi 0 0 (pos 0))
-
--- ---- lists of local labels
 
 -- from -n to n
 pub record IsNear (n : ℕ) (v : ℤ) : Type 0 where
