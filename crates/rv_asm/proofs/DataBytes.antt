@@ -9,9 +9,8 @@ use Rattle.rv_isa.specs.declared.op.Width.TheVariants.{One, Two, Four}
 use Rattle.rv_source.specs.declared.operand.Operand.{Operand}
 use Rattle.rv_program.specs.declared.fault.FaultKind.{FaultKind}
 use Rattle.rv_program.specs.declared.fault.FaultKind.TheVariants.{Undefined, OutOfRange, OutOfMemory}
-use Rattle.rv_asm.specs.Values.{byte}
 use Rattle.rv_asm.specs.Listing.{◌>>=◌, placed, space}
-use Rattle.rv_asm.specs.Kept.{Valuation, KindFails, has_unknown, wanted, fill_of}
+use Rattle.rv_asm.specs.Kept.{byte, Valuation, KindFails, has_unknown, wanted, fill_of}
 use Rattle.rv_asm.specs.Steps.{appended}
 
 pub width_within : (width : Width) → bytes_of width ≤ 4

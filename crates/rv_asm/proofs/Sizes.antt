@@ -1,7 +1,7 @@
 -- The rows of statements, by the values that must be known; and a statement has as many bytes as its row
 -- says.
-use Rattle.std.proofs.Common.{◌≡◌, ◌∙◌, ℕ, ◌+◌, ◌*◌, ◌^◌, ◌%◌, ◌==◌, Bool, true, false, List, [], ◌∷◌, ◌++◌, length, replicate, ℤ, ap, refl, arith, length-append}
-use Rattle.std.specs.Prelude.{◌&&◌, ◌||◌, not, is_some, take, Option, Some, None, if◌then◌else◌, Result, Ok}
+use Rattle.std.proofs.Common.{◌≡◌, ◌∙◌, ℕ, ◌+◌, ◌*◌, ◌^◌, ◌%◌, ◌≤◌, ◌==◌, Bool, true, false, List, [], ◌∷◌, ◌++◌, length, replicate, ℤ, ap, refl, arith, length-append}
+use Rattle.std.specs.Prelude.{◌&&◌, ◌||◌, not, is_some, min, take, Option, Some, None, if◌then◌else◌, Result, Ok}
 use Rattle.std.specs.Int.{to_le_bytes, w32}
 use Rattle.std.proofs.lemmas.List.{length-replicate}
 use Rattle.rv_isa.specs.Number.{modulo}
@@ -16,10 +16,10 @@ use Rattle.rv_source.specs.declared.statement.Statement.{Statement}
 use Rattle.rv_source.specs.declared.statement.Statement.TheVariants as s
 use Rattle.rv_program.specs.declared.fault.FaultKind.{FaultKind}
 use Rattle.rv_asm.specs.Symbols.{value_of}
-use Rattle.rv_asm.specs.Values.{fits, byte, part_value, far, hi, lo, loading, gap}
+use Rattle.rv_asm.specs.Values.{fits, part_value, far, hi, lo}
 use Rattle.rv_asm.specs.Layout.{redefines}
 use Rattle.rv_asm.specs.Listing.{bytes, bytes_in, code, filled, padding, space, row}
-use Rattle.rv_asm.specs.Kept.{Valuation}
+use Rattle.rv_asm.specs.Kept.{byte, Valuation}
 use Rattle.rv_asm.specs.Counted.{renames}
 use Rattle.rv_asm.specs.Constants.{IsTaken, IsKnown, is_unknown, is_instruction, size_of, constant_in, statement_bytes}
 use Rattle.rv_asm.proofs.DataBytes.{Counts, placed_one, space_bytes, then_counted, mapped_counted, placed_counted}
@@ -57,16 +57,20 @@ module _ (early : Valuation) (here : ℕ) where
 
 -- ---- how many bytes instructions and padding have
 
-length_bytes : (kinds : List Kind) → length (bytes kinds) ≡ 4 * length kinds
+pub length_bytes : (kinds : List Kind) → length (bytes kinds) ≡ 4 * length kinds
 length_bytes [] = refl
 length_bytes (k ∷ ks) = let h = length_bytes ks in omega arith
 
-length_padding : (n : ℕ) → length (padding n) ≡ n
+pub length_padding : (n : ℕ) → length (padding n) ≡ n
+unfolding padding
 length_padding n = length-append (replicate (n % 4) 0) _ ∙ (rw (length-replicate, length_bytes, length-replicate) (omega arith))
+
+pub padded : (n m : ℕ) → n ≡ m → n ≤ 0xffffffff → n ≡ min (length (padding m)) 0xffffffff
+padded n m e h = rw (length_padding, ← e) (omega arith)
 
 -- ---- the value that must be known is all that a row takes from the symbols of its line
 
-space_size : (n : ℕ) (fill : Option Operand) → (space n fill).size ≡ n
+pub space_size : (n : ℕ) (fill : Option Operand) → (space n fill).size ≡ n
 space_size n None = length-replicate n 0
 space_size n (Some x) = omega arith
 
@@ -83,10 +87,10 @@ module _ (early : Valuation) (c : ℤ) (here : ℕ) where
   pub size_is : (statement : Statement) → IsKnown early c statement →
       (row early here statement).size ≡ size_of c here statement
   unfolding IsKnown row
-  size_is (s.Li rd e) k = rw k.0 (length_bytes (loading rd (modulo c (2 ^ 32))))
-  size_is (s.Space size fill) k = rw k.0 (space_size (modulo c (2 ^ 32)) fill)
-  size_is (s.Align power) k = rw k.0 (length_padding (gap here (2 ^ modulo c (2 ^ 32))))
-  size_is (s.Balign multiple) k = rw k.0 (length_padding (gap here (modulo c (2 ^ 32))))
+  size_is (s.Li rd e) k = rw k.0 refl
+  size_is (s.Space size fill) k = rw k.0 refl
+  size_is (s.Align power) k = rw k.0 refl
+  size_is (s.Balign multiple) k = rw k.0 refl
   size_is statement k = refl
 
   pub defines_is : (statement : Statement) → IsKnown early c statement →

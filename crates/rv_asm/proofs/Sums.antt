@@ -1,10 +1,9 @@
 -- Summing the terms of an expression, one by one.
-use Rattle.std.proofs.Common.{◌≡◌, ℕ, suc, ◌+◌, ◌*◌, ◌<◌, ◌≤◌, List, [], ◌∷◌, ℤ, pos, ◌+ℤ◌, drop, get_or, length, Bool, true, false, ap, sym, ◌∙◌, refl, arith, add-one}
+use Rattle.std.proofs.Common.{◌≡◌, ℕ, ◌+◌, ◌*◌, ◌<◌, ◌≤◌, List, [], ◌∷◌, ℤ, pos, ◌+ℤ◌, drop, get_or, length, Bool, true, false, ap, sym, ◌∙◌, refl, arith}
 use Rattle.std.specs.Prelude.{Option, Some, None, option_and_then}
 use Rattle.std.specs.Option.{option_map}
 use Rattle.std.proofs.lemmas.Int.{ints}
-use Rattle.std.proofs.Math.Seq.{drop-cons}
-use Rattle.std.proofs.lemmas.List.{drop_all}
+use Rattle.std.proofs.lemmas.List.{at_drop_more, drop_all}
 use Rattle.rv_source.specs.declared.expression.Term.{Term}
 use Rattle.rv_asm.specs.Values.{is_word}
 use Rattle.rv_asm.specs.Symbols.{Definitions, atom_value, sum_value}
@@ -30,23 +29,17 @@ pub record SumSoFar (ds : Definitions) (line here : ℕ) (terms more : List Term
     pub value : option_map (λ w. w +ℤ sum) (sum_value ds line here (drop i more)) ≡ sum_value ds line here terms
     pub near : IsNear (4294967296 * (i + 1)) sum
 
-plus_zero : (w : ℤ) → w +ℤ pos 0 ≡ w
-plus_zero w = omega (arith, ints)
-
--- a term may be added to either part of a sum
-added_before : (w sum v : ℤ) (negative : Bool) → added w negative v +ℤ sum ≡ w +ℤ added sum negative v
-added_before w sum v true = omega (arith, ints)
-added_before w sum v false = omega (arith, ints)
-
 map_zero : (o : Option ℤ) → option_map (λ w. w +ℤ pos 0) o ≡ o
 map_zero None = refl
-map_zero (Some w) = ap (λ x. Some x) (plus_zero w)
+map_zero (Some w) = ap (λ x. Some x) (omega (arith, ints))
 
+-- a term may be added to either part of a sum
 map_added : (o : Option ℤ) (sum v : ℤ) (negative : Bool) →
     option_map (λ w. w +ℤ sum) (option_map (λ w. added w negative v) o)
     ≡ option_map (λ w. w +ℤ added sum negative v) o
 map_added None sum v negative = refl
-map_added (Some w) sum v negative = ap (λ x. Some x) (added_before w sum v negative)
+map_added (Some w) sum v true = ap (λ x. Some x) (omega (arith, ints))
+map_added (Some w) sum v false = ap (λ x. Some x) (omega (arith, ints))
 
 module _ (ds : Definitions) (line here : ℕ) (terms more : List Term) where
   module _ (first : Term) (is : first ∷ more ≡ terms) where
@@ -69,8 +62,7 @@ module _ (ds : Definitions) (line here : ℕ) (terms more : List Term) where
       (λ v. option_map (λ w. added w (get_or more i d).negative v)
       (sum_value ds line here (drop (i + 1) more))) (atom_value ds line here (get_or more i d).atom)
   unfolding sum_value
-  at_term i d h = let e : drop i more ≡ get_or more i d ∷ drop (suc i) more = drop-cons more i d h
-      in rw (e, add-one) refl
+  at_term i d h = at_drop_more (sum_value ds line here) more i d h
 
   pub sum_more : (i : ℕ) (d : Term) (sum v : ℤ) → i < length more → SumSoFar ds line here terms more i sum
       → atom_value ds line here (get_or more i d).atom ≡ Some v → is_word v ≡ true →

@@ -1,11 +1,10 @@
 -- What a statement stands for by its constant, the value that must be known on its line; and what is kept
 -- with the text of a line.
 -- Not to audit: private contracts alone cite this.
-use Rattle.std.specs.Prelude.{◌≡◌, ℕ, ◌*◌, ◌^◌, Bool, true, false, not, List, [], ◌∷◌, length, replicate, ℤ, pos, Option, Some, None, Result, Ok, Err}
+use Rattle.std.specs.Prelude.{◌≡◌, ℕ, ◌^◌, Bool, true, false, not, List, [], ◌∷◌, replicate, ℤ, pos, Option, Some, None, Result, Ok, Err}
 use Rattle.std.specs.Option.{unwrap_or, option_map_or}
 use Rattle.rv_base.specs.Limits.{image_limit}
 use Rattle.rv_isa.specs.Number.{modulo}
-use Rattle.rv_isa.specs.Width.{bytes_of}
 use Rattle.rv_source.specs.Reading.{said}
 use Rattle.rv_source.specs.Operands.{part_of}
 use Rattle.rv_source.specs.declared.operand.Operand.{Operand}
@@ -14,7 +13,7 @@ use Rattle.rv_source.specs.declared.statement.Statement.TheVariants as s
 use Rattle.rv_source.specs.declared.statement.Statement.TheVariants.{Marker}
 use Rattle.rv_program.specs.declared.fault.FaultKind.{FaultKind}
 use Rattle.rv_asm.specs.Values.{is_between, is_word, loading, gap}
-use Rattle.rv_asm.specs.Listing.{◌>>=◌, bytes, bytes_in, placed, is_multiple, padding}
+use Rattle.rv_asm.specs.Listing.{◌>>=◌, bytes, bytes_in, placed, is_multiple, padding, row}
 use Rattle.rv_asm.specs.Kept.{Valuation, wanted, near, pair, fill_of}
 
 -- ---- the rows of statements, by their constants
@@ -41,19 +40,9 @@ is_instruction (s.Far scratch kind x) = true
 is_instruction (s.Li rd x) = true
 is_instruction statement = false
 
--- the number of bytes of a statement at an address
+-- the number of bytes of a statement at an address: that of its row
 abbrev pub size_of : ℤ → ℕ → Statement → ℕ
-size_of c here (s.Instruction kind) = 4
-size_of c here (s.WithValue kind x) = 4
-size_of c here (s.Far scratch kind x) = 8
-size_of c here (s.Li rd x) = 4 * length (loading rd (modulo c (2 ^ 32)))
-size_of c here (s.Data width xs) = bytes_of width * length xs
-size_of c here (s.Bytes bs) = length bs
-size_of c here (s.Space size fill) = modulo c (2 ^ 32)
-size_of c here (s.Align power) = gap here (2 ^ modulo c (2 ^ 32))
-size_of c here (s.Balign multiple) = gap here (modulo c (2 ^ 32))
-size_of c here (s.Constant name x) = 0
-size_of c here s.Marker = 0
+size_of c here statement = (row (λ x. Some c) here statement).size
 
 -- the name that `.equ` defines, with its value
 abbrev pub constant_in : ℤ → Statement → List (List ℕ × ℤ)

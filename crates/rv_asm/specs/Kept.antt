@@ -18,7 +18,7 @@ use Rattle.rv_asm.specs.declared.instructions.Instructions.{Instructions}
 use Rattle.rv_asm.specs.declared.instructions.Instructions.TheVariants as i
 use Rattle.rv_asm.specs.declared.symbols.Scope.{Scope}
 use Rattle.rv_asm.specs.Symbols.{operand_value}
-use Rattle.rv_asm.specs.Values.{field, byte, part_value, far, hi, lo}
+use Rattle.rv_asm.specs.Values.{field, part_value, far, hi, lo}
 use Rattle.rv_asm.specs.Listing.{◌>>=◌, code, bytes_in}
 
 -- ---- results whose fault has no line yet
@@ -61,6 +61,10 @@ wanted place v = ok_or v Undefined >>= λ v. ok_or (place v) OutOfRange
 -- the immediate of a U-type instruction
 abbrev pub upper_immediate : ℤ → Option ℕ
 upper_immediate v = field (negsuc 524287) (pos 1048575) 20 v
+
+-- a byte, signed or unsigned
+abbrev pub byte : ℤ → Option ℕ
+byte v = field (negsuc 127) (pos 255) 8 v
 
 -- a shift amount, or the immediate of a control register instruction
 abbrev pub five_bits : ℤ → Option ℕ

@@ -20,7 +20,7 @@ use Rattle.rv_source.specs.declared.statement.Statement.{Statement}
 use Rattle.rv_source.specs.declared.statement.Statement.TheVariants as s
 use Rattle.rv_program.specs.declared.fault.FaultKind.{FaultKind}
 use Rattle.rv_program.specs.declared.fault.FaultKind.TheVariants.{Undefined, OutOfRange}
-use Rattle.rv_asm.specs.Values.{is_between, is_word, fits, immediate, field, byte, distance, hi, lo, part_value, far, loading, gap}
+use Rattle.rv_asm.specs.Values.{is_between, is_word, fits, immediate, field, distance, hi, lo, part_value, far, loading, gap}
 
 -- ---- instructions
 
@@ -57,7 +57,7 @@ bytes_in width v =
 
 -- n bytes of padding, up to a multiple of a power of two: zeros up to a multiple of 4 or the end, then `nop`
 -- instructions
-abbrev pub padding : ℕ → List ℕ
+unfoldable pub padding : ℕ → List ℕ
 padding n = replicate (n % 4) 0 ++ bytes (replicate (n / 4) (OpImm Addi 0 0 (pos 0)))
 
 -- a power of two from 1 to 4096
@@ -97,7 +97,7 @@ waiting alignment n place xs = record (ready alignment []) { size = n * length x
 -- n times the byte that fills a space, which is 0 if none is given
 abbrev pub space : ℕ → Option Operand → Row
 space n None = ready 1 (replicate n 0)
-space n (Some fill) = waiting 1 n (λ v. option_map (replicate n) (byte v)) (fill ∷ [])
+space n (Some fill) = waiting 1 n (λ v. option_map (replicate n) (field (negsuc 127) (pos 255) 8 v)) (fill ∷ [])
 
 -- what depends on a value, as a word, that must be known on the line of the statement and pass a test
 abbrev pub asking : Option ℤ → (ℤ → Bool) → (ℕ → Row) → Row

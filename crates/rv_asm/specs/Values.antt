@@ -31,10 +31,6 @@ immediate v =
 abbrev pub field : ℤ → ℤ → ℕ → ℤ → Option ℕ
 field low high bits v = if is_between low high v then Some (modulo v (2 ^ bits)) else None
 
--- a value that fits into a byte, signed or unsigned
-abbrev pub byte : ℤ → Option ℕ
-byte = field (negsuc 127) (pos 255) 8
-
 -- the distance from a jump at `here` to its target, if it is even and within the bound
 abbrev pub distance : ℕ → ℕ → ℤ → Option ℤ
 distance bound here target =

@@ -50,6 +50,7 @@ fn write_nops(count: u32, out: &mut Vec<u8>) -> Result<(), FaultKind>
 }
 
 /// Appends `count` bytes of padding: zeros, and then `nop` instructions.
+#[tactic(auto, unfolding(crate::specs::Listing::padding))]
 pub fn pad(count: u32, out: &mut Vec<u8>) -> Result<(), FaultKind>
     ensures { KindBecomes out.new.items result (Ok (out.old.items ++ padding count)) }
 {

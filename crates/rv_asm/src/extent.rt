@@ -65,7 +65,7 @@ fn data_size(width: Width, count: usize) -> u32
 }
 
 /// Returns the size in bytes of a statement at the address `here`, saturated at 2^32 - 1.
-#[tactic(auto, unfolding(crate::specs::Values::loading, crate::specs::Constants::IsTaken))]
+#[tactic(auto, using(crate::proofs::Sizes::length_bytes, crate::proofs::Sizes::padded, crate::proofs::Sizes::space_size), unfolding(crate::specs::Values::loading, crate::specs::Constants::IsTaken, crate::specs::Listing::row))]
 fn size_of(here: u32, constant: i64, statement: &Statement) -> u32
     requires { IsTaken constant statement.now }
     ensures { result ≡ min (size_of constant here statement.now) 0xffffffff }

@@ -1,9 +1,9 @@
 //! Conversions of the value of an expression to the field that it fills.
 ghost use Rattle.std.specs.Prelude.{◌≡◌, ◌==◌, ◌&&◌, ◌<◌, ◌≤◌, ◌^◌, true, Some, None, IfSome, if◌then◌else◌};
 ghost use Rattle.rv_isa.specs.Number.{IsWithin, IsDistance, modulo};
-ghost use Rattle.rv_asm.specs.Values.{is_between, is_word, fits, byte, immediate, distance, hi, lo, part_value, far, gap};
+ghost use Rattle.rv_asm.specs.Values.{is_between, is_word, fits, immediate, distance, hi, lo, part_value, far, gap};
 ghost use Rattle.rv_asm.specs.Listing.{is_multiple};
-ghost use Rattle.rv_asm.specs.Kept.{upper_immediate, five_bits};
+ghost use Rattle.rv_asm.specs.Kept.{byte, upper_immediate, five_bits};
 
 use rv_isa::Width;
 use rv_source::Part;
