@@ -1,5 +1,5 @@
 -- Lists in order of a number, looked up by binary search: the place at which the number passes one.
-use Rattle.std.proofs.Common.{◌≡◌, ◌∙◌, ℕ, zero, suc, ◌<◌, ◌≤◌, true, false, List, [], ◌∷◌, length, take, get_or, ◌-◌, ap, sym, refl, arith, leb}
+use Rattle.std.proofs.Common.{◌≡◌, ◌∙◌, ℕ, zero, suc, ◌<◌, ◌≤◌, true, false, List, [], ◌∷◌, length, take, get_or, ◌+◌, ap, sym, refl, arith, leb}
 use Rattle.std.proofs.lemmas.Option.{slice_get-get_or}
 use Rattle.std.specs.Prelude.{Option, Some, None, filter, nat_le, nat_lt, slice_get}
 use Rattle.std.specs.List.{find, last_or}
@@ -13,11 +13,11 @@ last_taken o [] k h = absurd (omega arith)
 last_taken o (x ∷ xs) zero h = refl
 last_taken {X} o (x ∷ xs) (suc k) h = last_taken (Some x) xs k (omega arith)
 
-pub last_some : {X : Type 0} (xs : List X) (i : ℕ) (x : X) → (i ≡ 0 → ⊥) → x ≡ get_or xs (i - 1) x → i ≤ length xs →
+pub last_some : {X : Type 0} (xs : List X) (i j : ℕ) (x : X) → x ≡ get_or xs j x → j + 1 ≡ i → i ≤ length xs →
     last_of xs i ≡ Some x
-last_some xs zero x h e p = absurd (h refl)
-last_some xs (suc i) x h e p =
-    let at : suc i - 1 ≡ i = omega arith in
+last_some xs zero j x e h p = absurd (omega arith)
+last_some xs (suc i) j x e h p =
+    let at : j ≡ i = omega arith in
     slice_get-get_or xs i x (omega arith) ∙ ap (λ y. Some y) (sym (rw at at e))
 
 module _ {X : Type 0} (n : X → ℕ) (t : ℕ) where

@@ -6,7 +6,9 @@ use Rattle.std.proofs.lemmas.Int.{ints}
 use Rattle.std.proofs.lemmas.List.{at_drop_more, drop_all}
 use Rattle.rv_source.specs.declared.expression.Term.{Term}
 use Rattle.rv_asm.specs.Values.{is_word}
-use Rattle.rv_asm.specs.Symbols.{Definitions, atom_value, sum_value}
+use Rattle.rv_source.specs.declared.expression.Atom.{Atom}
+use Rattle.rv_asm.specs.declared.symbols.Scope.{Scope}
+use Rattle.rv_asm.specs.Symbols.{atom_value, sum_value}
 use Rattle.rv_asm.specs.Kept.{IsNear, added}
 
 near_word : (v : ℤ) → is_word v ≡ true → IsNear 4294967296 v
@@ -23,10 +25,16 @@ near_added n sum v false h k = record {
   high = omega (arith, ints, h.low, h.high, k.low, k.high);
 }
 
+abbrev pub atom_in : Scope → Atom → Option ℤ
+atom_in s atom = atom_value s.symbols.now s.line s.here atom
+
+abbrev pub sum_in : Scope → List Term → Option ℤ
+sum_in s terms = sum_value s.symbols.now s.line s.here terms
+
 -- sum is that of the first term and of i more, and at most i + 1 times 2 ^ 32 away from 0
-pub record SumSoFar (ds : Definitions) (line here : ℕ) (terms more : List Term) (i : ℕ) (sum : ℤ) : Type 0
+pub record SumSoFar (s : Scope) (terms more : List Term) (i : ℕ) (sum : ℤ) : Type 0
   where
-    pub value : option_map (λ w. w +ℤ sum) (sum_value ds line here (drop i more)) ≡ sum_value ds line here terms
+    pub value : option_map (λ w. w +ℤ sum) (sum_in s (drop i more)) ≡ sum_in s terms
     pub near : IsNear (4294967296 * (i + 1)) sum
 
 map_zero : (o : Option ℤ) → option_map (λ w. w +ℤ pos 0) o ≡ o
@@ -41,39 +49,39 @@ map_added None sum v negative = refl
 map_added (Some w) sum v true = ap (λ x. Some x) (omega (arith, ints))
 map_added (Some w) sum v false = ap (λ x. Some x) (omega (arith, ints))
 
-module _ (ds : Definitions) (line here : ℕ) (terms more : List Term) where
+module _ (s : Scope) (terms more : List Term) where
   module _ (first : Term) (is : first ∷ more ≡ terms) where
-    pub sum_begun : (v : ℤ) → atom_value ds line here first.atom ≡ Some v → is_word v ≡ true →
-        SumSoFar ds line here terms more 0 (added (pos 0) first.negative v)
+    pub sum_begun : (v : ℤ) → atom_in s first.atom ≡ Some v → is_word v ≡ true →
+        SumSoFar s terms more 0 (added (pos 0) first.negative v)
     unfolding sum_value
     sum_begun v e word = rw (← is) (record {
-      value = rw e (sym (map_added (sum_value ds line here more) (pos 0) v first.negative)
-          ∙ map_zero (option_map (λ w. added w first.negative v) (sum_value ds line here more)));
+      value = rw e (sym (map_added (sum_in s more) (pos 0) v first.negative)
+          ∙ map_zero (option_map (λ w. added w first.negative v) (sum_in s more)));
       near = near_added 0 (pos 0) v first.negative
           (record { low = omega (arith, ints); high = omega (arith, ints) }) (near_word v word);
     })
 
-    pub first_none : atom_value ds line here first.atom ≡ None → None ≡ sum_value ds line here terms
+    pub first_none : atom_in s first.atom ≡ None → None ≡ sum_in s terms
     unfolding sum_value
     first_none e = rw (← is, e) refl
 
   at_term : (i : ℕ) (d : Term) → i < length more
-      → sum_value ds line here (drop i more) ≡ option_and_then
+      → sum_in s (drop i more) ≡ option_and_then
       (λ v. option_map (λ w. added w (get_or more i d).negative v)
-      (sum_value ds line here (drop (i + 1) more))) (atom_value ds line here (get_or more i d).atom)
+      (sum_in s (drop (i + 1) more))) (atom_in s (get_or more i d).atom)
   unfolding sum_value
   at_term i d h = at_drop_more (sum_value ds line here) more i d h
 
-  pub sum_more : (i : ℕ) (d : Term) (sum v : ℤ) → i < length more → SumSoFar ds line here terms more i sum
-      → atom_value ds line here (get_or more i d).atom ≡ Some v → is_word v ≡ true →
-      SumSoFar ds line here terms more (i + 1) (added sum (get_or more i d).negative v)
+  pub sum_more : (i : ℕ) (d : Term) (sum v : ℤ) → i < length more → SumSoFar s terms more i sum
+      → atom_in s (get_or more i d).atom ≡ Some v → is_word v ≡ true →
+      SumSoFar s terms more (i + 1) (added sum (get_or more i d).negative v)
   sum_more i d sum v h so e word =
       record {
         value =
             let f = at_term i d h in
             let g = rw e at f in
             sym (ap (option_map (λ w. w +ℤ sum)) g
-            ∙ map_added (sum_value ds line here (drop (i + 1) more)) sum v (get_or more i d).negative)
+            ∙ map_added (sum_in s (drop (i + 1) more)) sum v (get_or more i d).negative)
             ∙ so.value;
         near =
             let w = near_added (4294967296 * (i + 1)) sum v (get_or more i d).negative so.near
@@ -82,13 +90,13 @@ module _ (ds : Definitions) (line here : ℕ) (terms more : List Term) where
             let m : 4294967296 * (i + 1 + 1) ≡ 4294967296 * (i + 1) + 4294967296 = omega arith in rw m w;
       }
 
-  pub sum_none : (i : ℕ) (d : Term) (sum : ℤ) → i < length more → SumSoFar ds line here terms more i sum
-      → atom_value ds line here (get_or more i d).atom ≡ None → None ≡ sum_value ds line here terms
+  pub sum_none : (i : ℕ) (d : Term) (sum : ℤ) → i < length more → SumSoFar s terms more i sum
+      → atom_in s (get_or more i d).atom ≡ None → None ≡ sum_in s terms
   sum_none i d sum h so e =
       let f = at_term i d h in let g = rw e at f in sym (ap (option_map (λ w. w +ℤ sum)) g) ∙ so.value
 
-  pub sum_whole : (i : ℕ) (sum : ℤ) → length more ≤ i → SumSoFar ds line here terms more i sum →
-      Some sum ≡ sum_value ds line here terms
+  pub sum_whole : (i : ℕ) (sum : ℤ) → length more ≤ i → SumSoFar s terms more i sum →
+      Some sum ≡ sum_in s terms
   unfolding sum_value
   sum_whole i sum end so =
       let e : drop i more ≡ [] = drop_all i more end in

@@ -1,4 +1,4 @@
-use Rattle.std.proofs.Common.{◌≡◌, ◌∙◌, ap, refl}
+use Rattle.std.proofs.Common.{◌≡◌, ◌∙◌, ap, refl, arith}
 use Rattle.rv_asm.specs.Lines.{Listed}
 use Rattle.rv_asm.proofs.Cuts.{last_some}
 use Rattle.rv_asm.proofs.listing.Listing.label_before.Goals as goal
@@ -13,6 +13,6 @@ pub returns : goal.returns
 returns c =
     let e : c.self.inside.labels.items ≡ c.args.self.now.labels = ap (λ (l : Listed). l.labels) c.self.view_is in
     let last = (rw (c.deref.ensures.value, e) at c.count_labels-count.ensures.last)
-    ∙ last_some c.args.self.now.labels c.count_labels-count.result c.index-label.result.now c.if-count-eq0.false
-    (rw e at c.index-label.ensures) (rw (c.deref.ensures.value, e) at c.count_labels-count.ensures.within) in
+    ∙ last_some c.args.self.now.labels c.count_labels-count.result _ c.index-label.result.now
+    (rw e at c.index-label.ensures) (omega arith) (rw (c.deref.ensures.value, e) at c.count_labels-count.ensures.within) in
     rw last (rw (← c.label.view_is, c.new.ensures, c.deref-2.ensures.value) refl)
