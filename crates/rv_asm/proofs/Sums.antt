@@ -70,7 +70,7 @@ module _ (s : Scope) (terms more : List Term) where
       (λ v. option_map (λ w. added w (get_or more i d).negative v)
       (sum_in s (drop (i + 1) more))) (atom_in s (get_or more i d).atom)
   unfolding sum_value
-  at_term i d h = at_drop_more (sum_value ds line here) more i d h
+  at_term i d h = at_drop_more (sum_in s) more i d h
 
   pub sum_more : (i : ℕ) (d : Term) (sum v : ℤ) → i < length more → SumSoFar s terms more i sum
       → atom_in s (get_or more i d).atom ≡ Some v → is_word v ≡ true →
