@@ -32,3 +32,7 @@ sum _ = None
 -- E: the expression that the tokens as a whole spell
 unfoldable pub expression : List Token → Option (List Term)
 expression ts = sum (map piece_of ts)
+
+-- a term whose sign follows another, if that is a minus, and the terms that further tokens spell
+abbrev pub followed : Bool → Term → List Token → Option (List Term)
+followed sign t ts = with_term (not (beq sign t.negative)) t.atom (further (map piece_of ts))

@@ -1,9 +1,10 @@
 //! Reads expressions.
-ghost use Rattle.std.specs.Prelude.{◌≡◌, ◌<◌, ◌≤◌, ◌+◌, ◌++◌, Some, None, IfOk, length, map, if◌then◌else◌};
+ghost use Rattle.std.specs.Prelude.{◌≡◌, ◌<◌, ◌≤◌, ◌+◌, ◌++◌, ◌∷◌, Bool, false, Some, None, IfOk, IfSome, length, map, option_and_then, if◌then◌else◌};
 ghost use Rattle.std.specs.Option.{option_map};
 ghost use Rattle.rv_source.specs.Expressions.{is_symbol, piece_of};
 ghost use Rattle.rv_source.specs.Operands.{OneValue};
-ghost use Rattle.rv_source.specs.Sums.{expression, further, with_term};
+ghost use Rattle.rv_source.specs.Sums.{expression, followed, further, sum};
+ghost use Rattle.rv_source.specs.declared.terms.Piece.TheVariants.{Sign};
 
 use crate::{Atom, Expression, Term};
 use rv_tokens::{Name, Token};
@@ -46,6 +47,26 @@ fn piece_of<'a>(token: &Token<'a>) -> Piece<'a>
     }
 }
 
+/// Reads a term with a sign before it or none, and returns it with the tokens after it.
+#[tactic(auto, using(crate::proofs::Sums::unsigned), unfolding(crate::specs::Sums::further, crate::specs::Sums::sum))]
+fn read_term<'t, 'a>(tokens: &'t [Token<'a>]) -> Option<(Term<'a>, &'t [Token<'a>])>
+    ensures first { option_and_then (λ r. followed false r.0 r.1.now) result ≡ sum (map piece_of tokens.now) }
+    ensures later { (s : Bool) → option_and_then (λ r. followed s r.0 r.1.now) result ≡ further (Sign s ∷ map piece_of tokens.now) }
+    ensures shorter { IfSome result (λ r. length r.1.now < length tokens.now) }
+{
+    let [first, rest @ ..] = tokens else {
+        return None;
+    };
+    let (negative, piece, rest) = match (piece_of(first), rest) {
+        (Piece::Sign { minus }, [second, rest @ ..]) => (minus, piece_of(second), rest),
+        (piece, rest) => (false, piece, rest),
+    };
+    match piece {
+        Piece::Atom(atom) => Some((Term { negative, atom }, rest)),
+        _ => None,
+    }
+}
+
 /// Reads the terms after the first, each with a sign or two before it, and appends them; false if the tokens
 /// aren't that.
 #[tactic(auto, using(crate::proofs::Sums::further_more), unfolding(crate::specs::Sums::further))]
@@ -56,52 +77,20 @@ fn read_further<'a>(out: &mut Vec<Term<'a>>, tokens: &[Token<'a>]) -> Result<boo
     let [first, rest @ ..] = tokens else {
         return Ok(true);
     };
-    let Piece::Sign { minus: negative } = piece_of(first) else {
+    let Piece::Sign { minus } = piece_of(first) else {
         return Ok(false);
     };
-    let [second, rest @ ..] = rest else {
+    let Some(read) = read_term(rest) else {
         return Ok(false);
     };
-    match piece_of(second) {
-        Piece::Atom(atom) => {
-            out.push(Term { negative, atom })?;
-            read_further(out, rest)
-        }
-        Piece::Sign { minus } => {
-            let negative = negative != minus;
-            let [third, rest @ ..] = rest else {
-                return Ok(false);
-            };
-            let Piece::Atom(atom) = piece_of(third) else {
-                return Ok(false);
-            };
-            out.push(Term { negative, atom })?;
-            read_further(out, rest)
-        }
-        Piece::Other => Ok(false),
-    }
-}
-
-/// Reads an expression by the sign and the atom of its first term and the tokens after that.
-fn read_sum<'a>(
-    alloc: Global,
-    negative: bool,
-    atom: Atom<'a>,
-    tokens: &[Token<'a>],
-) -> Result<Option<Expression<'a>>, AllocError>
-    requires { length tokens.now < 1024 }
-    ensures { IfOk result (λ e. e ≡ with_term negative atom.entry (further (map piece_of tokens.now))) }
-{
-    let mut more = Vec::new(alloc);
-    if !read_further(&mut more, tokens)? {
-        return Ok(None);
-    }
-    let first = Term { negative, atom };
-    Ok(Some(Expression { first, more }))
+    let (Term { negative, atom }, rest) = read;
+    let negative = minus != negative;
+    out.push(Term { negative, atom })?;
+    read_further(out, rest)
 }
 
 /// Reads the tokens as a whole as an expression.
-#[tactic(auto, unfolding(crate::specs::Sums::expression, crate::specs::Sums::sum))]
+#[tactic(auto, unfolding(crate::specs::Sums::expression))]
 pub fn read_expression<'a>(
     alloc: Global,
     tokens: &[Token<'a>],
@@ -109,22 +98,13 @@ pub fn read_expression<'a>(
     requires { length tokens.now ≤ 1024 }
     ensures { IfOk result (λ e. e ≡ expression tokens.now) }
 {
-    let [first, rest @ ..] = tokens else {
+    let Some(read) = read_term(tokens) else {
         return Ok(None);
     };
-    match piece_of(first) {
-        Piece::Atom(atom) => read_sum(alloc, false, atom, rest),
-        Piece::Sign { minus } => {
-            let [second, rest @ ..] = rest else {
-                return Ok(None);
-            };
-            let Piece::Atom(atom) = piece_of(second) else {
-                return Ok(None);
-            };
-            read_sum(alloc, minus, atom, rest)
-        }
-        Piece::Other => Ok(None),
-    }
+    let (first, rest) = read;
+    let mut more = Vec::new(alloc);
+    let read = read_further(&mut more, rest)?;
+    Ok(read.then_some(Expression { first, more }))
 }
 
 /// A law: tokens have at most one reading as a sum of terms, and `read_expression` gives it.
