@@ -38,7 +38,7 @@ still (suc k) r h =
     let same : stepped r ≡ r = rw h refl in ap (λ (s : RecordingState). stepped_by k s) same ∙ still k r h
 
 -- n steps are a step and the others
-one_and_more : (n : ℕ) (r : RecordingState) → 0 < n → stepped_by n r ≡ stepped_by (n - 1) (stepped r)
+pub one_and_more : (n : ℕ) (r : RecordingState) → 0 < n → stepped_by n r ≡ stepped_by (n - 1) (stepped r)
 one_and_more zero r h = absurd (omega (arith, h))
 one_and_more (suc k) r h =
     let same : k ≡ suc k - 1 = omega arith in ap (λ i. stepped_by i (stepped r)) same
@@ -55,7 +55,7 @@ traced_last n old new h e over =
     e ∙ ap (λ (r : RecordingState). record old { recording = r })
     (sym (one_and_more n old.recording h ∙ still (n - 1) (stepped old.recording) last))
 
-traced_more : (n : ℕ) (old mid new : LabState) → 0 < n
+pub traced_more : (n : ℕ) (old mid new : LabState) → 0 < n
     → mid ≡ record old { recording = stepped old.recording } → Traced (n - 1) mid new → Traced n old new
 traced_more n old mid new h e t =
     t ∙ (ap (λ (l : LabState). record l { recording = stepped_by (n - 1) l.recording }) e

@@ -7,7 +7,6 @@ use Rattle.std.specs.Str.{bytes_eq}
 use Rattle.rv_base.specs.Tables.{lookup, rows}
 use Rattle.rv_lab.specs.Rows.{canonical, named}
 use Rattle.rv_lab.specs.Words.{commands, other_words}
-use Rattle.rv_lab.specs.declared.command.Command.{Command}
 use Rattle.rv_lab.specs.declared.command.Row.{Row}
 
 by_row : {A B : Type 0} (f : A → B) (b : Bool) (x : A) (o : Option A) (p : Option B) → option_map f o ≡ p

@@ -1,12 +1,8 @@
 -- To audit: public contracts cite this.
 -- The state of a lab.
-use Rattle.std.specs.Prelude.{◌≡◌, ℕ, List, Option, Result, Ok}
-use Rattle.rv_base.specs.Lines.{lines}
+use Rattle.std.specs.Prelude.{ℕ, List, Option}
 use Rattle.rv_program.specs.Program.{Assembly}
-use Rattle.rv_lists.specs.Timed.{timed}
-use Rattle.rv_lists.specs.declared.input.TimedInput.{TimedInput}
-use Rattle.rv_asm.specs.Assembly.{assembled}
-use Rattle.rv_asm.specs.Lines.{Listed, listed}
+use Rattle.rv_asm.specs.Lines.{Listed}
 use Rattle.rv_recording.specs.Recording.{RecordingState}
 use Rattle.rv_lab.specs.declared.command.Command.{Command}
 use Rattle.rv_lab.specs.declared.plan.Plan.{Plan}

@@ -1,5 +1,5 @@
 //! Breakpoints.
-ghost use Rattle.std.specs.Prelude.{◌≡◌, OnOk};
+ghost use Rattle.std.specs.Prelude.{◌≡◌, OnErr, OnOk};
 ghost use Rattle.rv_base.specs.Words.{words};
 ghost use Rattle.rv_lab.specs.declared.command.Command.TheVariants as command;
 ghost use Rattle.rv_operands.specs.Operands.{break_address};
@@ -44,6 +44,7 @@ impl Lab {
     ) -> Result<Next, NoMemory>
         ensures setup { setup self.new ≡ setup self.old }
         ensures leaves { OnOk result (Changes command.Break operands.now self.old self.new) }
+        ensures err { OnErr result (self.new ≡ self.old) }
     {
         let Some(address) = self.break_address(operands) else {
             if has_word(operands) {

@@ -1,6 +1,7 @@
 //! The execution of a command.
-ghost use Rattle.std.specs.Prelude.{◌≡◌, OnOk};
+ghost use Rattle.std.specs.Prelude.{◌≡◌, OnErr, OnOk};
 ghost use Rattle.rv_lab.specs.Commands.{Changes, Leaves, Repeats};
+ghost use Rattle.rv_lab.specs.Refusals.{RunsOut, StopsShort};
 ghost use Rattle.rv_lab.specs.State.{setup};
 
 use crate::command::Command;
@@ -18,6 +19,7 @@ impl Lab {
     ) -> Result<Next, NoMemory>
         ensures setup { setup self.new ≡ setup self.old }
         ensures leaves { OnOk result (Leaves command operands.now self.old self.new) }
+        ensures err { OnErr result (RunsOut (Leaves command operands.now) self.old self.new) }
     {
         match command {
             Command::Step => self.step_command(operands, answer),
@@ -36,9 +38,13 @@ impl Lab {
     fn repeat(&mut self, answer: &mut Answer) -> Result<Next, NoMemory>
         ensures setup { setup self.new ≡ setup self.old }
         ensures repeats { OnOk result (Repeats self.old.again self.old self.new) }
+        ensures err { OnErr result (StopsShort (Repeats self.old.again) self.old self.new) }
     {
         match self.last.command {
-            Command::Step => self.run_steps(self.last.count, answer),
+            Command::Step => {
+                let count = self.last.count;
+                self.run_steps(count, answer)
+            }
             Command::StepOnce => self.run_steps(1, answer),
             Command::Over => self.over_command(answer),
             Command::List => {
@@ -58,6 +64,7 @@ impl Lab {
     ) -> Result<Next, NoMemory>
         ensures setup { setup self.new ≡ setup self.old }
         ensures changes { OnOk result (Changes command operands.now self.old self.new) }
+        ensures err { OnErr result (RunsOut (Changes command operands.now) self.old self.new) }
     {
         match command {
             Command::List => self.list_command(operands, answer),

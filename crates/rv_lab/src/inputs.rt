@@ -1,7 +1,9 @@
 //! Inputs by hand, and what was done as texts for rvboard.
-ghost use Rattle.std.specs.Prelude.{◌≡◌, [], ◌∷◌, OnOk};
+ghost use Rattle.std.specs.Prelude.{◌≡◌, [], ◌∷◌, OnErr, OnOk};
 ghost use Rattle.rv_lab.specs.declared.command.Command.TheVariants as command;
-ghost use Rattle.rv_lab.specs.Commands.{Changes, Monitors, with_inputs};
+ghost use Rattle.rv_lab.specs.Commands.{Changes, Monitors, begun, with_inputs, with_session};
+ghost use Rattle.rv_lab.specs.Refusals.{RunsOut, StopsShort};
+ghost use Rattle.rv_lab.specs.Short.{Gives, IsObeyedShort};
 ghost use Rattle.rv_lab.specs.State.{setup};
 ghost use Rattle.rv_answers.specs.Answer.{Appended};
 ghost use Rattle.rv_lab.specs.Saved.{steps_text};
@@ -51,6 +53,7 @@ impl Lab {
     fn give(&mut self, input: Input) -> Result<(), NoMemory>
         ensures setup { setup self.new ≡ setup self.old }
         ensures given { OnOk result (self.new ≡ with_inputs self.old (input ∷ [])) }
+        ensures err { OnErr result (self.new ≡ self.old) }
     {
         self.recording.give(input)
     }
@@ -60,6 +63,7 @@ impl Lab {
     fn give_all(&mut self, inputs: &[Input]) -> Result<(), NoMemory>
         ensures setup { setup self.new ≡ setup self.old }
         ensures given { OnOk result (self.new ≡ with_inputs self.old inputs.now) }
+        ensures err { OnErr result (StopsShort (Gives inputs.now) self.old self.new) }
     {
         let [input, rest @ ..] = inputs else {
             return Ok(());
@@ -76,6 +80,7 @@ impl Lab {
     ) -> Result<Next, NoMemory>
         ensures setup { setup self.new ≡ setup self.old }
         ensures leaves { OnOk result (Changes command.Receive operands.now self.old self.new) }
+        ensures err { OnErr result (RunsOut (Changes command.Receive operands.now) self.old self.new) }
     {
         let inputs = read_bytes_inputs(self.alloc, operands)?.unwrap_or(Vec::new(self.alloc));
         self.give_all(&inputs)?;
@@ -97,6 +102,7 @@ impl Lab {
     ) -> Result<Next, NoMemory>
         ensures setup { setup self.new ≡ setup self.old }
         ensures leaves { OnOk result (Changes command.Line operands.now self.old self.new) }
+        ensures err { OnErr result (RunsOut (Changes command.Line operands.now) self.old self.new) }
     {
         let Some(input) = read_line_input(operands) else {
             answer.say(
@@ -109,6 +115,20 @@ impl Lab {
         Ok(Next::More)
     }
 
+    /// Executes a command of the monitor, and appends its answer to `text`.
+    fn monitor(&mut self, line: &[u8], text: &mut Vec<u8>) -> Result<Monitored, NoMemory>
+        ensures setup { setup self.new ≡ setup self.old }
+        ensures leaves { OnOk result (Monitors line.now self.old self.new) }
+        ensures err { OnErr result
+            (IsObeyedShort line.now self.old.recording.session self.new.recording.session) }
+        ensures others { self.new ≡ with_session (begun self.old) self.new.recording.session }
+    {
+        self.begin();
+        // It tells that the steps of the inputs never fall.
+        let _inputs = self.recording.inputs();
+        self.recording.command(line, text)
+    }
+
     /// Executes `monitor`.
     pub(crate) fn monitor_command(
         &mut self,
@@ -117,10 +137,10 @@ impl Lab {
     ) -> Result<Next, NoMemory>
         ensures setup { setup self.new ≡ setup self.old }
         ensures leaves { OnOk result (Monitors operands.now self.old self.new) }
+        ensures err { OnErr result (StopsShort (Monitors operands.now) self.old self.new) }
     {
-        self.begin();
         let mut text = Vec::new(self.alloc);
-        let next = self.recording.command(operands, &mut text)?;
+        let next = self.monitor(operands, &mut text)?;
         answer.put(text.as_slice());
         self.tell_console(answer);
         Ok(match next {

@@ -1,11 +1,12 @@
 //! The lab: what a caller may ask of it.
-ghost use Rattle.std.specs.Prelude.{◌≡◌, ◌≤◌, max, Err, IfErr, IfOk, None, Ok, OnOk};
+ghost use Rattle.std.specs.Prelude.{◌≡◌, ◌≤◌, max, Err, IfErr, IfOk, None, Ok, OnErr, OnOk};
 ghost use Rattle.rv_asm.specs.Lines.{listed};
 ghost use Rattle.rv_monitor.specs.Laws.{IsReached};
 ghost use Rattle.rv_opening.specs.Opening.{Opens};
 ghost use Rattle.rv_recording.specs.Recording.{IsRun, first_board, last_step};
 ghost use Rattle.rv_lab.specs.State.{setup};
-ghost use Rattle.rv_lab.specs.Commands.{Obeys};
+ghost use Rattle.rv_lab.specs.Commands.{Obeys, ready};
+ghost use Rattle.rv_lab.specs.Refusals.{Refuses};
 
 use crate::command::{Command, CommandLine, read_command};
 use crate::plan::Plan;
@@ -198,23 +199,36 @@ impl Lab {
         answer.fill("running: step %d\n", &[self.steps()]);
     }
 
+    /// Makes the lab ready for a command: ends the run that isn't over, and keeps what an empty line repeats.
+    fn make_ready(&mut self, command: Command)
+        ensures { self.new ≡ ready command self.old }
+    {
+        self.last.plan = None;
+        let again = self.last.command;
+        self.last.command = command.if_repeated(again);
+    }
+
     /// Executes a command line, and appends its answer.
     ///
     /// # Errors
     ///
-    /// `NoMemory` if memory runs out. The lab is as after some of the command's steps then, or as it was.
+    /// `NoMemory` if memory runs out. The lab is as it was then, or as after some of the command's steps.
     pub fn command(&mut self, line: &[u8], answer: &mut Answer) -> Result<Next, NoMemory>
         ensures setup { setup self.new ≡ setup self.old }
         ensures obeys { OnOk result (Obeys line.now self.old self.new) }
+        ensures err { OnErr result (Refuses line.now self.old self.new) }
     {
         let CommandLine { command, operands } = read_command(line, self.alloc, answer);
-        self.last.plan = None;
-        let again = self.last.command;
-        self.last.command = command.if_repeated(again);
+        self.make_ready(command);
         let next = self.execute(command, operands, answer)?;
-        if answer.is_cut() {
-            return Err(NoMemory);
-        }
-        Ok(next)
+        unless_cut(next, answer)
     }
+}
+
+/// Returns what follows a command, or that memory ran out where its answer is cut.
+pub(crate) fn unless_cut(next: Next, answer: &Answer) -> Result<Next, NoMemory> {
+    if answer.is_cut() {
+        return Err(NoMemory);
+    }
+    Ok(next)
 }

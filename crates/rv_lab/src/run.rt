@@ -1,13 +1,15 @@
 //! Commands that move the board.
-ghost use Rattle.std.specs.Prelude.{◌≡◌, ◌≤◌, Ok, Some, None, true, false, IfOk, OnOk, ℕ};
+ghost use Rattle.std.specs.Prelude.{◌≡◌, ◌≤◌, Ok, Some, None, true, false, IfOk, OnErr, OnOk, ℕ};
 ghost use Rattle.rv_lab.specs.declared.command.Command.TheVariants as command;
 ghost use Rattle.rv_lab.specs.declared.plan.Goal.TheVariants as goal;
 ghost use Rattle.rv_lab.specs.Commands.{Begins, Continues, GoesOn, Leaves, Repeats, RunsFor, Steps, Traced, begun, goal_after, stepped};
+ghost use Rattle.rv_lab.specs.Refusals.{RunsOut, StopsShort};
+ghost use Rattle.rv_lab.specs.Short.{IsOnWay, RunsShort};
 ghost use Rattle.rv_monitor.specs.Stops.{may_step};
 ghost use Rattle.rv_lab.specs.Rows.{backed};
 ghost use Rattle.rv_lab.specs.State.{setup};
 
-use crate::lab::{Lab, Next};
+use crate::lab::{Lab, Next, unless_cut};
 use crate::operands::count_or;
 use crate::plan::{Goal, Plan};
 use crate::registers::Registers;
@@ -50,9 +52,12 @@ impl Lab {
     fn run_piece(&mut self, goal: &mut Goal, most: u64) -> Result<End, NoMemory>
         ensures runs { OnOk result (RunsFor goal.old most self.old.recording self.new.recording) }
         ensures goal { OnOk result (goal.new ≡ goal_after goal.old self.old.recording self.new.recording) }
+        ensures err { OnErr result (RunsShort goal.old most self.old.recording self.new.recording) }
         ensures others { self.new ≡ record self.old { recording = self.new.recording } }
         ensures setup { setup self.new ≡ setup self.old }
     {
+        // It tells that the steps of the inputs never fall.
+        let _inputs = self.recording.inputs();
         match *goal {
             Goal::Count => match self.recording.step(most) {
                 Ok(stop) => Ok(end_of(stop)),
@@ -72,30 +77,41 @@ impl Lab {
         }
     }
 
+    /// Ends the run that isn't over.
+    fn end_run(&mut self)
+        ensures { self.new ≡ record self.old { plan = None } }
+    {
+        self.last.plan = None;
+    }
+
     /// Goes on with the run that isn't over, if there is one.
     ///
     /// # Errors
     ///
-    /// `NoMemory` if memory runs out. The steps before it are taken.
+    /// `NoMemory` if memory runs out. The lab is as after some of the run's steps then.
     pub fn go_on(&mut self, answer: &mut Answer) -> Result<Next, NoMemory>
         ensures setup { setup self.new ≡ setup self.old }
         ensures continues { OnOk result (Continues self.old.plan self.old self.new) }
+        ensures err { OnErr result (RunsOut (Continues self.old.plan) self.old self.new) }
     {
         let Some(plan) = self.last.plan else {
             return Ok(Next::More);
         };
-        self.go_on_with(plan, answer)
+        let next = self.go_on_with(plan, answer)?;
+        unless_cut(next, answer)
     }
 
     /// Goes on with a run.
     fn go_on_with(&mut self, plan: Plan, answer: &mut Answer) -> Result<Next, NoMemory>
         ensures setup { setup self.new ≡ setup self.old }
         ensures goes_on { OnOk result (GoesOn plan self.old self.new) }
+        ensures err { OnErr result (StopsShort (GoesOn plan) self.old self.new) }
     {
-        self.last.plan = None;
         let before = self.recording.steps();
+        let most = plan.left.min(self.piece);
         let mut goal = plan.goal;
-        let end = self.run_piece(&mut goal, plan.left.min(self.piece))?;
+        self.end_run();
+        let end = self.run_piece(&mut goal, most)?;
         let done = self.recording.steps().saturating_sub(before);
         let left = plan.left.saturating_sub(done);
         if matches!(end, End::Limit) && left > 0 && done > 0 {
@@ -110,18 +126,27 @@ impl Lab {
     /// Begins a run.
     fn run(&mut self, goal: Goal, most: u64, answer: &mut Answer) -> Result<Next, NoMemory>
         ensures setup { setup self.new ≡ setup self.old }
-        ensures runs { OnOk result (GoesOn (record { goal = goal; left = most }) (begun self.old) self.new) }
+        ensures runs { OnOk result (Begins goal most self.old self.new) }
+        ensures err { OnErr result (StopsShort (Begins goal most) self.old self.new) }
     {
         self.begin();
         self.go_on_with(Plan { goal, left: most }, answer)
+    }
+
+    /// Keeps the number of steps that an empty line repeats.
+    fn keep_count(&mut self, count: u64)
+        ensures { self.new ≡ record self.old { count = count } }
+    {
+        self.last.count = count;
     }
 
     /// Takes some steps.
     pub(crate) fn run_steps(&mut self, count: u64, answer: &mut Answer) -> Result<Next, NoMemory>
         ensures setup { setup self.new ≡ setup self.old }
         ensures steps { OnOk result (Steps count self.old self.new) }
+        ensures err { OnErr result (StopsShort (Steps count) self.old self.new) }
     {
-        self.last.count = count;
+        self.keep_count(count);
         if count == 1 {
             self.step_once(answer)?;
             return Ok(Next::More);
@@ -133,8 +158,13 @@ impl Lab {
     fn step_once(&mut self, answer: &mut Answer) -> Result<(), NoMemory>
         ensures setup { setup self.new ≡ setup self.old }
         ensures step { OnOk result (self.new ≡ record (begun self.old) { recording = stepped self.old.recording }) }
+        ensures err { OnErr result
+            (IsOnWay self.old.recording self.new.recording (stepped self.old.recording)) }
+        ensures others { self.new ≡ record (begun self.old) { recording = self.new.recording } }
     {
         self.begin();
+        // It tells that the steps of the inputs never fall.
+        let _inputs = self.recording.inputs();
         let outcome = self.recording.take_step()?;
         self.tell_step(outcome, answer);
         Ok(())
@@ -148,6 +178,7 @@ impl Lab {
     ) -> Result<Next, NoMemory>
         ensures setup { setup self.new ≡ setup self.old }
         ensures leaves { OnOk result (Leaves command.Step operands.now self.old self.new) }
+        ensures err { OnErr result (RunsOut (Leaves command.Step operands.now) self.old self.new) }
     {
         match count_or(operands, 1, MOST_STEPS) {
             Some(count) => self.run_steps(count, answer),
@@ -166,6 +197,7 @@ impl Lab {
     ) -> Result<Next, NoMemory>
         ensures setup { setup self.new ≡ setup self.old }
         ensures leaves { OnOk result (Leaves command.Go operands.now self.old self.new) }
+        ensures err { OnErr result (RunsOut (Leaves command.Go operands.now) self.old self.new) }
     {
         match count_or(operands, USUAL_STEPS, MOST_STEPS) {
             Some(count) => self.run(Goal::Break, count, answer),
@@ -180,6 +212,7 @@ impl Lab {
     pub(crate) fn over_command(&mut self, answer: &mut Answer) -> Result<Next, NoMemory>
         ensures setup { setup self.new ≡ setup self.old }
         ensures leaves { OnOk result (Begins (goal.Out 0) 1000000 self.old self.new) }
+        ensures err { OnErr result (StopsShort (Begins (goal.Out 0) 1000000) self.old self.new) }
     {
         self.run(Goal::Out(0), USUAL_STEPS, answer)
     }
@@ -188,6 +221,7 @@ impl Lab {
     pub(crate) fn finish_command(&mut self, answer: &mut Answer) -> Result<Next, NoMemory>
         ensures setup { setup self.new ≡ setup self.old }
         ensures leaves { OnOk result (Begins (goal.Out 1) 1000000 self.old self.new) }
+        ensures err { OnErr result (StopsShort (Begins (goal.Out 1) 1000000) self.old self.new) }
     {
         self.run(Goal::Out(1), USUAL_STEPS, answer)
     }
@@ -200,6 +234,7 @@ impl Lab {
     ) -> Result<Next, NoMemory>
         ensures setup { setup self.new ≡ setup self.old }
         ensures leaves { OnOk result (Leaves command.Until operands.now self.old self.new) }
+        ensures err { OnErr result (RunsOut (Leaves command.Until operands.now) self.old self.new) }
     {
         match self.read_condition(operands, answer) {
             Some(condition) => self.run(Goal::Until(condition), USUAL_STEPS, answer),
@@ -212,7 +247,12 @@ impl Lab {
         ensures setup { setup self.new ≡ setup self.old }
         ensures step { OnOk result (self.new ≡ record self.old { recording = stepped self.old.recording }) }
         ensures over { IfOk result (λ goes_on. goes_on ≡ false → may_step self.new.recording.session ≡ false) }
+        ensures err { OnErr result
+            (IsOnWay self.old.recording self.new.recording (stepped self.old.recording)) }
+        ensures others { self.new ≡ record self.old { recording = self.new.recording } }
     {
+        // It tells that the steps of the inputs never fall.
+        let _inputs = self.recording.inputs();
         let before = Registers::of(self.board());
         let at = self.board().pc();
         let Some(outcome) = self.recording.take_step()? else {
@@ -231,6 +271,7 @@ impl Lab {
     fn trace_steps(&mut self, count: u64, answer: &mut Answer) -> Result<(), NoMemory>
         ensures setup { setup self.new ≡ setup self.old }
         ensures traced { OnOk result (Traced count self.old self.new) }
+        ensures err { OnErr result (StopsShort (Traced count) self.old self.new) }
     {
         if count == 0 {
             return Ok(());
@@ -249,6 +290,7 @@ impl Lab {
     ) -> Result<Next, NoMemory>
         ensures setup { setup self.new ≡ setup self.old }
         ensures leaves { OnOk result (Leaves command.Trace operands.now self.old self.new) }
+        ensures err { OnErr result (RunsOut (Leaves command.Trace operands.now) self.old self.new) }
     {
         let Some(count) = count_or(operands, 10, MOST_TRACED) else {
             refuse_count("trace", operands, answer);
@@ -266,9 +308,12 @@ impl Lab {
         requires { to ≤ self.old.recording.session.timed.taken }
         ensures setup { setup self.new ≡ setup self.old }
         ensures back { OnOk result (self.new ≡ backed self.old to) }
+        ensures err { OnErr result (self.new ≡ self.old) }
     {
+        let before = Registers::of(self.board());
         match self.recording.go_back(to) {
             Ok(()) => {
+                self.last.registers = before;
                 self.last.steps = self.recording.steps();
                 self.last.told = self.board().console().len();
                 Ok(())
@@ -285,6 +330,7 @@ impl Lab {
     ) -> Result<Next, NoMemory>
         ensures setup { setup self.new ≡ setup self.old }
         ensures leaves { OnOk result (Leaves command.Back operands.now self.old self.new) }
+        ensures err { OnErr result (RunsOut (Leaves command.Back operands.now) self.old self.new) }
     {
         let now = self.recording.steps();
         let usual = now.saturating_sub(self.last.steps);
@@ -292,7 +338,6 @@ impl Lab {
             refuse_count("u", operands, answer);
             return Ok(Next::More);
         };
-        self.begin();
         self.go_back_to(now.saturating_sub(count))?;
         answer.fill("back at step %d\n", &[self.recording.steps()]);
         self.tell_halt(answer);

@@ -1,0 +1,531 @@
+-- Calls that stopped short, for memory, of what they do.
+use Rattle.std.proofs.Common.{◌≡◌, ◌≢◌, ◌∙◌, ℕ, zero, suc, ◌+◌, ◌-◌, ◌<◌, ◌≤◌, true, List, [], ◌∷◌, length, take, drop, get_or, refl, sym, ap, subst, arith, inl, inr}
+use Rattle.std.proofs.lemmas.Bool.{eqb-true}
+use Rattle.std.proofs.lemmas.List.{take_all}
+use Rattle.std.specs.Prelude.{◌⊎◌, ◌==◌, min, fold, Bool, false, if◌then◌else◌, Option, Some, None, Result, Ok, Err, OnErr, unwrap_or}
+use Rattle.std.specs.FinSet as set
+use Rattle.rv_base.specs.declared.memory.NoMemory.{NoMemory}
+use Rattle.rv_commands.specs.declared.command.Command as commands
+use Rattle.rv_commands.specs.declared.command.Command.TheVariants as asked
+use Rattle.rv_lists.specs.Timed.{never_falls}
+use Rattle.rv_lists.specs.declared.input.Input.{Input}
+use Rattle.rv_monitor.specs.Commands as monitor
+use Rattle.rv_monitor.specs.Commands.{LeavesRefused, command_in}
+use Rattle.rv_monitor.specs.State.{Addresses, SessionState, TimedState, after, given, most_of, with_due, with_break, without_break}
+use Rattle.rv_monitor.specs.Stops.{TakesStep, WasRefused, may_step, stop_after, steps_between}
+use Rattle.rv_monitor.specs.Stops as stops
+use Rattle.rv_monitor.proofs.Steps.{after_due, after_more, after_rises}
+use Rattle.rv_recording.specs.Recording.{RecordingState, with_timed}
+use Rattle.rv_recording.specs.Until.{HasRun, IsRefusedIn, until_at}
+use Rattle.rv_recording.specs.Out.{out_at}
+use Rattle.rv_recording.specs.declared.until.Condition.{Condition}
+use Rattle.rv_recording.specs.declared.until.End.{End}
+use Rattle.rv_recording.proofs.Ahead.{runs_from, takes_from}
+use Rattle.rv_recording.proofs.Running.{stands}
+use Rattle.rv_lab.specs.Commands as lab
+use Rattle.rv_lab.specs.Commands.{Begins, Monitors, Reads, Repeats, RunsFor, Steps, Took, Traced, begun, ready, stepped, stepped_by, with_inputs, with_session}
+use Rattle.rv_lab.specs.Refusals.{Leads, Refuses, RunsOut, StopsShort, by_hand, due, nowhere, steps, timed}
+use Rattle.rv_lab.specs.Short.{Gives, IsObeyedShort, IsOnWay, RunsShort}
+use Rattle.rv_lab.specs.State.{LabState}
+use Rattle.rv_lab.specs.Words.{read}
+use Rattle.rv_operands.specs.Operands.{bytes_inputs}
+use Rattle.rv_lab.specs.declared.command.Command.{Command}
+use Rattle.rv_lab.specs.declared.command.Command.TheVariants.{Again, Back, Finish, Go, Monitor, Over, Receive, Step, Trace, Until}
+use Rattle.rv_lab.specs.declared.plan.Plan.{Plan}
+use Rattle.rv_lab.specs.declared.plan.Goal.{Goal}
+use Rattle.rv_lab.specs.declared.plan.Goal.TheVariants as goal
+use Rattle.rv_lab.proofs.Runs.{traced_more, one_and_more}
+
+-- what holds in any case holds where memory ran out
+pub on_err : {A : Type 0} (r : Result A NoMemory) (P : Type 0) → P → OnErr r P
+on_err (Ok a) P p = tt
+on_err (Err why) P p = p
+
+-- ---- what leads to what
+
+pub joined : (a b c : TimedState) → Leads a b → Leads b c → Leads a c
+joined a b _ h nowhere = h
+joined a b _ h (steps s n t) = steps s n (joined a b s h t)
+joined a b _ h (due s t) = due s (joined a b s h t)
+joined a b _ h (by_hand s input t) = by_hand s input (joined a b s h t)
+
+to_steps : (s : TimedState) (n : ℕ) → Leads s (after s n)
+to_steps s n = steps s n nowhere
+
+to_due : (s : TimedState) (n : ℕ) → Leads s (with_due (after s n))
+to_due s n = due (after s n) (to_steps s n)
+
+same_steps : (s : TimedState) (k m : ℕ) → k < m → never_falls s.inputs ≡ true
+    → after (with_due (after s k)) (1 + (m - k - 1)) ≡ after s m
+same_steps s k m l rising =
+    let all : k + (1 + (m - k - 1)) ≡ m = omega arith in
+    after_due (after s k) (m - k - 1) (after_rises s k rising)
+    ∙ (after_more s k (1 + (m - k - 1)) rising ∙ ap (after s) all)
+
+-- the inputs before a step and then the step
+from_due : (s : TimedState) (k m : ℕ) → k < m → never_falls s.inputs ≡ true
+    → Leads (with_due (after s k)) (after s m)
+from_due s k m l rising =
+    subst (Leads (with_due (after s k))) (same_steps s k m l rising)
+    (steps (with_due (after s k)) (1 + (m - k - 1)) nowhere)
+
+-- ---- runs
+
+-- steps of a session stopped short
+abbrev TookShort : Addresses → ℕ → SessionState → SessionState → Type 0
+TookShort a n s new =
+    (d : SessionState) × stops.Took a n s d × Leads s.timed new.timed × Leads new.timed d.timed
+    × (new ≡ record s { timed = new.timed })
+
+module _ (a : Addresses) (n : ℕ) (s new : SessionState) (rising : never_falls s.timed.inputs ≡ true) where
+  some_taken : WasRefused a n s new → TookShort a n s new
+  some_taken w =
+      let is = ap (λ (u : SessionState). u.timed) w.state in
+      let t = takes_from a n s (most_of s n - (w.count + 1)) (w.count + 1) (omega (arith, w.within))
+      (λ i l. w.going i (omega (arith, l))) in (
+        record s { timed = after s.timed t.0 },
+        t.2,
+        subst (Leads s.timed) (sym is) (to_due s.timed w.count),
+        subst (λ (u : TimedState). Leads u (after s.timed t.0)) (sym is)
+            (from_due s.timed w.count t.0 (omega (arith, t.1)) rising),
+        w.state ∙ ap (λ (u : TimedState). record s { timed = u }) (sym is),
+      )
+
+  none_taken : new ≡ s → TookShort a n s new
+  none_taken e =
+      let is = ap (λ (u : SessionState). u.timed) e in
+      let t = takes_from a n s (most_of s n) 0 (omega arith) (λ i l. absurd (omega (arith, l))) in (
+        record s { timed = after s.timed t.0 },
+        t.2,
+        subst (Leads s.timed) (sym is) nowhere,
+        subst (λ (u : TimedState). Leads u (after s.timed t.0)) (sym is) (to_steps s.timed t.0),
+        e ∙ ap (λ (u : TimedState). record s { timed = u }) (sym is),
+      )
+
+  taken : (new ≡ s) ⊎ WasRefused a n s new → TookShort a n s new
+  taken (inl e) = none_taken e
+  taken (inr w) = some_taken w
+
+module _ (n : ℕ) (old new : RecordingState) (rising : never_falls old.session.timed.inputs ≡ true) where
+  took_short : (a : Addresses) → WasRefused a n old.session new.session → new ≡ with_timed old new.session.timed
+      → (d : RecordingState) × Took a n old d × IsOnWay old new d
+  took_short a w others =
+      let t = some_taken a n old.session new.session rising w in
+      let is = ap (λ (u : SessionState). u.timed) t.1.state in (
+        record old { session = t.0 },
+        record {
+          took = t.1;
+          others = ap (λ (u : SessionState). record old { session = u })
+              (t.1.state ∙ ap (λ (u : TimedState). record old.session { timed = u }) (sym is));
+        },
+        (t.2, t.3, others),
+      )
+
+  pub step_short : WasRefused set.empty n old.session new.session → new ≡ with_timed old new.session.timed
+      → RunsShort goal.Count n old new
+  step_short w others = took_short set.empty w others
+
+  pub go_short : WasRefused old.session.breakpoints.addresses n old.session new.session
+      → new ≡ with_timed old new.session.timed → RunsShort goal.Break n old new
+  go_short w others = took_short old.session.breakpoints.addresses w others
+
+  module _ (ends : ℕ → Option End) (w : IsRefusedIn ends n old new) where
+    abbrev count : ℕ
+    count = steps_between old.session.timed new.session.timed
+
+    timed_due : new.session.timed ≡ with_due (after old.session.timed count)
+    timed_due = ap (λ (r : RecordingState). r.session.timed) w.state
+
+    run : (m : ℕ) × (count < m) × (end : End) × HasRun ends n old (stands old m) end
+    run = runs_from ends n old (most_of old.session n - count - 1) count (omega (arith, w.within)) w.going
+
+    run_short : (d : RecordingState) × ((end : End) × HasRun ends n old d end) × IsOnWay old new d
+    run_short = (
+      stands old run.0,
+      (run.2, run.3),
+      (
+        subst (Leads old.session.timed) (sym timed_due) (to_due old.session.timed count),
+        subst (λ (s : TimedState). Leads s (after old.session.timed run.0)) (sym timed_due)
+            (from_due old.session.timed count run.0 run.1 rising),
+        w.state ∙ ap (with_timed old) (sym timed_due),
+      ),
+    )
+
+  pub until_short : (condition : Condition) → IsRefusedIn (until_at condition old.session) n old new
+      → RunsShort (goal.Until condition) n old new
+  until_short condition w = run_short (until_at condition old.session) w
+
+  pub out_short : (calls : ℕ) → IsRefusedIn (out_at calls old.session) n old new
+      → RunsShort (goal.Out calls) n old new
+  out_short calls w = run_short (out_at calls old.session) w
+
+-- ---- a call of a run
+
+module _ (g : Goal) (n : ℕ) (inside old new : RecordingState) (same : inside ≡ old)
+    (rising : never_falls inside.session.timed.inputs ≡ true) where
+  moved : (h : Goal) → g ≡ h → RunsShort h n inside new → RunsShort g n old new
+  moved h is s =
+      subst (λ (r : RecordingState). RunsShort g n r new) same
+      (subst (λ (k : Goal). RunsShort k n inside new) (sym is) s)
+
+  pub counted : g ≡ goal.Count → WasRefused set.empty n inside.session new.session
+      → new ≡ with_timed inside new.session.timed → RunsShort g n old new
+  counted is w others = moved goal.Count is (step_short n inside new rising w others)
+
+  pub broken : g ≡ goal.Break → WasRefused inside.session.breakpoints.addresses n inside.session new.session
+      → new ≡ with_timed inside new.session.timed → RunsShort g n old new
+  broken is w others = moved goal.Break is (go_short n inside new rising w others)
+
+  pub gone_out : (calls : ℕ) → g ≡ goal.Out calls → IsRefusedIn (out_at calls inside.session) n inside new
+      → RunsShort g n old new
+  gone_out calls is w = moved (goal.Out calls) is (out_short n inside new rising calls w)
+
+  pub waited : (condition : Condition) (r : Result End NoMemory) → g ≡ goal.Until condition
+      → OnErr r (IsRefusedIn (until_at condition inside.session) n inside new) → OnErr r (RunsShort g n old new)
+  waited condition (Ok end) is w = tt
+  waited condition (Err why) is w =
+      moved (goal.Until condition) is (until_short n inside new rising condition w)
+
+pub piece_short : (p : Plan) (old new : LabState)
+    → RunsShort p.goal (min p.left old.piece) old.recording new.recording
+    → new ≡ record old { recording = new.recording; plan = None } → StopsShort (lab.GoesOn p) old new
+piece_short p old new s others = (
+  record old { recording = s.0; plan = None },
+  record { runs = s.1; plan = tt; others = refl },
+  s.2.0,
+  s.2.1,
+  others ∙ ap (λ (r : RecordingState). record old { recording = r; plan = None }) s.2.2,
+)
+
+pub piece_err : {A : Type 0} (r : Result A NoMemory) (p : Plan) (n : ℕ) (old mid new : LabState)
+    → n ≡ min p.left old.piece → mid ≡ record old { plan = None }
+    → RunsShort p.goal n mid.recording new.recording → new ≡ record mid { recording = new.recording }
+    → OnErr r (StopsShort (lab.GoesOn p) old new)
+piece_err r p n old mid new most is s others =
+    let runs : RunsShort p.goal (min p.left old.piece) old.recording new.recording =
+    subst (λ (m : ℕ). RunsShort p.goal m old.recording new.recording) most
+    (subst (λ (l : LabState). RunsShort p.goal n l.recording new.recording) is s) in
+    on_err r (StopsShort (lab.GoesOn p) old new)
+    (piece_short p old new runs (others ∙ ap (λ (l : LabState). record l { recording = new.recording }) is))
+
+pub begins_short : {A : Type 0} (r : Result A NoMemory) (g : Goal) (most : ℕ) (old mid new : LabState)
+    → mid ≡ begun old → OnErr r (StopsShort (lab.GoesOn (record { goal = g; left = most })) mid new)
+    → OnErr r (StopsShort (Begins g most) old new)
+begins_short (Ok a) g most old mid new is s = tt
+begins_short (Err why) g most old mid new is s =
+    subst (λ (l : LabState). StopsShort (lab.GoesOn (record { goal = g; left = most })) l new) is s
+
+pub continued : {A : Type 0} (r : Result A NoMemory) (plan : Option Plan) (p : Plan) (old new : LabState)
+    → plan ≡ Some p → StopsShort (lab.GoesOn p) old new → OnErr r (RunsOut (lab.Continues plan) old new)
+continued r plan p old new e s =
+    on_err r (RunsOut (lab.Continues plan) old new)
+    (subst (λ (o : Option Plan). RunsOut (lab.Continues o) old new) (sym e) (inr (inr s)))
+
+-- ---- what a call leaves, by its parts
+
+reads_short : {A : Type 0} (meaning : Option A) (x : A) (Does : A → LabState → LabState → Type 0)
+    (old new : LabState) → meaning ≡ Some x → StopsShort (Does x) old new → RunsOut (Reads meaning Does) old new
+reads_short {A = A} meaning x Does old new e s =
+    subst (λ (o : Option A). RunsOut (Reads o Does) old new) (sym e) (inr (inr s))
+
+pub read_short : {A B : Type 0} (r : Result B NoMemory) (meaning : Option A) (x : A)
+    (Does : A → LabState → LabState → Type 0) (old new : LabState) → meaning ≡ Some x
+    → OnErr r (StopsShort (Does x) old new) → OnErr r (RunsOut (Reads meaning Does) old new)
+read_short (Ok b) meaning x Does old new e s = tt
+read_short {A = A} (Err why) meaning x Does old new e s = reads_short meaning x Does old new e s
+
+-- a command that is known
+pub changed : {A : Type 0} (r : Result A NoMemory) (command known : Command) (operands : List ℕ)
+    (old new : LabState) → command ≡ known → OnErr r (RunsOut (lab.Changes known operands) old new)
+    → OnErr r (RunsOut (lab.Changes command operands) old new)
+changed r command known operands old new e s =
+    subst (λ (c : Command). OnErr r (RunsOut (lab.Changes c operands) old new)) (sym e) s
+
+pub monitored : {A : Type 0} (r : Result A NoMemory) (command : Command) (operands : List ℕ)
+    (old new : LabState) → command ≡ Monitor → OnErr r (StopsShort (Monitors operands) old new)
+    → OnErr r (RunsOut (lab.Changes command operands) old new)
+monitored (Ok a) command operands old new e s = tt
+monitored (Err why) command operands old new e s =
+    subst (λ (c : Command). RunsOut (lab.Changes c operands) old new) (sym e) (inr (inr s))
+
+-- where operands were read as inputs
+pub received : {A : Type 0} (r : Result A NoMemory) (inputs : List Input) (operands : List ℕ)
+    (old new : LabState) → inputs ≡ unwrap_or (bytes_inputs operands) [] → StopsShort (Gives inputs) old new
+    → OnErr r (RunsOut (lab.Changes Receive operands) old new)
+received r inputs operands old new e s =
+    on_err r (RunsOut (lab.Changes Receive operands) old new)
+    (inr (inr (subst (λ (is : List Input). StopsShort (Gives is) old new) e s)))
+
+pub again_short : {A : Type 0} (r : Result A NoMemory) (again known : Command) (old new : LabState)
+    → again ≡ known → OnErr r (StopsShort (Repeats known) old new) → OnErr r (StopsShort (Repeats again) old new)
+again_short r again known old new e s =
+    subst (λ (c : Command). OnErr r (StopsShort (Repeats c) old new)) (sym e) s
+
+pub obeyed : {A : Type 0} (r : Result A NoMemory) (command known : Command) (operands : List ℕ)
+    (old new : LabState) → command ≡ known → OnErr r (RunsOut (lab.Leaves known operands) old new)
+    → OnErr r (RunsOut (lab.Leaves command operands) old new)
+obeyed r command known operands old new e s =
+    subst (λ (c : Command). OnErr r (RunsOut (lab.Leaves c operands) old new)) (sym e) s
+
+pub step_again : {A : Type 0} (r : Result A NoMemory) (again : Command) (n : ℕ) (old new : LabState)
+    → again ≡ Step → n ≡ old.count → OnErr r (StopsShort (Steps n) old new)
+    → OnErr r (StopsShort (Repeats again) old new)
+step_again r again n old new e is s =
+    again_short r again Step old new e (subst (λ (m : ℕ). OnErr r (StopsShort (Steps m) old new)) is s)
+
+-- a command that takes no step
+pub left_over : {A : Type 0} (r : Result A NoMemory) (command : Command) (operands : List ℕ)
+    (old new : LabState) → command ≢ Step → command ≢ Go → command ≢ Over → command ≢ Finish → command ≢ Until
+    → command ≢ Trace → command ≢ Back → command ≢ Again → OnErr r (RunsOut (lab.Changes command operands) old new)
+    → OnErr r (RunsOut (lab.Leaves command operands) old new)
+left_over r Step operands old new a b c d e f g h s = absurd (a refl)
+left_over r Go operands old new a b c d e f g h s = absurd (b refl)
+left_over r Over operands old new a b c d e f g h s = absurd (c refl)
+left_over r Finish operands old new a b c d e f g h s = absurd (d refl)
+left_over r Until operands old new a b c d e f g h s = absurd (e refl)
+left_over r Trace operands old new a b c d e f g h s = absurd (f refl)
+left_over r Back operands old new a b c d e f g h s = absurd (g refl)
+left_over r Again operands old new a b c d e f g h s = absurd (h refl)
+left_over r _ operands old new a b c d e f g h s = s
+
+-- a line, by its command and its operands
+refuses : (line : List ℕ) (asked : Command × List ℕ) (old mid new : LabState) → asked ≡ read line
+    → mid ≡ ready asked.0 old → RunsOut (lab.Leaves asked.0 asked.1) mid new → Refuses line old new
+refuses line asked old mid new e is s =
+    subst (λ (p : Command × List ℕ). RunsOut (lab.Leaves p.0 p.1) (ready p.0 old) new) e
+    (subst (λ (l : LabState). RunsOut (lab.Leaves asked.0 asked.1) l new) is s)
+
+pub line_refused : {A : Type 0} (r : Result A NoMemory) (line : List ℕ) (command : Command) (operands : List ℕ)
+    (old mid new : LabState) → (command, operands) ≡ read line → mid ≡ ready command old
+    → RunsOut (lab.Leaves command operands) mid new → OnErr r (Refuses line old new)
+line_refused r line command operands old mid new e is s =
+    on_err r (Refuses line old new) (refuses line (command, operands) old mid new e is s)
+
+pub short_is_out : {A : Type 0} (Does : LabState → LabState → Type 0) (r : Result A NoMemory)
+    (old new : LabState) → OnErr r (StopsShort Does old new) → OnErr r (RunsOut Does old new)
+short_is_out Does (Ok a) old new s = tt
+short_is_out Does (Err why) old new s = inr (inr s)
+
+-- ---- steps
+
+module _ (old new : RecordingState) (rising : never_falls old.session.timed.inputs ≡ true)
+    (may : may_step old.session ≡ true)
+    (due_is : new.session ≡ record old.session { timed = with_due old.session.timed })
+    (others : new ≡ record old { session = new.session }) where
+  stepped_is : stepped old ≡ with_timed old (after old.session.timed 1)
+  stepped_is = rw may refl
+
+  now_is : new.session.timed ≡ with_due old.session.timed
+  now_is = ap (λ (s : SessionState). s.timed) due_is
+
+  leads_on : Leads (with_due old.session.timed) (after old.session.timed 1)
+  leads_on =
+      subst (Leads (with_due old.session.timed)) (after_due old.session.timed 0 rising)
+      (steps (with_due old.session.timed) 1 nowhere)
+
+  step_on_way : IsOnWay old new (stepped old)
+  step_on_way =
+      subst (IsOnWay old new) (sym stepped_is) (
+        subst (Leads old.session.timed) (sym now_is) (due old.session.timed nowhere),
+        subst (λ (s : TimedState). Leads s (after old.session.timed 1)) (sym now_is) leads_on,
+        others ∙ ap (λ (s : SessionState). record old { session = s })
+            (due_is ∙ ap (λ (t : TimedState). record old.session { timed = t }) (sym now_is)),
+      )
+
+pub step_refused : (inside old new : RecordingState) → inside ≡ old
+    → never_falls inside.session.timed.inputs ≡ true → (why : NoMemory)
+    → TakesStep inside.session new.session (Err why) → new ≡ record inside { session = new.session }
+    → IsOnWay old new (stepped old)
+step_refused inside old new same rising why t others =
+    subst (λ (r : RecordingState). IsOnWay r new (stepped r)) same
+    (step_on_way inside new rising t.0 t.1 others)
+
+once : (old mid new : LabState) → mid ≡ record old { count = 1 }
+    → IsOnWay mid.recording new.recording (stepped mid.recording)
+    → new ≡ record (begun mid) { recording = new.recording } → StopsShort (Steps 1) old new
+once old mid new is way others =
+    let to : IsOnWay old.recording new.recording (stepped old.recording) =
+    subst (λ (l : LabState). IsOnWay l.recording new.recording (stepped l.recording)) is way in (
+      record (begun old) { recording = stepped old.recording; count = 1 },
+      refl,
+      to.0,
+      to.1,
+      others ∙ (ap (λ (l : LabState). record (begun l) { recording = new.recording }) is
+          ∙ ap (λ (r : RecordingState). record (begun old) { recording = r; count = 1 }) to.2),
+    )
+
+pub one_short : {A : Type 0} (r : Result A NoMemory) (n : ℕ) (old mid new : LabState) → n ≡ 1
+    → mid ≡ record old { count = n } → IsOnWay mid.recording new.recording (stepped mid.recording)
+    → new ≡ record (begun mid) { recording = new.recording } → OnErr r (StopsShort (Steps n) old new)
+one_short r n old mid new e is way others =
+    on_err r (StopsShort (Steps n) old new)
+    (subst (λ (m : ℕ). StopsShort (Steps m) old new) (sym e)
+    (once old mid new (is ∙ ap (λ (m : ℕ). record old { count = m }) e) way others))
+
+is_not : (b : Bool) (n : ℕ) → (n == 1) ≡ b → (n ≡ 1 → ⊥) → b ≡ false
+is_not true n e h = absurd (h (eqb-true n 1 e))
+is_not false n e h = refl
+
+pub many_short : {A : Type 0} (r : Result A NoMemory) (n : ℕ) (old mid new : LabState) → (n ≡ 1 → ⊥)
+    → mid ≡ record old { count = n } → OnErr r (StopsShort (Begins goal.Count n) mid new)
+    → OnErr r (StopsShort (Steps n) old new)
+many_short (Ok a) n old mid new h is s = tt
+many_short (Err why) n old mid new h is s =
+    subst (λ (b : Bool). StopsShort (lab.StepsBy b n) old new) (sym (is_not (n == 1) n refl h))
+    (subst (λ (l : LabState). StopsShort (Begins goal.Count n) l new) is s)
+
+-- ---- a trace
+
+leads_by : (b : Bool) (r : RecordingState)
+    → Leads r.session.timed (if b then with_timed r (after r.session.timed 1) else r).session.timed
+leads_by true r = to_steps r.session.timed 1
+leads_by false r = nowhere
+
+leads_step : (r : RecordingState) → Leads r.session.timed (stepped r).session.timed
+leads_step r = leads_by (may_step r.session) r
+
+leads_steps : (k : ℕ) (r : RecordingState) → Leads r.session.timed (stepped_by k r).session.timed
+leads_steps zero r = nowhere
+leads_steps (suc k) r =
+    joined r.session.timed (stepped r).session.timed (stepped_by k (stepped r)).session.timed (leads_step r)
+    (leads_steps k (stepped r))
+
+same_others : (b : Bool) (r : RecordingState) (t : TimedState)
+    → with_timed (if b then with_timed r (after r.session.timed 1) else r) t ≡ with_timed r t
+same_others true r t = refl
+same_others false r t = refl
+
+pub traced_short : (n : ℕ) (old new : LabState) → 0 < n
+    → IsOnWay old.recording new.recording (stepped old.recording)
+    → new ≡ record old { recording = new.recording } → StopsShort (Traced n) old new
+traced_short n old new h way others = (
+  record old { recording = stepped_by n old.recording },
+  refl,
+  way.0,
+  subst (λ (r : RecordingState). Leads (timed new) r.session.timed) (sym (one_and_more n old.recording h))
+      (joined (timed new) (stepped old.recording).session.timed
+      (stepped_by (n - 1) (stepped old.recording)).session.timed way.1
+      (leads_steps (n - 1) (stepped old.recording))),
+  others ∙ ap (λ (r : RecordingState). record old { recording = r }) way.2,
+)
+
+further_short : (n : ℕ) (old mid new : LabState) → 0 < n
+    → mid ≡ record old { recording = stepped old.recording } → StopsShort (Traced (n - 1)) mid new
+    → StopsShort (Traced n) old new
+further_short n old mid new h e s = (
+  s.0,
+  traced_more n old mid s.0 h e s.1,
+  joined (timed old) (timed mid) (timed new)
+      (subst (λ (l : LabState). Leads (timed old) (timed l)) (sym e) (leads_step old.recording)) s.2,
+  s.3,
+  s.4 ∙ ap (λ (r : RecordingState). record s.0 { recording = r })
+      (ap (λ (l : LabState). with_timed l.recording (timed new)) e
+      ∙ same_others (may_step old.recording.session) old.recording (timed new)),
+)
+
+pub traced_further : {A : Type 0} (r : Result A NoMemory) (n : ℕ) (old mid new : LabState) → 0 < n
+    → mid ≡ record old { recording = stepped old.recording } → OnErr r (StopsShort (Traced (n - 1)) mid new)
+    → OnErr r (StopsShort (Traced n) old new)
+traced_further (Ok a) n old mid new h e s = tt
+traced_further (Err why) n old mid new h e s = further_short n old mid new h e s
+
+pub trace_short : (meaning : Option ℕ) (n : ℕ) (old mid new : LabState) → meaning ≡ Some n → mid ≡ begun old
+    → StopsShort (Traced n) mid new
+    → RunsOut (Reads meaning (λ n before after. Traced n (begun before) after)) old new
+trace_short meaning n old mid new e is s =
+    reads_short meaning n (λ n before after. Traced n (begun before) after) old new e
+    (subst (λ (l : LabState). StopsShort (Traced n) l new) is s)
+
+-- ---- inputs by hand
+
+leads_inputs : (inputs : List Input) (s : TimedState) → Leads s (fold given s inputs)
+leads_inputs [] s = nowhere
+leads_inputs (x ∷ xs) s =
+    joined s (given s x) (fold given (given s x) xs) (by_hand s x nowhere) (leads_inputs xs (given s x))
+
+pub gave_nothing : (old new : LabState) (inputs : List Input) → new ≡ old → StopsShort (Gives inputs) old new
+gave_nothing old new inputs e =
+    subst (StopsShort (Gives inputs) old) (sym e)
+    (with_inputs old inputs, refl, nowhere, leads_inputs inputs (timed old), refl)
+
+gave_one : (old new : LabState) (input : Input) (more : List Input)
+    → StopsShort (Gives more) (with_inputs old (input ∷ [])) new → StopsShort (Gives (input ∷ more)) old new
+gave_one old new input more s = (
+  s.0,
+  s.1,
+  joined (timed old) (given (timed old) input) (timed new) (by_hand (timed old) input nowhere) s.2,
+  s.3,
+  s.4,
+)
+
+gave_some : {A : Type 0} (r : Result A NoMemory) (old mid new : LabState) (input : Input) (more : List Input)
+    → mid ≡ with_inputs old (input ∷ []) → OnErr r (StopsShort (Gives more) mid new)
+    → OnErr r (StopsShort (Gives (input ∷ more)) old new)
+gave_some (Ok a) old mid new input more e s = tt
+gave_some (Err why) old mid new input more e s =
+    gave_one old new input more (subst (λ (l : LabState). StopsShort (Gives more) l new) e s)
+
+pub gave_rest : {A : Type 0} (r : Result A NoMemory) (old mid new : LabState) (inputs : List Input) (input : Input)
+    → 1 ≤ length inputs → input ≡ get_or inputs 0 input → mid ≡ with_inputs old (input ∷ [])
+    → OnErr r (StopsShort (Gives (take (length inputs - 1) (drop 1 inputs))) mid new)
+    → OnErr r (StopsShort (Gives inputs) old new)
+gave_rest r old mid new [] input h is e s = absurd (omega (arith, h))
+gave_rest r old mid new (x ∷ more) input h is e s =
+    let same : take (length (x ∷ more) - 1) more ≡ more = take_all (length (x ∷ more) - 1) more (omega arith) in
+    gave_some r old mid new x more (e ∙ ap (λ (i : Input). with_inputs old (i ∷ [])) is) (rw same at s)
+
+-- ---- a command of the monitor
+
+module _ (s new : SessionState) (rising : never_falls s.timed.inputs ≡ true) where
+  -- the session after the command, were there memory
+  abbrev Would : Option commands.Command → Type 0
+  Would c =
+      (d : SessionState) × monitor.Leaves c s d × Leads s.timed new.timed × Leads new.timed d.timed
+      × (new ≡ record s { timed = new.timed })
+
+  unchanged : (c : Option commands.Command) (d : SessionState) → monitor.Leaves c s d → Leads s.timed d.timed
+      → new ≡ s → Would c
+  unchanged c d leaves leads e =
+      let is = ap (λ (u : SessionState). u.timed) e in (
+        d,
+        leaves,
+        subst (Leads s.timed) (sym is) nowhere,
+        subst (λ (t : TimedState). Leads t d.timed) (sym is) leads,
+        e ∙ ap (λ (t : TimedState). record s { timed = t }) (sym is),
+      )
+
+  would : (c : Option commands.Command) → LeavesRefused c s new → Would c
+  would None e = unchanged None s refl nowhere e
+  would (Some (asked.Step n)) r = taken set.empty n s new rising r
+  would (Some (asked.Go n)) r = taken s.breakpoints.addresses (unwrap_or n s.limit) s new rising r
+  would (Some (asked.SetBreak addr)) e = unchanged (Some (asked.SetBreak addr)) (with_break s addr) refl nowhere e
+  would (Some (asked.ClearBreak addr)) e =
+      unchanged (Some (asked.ClearBreak addr)) (without_break s addr) refl nowhere e
+  would (Some asked.Registers) e = unchanged (Some asked.Registers) s refl nowhere e
+  would (Some (asked.ControlRegister name csr)) e =
+      unchanged (Some (asked.ControlRegister name csr)) s refl nowhere e
+  would (Some (asked.Memory addr count)) e = unchanged (Some (asked.Memory addr count)) s refl nowhere e
+  would (Some (asked.Instruction addr)) e = unchanged (Some (asked.Instruction addr)) s refl nowhere e
+  would (Some asked.Traps) e = unchanged (Some asked.Traps) s refl nowhere e
+  would (Some (asked.Edges source)) e = unchanged (Some (asked.Edges source)) s refl nowhere e
+  would (Some asked.Quit) f = absurd f
+  would (Some asked.Nothing) f = absurd f
+
+pub obeyed_short : {A : Type 0} (r : Result A NoMemory) (line : List ℕ) (inside old new : SessionState)
+    → inside ≡ old → never_falls inside.timed.inputs ≡ true
+    → OnErr r (LeavesRefused (command_in line inside) inside new) → OnErr r (IsObeyedShort line old new)
+obeyed_short (Ok a) line inside old new e rising refused = tt
+obeyed_short (Err why) line inside old new e rising refused =
+    subst (λ (s : SessionState). IsObeyedShort line s new) e
+    (would inside new rising (command_in line inside) refused)
+
+pub monitor_short : (line : List ℕ) (old new : LabState)
+    → IsObeyedShort line old.recording.session new.recording.session
+    → new ≡ with_session (begun old) new.recording.session → StopsShort (Monitors line) old new
+monitor_short line old new w others = (
+  with_session (begun old) w.0,
+  (refl, w.1),
+  w.2,
+  w.3,
+  others ∙ ap (λ (s : SessionState). with_session (begun old) s) w.4,
+)
