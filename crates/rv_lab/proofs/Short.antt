@@ -256,9 +256,10 @@ received r inputs operands old new e s =
     on_err r (RunsOut (lab.Changes Receive operands) old new)
     (inr (inr (subst (λ (is : List Input). StopsShort (Gives is) old new) e s)))
 
-pub again_short : {A : Type 0} (r : Result A NoMemory) (again known : Command) (old new : LabState)
-    → again ≡ known → OnErr r (StopsShort (Repeats known) old new) → OnErr r (StopsShort (Repeats again) old new)
-again_short r again known old new e s =
+pub again_short : {A : Type 0} (r : Result A NoMemory) (command known : Command) (old new : LabState)
+    → command ≡ known → OnErr r (StopsShort (Repeats known) old new)
+    → OnErr r (StopsShort (Repeats command) old new)
+again_short r command known old new e s =
     subst (λ (c : Command). OnErr r (StopsShort (Repeats c) old new)) (sym e) s
 
 pub obeyed : {A : Type 0} (r : Result A NoMemory) (command known : Command) (operands : List ℕ)

@@ -17,13 +17,17 @@ use Rattle.rv_recording.specs.Until.{HasRun, until_at}
 use Rattle.rv_recording.specs.Out.{open_at, out_at}
 use Rattle.rv_recording.specs.declared.until.End.{End}
 use Rattle.rv_operands.specs.Operands.{break_address, bytes_inputs, condition}
-use Rattle.rv_lab.specs.State.{LabState}
+use Rattle.rv_lab.specs.State.{LabState, registers_of}
 use Rattle.rv_lab.specs.declared.plan.Plan.{Plan}
 use Rattle.rv_lab.specs.declared.plan.Goal.{Goal}
 use Rattle.rv_lab.specs.declared.plan.Goal.TheVariants as goal
 use Rattle.rv_lab.specs.declared.command.Command.{Command}
 use Rattle.rv_lab.specs.declared.command.Command.TheVariants.{Step, Go, Over, Finish, Until, Trace, Back, Break, Clear, Receive, Line, Monitor, Again, StepOnce}
 use Rattle.rv_lab.specs.Words.{read, repeated}
+
+-- the board
+abbrev pub board : LabState → BoardState
+board l = l.recording.session.timed.board
 
 -- ---- runs
 
@@ -61,7 +65,7 @@ Continues plan old new = MatchOption plan (new ≡ old) (λ p. GoesOn p old new)
 
 -- a lab as a command that moves the board begins: the next is compared with it
 abbrev pub begun : LabState → LabState
-begun l = record l { before = l.recording.session.timed.taken }
+begun l = record l { registers = registers_of (board l); before = l.recording.session.timed.taken }
 
 -- a run that begins, with its first call
 abbrev pub Begins : Goal → ℕ → LabState → LabState → Type 0
@@ -91,7 +95,7 @@ Traced n old new = new ≡ record old { recording = stepped_by n old.recording }
 abbrev pub GoesBack : ℕ → LabState → LabState → Type 0
 GoesBack n old new =
     let back = gone_back old.recording (old.recording.session.timed.taken - n) in
-    new ≡ record old { recording = back; before = back.session.timed.taken }
+    new ≡ record (begun old) { recording = back; before = back.session.timed.taken }
 
 -- ---- the others
 
@@ -110,10 +114,6 @@ Monitors line old new =
     × monitor.Leaves (command_in line old.recording.session) old.recording.session new.recording.session
 
 -- ---- a command
-
--- the board by which operands are read
-abbrev pub board : LabState → BoardState
-board l = l.recording.session.timed.board
 
 -- the number of some words, or the usual one where there are none
 abbrev pub count_of : ℕ → ℕ → List (List ℕ) → Option ℕ

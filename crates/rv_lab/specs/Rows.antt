@@ -1,10 +1,21 @@
 -- Not to audit: private contracts alone cite this.
 -- The tables of the program, as the definitions have them, and the lab after going back.
-use Rattle.std.specs.Prelude.{ℕ, List, map}
+use Rattle.std.specs.Prelude.{◌≡◌, ℕ, ◌-◌, List, [], ◌++◌, get_or, map, Option, option_and_then}
+use Rattle.std.specs.Option.{option_map, option_map_or}
 use Rattle.std.specs.Borrow.{Bor}
+use Rattle.rv_base.specs.Lines.{lines}
+use Rattle.rv_monitor.specs.Views.{word_of}
+use Rattle.rv_base.specs.Tables.{lookup}
+use Rattle.rv_isa.specs.Names.{register_names}
+use Rattle.rv_operands.specs.Words.{only_of}
+use Rattle.rv_answers.specs.Answer.{Written}
+use Rattle.rv_answers.specs.Places.{instruction_text, number_text}
+use Rattle.rv_lab.specs.Commands.{board}
+use Rattle.rv_lab.specs.Looks.{line_at}
 use Rattle.rv_recording.specs.Recording.{gone_back}
-use Rattle.rv_lab.specs.State.{LabState}
+use Rattle.rv_lab.specs.State.{LabState, registers_of}
 use Rattle.rv_lab.specs.declared.command.Command.{Command}
+use Rattle.rv_lab.specs.declared.command.Command.TheVariants.{Nothing}
 use Rattle.rv_lab.specs.declared.command.Row.{Row}
 
 -- the commands by their words
@@ -15,9 +26,26 @@ named rows = map (λ r. (r.0.now, r.1.command)) rows
 abbrev pub canonical : List (Bor (List ℕ) × Bor (List ℕ)) → List (List ℕ × List ℕ)
 canonical rows = map (λ r. (r.0.now, r.1.now)) rows
 
+-- a command was read: what is no command was answered
+abbrev pub IsQuiet : Command → Written → Written → Type 0
+IsQuiet Nothing old new = Unit
+IsQuiet _ old new = new ≡ old
+
+-- the number of the register that words name
+abbrev pub register_of : List (List ℕ) → Option ℕ
+register_of words = option_and_then (λ name. lookup name register_names) (only_of words)
+
+-- what stands of a line in a place: its number and its text, or the instruction at an address
+abbrev pub line_or_instruction : LabState → ℕ → List ℕ
+line_or_instruction l a =
+    option_map_or (λ (line : ℕ × List ℕ). number_text line.0 ++ line.1)
+    (option_map (λ n. (n, get_or (lines l.source) (n - 1) [])) (line_at l.listing a))
+    (instruction_text (word_of (board l) a))
+
 -- a lab after its first n steps
 abbrev pub backed : LabState → ℕ → LabState
 backed l n = record l {
   recording = gone_back l.recording n;
   before = (gone_back l.recording n).session.timed.taken;
+  registers = registers_of (board l);
 }

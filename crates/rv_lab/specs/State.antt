@@ -1,19 +1,26 @@
 -- To audit: public contracts cite this.
 -- The state of a lab.
-use Rattle.std.specs.Prelude.{ℕ, List, Option}
+use Rattle.std.specs.Prelude.{ℕ, List, Option, map, slice_index}
 use Rattle.rv_program.specs.Program.{Assembly}
+use Rattle.std.specs.List.{range_with_len}
+use Rattle.rv_board.specs.BoardState.{BoardState}
 use Rattle.rv_asm.specs.Lines.{Listed}
 use Rattle.rv_recording.specs.Recording.{RecordingState}
 use Rattle.rv_lab.specs.declared.command.Command.{Command}
 use Rattle.rv_lab.specs.declared.plan.Plan.{Plan}
 
--- a source with its listing and the recording of its image; the number of steps before the last command that
--- moved the board; what an empty line repeats, and the steps of the last `s`; the run that isn't over; and
--- the most steps of a call
+-- the values of x0 to x31
+abbrev pub registers_of : BoardState → List ℕ
+registers_of b = map (slice_index b.machine.registers) (range_with_len 0 32)
+
+-- a source with its listing and the recording of its image; the registers and the number of steps before the
+-- last command that moved the board; what an empty line repeats, and the steps of the last `s`; the run that
+-- isn't over; and the most steps of a call
 pub record LabState : Type 0 where
   pub source : List ℕ
   pub listing : Listed
   pub recording : RecordingState
+  pub registers : List ℕ
   pub before : ℕ
   pub again : Command
   pub count : ℕ

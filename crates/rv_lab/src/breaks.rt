@@ -1,18 +1,18 @@
 //! Breakpoints.
-ghost use Rattle.std.specs.Prelude.{◌≡◌, OnErr, OnOk};
+ghost use Rattle.std.specs.Prelude.{◌≡◌, ◌<◌, ◌*◌, ◌^◌, OnOk, OnErr};
+ghost use Rattle.std.specs.List.{flat_map, range_with_len};
 ghost use Rattle.rv_base.specs.Words.{words};
 ghost use Rattle.rv_lab.specs.declared.command.Command.TheVariants as command;
 ghost use Rattle.rv_operands.specs.Operands.{break_address};
 ghost use Rattle.rv_lab.specs.Commands.{Changes, board};
+ghost use Rattle.rv_answers.specs.Answer.{Appended};
 ghost use Rattle.rv_lab.specs.State.{setup};
+ghost use Rattle.rv_lab.specs.Looks.{Tells, break_row, breaks_told};
 
 use crate::lab::{Lab, Next};
 use rv_answers::Answer;
-use rv_base::{NoMemory, RAM_BASE, has_word};
+use rv_base::{NoMemory, RAM_BASE, has_word, low_word};
 use rv_operands::{line_number, only_word};
-
-/// The words of memory in a page.
-const PAGE_WORDS: u32 = 1024;
 
 impl Lab {
     /// Returns the address of a breakpoint, where its operands have one.
@@ -37,6 +37,7 @@ impl Lab {
     }
 
     /// Executes `b`.
+    #[tactic(auto, using(crate::proofs::Told::not_alone, crate::proofs::Told::is_alone, crate::proofs::Told::has_place))]
     pub(crate) fn break_command(
         &mut self,
         operands: &[u8],
@@ -44,6 +45,7 @@ impl Lab {
     ) -> Result<Next, NoMemory>
         ensures setup { setup self.new ≡ setup self.old }
         ensures leaves { OnOk result (Changes command.Break operands.now self.old self.new) }
+        ensures tells { Tells command.Break operands.now self.old answer.old answer.new }
         ensures err { OnErr result (self.new ≡ self.old) }
     {
         let Some(address) = self.break_address(operands) else {
@@ -82,28 +84,38 @@ impl Lab {
         answer.end();
     }
 
-    /// Appends the breakpoints of a page, and returns their number.
-    fn list_page(&self, first: u32, answer: &mut Answer) -> u32 {
-        let mut count: u32 = 0;
-        for word in 0..PAGE_WORDS {
-            let address = first.wrapping_add(word.wrapping_mul(4));
-            if self.recording.session().has_break(address) {
-                self.append_place(address, answer);
-                answer.end();
-                count = count.wrapping_add(1);
-            }
+    /// Appends the row of a word of memory, if a breakpoint is there.
+    #[tactic(auto, using(rv_answers::proofs::Pieces::then, rv_answers::proofs::Pieces::nothing), unfolding(crate::specs::Looks::break_row))]
+    fn append_break(&self, word: u64, answer: &mut Answer)
+        requires { word < 2 ^ 42 }
+        ensures { Appended answer.old answer.new (break_row self.now word) }
+    {
+        let address = low_word(u64::from(RAM_BASE) + 4 * word);
+        if self.recording.session().has_break(address) {
+            self.append_place(address, answer);
+            answer.end();
         }
-        count
+    }
+
+    /// Appends the rows of the breakpoints in memory.
+    #[tactic(auto, using(rv_answers::proofs::Pieces::nothing))]
+    fn append_breaks(&self, answer: &mut Answer)
+        ensures { Appended answer.old answer.new (flat_map (break_row self.now)
+            (range_with_len 0 (1024 * self.now.recording.pages))) }
+    {
+        for word in 0..1024 * u64::from(self.recording.pages()) {
+            self.append_break(word, answer);
+        }
     }
 
     /// Appends the breakpoints in memory.
-    fn list_breaks(&self, answer: &mut Answer) {
-        let mut count: u32 = 0;
-        for page in 0..self.recording.pages() {
-            let first = RAM_BASE.wrapping_add(page.wrapping_mul(4096));
-            count = count.wrapping_add(self.list_page(first, answer));
-        }
-        if count == 0 {
+    #[tactic(auto, using(crate::proofs::Told::none_so_far, crate::proofs::Told::some_so_far), unfolding(crate::specs::Looks::breaks_told))]
+    fn list_breaks(&self, answer: &mut Answer)
+        ensures { Appended answer.old answer.new (breaks_told self.now) }
+    {
+        let before = answer.bytes().len();
+        self.append_breaks(answer);
+        if answer.bytes().len() == before {
             answer.say("no breakpoints; `help b` shows how to set one\n");
         }
     }

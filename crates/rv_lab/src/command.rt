@@ -2,7 +2,7 @@
 ghost use Rattle.std.specs.Prelude.{◌≡◌, unwrap_or};
 ghost use Rattle.std.specs.Option.{option_map};
 ghost use Rattle.rv_base.specs.Tables.{lookup};
-ghost use Rattle.rv_lab.specs.Rows.{canonical, named};
+ghost use Rattle.rv_lab.specs.Rows.{IsQuiet, canonical, named};
 ghost use Rattle.rv_lab.specs.Words.{command_of, commands, other_words, read, repeated, said};
 
 use crate::nearest::Nearest;
@@ -389,7 +389,8 @@ pub(crate) fn read_command<'a>(
     alloc: Global,
     answer: &mut Answer,
 ) -> CommandLine<'a>
-    ensures { (result.command, result.operands.now) ≡ read line.now }
+    ensures read { (result.command, result.operands.now) ≡ read line.now }
+    ensures quiet { IsQuiet result.command answer.old answer.new }
 {
     let command = said(line, alloc, answer);
     let operands = operands_of(line);
@@ -398,7 +399,8 @@ pub(crate) fn read_command<'a>(
 
 /// Returns the command of a line.
 fn said(line: &[u8], alloc: Global, answer: &mut Answer) -> Command
-    ensures { result ≡ said line.now }
+    ensures said { result ≡ said line.now }
+    ensures quiet { IsQuiet result answer.old answer.new }
 {
     if line.len() > LINE_LIMIT {
         answer.say("a line has at most 1024 bytes\n");
@@ -414,8 +416,10 @@ fn said(line: &[u8], alloc: Global, answer: &mut Answer) -> Command
 }
 
 /// Returns the command of a word, or `Nothing` where it is no command, which is answered.
+#[tactic(auto, using(crate::proofs::Told::quiet_still))]
 fn command_of(word: &[u8], alloc: Global, answer: &mut Answer) -> Command
-    ensures { result ≡ command_of word.now }
+    ensures command { result ≡ command_of word.now }
+    ensures quiet { IsQuiet result answer.old answer.new }
 {
     match row_of(word) {
         Some(row) => row.command,

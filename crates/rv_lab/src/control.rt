@@ -1,5 +1,5 @@
 //! What the bits of control registers say.
-use rv_answers::Answer;
+use rv_answers::{Answer, cause_name};
 
 /// The names of the control registers that are often asked for.
 pub(crate) static NAMES: [&str; 20] = [
@@ -72,7 +72,7 @@ pub(crate) fn append_bits(csr: u16, word: u32, answer: &mut Answer) {
         MIE | MIP => append_lines(word, answer),
         MCAUSE => {
             answer.say("  ");
-            answer.say(crate::causes::cause_name(word));
+            answer.say(cause_name(word));
         }
         _ => {}
     }

@@ -1,8 +1,10 @@
 //! The execution of a command.
-ghost use Rattle.std.specs.Prelude.{◌≡◌, OnErr, OnOk};
+ghost use Rattle.std.specs.Prelude.{◌≡◌, OnErr, OnOk, ◌≢◌};
 ghost use Rattle.rv_lab.specs.Commands.{Changes, Leaves, Repeats};
 ghost use Rattle.rv_lab.specs.Refusals.{RunsOut, StopsShort};
 ghost use Rattle.rv_lab.specs.State.{setup};
+ghost use Rattle.rv_lab.specs.Looks.{Tells};
+ghost use Rattle.rv_lab.specs.declared.command.Command.TheVariants.{Break};
 
 use crate::command::Command;
 use crate::lab::{Lab, Next};
@@ -19,6 +21,7 @@ impl Lab {
     ) -> Result<Next, NoMemory>
         ensures setup { setup self.new ≡ setup self.old }
         ensures leaves { OnOk result (Leaves command operands.now self.old self.new) }
+        ensures tells { Tells command operands.now self.old answer.old answer.new }
         ensures err { OnErr result (RunsOut (Leaves command operands.now) self.old self.new) }
     {
         match command {
@@ -64,24 +67,36 @@ impl Lab {
     ) -> Result<Next, NoMemory>
         ensures setup { setup self.new ≡ setup self.old }
         ensures changes { OnOk result (Changes command operands.now self.old self.new) }
+        ensures tells { Tells command operands.now self.old answer.old answer.new }
         ensures err { OnErr result (RunsOut (Changes command operands.now) self.old self.new) }
     {
         match command {
-            Command::List => self.list_command(operands, answer),
-            Command::Break => return self.break_command(operands, answer),
-            Command::Clear => self.clear_command(operands, answer),
-            Command::Receive => return self.receive_command(operands, answer),
-            Command::Line => return self.line_command(operands, answer),
-            Command::Monitor => return self.monitor_command(operands, answer),
-            Command::Save => return Ok(self.save_command(operands, answer)),
-            Command::Quit => return Ok(Next::Quit),
-            _ => self.look(command, operands, answer),
+            Command::List => {
+                self.list_command(operands, answer);
+                Ok(Next::More)
+            }
+            Command::Break => self.break_command(operands, answer),
+            Command::Clear => {
+                self.clear_command(operands, answer);
+                Ok(Next::More)
+            }
+            Command::Receive => self.receive_command(operands, answer),
+            Command::Line => self.line_command(operands, answer),
+            Command::Monitor => self.monitor_command(operands, answer),
+            Command::Save => Ok(self.save_command(operands, answer)),
+            Command::Quit => Ok(Next::Quit),
+            _ => {
+                self.look(command, operands, answer);
+                Ok(Next::More)
+            }
         }
-        Ok(Next::More)
     }
 
-    /// Executes a command that only looks.
-    fn look(&self, command: Command, operands: &[u8], answer: &mut Answer) {
+    /// Executes a command that only looks; `b` does not.
+    fn look(&self, command: Command, operands: &[u8], answer: &mut Answer)
+        requires { command ≢ Break }
+        ensures { Tells command operands.now self.now answer.old answer.new }
+    {
         match command {
             Command::Where => self.where_command(answer),
             Command::Registers => self.registers_command(operands, answer),

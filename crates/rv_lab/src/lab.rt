@@ -1,19 +1,21 @@
 //! The lab: what a caller may ask of it.
-ghost use Rattle.std.specs.Prelude.{◌≡◌, ◌≤◌, max, Err, IfErr, IfOk, None, Ok, OnErr, OnOk};
+ghost use Rattle.std.specs.Prelude.{◌≡◌, ◌≤◌, max, false, Err, IfErr, IfOk, None, Ok, OnErr, OnOk, ◌++◌, IfSome};
 ghost use Rattle.rv_asm.specs.Lines.{listed};
 ghost use Rattle.rv_monitor.specs.Laws.{IsReached};
 ghost use Rattle.rv_opening.specs.Opening.{Opens};
 ghost use Rattle.rv_recording.specs.Recording.{IsRun, first_board, last_step};
-ghost use Rattle.rv_lab.specs.State.{setup};
+ghost use Rattle.rv_lab.specs.State.{setup, registers_of};
 ghost use Rattle.rv_lab.specs.Commands.{Obeys, ready};
 ghost use Rattle.rv_lab.specs.Refusals.{Refuses};
+ghost use Rattle.rv_lab.specs.Looks.{told};
+ghost use Rattle.rv_lab.specs.Words.{read};
 
 use crate::command::{Command, CommandLine, read_command};
 use crate::plan::Plan;
-use crate::registers::Registers;
-use rv_answers::Answer;
+use crate::registers::registers_of;
+use rv_answers::{Answer, Registers};
 use rv_asm::{Listing, Program, list};
-use rv_base::{NoMemory, cut_lines, low_word};
+use rv_base::{NoMemory, low_word};
 use rv_board::BootedBoard;
 use rv_opening::OpenFault;
 use rv_recording::Recording;
@@ -100,7 +102,7 @@ impl Model for Lab {
 
     ghost coded = { Prim.hlevel (codes, plic_code, set.code {R = nat_cmp} coded_ℕ) };
 
-    ghost view = { λ l. record { source = l.source.items; listing = l.listing; recording = l.recording; before = l.last.steps; again = l.last.command; count = l.last.count; plan = l.last.plan; piece = l.piece } };
+    ghost view = { λ l. record { source = l.source.items; listing = l.listing; recording = l.recording; registers = l.last.registers; before = l.last.steps; again = l.last.command; count = l.last.count; plan = l.last.plan; piece = l.piece } };
 }
 
 impl Lab {
@@ -118,8 +120,8 @@ impl Lab {
         ensures sizes { IfOk result (λ l.
             (l.recording.pages ≡ sizes.pages) × (l.recording.slots ≡ sizes.slots)) }
         ensures listing { IfOk result (λ l. listed source.now ≡ Ok l.listing) }
-        ensures begins { IfOk result (λ l. (l.source ≡ source.now) × (l.before ≡ 0) × (l.plan ≡ None)
-            × (l.piece ≡ 1000000)) }
+        ensures begins { IfOk result (λ l. (l.source ≡ source.now) × (l.before ≡ 0)
+            × (l.registers ≡ registers_of l.recording.session.timed.board) × (l.plan ≡ None) × (l.piece ≡ 1000000)) }
     {
         let listing = list(alloc, source)?;
         let (pages, slots) = (u32::from(sizes.pages), u32::from(sizes.slots));
@@ -128,7 +130,7 @@ impl Lab {
             return Err(OpenFault::OutOfMemory);
         };
         let last = Last {
-            registers: Registers::of(recording.session().board()),
+            registers: registers_of(recording.session().board()),
             steps: 0,
             told: 0,
             command: Command::StepOnce,
@@ -179,11 +181,6 @@ impl Lab {
         low_word(self.listing.bytes(line).len() as u64)
     }
 
-    /// Returns the text of a line of the source, counted from 1.
-    pub(crate) fn line(&self, number: usize) -> Option<&[u8]> {
-        cut_lines(&self.source).nth(number.checked_sub(1)?)
-    }
-
     /// Appends the source's name and size, and where the board stands.
     pub fn greet(&self, name: &str, answer: &mut Answer) {
         let lines = self.listing.len() as u64;
@@ -216,6 +213,8 @@ impl Lab {
     pub fn command(&mut self, line: &[u8], answer: &mut Answer) -> Result<Next, NoMemory>
         ensures setup { setup self.new ≡ setup self.old }
         ensures obeys { OnOk result (Obeys line.now self.old self.new) }
+        ensures tells { OnOk result (IfSome (told (read line.now).0 (read line.now).1 self.old)
+            (λ text. answer.new.bytes ≡ answer.old.bytes ++ text)) }
         ensures err { OnErr result (Refuses line.now self.old self.new) }
     {
         let CommandLine { command, operands } = read_command(line, self.alloc, answer);
@@ -226,7 +225,9 @@ impl Lab {
 }
 
 /// Returns what follows a command, or that memory ran out where its answer is cut.
-pub(crate) fn unless_cut(next: Next, answer: &Answer) -> Result<Next, NoMemory> {
+pub(crate) fn unless_cut(next: Next, answer: &Answer) -> Result<Next, NoMemory>
+    ensures { OnOk result (answer.now.is_cut ≡ false) }
+{
     if answer.is_cut() {
         return Err(NoMemory);
     }

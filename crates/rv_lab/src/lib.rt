@@ -3,7 +3,6 @@
 #![tactic(auto)]
 
 mod breaks;
-mod causes;
 mod command;
 mod control;
 mod devices;
@@ -15,6 +14,7 @@ mod lab;
 mod memory;
 mod nearest;
 mod operands;
+mod places;
 mod plan;
 mod protection;
 mod registers;

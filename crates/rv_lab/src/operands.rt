@@ -1,12 +1,13 @@
 //! The operands of commands: counts and addresses.
-ghost use Rattle.std.specs.Prelude.{◌≡◌, ◌<◌};
+ghost use Rattle.std.specs.Prelude.{◌≡◌, ◌<◌, OnSome};
 ghost use Rattle.rv_base.specs.Words.{words};
+ghost use Rattle.rv_operands.specs.Operands.{address};
 ghost use Rattle.rv_lab.specs.Commands.{board, count_of};
 
 use crate::lab::Lab;
 use crate::nearest::Nearest;
 use rv_answers::Answer;
-use rv_base::{decimal, first_word, has_word};
+use rv_base::{decimal, has_word};
 use rv_operands::{Scope, only_word};
 
 /// Reads the only word of a text as a number of at most `most`, or returns `usual` where there is no word.
@@ -47,19 +48,11 @@ impl Lab {
         answer.end();
     }
 
-    /// Reads the address that is the first word of some operands. Where there is none, that is answered.
-    pub(crate) fn first_address<'a>(
-        &self,
-        command: &str,
-        operands: &'a [u8],
-        answer: &mut Answer,
-    ) -> Option<u32> {
-        let Some((word, _)) = first_word(operands) else {
-            answer.say(command);
-            answer.say(": an address is missing");
-            answer.see_help(command);
-            return None;
-        };
+    /// Reads an address. Where a word is none, that is answered.
+    pub(crate) fn address_of(&self, command: &str, word: &[u8], answer: &mut Answer) -> Option<u32>
+        ensures value { result ≡ address self.now.listing (board self.now) word.now }
+        ensures quiet { OnSome result (answer.new ≡ answer.old) }
+    {
         let address = self.scope().address(word);
         if address.is_none() {
             self.refuse_address(command, word, answer);

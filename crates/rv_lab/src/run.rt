@@ -12,7 +12,7 @@ ghost use Rattle.rv_lab.specs.State.{setup};
 use crate::lab::{Lab, Next, unless_cut};
 use crate::operands::count_or;
 use crate::plan::{Goal, Plan};
-use crate::registers::Registers;
+use crate::registers::registers_of;
 use rv_answers::Answer;
 use rv_base::NoMemory;
 use rv_monitor::Stop;
@@ -41,7 +41,7 @@ impl Lab {
     pub(crate) fn begin(&mut self)
         ensures { self.new ≡ begun self.old }
     {
-        self.last.registers = Registers::of(self.board());
+        self.last.registers = registers_of(self.board());
         self.last.steps = self.recording.steps();
         self.last.told = self.board().console().len();
     }
@@ -253,7 +253,7 @@ impl Lab {
     {
         // It tells that the steps of the inputs never fall.
         let _inputs = self.recording.inputs();
-        let before = Registers::of(self.board());
+        let before = registers_of(self.board());
         let at = self.board().pc();
         let Some(outcome) = self.recording.take_step()? else {
             self.tell_stuck(answer);
@@ -310,7 +310,7 @@ impl Lab {
         ensures back { OnOk result (self.new ≡ backed self.old to) }
         ensures err { OnErr result (self.new ≡ self.old) }
     {
-        let before = Registers::of(self.board());
+        let before = registers_of(self.board());
         match self.recording.go_back(to) {
             Ok(()) => {
                 self.last.registers = before;

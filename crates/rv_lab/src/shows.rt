@@ -1,68 +1,30 @@
 //! Commands that show registers, memory and traps.
-use crate::causes::append_cause;
+ghost use Rattle.std.specs.Prelude.{◌≡◌, ◌≤◌, ◌++◌, IfSome, codes, drop, slice_index};
+ghost use Rattle.rv_base.specs.Words.{words};
+ghost use Rattle.rv_answers.specs.Answer.{Appended};
+ghost use Rattle.rv_answers.specs.Places.{near_text};
+ghost use Rattle.rv_answers.specs.Standing.{pc_text};
+ghost use Rattle.rv_lab.specs.Commands.{board};
+ghost use Rattle.rv_answers.specs.Registers.{register_text};
+ghost use Rattle.rv_answers.specs.Traps.{trap_text};
+ghost use Rattle.rv_lab.specs.Looks.{all_registers, comes_again, label_at, memory_told, registers_told, short_place, trap_rows, traps_told};
+ghost use Rattle.rv_lab.specs.Rows.{register_of};
+
 use crate::control::{MCAUSE, append_bits};
 use crate::lab::Lab;
-use crate::memory::{append_bytes, append_instruction_at, append_text, append_words};
+use crate::memory::{append_instruction_at, append_memory};
 use crate::nearest::Nearest;
 use crate::operands::count_or;
-use crate::registers::{Registers, append_register, append_registers};
-use rv_answers::Answer;
-use rv_base::{decimal, first_word, has_word, look_up, low_word};
+use crate::registers::registers_of;
+use rv_answers::{
+    Answer, append_mode, append_register, append_registers, append_times, append_trap, read_extent,
+};
+use rv_base::{first_word, has_word};
 use rv_board::TrapRecord;
-use rv_isa::{csr_named, reg_named};
+use rv_isa::{Reg, csr_named, reg_named};
 use rv_operands::only_word;
 use rv_plic::Source;
-use rv_pmp::Mode;
 use std::alloc::Global;
-
-/// The most bytes that `m` shows.
-const MOST_BYTES: u64 = 4096;
-
-/// How the bytes of memory are shown.
-#[derive(Clone, Copy)]
-enum Format {
-    Bytes,
-    Words,
-    Text,
-}
-
-/// The operands of `m` following the address.
-#[derive(Clone, Copy)]
-struct Extent {
-    count: u64,
-    format: Format,
-}
-
-/// The words for how memory is shown.
-static FORMATS: [(&str, Format); 3] = [
-    ("w", Format::Words),
-    ("t", Format::Text),
-    ("b", Format::Bytes),
-];
-
-/// Reads how bytes are shown.
-fn read_format(operands: &[u8]) -> Option<Format> {
-    if !has_word(operands) {
-        return Some(Format::Bytes);
-    }
-    look_up(&FORMATS, only_word(operands)?)
-}
-
-/// Reads how many bytes or words `m` shows, and how.
-fn read_extent(operands: &[u8]) -> Option<Extent> {
-    if let Some((word, rest)) = first_word(operands)
-        && let Some(count) = decimal(MOST_BYTES, word)
-    {
-        let format = read_format(rest)?;
-        return Some(Extent { count, format });
-    }
-    let format = read_format(operands)?;
-    let count = match format {
-        Format::Words => 16,
-        _ => 64,
-    };
-    Some(Extent { count, format })
-}
 
 /// Reads the number of an edge source, 24 to 31.
 fn edge_source(operands: &[u8]) -> Option<Source> {
@@ -83,29 +45,69 @@ fn refuse_csr(alloc: Global, name: &[u8], answer: &mut Answer) {
     answer.say("; docs/BOARD.md has them all\n");
 }
 
+/// Returns the register that some operands name.
+fn register_of(operands: &[u8]) -> Option<Reg>
+    ensures { result ≡ register_of (words operands.now) }
+{
+    reg_named(only_word(operands)?)
+}
+
+/// Whether a trap is the same as the one before it.
+fn comes_again(trap: TrapRecord, next: Option<TrapRecord>) -> bool
+    ensures { result ≡ comes_again trap next }
+{
+    match next {
+        Some(next) => trap.cause == next.cause && trap.epc == next.epc && trap.tval == next.tval,
+        None => false,
+    }
+}
+
 impl Lab {
     /// Appends the pc and the mode.
-    fn append_pc(&self, answer: &mut Answer) {
+    #[tactic(auto, using(rv_answers::proofs::Pieces::then), unfolding(rv_answers::specs::Standing::pc_text))]
+    fn append_pc(&self, answer: &mut Answer)
+        ensures { Appended answer.old answer.new (pc_text (board self.now).machine.pc
+            (near_text (label_at self.now.listing (board self.now).machine.pc)) (board self.now).machine.mode) }
+    {
         let board = self.board();
-        let is_user = matches!(board.mode(), Mode::User) as u64;
-        answer.fill("  pc   %x", &[board.pc() as u64]);
+        answer.say("  pc   ");
+        answer.word(board.pc());
         self.append_label(board.pc(), answer);
-        answer.fill("  %{machine|user} mode\n", &[is_user]);
+        answer.say("  ");
+        append_mode(board.mode(), answer);
+    }
+
+    /// Appends the line of a register.
+    #[tactic(auto, using(rv_answers::proofs::Pieces::then))]
+    fn append_named(&self, register: Reg, answer: &mut Answer)
+        ensures { Appended answer.old answer.new (register_text register
+            (slice_index (board self.now).machine.registers register) ++ codes "\n") }
+    {
+        append_register(register, self.board().reg(register), answer);
+        answer.end();
+    }
+
+    /// Appends all registers, and the pc and the mode.
+    fn append_all_registers(&self, answer: &mut Answer)
+        ensures { Appended answer.old answer.new (all_registers self.now) }
+    {
+        append_registers(&self.last.registers, &registers_of(self.board()), answer);
+        self.append_pc(answer);
     }
 
     /// Executes `r`.
-    pub(crate) fn registers_command(&self, operands: &[u8], answer: &mut Answer) {
+    #[tactic(auto, using(crate::proofs::Told::no_register, crate::proofs::Told::no_named, crate::proofs::Told::is_named))]
+    pub(crate) fn registers_command(&self, operands: &[u8], answer: &mut Answer)
+        ensures { IfSome (registers_told self.now (words operands.now)) (Appended answer.old answer.new) }
+    {
         if !has_word(operands) {
-            let now = Registers::of(self.board());
-            append_registers(&self.last.registers, &now, answer);
-            return self.append_pc(answer);
+            return self.append_all_registers(answer);
         }
-        let Some(register) = reg_named(only_word(operands).unwrap_or(b"")) else {
+        let Some(register) = register_of(operands) else {
             let why = "is no register; `p` shows a control register\n";
             return answer.refuse("r", operands, why);
         };
-        append_register(register, self.board().reg(register), answer);
-        answer.end();
+        self.append_named(register, answer);
     }
 
     /// Executes `p`.
@@ -130,33 +132,30 @@ impl Lab {
     }
 
     /// Executes `m`.
-    pub(crate) fn memory_command(&self, operands: &[u8], answer: &mut Answer) {
-        let Some(address) = self.first_address("m", operands, answer) else {
+    #[tactic(auto, unfolding(crate::specs::Looks::memory_told))]
+    pub(crate) fn memory_command(&self, operands: &[u8], answer: &mut Answer)
+        ensures { IfSome (memory_told self.now (words operands.now)) (Appended answer.old answer.new) }
+    {
+        let Some((word, rest)) = first_word(operands) else {
+            answer.say("m: an address is missing");
+            return answer.see_help("m");
+        };
+        let Some(address) = self.address_of("m", word, answer) else {
             return;
         };
-        let rest = match first_word(operands) {
-            Some((_, rest)) => rest,
-            None => operands,
-        };
-        let Some(Extent { count, format }) = read_extent(rest) else {
+        let Some(extent) = read_extent(rest) else {
             return answer.say(
                 "m: a number from 0 to 4096 is wanted, and w, b or t; `help m` has an example\n",
             );
         };
-        let count = low_word(count);
-        match format {
-            Format::Bytes => append_bytes(self.board(), address, count, answer),
-            Format::Words => append_words(self.board(), address, count, answer),
-            Format::Text => append_text(self.board(), address, count, answer),
-        }
+        append_memory(self.board(), address, extent, answer);
     }
 
     /// Executes `i`.
     pub(crate) fn instruction_command(&self, operands: &[u8], answer: &mut Answer) {
-        let address = if has_word(operands) {
-            self.first_address("i", operands, answer)
-        } else {
-            Some(self.board().pc())
+        let address = match first_word(operands) {
+            Some((word, _)) => self.address_of("i", word, answer),
+            None => Some(self.board().pc()),
         };
         let Some(address) = address else {
             return;
@@ -169,32 +168,44 @@ impl Lab {
     }
 
     /// Executes `t`.
-    pub(crate) fn traps_command(&self, answer: &mut Answer) {
-        let board = self.board();
-        if board.trap_count() == 0 {
-            answer.say("no trap so far\n");
+    #[tactic(auto, unfolding(crate::specs::Looks::traps_told))]
+    pub(crate) fn traps_command(&self, answer: &mut Answer)
+        ensures { Appended answer.old answer.new (traps_told self.now) }
+    {
+        if self.board().trap_count() == 0 {
+            return answer.say("no trap so far\n");
         }
-        let mut times: u64 = 0;
-        for index in 0..board.trap_count() {
-            times = times.saturating_add(1);
-            if let Some(trap) = board.trap(index)
-                && board.trap(index + 1) != Some(trap)
-            {
-                self.append_record(trap, times, answer);
-                times = 0;
-            }
+        self.append_traps(0, 0, answer);
+    }
+
+    /// Appends the rows of the traps from an index on, after `times` that are the same as the first.
+    #[tactic(auto, using(crate::proofs::TrapRows::rows_end, crate::proofs::TrapRows::rows_none, crate::proofs::TrapRows::rows_again, crate::proofs::TrapRows::rows_other))]
+    fn append_traps(&self, index: usize, times: u64, answer: &mut Answer)
+        requires { times ≤ index }
+        ensures { Appended answer.old answer.new
+            (trap_rows self.now times (drop index (board self.now).traps)) }
+    {
+        if index >= self.board().trap_count() {
+            return;
         }
+        let Some(trap) = self.board().trap(index) else {
+            return;
+        };
+        if comes_again(trap, self.board().trap(index + 1)) {
+            return self.append_traps(index + 1, times + 1, answer);
+        }
+        self.append_record(trap, times + 1, answer);
+        self.append_traps(index + 1, 0, answer);
     }
 
     /// Appends a trap that was taken some times in a row.
-    fn append_record(&self, trap: TrapRecord, times: u64, answer: &mut Answer) {
-        answer.say("trap ");
-        append_cause(trap.cause, answer);
-        answer.fill(", mtval %x, at", &[trap.tval as u64]);
+    #[tactic(auto, using(rv_answers::proofs::Pieces::then), unfolding(rv_answers::specs::Traps::trap_text))]
+    fn append_record(&self, trap: TrapRecord, times: u64, answer: &mut Answer)
+        ensures { Appended answer.old answer.new (trap_text trap.cause trap.tval (short_place self.now trap.epc) times) }
+    {
+        append_trap(trap.cause, trap.tval, answer);
         self.append_short_place(trap.epc, answer);
-        if times > 1 {
-            answer.fill(", %d times", &[times]);
-        }
+        append_times(times, answer);
         answer.end();
     }
 

@@ -1,51 +1,72 @@
 //! Where the program is, and what a command did.
-ghost use Rattle.std.specs.Prelude.{◌≡◌};
+ghost use Rattle.std.specs.Prelude.{◌≡◌, ◌++◌, [], codes};
+ghost use Rattle.std.specs.Option.{option_map_or};
+ghost use Rattle.rv_answers.specs.Answer.{Appended};
+ghost use Rattle.rv_answers.specs.Places.{near_text};
+ghost use Rattle.rv_answers.specs.Standing.{halted_text};
+ghost use Rattle.rv_lab.specs.Commands.{board};
+ghost use Rattle.rv_lab.specs.Looks.{label_at, place, short_place, where_told};
+ghost use Rattle.rv_lab.specs.Rows.{line_or_instruction};
 
-use crate::causes::append_cause;
 use crate::lab::Lab;
-use crate::memory::{append_escaped, append_instruction_at};
+use crate::memory::append_instruction_at;
+use crate::places::{append_near, line_at};
 use crate::plan::Goal;
-use crate::registers::{Registers, append_changes, append_register, append_value};
-use rv_answers::{Answer, append_label};
+use crate::registers::registers_of;
+use rv_answers::{
+    Answer, Registers, append_cause, append_changes, append_escaped, append_halted,
+    append_line_number, append_register, append_step, append_value, line_text,
+};
 use rv_hart::Outcome;
 use rv_monitor::word_at;
-use rv_pmp::Mode;
 use rv_recording::{Condition, End, Watched};
 
 impl Lab {
     /// Appends the nearest label before an address with its distance, as `<loop+8>`, if the address is in the
     /// image.
-    pub(crate) fn append_label(&self, address: u32, answer: &mut Answer) {
-        if self.listing.line_at(address).is_none() {
-            return;
-        }
-        let Some(near) = self.listing.label_before(address) else {
-            return;
-        };
-        append_label(near.name.bytes(), near.distance, answer);
+    pub(crate) fn append_label(&self, address: u32, answer: &mut Answer)
+        ensures { Appended answer.old answer.new (near_text (label_at self.now.listing address)) }
+    {
+        append_near(&self.listing, address, answer);
     }
 
     /// Appends an address with its label, its line's number and the line's text.
-    pub(crate) fn append_place(&self, address: u32, answer: &mut Answer) {
+    #[tactic(auto, using(rv_answers::proofs::Pieces::then), unfolding(crate::specs::Looks::place, rv_answers::specs::Places::place_text))]
+    pub(crate) fn append_place(&self, address: u32, answer: &mut Answer)
+        ensures { Appended answer.old answer.new (place self.now address) }
+    {
         answer.word(address);
         self.append_label(address, answer);
         answer.say("  ");
-        let Some(line) = self.listing.line_at(address) else {
-            return append_instruction_at(self.board(), address, answer);
-        };
-        answer.line_number(line);
-        answer.put(self.line(line).unwrap_or(b""));
+        self.append_line(address, answer);
+    }
+
+    /// Appends the number and the text of the line that has a byte at an address, or the instruction there.
+    #[tactic(auto, using(rv_answers::proofs::Pieces::then))]
+    fn append_line(&self, address: u32, answer: &mut Answer)
+        ensures { Appended answer.old answer.new (line_or_instruction self.now address) }
+    {
+        match line_at(&self.listing, address) {
+            Some(line) => {
+                answer.line_number(line);
+                answer.put(line_text(&self.source, line.saturating_sub(1)));
+            }
+            None => append_instruction_at(self.board(), address, answer),
+        }
     }
 
     /// Appends the line of the next instruction.
-    pub(crate) fn append_here(&self, answer: &mut Answer) {
+    #[tactic(auto, using(rv_answers::proofs::Pieces::then))]
+    pub(crate) fn append_here(&self, answer: &mut Answer)
+        ensures { Appended answer.old answer.new (place self.now (board self.now).machine.pc ++ codes "\n") }
+    {
         self.append_place(self.board().pc(), answer);
         answer.end();
     }
 
     /// Appends the registers that changed since the last command that moved the board, in a line, if any did.
     fn append_changed(&self, answer: &mut Answer) {
-        let now = Registers::of(self.board());
+        let now = registers_of(self.board());
         if append_changes(&self.last.registers, &now, answer) > 0 {
             answer.end();
         }
@@ -58,7 +79,7 @@ impl Lab {
             append_cause(cause, answer);
             answer.fill(", mtval %x", &[tval as u64]);
         }
-        append_changes(before, &Registers::of(self.board()), answer);
+        append_changes(before, &registers_of(self.board()), answer);
     }
 
     /// Appends the bytes that the console got and that weren't told, marked by a bar. A line that isn't ended
@@ -73,11 +94,13 @@ impl Lab {
     }
 
     /// Appends that the board halted, if it did.
-    pub(crate) fn tell_halt(&self, answer: &mut Answer) {
+    #[tactic(auto, using(rv_answers::proofs::Pieces::nothing))]
+    pub(crate) fn tell_halt(&self, answer: &mut Answer)
+        ensures { Appended answer.old answer.new (option_map_or (λ code. halted_text code self.now.recording.session.timed.taken)
+            (board self.now).machine.bus.halt []) }
+    {
         if let Some(code) = self.board().halted() {
-            let steps = self.steps();
-            let values = [code as u64, steps, steps];
-            answer.fill("halted with code %d after %d step%{s||s}\n", &values);
+            append_halted(code, self.steps(), answer);
         }
     }
 
@@ -146,12 +169,15 @@ impl Lab {
     }
 
     /// Appends an address with the number of its line.
-    pub(crate) fn append_short_place(&self, address: u32, answer: &mut Answer) {
-        if let Some(line) = self.listing.line_at(address) {
-            answer.fill(" line %d", &[line as u64]);
-        }
+    #[tactic(auto, using(rv_answers::proofs::Pieces::then), unfolding(crate::specs::Looks::short_place, rv_answers::specs::Places::short_place_text))]
+    pub(crate) fn append_short_place(&self, address: u32, answer: &mut Answer)
+        ensures { Appended answer.old answer.new (short_place self.now address) }
+    {
+        append_line_number(line_at(&self.listing, address), answer);
         self.append_label(address, answer);
-        answer.fill(" (%x)", &[address as u64]);
+        answer.say(" (");
+        answer.word(address);
+        answer.say(")");
     }
 
     /// Appends what is watched, with its value.
@@ -201,11 +227,12 @@ impl Lab {
     }
 
     /// Executes `w`.
-    pub(crate) fn where_command(&self, answer: &mut Answer) {
+    #[tactic(auto, using(rv_answers::proofs::Pieces::then), unfolding(crate::specs::Looks::where_told))]
+    pub(crate) fn where_command(&self, answer: &mut Answer)
+        ensures { Appended answer.old answer.new (where_told self.now) }
+    {
         let board = self.board();
-        let is_user = matches!(board.mode(), Mode::User) as u64;
-        let values = [self.steps(), is_user];
-        answer.fill("step %d, %{machine|user} mode\n", &values);
+        append_step(self.steps(), board.mode(), answer);
         self.tell_halt(answer);
         self.append_here(answer);
         answer.say("  ");

@@ -1,11 +1,9 @@
 //! Why the first trap that met no handler came.
-use crate::causes::append_cause;
 use crate::control::{MSTATUS, MTVEC, has_bit};
 use crate::lab::Lab;
 use crate::memory::{append_instruction_at, instruction_at};
 use crate::protection::{append_region, entry_at, read_region};
-use crate::registers::register_name;
-use rv_answers::Answer;
+use rv_answers::{Answer, append_cause, register_name};
 use rv_base::NoMemory;
 use rv_board::{BootedBoard, TrapRecord};
 use rv_hart::Outcome;

@@ -1,0 +1,39 @@
+//! Addresses as places in the source: the line there, and the label before it.
+ghost use Rattle.std.specs.Prelude.{◌≡◌, ℕ, List};
+ghost use Rattle.std.specs.Option.{option_map};
+ghost use Rattle.rv_answers.specs.Answer.{Appended};
+ghost use Rattle.rv_answers.specs.Places.{near_text};
+ghost use Rattle.rv_lab.specs.Looks.{label_at, line_at};
+
+use rv_answers::{Answer, append_label};
+use rv_asm::{Listing, NearLabel};
+
+/// Returns the line that has a byte at an address, if there is one.
+#[tactic(auto, using(crate::proofs::Lines::line_is))]
+pub(crate) fn line_at(listing: &Listing, address: u32) -> Option<usize>
+    ensures { result ≡ line_at listing.now address }
+{
+    listing.line_at(address)
+}
+
+/// Returns the nearest label before an address of the image, with the distance from it.
+#[tactic(auto, unfolding(crate::specs::Looks::label_at))]
+fn near_label<'a>(listing: &'a Listing, address: u32) -> Option<NearLabel<'a>>
+    ensures { option_map {U = List ℕ × ℕ} (λ n. (n.name, n.distance)) result ≡ label_at listing.now address }
+{
+    match line_at(listing, address) {
+        Some(_) => listing.label_before(address),
+        None => None,
+    }
+}
+
+/// Appends the nearest label before an address with its distance, as `<loop+8>`, if the address is in the
+/// image.
+#[tactic(auto, using(rv_answers::proofs::Pieces::nothing))]
+pub(crate) fn append_near(listing: &Listing, address: u32, answer: &mut Answer)
+    ensures { Appended answer.old answer.new (near_text (label_at listing.now address)) }
+{
+    if let Some(near) = near_label(listing, address) {
+        append_label(near.name.bytes(), near.distance, answer);
+    }
+}
