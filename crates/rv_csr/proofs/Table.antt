@@ -1,7 +1,8 @@
 -- The table of the registers says what the cases by register say.
 use Rattle.std.proofs.Common.{◌≡◌, ℕ, zero, suc, ◌+◌, ◌-◌, ◌*◌, ◌==◌, Bool, true, false, cond, List, [], ◌∷◌, ◌++◌, map, length, Option, Some, None, refl, ap, sym, subst, ◌∙◌, arith, nat_lt, nat_le}
 use Rattle.std.specs.Prelude.{◌&&◌, ◌||◌, not, find, if◌then◌else◌, codes}
-use Rattle.std.specs.List.{list_any, range_with_len}
+use Rattle.std.specs.Fmt.{digits}
+use Rattle.std.specs.List.{list_all, list_any, range_with_len}
 use Rattle.std.specs.Option.{option_map, option_or}
 use Rattle.std.proofs.lemmas.Bool.Decides.{nat_tests}
 use Rattle.std.proofs.lemmas.List.Folds.{list_any-append}
@@ -12,7 +13,7 @@ use Rattle.rv_pmp.specs.Pmp.{PmpState, config_word, entry_at, written}
 use Rattle.rv_pmp.specs.Registers.{is_config, is_address}
 use Rattle.rv_pmp.specs.declared.mode.Mode.{Mode}
 use Rattle.rv_csr.specs.State.{CsrState}
-use Rattle.rv_csr.specs.Registers.{Row, table, number_of, read, write, may_read, may_write}
+use Rattle.rv_csr.specs.Registers.{Row, table, row_at, number_of, read, write, may_read, may_write}
 use Rattle.rv_csr.specs.RegisterCases.{is_from_to, is_zero, register_at, value_of, with_value, with_value_at}
 use Rattle.rv_csr.specs.RegisterCases as cases
 use Rattle.rv_csr.specs.declared.register.Register.{Register}
@@ -20,8 +21,8 @@ use Rattle.rv_csr.specs.declared.register.Register.TheVariants.{Mstatus, Misa, M
 
 -- a row has the value and the write of a register
 pub record Agrees (row : Row) (register : Register) : Type 0 where
-  pub value : (s : CsrState) (lines : InterruptLines) → row.value s lines ≡ value_of s lines register
-  pub written : (s : CsrState) (word : ℕ) → row.written s word ≡ with_value s register word
+  pub value : (s : CsrState) (lines : InterruptLines) → row.1 s lines ≡ value_of s lines register
+  pub written : (s : CsrState) (word : ℕ) → row.2 s word ≡ with_value s register word
 
 abbrev Same : Option Row → Option Register → Type 0
 Same None None = Unit {0}
@@ -31,8 +32,8 @@ Same (Some row) None = ⊥
 
 -- one row more, with the number n
 more : (addr n : ℕ) (row : Row) (register : Register) (rows : Option Row) (others : Option Register)
-    → row.number ≡ n → Agrees row register → ((addr == n) ≡ false → Same rows others)
-    → Same (cond (addr == row.number) (Some row) rows) (if addr == n then Some register else others)
+    → number_of row.0 ≡ n → Agrees row register → ((addr == n) ≡ false → Same rows others)
+    → Same (cond (addr == number_of row.0) (Some row) rows) (if addr == n then Some register else others)
 more addr n row register rows others is here later =
     subst (λ k. Same (cond (addr == k) (Some row) rows) (if addr == n then Some register else others)) (sym is)
     (by (addr == n) later)
@@ -142,26 +143,42 @@ named_zero addr f300 f301 f304 f305 f340 f341 f342 f343 f344 fB00 fB02 fB80 fB82
 
 -- ---- the rows
 
+-- the row of a register that reads 0
+abbrev zero_row : List ℕ × ℕ → Row
+zero_row named = (named.0, λ s lines. 0, λ s w. s)
+
+-- no two control registers share a name
+each_number : list_all (λ named. number_of named.0 == named.1) csr_names ≡ true
+unfolding number_of csr_names digits
+each_number = refl
+
 zero_found : (addr : ℕ) (names : List (List ℕ × ℕ)) (b : Bool)
+    → list_all (λ named. number_of named.0 == named.1) names ≡ true
     → list_any (λ named. addr == named.1) names ≡ b
-    → Same (find (λ row. addr == row.number)
-    (map (λ named. record { number = named.1; value = λ s lines. 0; written = λ s w. s }) names))
-    (if b then Some Zero else None)
-zero_found addr [] true is = absurd cc
-zero_found addr [] false is = tt
-zero_found addr (n ∷ ns) b is = by (addr == n.1) b is (zero_found addr ns b) where
-  by : (here b : Bool) → (here || list_any (λ named. addr == named.1) ns) ≡ b
-      → (list_any (λ named. addr == named.1) ns ≡ b
-      → Same (find (λ row. addr == row.number)
-      (map (λ named. record { number = named.1; value = λ s lines. 0; written = λ s w. s }) ns))
-      (if b then Some Zero else None))
-      → Same (cond here (Some (record { number = n.1; value = λ s lines. 0; written = λ s w. s }))
-      (find (λ row. addr == row.number)
-      (map (λ named. record { number = named.1; value = λ s lines. 0; written = λ s w. s }) ns)))
-      (if b then Some Zero else None)
-  by true true is later = record { value = λ s lines. refl; written = λ s word. refl }
-  by true false is later = absurd cc
-  by false b is later = later is
+    → Same (find (λ row. addr == number_of row.0) (map zero_row names)) (if b then Some Zero else None)
+zero_found addr [] true each is = absurd cc
+zero_found addr [] false each is = tt
+zero_found addr (n ∷ ns) b each is =
+    by (addr == number_of n.0) b (rw same_number at is) (zero_found addr ns b rest)
+  where
+    parts : (p q : Bool) → (p && q) ≡ true → (p ≡ true) × (q ≡ true)
+    parts true q e = (refl, e)
+    parts false q e = absurd cc
+
+    rest : list_all (λ named. number_of named.0 == named.1) ns ≡ true
+    rest = (parts (number_of n.0 == n.1) _ each).1
+
+    same_number : n.1 ≡ number_of n.0
+    same_number = let here = (parts (number_of n.0 == n.1) _ each).0 in grind (arith, nat_tests)
+
+    by : (here b : Bool) → (here || list_any (λ named. addr == named.1) ns) ≡ b
+        → (list_any (λ named. addr == named.1) ns ≡ b
+        → Same (find (λ row. addr == number_of row.0) (map zero_row ns)) (if b then Some Zero else None))
+        → Same (cond here (Some (zero_row n)) (find (λ row. addr == number_of row.0) (map zero_row ns)))
+        (if b then Some Zero else None)
+    by true true is later = record { value = λ s lines. refl; written = λ s word. refl }
+    by true false is later = absurd cc
+    by false b is later = later is
 
 number_mstatus : number_of (codes "mstatus") ≡ 0x300
 unfolding number_of csr_names
@@ -217,10 +234,6 @@ number_minstreth = refl
 
 pub ruleset counter_numbers = (number_mcycle, number_minstret)
 
--- the row of a number, of which the first counts
-unfoldable pub row_at : ℕ → Option Row
-row_at addr = find (λ row. addr == row.number) table
-
 same : (addr : ℕ) → is_config addr ≡ false → is_address addr ≡ false → Same (row_at addr) (register_at addr)
 unfolding table register_at row_at
 same addr config address =
@@ -237,7 +250,7 @@ same addr config address =
     (more addr 0xB80 _ Mcycleh _ _ number_mcycleh (record { value = λ s lines. refl; written = λ s word. refl }) (λ fB80.
     (more addr 0xB02 _ Minstret _ _ number_minstret (record { value = λ s lines. refl; written = λ s word. refl }) (λ fB02.
     (more addr 0xB82 _ Minstreth _ _ number_minstreth (record { value = λ s lines. refl; written = λ s word. refl }) (λ fB82.
-    zero_found addr csr_names (is_zero addr)
+    zero_found addr csr_names (is_zero addr) each_number
     (named_zero addr f300 f301 f304 f305 f340 f341 f342 f343 f344 fB00 fB02 fB80 fB82 config address))))))))))))))))))))))))))
 
 -- ---- what is at an address, by the register there
@@ -300,7 +313,7 @@ module _ {A : Type 0} (of_row : Row → A) (of_register : Register → A) where
   picked (Some row) None s each = absurd s
 
 pub values : (state : CsrState) (lines : InterruptLines) (addr : ℕ)
-    → option_or (protection.load state.pmp addr) (option_map (λ row. row.value state lines) (row_at addr))
+    → option_or (protection.load state.pmp addr) (option_map (λ row. row.1 state lines) (row_at addr))
     ≡ cases.value_at state lines addr (register_at addr)
 unfolding protection.load
 values state lines addr =
@@ -319,17 +332,17 @@ values state lines addr =
     as_given (Some register) = refl
 
     go : (a : Bool) → is_config addr ≡ a → (b : Bool) → is_address addr ≡ b
-        → option_or (loaded a b) (option_map (λ row. row.value state lines) (row_at addr))
+        → option_or (loaded a b) (option_map (λ row. row.1 state lines) (row_at addr))
         ≡ given (value_of state lines) (loaded a b) (register_at addr)
     go true c b d = sym (ap (given (value_of state lines) (loaded true b)) (none_config addr c))
     go false c true d = sym (ap (given (value_of state lines) (loaded false true)) (none_address addr d))
     go false c false d =
-        picked (λ row. row.value state lines) (value_of state lines) (row_at addr) (register_at addr)
+        picked (λ row. row.1 state lines) (value_of state lines) (row_at addr) (register_at addr)
         (same addr c d) (λ row register agrees. agrees.value state lines)
 
 pub writes : (state : CsrState) (addr word : ℕ)
     → option_or (option_map (λ pmp. record state { pmp = pmp }) (protection.store state.pmp addr word))
-    (option_map (λ row. row.written state word) (row_at addr))
+    (option_map (λ row. row.2 state word) (row_at addr))
     ≡ with_value_at state addr word (register_at addr)
 unfolding protection.store protection.load
 writes state addr word =
@@ -356,12 +369,12 @@ writes state addr word =
     as_given (Some register) = refl
 
     go : (a : Bool) → is_config addr ≡ a → (b : Bool) → is_address addr ≡ b
-        → option_or (stored a b) (option_map (λ row. row.written state word) (row_at addr))
+        → option_or (stored a b) (option_map (λ row. row.2 state word) (row_at addr))
         ≡ given of_register (stored a b) (register_at addr)
     go true c b d = sym (ap (given of_register (stored true b)) (none_config addr c))
     go false c true d = sym (ap (given of_register (stored false true)) (none_address addr d))
     go false c false d =
-        picked (λ row. row.written state word) of_register (row_at addr) (register_at addr)
+        picked (λ row. row.2 state word) of_register (row_at addr) (register_at addr)
         (same addr c d) (λ row register agrees. agrees.written state word)
 
 -- ---- a read and a write by the register at the address

@@ -43,13 +43,9 @@ status_word s =
 
 -- mstatus after a write. MPP stays as it is where its field is no mode
 unfoldable pub with_status : Mstatus → ℕ → Mstatus
-with_status old word = record {
-  mie = flag word 3;
-  mpie = flag word 7;
-  mpp = unwrap_or (find (λ mode. word / 2 ^ 11 % 4 == level mode) (User ∷ Machine ∷ [])) old.mpp;
-  mprv = flag word 17;
-  tw = flag word 21;
-}
+with_status old word =
+    let mode = unwrap_or (find (λ mode. word / 2 ^ 11 % 4 == level mode) (User ∷ Machine ∷ [])) old.mpp in
+    record { mie = flag word 3; mpie = flag word 7; mpp = mode; mprv = flag word 17; tw = flag word 21 }
 
 -- mie and mip: the software interrupt in bit 3, that of the timer in bit 7, the external one in bit 11
 unfoldable pub lines_word : InterruptLines → ℕ
@@ -68,34 +64,33 @@ aligned word = word / 4 * 4
 unfoldable pub number_of : List ℕ → ℕ
 number_of name = unwrap_or (lookup name csr_names) 0
 
--- a register: its number, the word that a read gives while the interrupt lines have these levels, and the
--- state after a write of a word
-pub record Row : Type 0 where
-  pub number : ℕ
-  pub value : CsrState → InterruptLines → ℕ
-  pub written : CsrState → ℕ → CsrState
-
-abbrev pub row : List ℕ → (CsrState → InterruptLines → ℕ) → (CsrState → ℕ → CsrState) → Row
-row name value written = record { number = number_of name; value = value; written = written }
+-- a register: its name, the word that a read gives while the interrupt lines have these levels, and the state
+-- after a write of a word
+abbrev pub Row : Type 0
+Row = List ℕ × (CsrState → InterruptLines → ℕ) × (CsrState → ℕ → CsrState)
 
 -- the registers, but for those of physical memory protection. misa says RV32I with M and user mode; mtvec
 -- has no bit 1. A register with no other row, as mcounteren, reads 0, and a write to it changes nothing
 unfoldable pub table : List Row
 table =
-    row (codes "mstatus") (λ s lines. status_word s.mstatus) (λ s w. record s { mstatus = with_status s.mstatus w })
-    ∷ row (codes "misa") (λ s lines. 0x40101100) (λ s w. s)
-    ∷ row (codes "mie") (λ s lines. lines_word s.mie) (λ s w. record s { mie = word_lines w })
-    ∷ row (codes "mtvec") (λ s lines. s.mtvec) (λ s w. record s { mtvec = aligned w + w % 2 })
-    ∷ row (codes "mscratch") (λ s lines. s.mscratch) (λ s w. record s { mscratch = w })
-    ∷ row (codes "mepc") (λ s lines. s.mepc) (λ s w. record s { mepc = aligned w })
-    ∷ row (codes "mcause") (λ s lines. s.mcause) (λ s w. record s { mcause = w })
-    ∷ row (codes "mtval") (λ s lines. s.mtval) (λ s w. record s { mtval = w })
-    ∷ row (codes "mip") (λ s lines. lines_word lines) (λ s w. s)
-    ∷ row (codes "mcycle") (λ s lines. s.mcycle % 2 ^ 32) (λ s w. record s { mcycle = with_low s.mcycle w })
-    ∷ row (codes "mcycleh") (λ s lines. s.mcycle / 2 ^ 32) (λ s w. record s { mcycle = with_high s.mcycle w })
-    ∷ row (codes "minstret") (λ s lines. s.minstret % 2 ^ 32) (λ s w. record s { minstret = with_low s.minstret w })
-    ∷ row (codes "minstreth") (λ s lines. s.minstret / 2 ^ 32) (λ s w. record s { minstret = with_high s.minstret w })
-    ∷ map (λ named. record { number = named.1; value = λ s lines. 0; written = λ s w. s }) csr_names
+    (codes "mstatus", λ s lines. status_word s.mstatus, λ s w. record s { mstatus = with_status s.mstatus w })
+    ∷ (codes "misa", λ s lines. 0x40101100, λ s w. s)
+    ∷ (codes "mie", λ s lines. lines_word s.mie, λ s w. record s { mie = word_lines w })
+    ∷ (codes "mtvec", λ s lines. s.mtvec, λ s w. record s { mtvec = aligned w + w % 2 })
+    ∷ (codes "mscratch", λ s lines. s.mscratch, λ s w. record s { mscratch = w })
+    ∷ (codes "mepc", λ s lines. s.mepc, λ s w. record s { mepc = aligned w })
+    ∷ (codes "mcause", λ s lines. s.mcause, λ s w. record s { mcause = w })
+    ∷ (codes "mtval", λ s lines. s.mtval, λ s w. record s { mtval = w })
+    ∷ (codes "mip", λ s lines. lines_word lines, λ s w. s)
+    ∷ (codes "mcycle", λ s lines. s.mcycle % 2 ^ 32, λ s w. record s { mcycle = with_low s.mcycle w })
+    ∷ (codes "mcycleh", λ s lines. s.mcycle / 2 ^ 32, λ s w. record s { mcycle = with_high s.mcycle w })
+    ∷ (codes "minstret", λ s lines. s.minstret % 2 ^ 32, λ s w. record s { minstret = with_low s.minstret w })
+    ∷ (codes "minstreth", λ s lines. s.minstret / 2 ^ 32, λ s w. record s { minstret = with_high s.minstret w })
+    ∷ map (λ named. (named.0, λ s lines. 0, λ s w. s)) csr_names
+
+-- the row of the register at an address: the first with its number
+unfoldable pub row_at : ℕ → Option Row
+row_at addr = find (λ row. addr == number_of row.0) table
 
 -- ---- reads and writes: physical memory protection has the first word about an address
 
@@ -104,15 +99,14 @@ table =
 unfoldable pub read : CsrState → ℕ → Mode → InterruptLines → Option ℕ
 read state addr mode lines =
     if not (may_read addr mode) then None
-    else option_or (protection.load state.pmp addr)
-    (option_map (λ row. row.value state lines) (find (λ row. addr == row.number) table))
+    else option_or (protection.load state.pmp addr) (option_map (λ row. row.1 state lines) (row_at addr))
 
 -- the state after a mode's write at an address; None if it may not, or no register is there
 unfoldable pub write : CsrState → ℕ → Mode → ℕ → Option CsrState
 write state addr mode word =
     if not (may_write addr mode) then None
     else option_or (option_map (λ pmp. record state { pmp = pmp }) (protection.store state.pmp addr word))
-    (option_map (λ row. row.written state word) (find (λ row. addr == row.number) table))
+    (option_map (λ row. row.2 state word) (row_at addr))
 
 -- ---- the counters
 

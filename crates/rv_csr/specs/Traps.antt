@@ -31,12 +31,9 @@ pending state mode lines =
 -- the state after a trap is entered: MPIE becomes MIE, MIE 0, and MPP the mode; mepc, mcause and mtval are
 -- set
 unfoldable pub entered : CsrState → ℕ → ℕ → ℕ → Mode → CsrState
-entered state cause epc tval mode = record state {
-  mstatus = record state.mstatus { mie = false; mpie = state.mstatus.mie; mpp = mode };
-  mepc = aligned epc;
-  mcause = cause;
-  mtval = tval;
-}
+entered state cause epc tval mode =
+    let status = record state.mstatus { mie = false; mpie = state.mstatus.mie; mpp = mode } in
+    record state { mstatus = status; mepc = aligned epc; mcause = cause; mtval = tval }
 
 -- the address of the trap handler: the base of mtvec, or, for an interrupt in vectored mode, the base plus 4
 -- times its code
@@ -50,9 +47,8 @@ trap_pc state cause =
 unfoldable pub left : CsrState → CsrState
 left state =
     let old = state.mstatus in
-    record state {
-      mstatus = record old { mie = old.mpie; mpie = true; mpp = User; mprv = old.mprv && is_machine old.mpp };
-    }
+    let new = record old { mie = old.mpie; mpie = true; mpp = User; mprv = old.mprv && is_machine old.mpp } in
+    record state { mstatus = new }
 
 -- the mode whose permissions loads and stores have: MPP if MPRV is set, else the mode itself
 abbrev pub data_mode : CsrState → Mode → Mode
