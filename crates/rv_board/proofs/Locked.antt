@@ -2,11 +2,12 @@
 use Rattle.std.proofs.Common.{◌≡◌, ◌∙◌, ℕ, List, ◌+◌, ◌*◌, ◌/◌, ◌%◌, ◌^◌, ◌==◌, Bool, true, false, [], ◌∷◌, length, Option, Some, None, Result, Ok, Err, refl, sym, ap, subst, nat_lt}
 use Rattle.std.specs.Prelude.{if◌then◌else◌, ◌&&◌, not, slice_index_or}
 use Rattle.std.specs.Option.{option_map}
+use Rattle.rv_isa.specs.Number.{flag}
 use Rattle.rv_isa.specs.declared.kind.Kind.{Kind}
 use Rattle.rv_isa.specs.declared.op.CsrOp.{CsrOp}
 use Rattle.rv_pmp.specs.Entry.{matching_code, configured, addressed}
 use Rattle.rv_pmp.specs.Pmp as protection
-use Rattle.rv_pmp.specs.Pmp.{PmpState, entry_at, is_locked_top, written}
+use Rattle.rv_pmp.specs.Pmp.{PmpState, entry_at, is_locked_tor, written}
 use Rattle.rv_pmp.proofs.Registers.{stored_entry}
 use Rattle.rv_pmp.specs.declared.entry.Entry.{Entry}
 use Rattle.rv_pmp.specs.declared.entry.Matching.TheVariants.{Off, Tor, Na4, Napot}
@@ -39,9 +40,9 @@ both : (a b : Bool) → (a && b) ≡ true → a ≡ true
 both true b is = refl
 both false b is = absurd cc
 
-stays_top : (old new : PmpState) → KeepsLocked old new → (n : ℕ) → is_locked_top old n ≡ true
-    → is_locked_top new n ≡ true
-unfolding is_locked_top
+stays_top : (old new : PmpState) → KeepsLocked old new → (n : ℕ) → is_locked_tor old n ≡ true
+    → is_locked_tor new n ≡ true
+unfolding is_locked_tor
 stays_top old new k n is =
     let locked : (entry_at old n).locked ≡ true = both _ _ is in
     ap (λ (e : Entry). e.locked && (matching_code e.matching == 1)) (k.locked n locked) ∙ is
@@ -61,11 +62,11 @@ kept_on a b c one two = record {
 module _ (e : Entry) (byte word : ℕ) where
   fields : Entry
   fields = record e {
-    readable = byte % 2 == 1;
-    writable = (byte % 2 == 1) && (byte / 2 % 2 == 1);
-    executable = byte / 4 % 2 == 1;
-    locked = byte / 128 % 2 == 1;
-    matching = slice_index_or (Off ∷ Tor ∷ Na4 ∷ Napot ∷ []) (byte / 8 % 4) Napot;
+    readable = flag byte 0;
+    writable = flag byte 0 && flag byte 1;
+    executable = flag byte 2;
+    locked = flag byte 7;
+    matching = slice_index_or (Off ∷ Tor ∷ Na4 ∷ Napot ∷ []) (byte / 2 ^ 3 % 4) Napot;
   }
 
   configured_locked : e.locked ≡ true → configured e byte ≡ e
@@ -99,7 +100,7 @@ module _ (e : Entry) (byte word : ℕ) where
   below_by false true true is = refl
   below_by false false true is = refl
 
-store_kept : (pmp new : PmpState) (addr word : ℕ) → protection.store pmp addr word ≡ Some new
+store_kept : (pmp new : PmpState) (addr word : ℕ) → protection.write_register pmp addr word ≡ Some new
     → KeepsLocked pmp new
 store_kept pmp new addr word is = record {
   locked = λ n locked. stored_entry pmp new addr word is n ∙ same n (nat_lt n (length pmp.entries)) locked;
@@ -114,14 +115,14 @@ store_kept pmp new addr word is = record {
         → (if there then written pmp addr word n else entry_at pmp n) ≡ entry_at pmp n
     same n true locked =
         locked_by (entry_at pmp n) (byte n) word locked (addr == 0x3A0 + n / 4)
-        ((addr == 0x3B0 + n) && not (is_locked_top pmp (n + 1)))
+        ((addr == 0x3B0 + n) && not (is_locked_tor pmp (n + 1)))
     same n false locked = refl
 
-    same_address : (n : ℕ) (there : Bool) → is_locked_top pmp (n + 1) ≡ true
+    same_address : (n : ℕ) (there : Bool) → is_locked_tor pmp (n + 1) ≡ true
         → (if there then written pmp addr word n else entry_at pmp n).address ≡ (entry_at pmp n).address
     same_address n true top =
         below_by (entry_at pmp n) (byte n) word (addr == 0x3A0 + n / 4) (addr == 0x3B0 + n)
-        (is_locked_top pmp (n + 1)) top
+        (is_locked_tor pmp (n + 1)) top
     same_address n false top = refl
 
 -- ---- a write to a control register
@@ -132,7 +133,7 @@ other_registers state Mstatus word = refl
 other_registers state register word = refl
 
 module _ (state new : CsrState) (addr word : ℕ) where
-  at_protection : (stored : Option PmpState) → protection.store state.pmp addr word ≡ stored
+  at_protection : (stored : Option PmpState) → protection.write_register state.pmp addr word ≡ stored
       → option_map (λ (pmp : PmpState). record state { pmp = pmp }) stored ≡ Some new
       → KeepsLocked state.pmp new.pmp
   at_protection None is gives = absurd cc
@@ -146,7 +147,7 @@ module _ (state new : CsrState) (addr word : ℕ) where
       let same : with_value state register word ≡ new = cc in
       subst (KeepsLocked state.pmp)
       (sym (other_registers state register word) ∙ ap (λ (s : CsrState). s.pmp) same) (kept state.pmp)
-  at_register None gives = at_protection (protection.store state.pmp addr word) refl gives
+  at_register None gives = at_protection (protection.write_register state.pmp addr word) refl gives
 
   wrote_kept : (d : Mode) → write state addr d word ≡ Some new → KeepsLocked state.pmp new.pmp
   wrote_kept d is = by (may_write addr d) (sym (write_by_cases state addr d word) ∙ is) where

@@ -54,8 +54,8 @@ register_at-user addr h =
       other_range addr 0xF 0x11 0x15 h refl (omega arith) (omega arith),
     ) refl
 
-nothing_loaded : (pmp : PmpState) (addr : ℕ) → addr / 2 ^ 8 % 4 ≡ 0 → protection.load pmp addr ≡ None
-unfolding protection.load
+nothing_loaded : (pmp : PmpState) (addr : ℕ) → addr / 2 ^ 8 % 4 ≡ 0 → protection.read_register pmp addr ≡ None
+unfolding protection.read_register
 nothing_loaded pmp addr h =
     rw (
       other_range addr 0x3 0xA0 0xA3 h refl (omega arith) (omega arith),
@@ -63,8 +63,8 @@ nothing_loaded pmp addr h =
     ) refl
 
 nothing_stored : (pmp : PmpState) (addr word : ℕ) → addr / 2 ^ 8 % 4 ≡ 0
-    → protection.store pmp addr word ≡ None
-unfolding protection.store protection.load
+    → protection.write_register pmp addr word ≡ None
+unfolding protection.write_register protection.read_register
 nothing_stored pmp addr word h =
     rw (
       other_range addr 0x3 0xA0 0xA3 h refl (omega arith) (omega arith),
@@ -80,7 +80,7 @@ no_register x addr mode found register may user at is =
     let none = register_at-user addr (level_0 addr (rw user at may)) in cc
 
 pub no_load : (pmp : PmpState) (addr : ℕ) (mode : Mode) (result : Option ℕ)
-    → may_read addr mode ≡ true → mode ≡ User → result ≡ protection.load pmp addr → result ≡ None
+    → may_read addr mode ≡ true → mode ≡ User → result ≡ protection.read_register pmp addr → result ≡ None
 no_load pmp addr mode result may user is = is ∙ nothing_loaded pmp addr (level_0 addr (rw user at may))
 
 pub may_read-from_write : (addr : ℕ) (mode : Mode) → may_write addr mode ≡ true → may_read addr mode ≡ true
@@ -90,13 +90,13 @@ may_read-from_write addr mode h = both (may_read addr mode) (not (addr / 2 ^ 10 
   both false b e = cc
 
 pub no_store : (old : PmpState) (addr word : ℕ) (new : PmpState) (mode : Mode) (result : Option Unit)
-    → may_write addr mode ≡ true → mode ≡ User → protection.Changes (protection.store old addr word) old new result → result ≡ None
+    → may_write addr mode ≡ true → mode ≡ User → protection.WritesOrRefuses (protection.write_register old addr word) old new result → result ≡ None
 no_store old addr word new mode (Some done) may user stores =
     let none = nothing_stored old addr word
     (level_0 addr (rw user at (may_read-from_write addr mode may))) in
     absurd (gone none stores)
   where
-    gone : protection.store old addr word ≡ None → protection.store old addr word ≡ Some new → ⊥
+    gone : protection.write_register old addr word ≡ None → protection.write_register old addr word ≡ Some new → ⊥
     gone none e = let q = rw none at e in cc
 no_store old addr word new mode None may user stores = refl
 

@@ -313,9 +313,9 @@ module _ {A : Type 0} (of_row : Row → A) (of_register : Register → A) where
   picked (Some row) None s each = absurd s
 
 pub values : (state : CsrState) (lines : InterruptLines) (addr : ℕ)
-    → option_or (protection.load state.pmp addr) (option_map (λ row. row.1 state lines) (row_at addr))
+    → option_or (protection.read_register state.pmp addr) (option_map (λ row. row.1 state lines) (row_at addr))
     ≡ cases.value_at state lines addr (register_at addr)
-unfolding protection.load
+unfolding protection.read_register
 values state lines addr =
     go (is_config addr) refl (is_address addr) refl
     ∙ sym (as_given (register_at addr))
@@ -341,10 +341,10 @@ values state lines addr =
         (same addr c d) (λ row register agrees. agrees.value state lines)
 
 pub writes : (state : CsrState) (addr word : ℕ)
-    → option_or (option_map (λ pmp. record state { pmp = pmp }) (protection.store state.pmp addr word))
+    → option_or (option_map (λ pmp. record state { pmp = pmp }) (protection.write_register state.pmp addr word))
     (option_map (λ row. row.2 state word) (row_at addr))
     ≡ with_value_at state addr word (register_at addr)
-unfolding protection.store protection.load
+unfolding protection.write_register protection.read_register
 writes state addr word =
     go (is_config addr) refl (is_address addr) refl
     ∙ sym (as_given (register_at addr))

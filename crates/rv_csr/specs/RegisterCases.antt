@@ -85,9 +85,9 @@ with_value state Zero word = state
 -- the value at an address, and the state after a write there, by the register at the address
 abbrev pub value_at : CsrState → InterruptLines → ℕ → Option Register → Option ℕ
 value_at state lines addr (Some register) = Some (value_of state lines register)
-value_at state lines addr None = protection.load state.pmp addr
+value_at state lines addr None = protection.read_register state.pmp addr
 
 abbrev pub with_value_at : CsrState → ℕ → ℕ → Option Register → Option CsrState
 with_value_at state addr word (Some register) = Some (with_value state register word)
 with_value_at state addr word None =
-    option_map (λ pmp. record state { pmp = pmp }) (protection.store state.pmp addr word)
+    option_map (λ pmp. record state { pmp = pmp }) (protection.write_register state.pmp addr word)

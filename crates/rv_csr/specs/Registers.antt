@@ -7,7 +7,7 @@ use Rattle.std.specs.Option.{option_map, option_map_or, option_or}
 use Rattle.rv_base.specs.Tables.{lookup}
 use Rattle.rv_base.specs.Halves.{with_low, with_high}
 use Rattle.rv_isa.specs.Names.{csr_names}
-use Rattle.rv_isa.specs.Number.{bit, truth}
+use Rattle.rv_isa.specs.Number.{flag, truth}
 use Rattle.rv_isa.specs.declared.InterruptLines.{InterruptLines}
 use Rattle.rv_pmp.specs.Pmp as protection
 use Rattle.rv_pmp.specs.declared.mode.Mode.{Mode}
@@ -31,10 +31,6 @@ abbrev pub may_write : ℕ → Mode → Bool
 may_write addr mode = may_read addr mode && not (addr / 2 ^ 10 % 4 == 3)
 
 -- ---- the values
-
--- whether a bit is set
-abbrev pub flag : ℕ → ℕ → Bool
-flag word place = bit word place == 1
 
 -- mstatus: MIE in bit 3, MPIE in bit 7, MPP in bits 12 and 11, MPRV in bit 17, TW in bit 21
 unfoldable pub status_word : Mstatus → ℕ
@@ -99,13 +95,13 @@ row_at addr = find (λ row. addr == number_of row.0) table
 unfoldable pub read : CsrState → ℕ → Mode → InterruptLines → Option ℕ
 read state addr mode lines =
     if not (may_read addr mode) then None
-    else option_or (protection.load state.pmp addr) (option_map (λ row. row.1 state lines) (row_at addr))
+    else option_or (protection.read_register state.pmp addr) (option_map (λ row. row.1 state lines) (row_at addr))
 
 -- the state after a mode's write at an address; None if it may not, or no register is there
 unfoldable pub write : CsrState → ℕ → Mode → ℕ → Option CsrState
 write state addr mode word =
     if not (may_write addr mode) then None
-    else option_or (option_map (λ pmp. record state { pmp = pmp }) (protection.store state.pmp addr word))
+    else option_or (option_map (λ pmp. record state { pmp = pmp }) (protection.write_register state.pmp addr word))
     (option_map (λ row. row.2 state word) (row_at addr))
 
 -- ---- the counters

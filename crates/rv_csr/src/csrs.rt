@@ -9,7 +9,7 @@ ghost use Rattle.rv_csr.specs.Traps as traps;
 ghost use Rattle.rv_isa.specs.Width.{bytes_of};
 ghost use Rattle.rv_isa.specs.declared.op.Width.{Width};
 ghost use Rattle.rv_isa.specs.declared.InterruptLines.{InterruptLines};
-ghost use Rattle.rv_pmp.specs.Pmp.{Changes, grants};
+ghost use Rattle.rv_pmp.specs.Pmp.{WritesOrRefuses, grants};
 ghost use Rattle.rv_pmp.specs.declared.mode.Mode.{Mode};
 ghost use Rattle.rv_pmp.specs.declared.mode.Mode.TheVariants.{User};
 
@@ -170,7 +170,7 @@ impl Csrs {
     /// read-only.
     #[tactic(auto, using(crate::proofs::Levels::no_store, crate::proofs::Table::write_by_cases))]
     pub fn write(&mut self, addr: u16, mode: Mode, value: u32) -> Option<()>
-        ensures written { Changes (registers.write self.old addr mode value) self.old self.new result }
+        ensures written { WritesOrRefuses (registers.write self.old addr mode value) self.old self.new result }
         ensures user { mode ≡ User → result ≡ None }
     {
         if !may_write(addr, mode) {

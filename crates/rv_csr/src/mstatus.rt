@@ -1,7 +1,8 @@
 //! The fields of mstatus, and the bits of mie and mip. Privileged Architecture 20211203, sections 3.1.6 and
 //! 3.1.9.
 ghost use Rattle.std.specs.Prelude.{◌≡◌, ◌<◌, ◌≤◌, ◌^◌};
-ghost use Rattle.rv_csr.specs.Registers.{flag, level, with_status, status_word};
+ghost use Rattle.rv_isa.specs.Number.{flag};
+ghost use Rattle.rv_csr.specs.Registers.{level, with_status, status_word};
 ghost use Rattle.rv_csr.specs.RegisterCases.{mode_kept};
 ghost use Rattle.rv_csr.specs.Registers as spec;
 

@@ -7,7 +7,7 @@ use Rattle.std.specs.Prelude.{Option, Some, None, ◌&&◌, is_some, IsSome, if�
 use Rattle.rv_base.specs.Tables.{lookup}
 use Rattle.rv_isa.specs.Names.{csr_names}
 use Rattle.rv_isa.specs.declared.InterruptLines.{InterruptLines}
-use Rattle.rv_pmp.specs.Pmp.{load}
+use Rattle.rv_pmp.specs.Pmp.{read_register}
 use Rattle.rv_pmp.specs.declared.mode.Mode.TheVariants.{Machine}
 use Rattle.rv_csr.specs.Registers.{may_read, read}
 use Rattle.rv_csr.specs.RegisterCases.{register_at, value_at}
@@ -25,7 +25,7 @@ is_read_by_cases state lines addr =
 
 all_by_cases : (state : CsrState) (lines : InterruptLines) →
     list_all (λ e. is_read_by_cases state lines e.1) csr_names ≡ true
-unfolding csr_names digits register_at load
+unfolding csr_names digits register_at read_register
 all_by_cases state lines = refl
 
 as_cases : (state : CsrState) (lines : InterruptLines) (es : List (List ℕ × ℕ)) →

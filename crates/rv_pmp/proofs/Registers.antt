@@ -10,7 +10,7 @@ use Rattle.rv_pmp.specs.declared.entry.Entry.{Entry}
 use Rattle.rv_pmp.specs.declared.register.PmpRegister.{PmpRegister}
 use Rattle.rv_pmp.specs.declared.register.PmpRegister.TheVariants.{Config, Address}
 use Rattle.rv_pmp.specs.Entry.{matching_code, config_byte, configured, addressed}
-use Rattle.rv_pmp.specs.Pmp.{PmpState, off_entry, entry_at, config_word, is_locked_top, load, store, written}
+use Rattle.rv_pmp.specs.Pmp.{PmpState, off_entry, entry_at, config_word, is_locked_tor, read_register, write_register, written}
 use Rattle.rv_pmp.specs.Registers.{is_config, is_address, register_at, config_at, word_of, byte_of, with_config, starts_locked, with_address, with_word}
 use Rattle.rv_pmp.proofs.Writes.{with_config-at, with_config-past, with_address-at, with_address-locked, with_address-past}
 
@@ -32,8 +32,8 @@ four pmp first =
     rw (config pmp first, config pmp (first + 1), config pmp (first + 2), config pmp (first + 3))
     (omega (arith, ap (λ n. config_byte (entry_at pmp n)) (add-zero first)))
 
-pub loads : (pmp : PmpState) (addr : ℕ) → load pmp addr ≡ option_map (word_of pmp) (register_at addr)
-unfolding load register_at
+pub loads : (pmp : PmpState) (addr : ℕ) → read_register pmp addr ≡ option_map (word_of pmp) (register_at addr)
+unfolding read_register register_at
 loads pmp addr = go (is_config addr) (is_address addr) where
   go : (a b : Bool)
       → (if a then Some (config_word pmp (4 * (addr - 0x3A0)))
@@ -191,7 +191,7 @@ module _ (pmp : PmpState) (addr word i : ℕ) where
     go : (b : Bool) → (addr == 0x3A0 + i / 4) ≡ b → (c : Bool) → (addr == 0x3B0 + i) ≡ c
         → one_by_one (entry_at pmp i) (4 * (addr - 0x3A0)) word i
         ≡ (if b then configured (entry_at pmp i) (byte_of word (i % 4))
-        else (if c && not (is_locked_top pmp (i + 1)) then addressed (entry_at pmp i) word
+        else (if c && not (is_locked_tor pmp (i + 1)) then addressed (entry_at pmp i) word
         else entry_at pmp i))
     go true here c at_address =
         let place : i ≡ 4 * (addr - 0x3A0) + i % 4 = grind (arith, nat_tests) in
@@ -202,8 +202,8 @@ module _ (pmp : PmpState) (addr word i : ℕ) where
         (λ r less same. absurd (grind (arith, nat_tests)))
 
   -- ---- a write to an address register
-  top : starts_locked pmp.entries (i + 1) ≡ is_locked_top pmp (i + 1)
-  unfolding starts_locked is_locked_top
+  top : starts_locked pmp.entries (i + 1) ≡ is_locked_tor pmp (i + 1)
+  unfolding starts_locked is_locked_tor
   top = by_number (λ e. e.locked && (matching_code e.matching == 1)) pmp.entries (i + 1)
 
   address_written : is_address addr ≡ true → i < 16 → i < length pmp.entries
@@ -213,11 +213,11 @@ module _ (pmp : PmpState) (addr word i : ℕ) where
         no_config : (addr == 0x3A0 + i / 4) ≡ false
         no_config = grind (arith, nat_tests)
 
-        chosen : (c t : Bool) → (addr == 0x3B0 + i) ≡ c → is_locked_top pmp (i + 1) ≡ t
+        chosen : (c t : Bool) → (addr == 0x3B0 + i) ≡ c → is_locked_tor pmp (i + 1) ≡ t
             → written pmp addr word i ≡ choose pmp word i false c t
         chosen c t at_address is_top =
-            ap (λ b. choose pmp word i b (addr == 0x3B0 + i) (is_locked_top pmp (i + 1))) no_config
-            ∙ ap (λ c. choose pmp word i false c (is_locked_top pmp (i + 1))) at_address
+            ap (λ b. choose pmp word i b (addr == 0x3B0 + i) (is_locked_tor pmp (i + 1))) no_config
+            ∙ ap (λ c. choose pmp word i false c (is_locked_tor pmp (i + 1))) at_address
             ∙ ap (λ t. choose pmp word i false c t) is_top
 
         one_changed : starts_locked pmp.entries (addr - 0x3B0 + 1) ≡ false
@@ -236,7 +236,7 @@ module _ (pmp : PmpState) (addr word i : ℕ) where
             ∙ sym (chosen true true here (sym top ∙ ap (λ n. starts_locked pmp.entries (n + 1)) (sym place) ∙ locked))
         go true locked false apart =
             ap (λ l. at l i) (with_address-locked pmp.entries (addr - 0x3B0) word locked)
-            ∙ sym (chosen false (is_locked_top pmp (i + 1)) apart refl)
+            ∙ sym (chosen false (is_locked_tor pmp (i + 1)) apart refl)
         go false free true here =
             let place : addr - 0x3B0 ≡ i = grind (arith, nat_tests) in
             let same : (i == addr - 0x3B0) ≡ true = grind (arith, nat_tests) in
@@ -247,7 +247,7 @@ module _ (pmp : PmpState) (addr word i : ℕ) where
             let differ : (i == addr - 0x3B0) ≡ false = grind (arith, nat_tests) in
             one_changed free
             ∙ ap (λ b. if b then addressed (entry_at pmp i) word else entry_at pmp i) differ
-            ∙ sym (chosen false (is_locked_top pmp (i + 1)) apart refl)
+            ∙ sym (chosen false (is_locked_tor pmp (i + 1)) apart refl)
 
 abbrev with_entries : List Entry → PmpState
 with_entries es = record { entries = es }
@@ -265,10 +265,10 @@ written-past f a (suc n) zero past = absurd (omega arith)
 written-past f a (suc n) (suc i) past = written-past f (a + 1) n i (omega arith)
 
 -- each entry after a write
-pub stored_entry : (pmp new : PmpState) (addr word : ℕ) → store pmp addr word ≡ Some new → (n : ℕ)
+pub stored_entry : (pmp new : PmpState) (addr word : ℕ) → write_register pmp addr word ≡ Some new → (n : ℕ)
     → entry_at new n ≡ (if nat_lt n (length pmp.entries) then written pmp addr word n else entry_at pmp n)
-unfolding store
-stored_entry pmp new addr word is n = by (load pmp addr) is where
+unfolding write_register
+stored_entry pmp new addr word is n = by (read_register pmp addr) is where
   all : List Entry
   all = map (written pmp addr word) (range_with_len 0 (length pmp.entries))
 
@@ -314,9 +314,9 @@ module _ (pmp : PmpState) (addr word : ℕ) (sixteen : length pmp.entries ≡ 16
       ∙ sym (written-at (written pmp addr word) 0 (length pmp.entries) i within
       ∙ ap (written pmp addr word) first))
 
-  pub stores : store pmp addr word
+  pub stores : write_register pmp addr word
       ≡ option_map (λ register. with_entries (with_word pmp.entries register word)) (register_at addr)
-  unfolding store load register_at entries with_word
+  unfolding write_register read_register register_at entries with_word
   stores = go (is_config addr) refl (is_address addr) refl where
     go : (a : Bool) → is_config addr ≡ a → (b : Bool) → is_address addr ≡ b
         → option_map (λ value. with_entries entries)
@@ -336,12 +336,12 @@ module _ (pmp : PmpState) (addr word : ℕ) (sixteen : length pmp.entries ≡ 16
     go false not_config false not_address = refl
 
   pub stored_by : (register : PmpRegister) (new : PmpState) → Some register ≡ register_at addr
-      → new ≡ record { entries = with_word pmp.entries register word } → store pmp addr word ≡ Some new
+      → new ≡ record { entries = with_word pmp.entries register word } → write_register pmp addr word ≡ Some new
   stored_by register new there is =
       stores ∙ ap (option_map (λ register. with_entries (with_word pmp.entries register word))) (sym there)
       ∙ ap Some (sym is)
 
-  pub none_stored : None ≡ register_at addr → store pmp addr word ≡ None
+  pub none_stored : None ≡ register_at addr → write_register pmp addr word ≡ None
   none_stored none =
       stores ∙ ap (option_map (λ register. with_entries (with_word pmp.entries register word))) (sym none)
 

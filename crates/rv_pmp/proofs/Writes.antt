@@ -1,8 +1,9 @@
 -- The entries after a write.
-use Rattle.std.proofs.Common.{◌≡◌, ◌≢◌, ℕ, zero, suc, ◌+◌, ◌<◌, ◌≤◌, ◌==◌, ◌/◌, ◌%◌, Bool, true, false, List, length, get_or, refl}
+use Rattle.std.proofs.Common.{◌≡◌, ◌≢◌, ℕ, zero, suc, ◌+◌, ◌<◌, ◌≤◌, ◌==◌, ◌/◌, ◌%◌, ◌^◌, Bool, true, false, List, length, get_or, refl}
 use Rattle.std.specs.Prelude.{IsTrue, [], ◌∷◌, slice_index_or, slice_set, if◌then◌else◌, ◌&&◌}
 use Rattle.std.proofs.lemmas.Option.{slice_get-get_or, slice_get_past}
 use Rattle.std.proofs.lemmas.List.Elements.{All-set, All-get_or}
+use Rattle.rv_isa.specs.Number.{flag}
 use Rattle.rv_pmp.specs.declared.entry.Entry.{Entry}
 use Rattle.rv_pmp.specs.declared.entry.Matching.TheVariants.{Off, Tor, Na4, Napot}
 use Rattle.rv_pmp.specs.Entry.{configured, addressed}
@@ -31,16 +32,16 @@ unfolding configured
 configured-readable e byte h = go e.locked where
   fields : Entry
   fields = record e {
-    readable = byte % 2 == 1;
-    writable = (byte % 2 == 1) && (byte / 2 % 2 == 1);
-    executable = byte / 4 % 2 == 1;
-    locked = byte / 128 % 2 == 1;
-    matching = slice_index_or (Off ∷ Tor ∷ Na4 ∷ Napot ∷ []) (byte / 8 % 4) Napot;
+    readable = flag byte 0;
+    writable = flag byte 0 && flag byte 1;
+    executable = flag byte 2;
+    locked = flag byte 7;
+    matching = slice_index_or (Off ∷ Tor ∷ Na4 ∷ Napot ∷ []) (byte / 2 ^ 3 % 4) Napot;
   }
 
   go : (b : Bool) → IsTrue (if b then e else fields).writable → IsTrue (if b then e else fields).readable
   go true w = h w
-  go false w = both (byte % 2 == 1) (byte / 2 % 2 == 1) w
+  go false w = both (flag byte 0) (flag byte 1) w
 
 addressed-readable : (e : Entry) (word : ℕ) → (IsTrue e.writable → IsTrue e.readable)
     → IsTrue (addressed e word).writable → IsTrue (addressed e word).readable

@@ -3,7 +3,7 @@
 -- To audit: public contracts cite this.
 use Rattle.std.specs.Prelude.{ℕ, ◌+◌, ◌*◌, ◌/◌, ◌%◌, ◌^◌, Bool, false, ◌==◌, ◌&&◌, ◌||◌, not, nat_le, nat_lt, if◌then◌else◌, [], ◌∷◌, slice_index_or}
 use Rattle.std.specs.List.{prefix_len, range_with_len}
-use Rattle.rv_isa.specs.Number.{bit, truth}
+use Rattle.rv_isa.specs.Number.{flag, truth}
 use Rattle.rv_pmp.specs.declared.access.Access.{Access}
 use Rattle.rv_pmp.specs.declared.access.Access.TheVariants.{Read, Write, Execute}
 use Rattle.rv_pmp.specs.declared.entry.Entry.{Entry}
@@ -26,20 +26,14 @@ matching_code Napot = 3
 unfoldable pub config_byte : Entry → ℕ
 config_byte entry =
     truth entry.readable + truth entry.writable * 2 + truth entry.executable * 4
-    + matching_code entry.matching * 8
-    + truth entry.locked * 128
+    + matching_code entry.matching * 8 + truth entry.locked * 128
 
 -- the entry after a write to its configuration byte, unless it is locked; W is kept only together with R
 unfoldable pub configured : Entry → ℕ → Entry
-configured entry byte =
-    if entry.locked then entry
-    else record entry {
-      readable = byte % 2 == 1;
-      writable = (byte % 2 == 1) && (byte / 2 % 2 == 1);
-      executable = byte / 4 % 2 == 1;
-      locked = byte / 128 % 2 == 1;
-      matching = slice_index_or (Off ∷ Tor ∷ Na4 ∷ Napot ∷ []) (byte / 8 % 4) Napot;
-    }
+configured entry b =
+    let rwx = record entry { readable = flag b 0; writable = flag b 0 && flag b 1; executable = flag b 2 } in
+    let matching = slice_index_or (Off ∷ Tor ∷ Na4 ∷ Napot ∷ []) (b / 2 ^ 3 % 4) Napot in
+    if entry.locked then entry else record rwx { matching = matching; locked = flag b 7 }
 
 -- the entry after a write to its address register, unless it is locked
 unfoldable pub addressed : Entry → ℕ → Entry
@@ -61,7 +55,7 @@ entry_grants entry mode access = (is_machine mode && not entry.locked) || permit
 
 -- the number of trailing ones of an address register, of 32 bits
 abbrev pub trailing_ones : ℕ → ℕ
-trailing_ones address = prefix_len (λ i. bit address i == 1) (range_with_len 0 32)
+trailing_ones address = prefix_len (λ i. flag address i) (range_with_len 0 32)
 
 -- whether a byte is matched, where `lower` is the address register of the entry before. TOR: the bytes from
 -- the address of the entry before up to but not including the entry's own. NA4: the four bytes at its

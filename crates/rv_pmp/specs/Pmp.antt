@@ -59,30 +59,30 @@ abbrev pub config_word : PmpState → ℕ → ℕ
 config_word pmp first = sum_by (λ i. config_byte (entry_at pmp (first + i)) * 2 ^ (8 * i)) (range_with_len 0 4)
 
 -- the value that a read at an address gives, if a register is there
-unfoldable pub load : PmpState → ℕ → Option ℕ
-load pmp addr =
+unfoldable pub read_register : PmpState → ℕ → Option ℕ
+read_register pmp addr =
     if nat_le 0x3A0 addr && nat_le addr 0x3A3 then Some (config_word pmp (4 * (addr - 0x3A0)))
     else (if nat_le 0x3B0 addr && nat_le addr 0x3BF then Some (entry_at pmp (addr - 0x3B0)).address else None)
 
--- whether an entry is locked and its region begins at the address of the entry before
-unfoldable pub is_locked_top : PmpState → ℕ → Bool
-is_locked_top pmp n = (entry_at pmp n).locked && (matching_code (entry_at pmp n).matching == 1)
+-- whether an entry is locked and matches by TOR, so that its region begins at the address of the entry before
+unfoldable pub is_locked_tor : PmpState → ℕ → Bool
+is_locked_tor pmp n = (entry_at pmp n).locked && (matching_code (entry_at pmp n).matching == 1)
 
 -- entry n after a write of a word at an address: byte n % 4 of pmpcfg(n / 4) is its configuration, and
 -- pmpaddr(n) its address, which stays as it is if a locked region begins there
 abbrev pub written : PmpState → ℕ → ℕ → ℕ → Entry
 written pmp addr word n =
     if addr == 0x3A0 + n / 4 then configured (entry_at pmp n) (word / 2 ^ (8 * (n % 4)) % 2 ^ 8)
-    else (if (addr == 0x3B0 + n) && not (is_locked_top pmp (n + 1)) then addressed (entry_at pmp n) word
+    else (if (addr == 0x3B0 + n) && not (is_locked_tor pmp (n + 1)) then addressed (entry_at pmp n) word
     else entry_at pmp n)
 
 -- the registers after a write of a word at an address, if a register is there
-unfoldable pub store : PmpState → ℕ → ℕ → Option PmpState
-store pmp addr word =
+unfoldable pub write_register : PmpState → ℕ → ℕ → Option PmpState
+write_register pmp addr word =
     option_map (λ value. record { entries = map (written pmp addr word) (range_with_len 0 (length pmp.entries)) })
-    (load pmp addr)
+    (read_register pmp addr)
 
--- the result of a change that may be refused, and the state after it: the old one where it is refused
-abbrev pub Changes : {A : Type 0} → Option A → A → A → Option Unit → Type 0
-Changes after old new (Some done) = after ≡ Some new
-Changes after old new None = (after ≡ None) × (new ≡ old)
+-- the result of a write that may be refused, and the state after it: the old one where it is refused
+abbrev pub WritesOrRefuses : {A : Type 0} → Option A → A → A → Option Unit → Type 0
+WritesOrRefuses after old new (Some done) = after ≡ Some new
+WritesOrRefuses after old new None = (after ≡ None) × (new ≡ old)

@@ -4,7 +4,7 @@ ghost use Rattle.std.specs.List.{list_any};
 ghost use Rattle.rv_isa.specs.Width.{bytes_of};
 ghost use Rattle.rv_isa.specs.declared.op.Width.{Width};
 ghost use Rattle.rv_pmp.specs.ActiveEntries.{AllReadable, some_on, some_locked, actives_from, decision};
-ghost use Rattle.rv_pmp.specs.Pmp.{PmpState, reset, grants, load, store, Changes};
+ghost use Rattle.rv_pmp.specs.Pmp.{PmpState, reset, grants, read_register, write_register, WritesOrRefuses};
 ghost use Rattle.rv_pmp.specs.Registers.{config_at, with_config, with_address, with_word, starts_locked};
 ghost use Rattle.rv_pmp.specs.Registers as spec;
 ghost use Rattle.rv_pmp.specs.WidestSpan.{AreForward, IsWidestSpan};
@@ -83,7 +83,7 @@ impl Pmp {
     /// Reads the control register at address `addr`. Returns None if no register of protection is there.
     #[tactic(auto, using(crate::proofs::Registers::loads))]
     pub fn read_csr(&self, addr: u16) -> Option<u32>
-        ensures value { result ≡ load self.now addr }
+        ensures value { result ≡ read_register self.now addr }
     {
         PmpRegister::at(addr).map(|register| self.word(register))
     }
@@ -93,7 +93,7 @@ impl Pmp {
     /// if no register of protection is there.
     #[tactic(auto, using(crate::proofs::Registers::writes))]
     pub fn write_csr(&mut self, addr: u16, value: u32) -> Option<()>
-        ensures stored { Changes (store self.old addr value) self.old self.new result }
+        ensures stored { WritesOrRefuses (write_register self.old addr value) self.old self.new result }
         ensures readable { All (λ entry. IsTrue entry.writable → IsTrue entry.readable) self.new.entries }
     {
         let mut entries = self.entries;
@@ -287,14 +287,14 @@ fn set_address(entries: &mut [Entry; ENTRIES], place: usize, word: u32)
     ensures written { entries.new ≡ with_address entries.old place word }
     ensures readable { AllReadable entries.new }
 {
-    if place < ENTRIES && !is_locked_top(entries, place + 1) {
+    if place < ENTRIES && !is_locked_tor(entries, place + 1) {
         entries[place] = entries[place].with_address(word);
     }
 }
 
 /// Whether the entry at `place` is locked and its region begins at the address of the entry before.
 #[tactic(auto, unfolding(crate::specs::Registers::starts_locked))]
-fn is_locked_top(entries: &[Entry; ENTRIES], place: usize) -> bool
+fn is_locked_tor(entries: &[Entry; ENTRIES], place: usize) -> bool
     ensures { result ≡ starts_locked entries.now place }
 {
     entries

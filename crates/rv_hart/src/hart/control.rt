@@ -3,7 +3,7 @@ ghost use Rattle.std.specs.Prelude.{◌≡◌};
 ghost use Rattle.rv_isa.specs.Word as spec;
 ghost use Rattle.rv_isa.specs.declared.kind.Kind.{Kind};
 ghost use Rattle.rv_csr.specs.Registers as registers;
-ghost use Rattle.rv_pmp.specs.Pmp.{Changes};
+ghost use Rattle.rv_pmp.specs.Pmp.{WritesOrRefuses};
 ghost use Rattle.rv_hart.specs.Effect.{reg};
 ghost use Rattle.rv_hart.specs.EffectParts.{exchange_effect, return_effect, wait_effect};
 ghost use Rattle.rv_hart.specs.StepParts.{Does};
@@ -104,7 +104,7 @@ impl<M: ByteMemory, C: Decoded> Hart<M, C> {
     /// Writes a control register, and computes the shortcuts anew. Returns None, and changes nothing, if the
     /// mode may not write it.
     fn write_csr(&mut self, addr: u16, value: u32) -> Option<()>
-        ensures written { Changes (registers.write self.old.machine.csrs addr self.old.machine.mode value)
+        ensures written { WritesOrRefuses (registers.write self.old.machine.csrs addr self.old.machine.mode value)
             self.old.machine.csrs self.new.machine.csrs result }
         ensures machine { self.new.machine ≡ record self.old.machine { csrs = self.new.machine.csrs } }
         ensures cache { self.new.cache ≡ self.old.cache }
