@@ -7,5 +7,4 @@ use Rattle.std.specs.Prelude.{ℕ, ◌/◌, ◌%◌, ◌==◌, if◌then◌else�
 abbrev pub halted_by : Option ℕ → ℕ → Option ℕ
 halted_by code word =
     if word % 65536 == 0x5555 then Some 0
-    else (if word % 65536 == 0x3333 then Some (word / 65536)
-    else code)
+    else (if word % 65536 == 0x3333 then Some (word / 65536) else code)
