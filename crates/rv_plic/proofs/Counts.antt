@@ -45,15 +45,18 @@ again_same n is =
     ap (λ b. if b then n - 1 + 1 else n - 1) (lt-ltb (n - 1) most (omega (arith, low, high))) ∙ again
 
 -- ---- taking an edge of each source of a set, as the definition says it
+less : (b : Bool) (m n : ℕ) → m ≡ n → m - (if b then 1 else 0) ≡ (if b then one_less n else n)
+less true m n same = ap one_less same
+less false m n same = omega (arith, same)
+
 taken-from : (s : Sources) (all edges : Edges) (a : ℕ)
     → ((k : ℕ) → edges_of all (a + k) ≡ slice_index edges k)
-    → map (λ q. if contains s q then edges_of all q - 1 else edges_of all q) (range_with_len a (length edges))
+    → map (λ q. edges_of all q - (if contains s q then 1 else 0)) (range_with_len a (length edges))
     ≡ changed one_less s a edges
 unfolding changed
 taken-from s all [] a each = refl
 taken-from s all (n ∷ ns) a each =
-    let here : edges_of all a ≡ n = ap (edges_of all) (sym (add-zero a)) ∙ each 0 in
-    λ i. (if contains s a then here i - 1 else here i)
+    λ i. less (contains s a) (edges_of all a) n (ap (edges_of all) (sym (add-zero a)) ∙ each 0) i
     ∷ taken-from s all ns (a + 1)
     (λ k. let place : a + 1 + k ≡ a + suc k = omega arith in ap (edges_of all) place ∙ each (suc k)) i
 

@@ -53,8 +53,7 @@ one_more count = if nat_lt count 4294967295 then count + 1 else count
 -- the counts after one edge of each source of a set is taken
 unfoldable pub taken : Sources → List ℕ → List ℕ
 taken sources edges =
-    map (λ s. if contains sources s then edges_of edges s - 1 else edges_of edges s)
-    (range_with_len 24 (length edges))
+    map (λ s. edges_of edges s - (if contains sources s then 1 else 0)) (range_with_len 24 (length edges))
 
 -- ---- lines and requests
 -- the controller after the line of a source is set to a level: it rises where it was low and becomes high
@@ -78,9 +77,6 @@ requests plic = difference (difference (asking_sources plic.high plic.edges) pli
 
 -- the controller after each gateway with a request has forwarded it
 abbrev pub forwarded : PlicState → PlicState
-forwarded plic =
-    record plic {
-      edges = taken (requests plic) plic.edges;
-      outstanding = union plic.outstanding (requests plic);
-      pending = union plic.pending (requests plic);
-    }
+forwarded p =
+    let new = requests p in
+    record p { edges = taken new p.edges; outstanding = union p.outstanding new; pending = union p.pending new }

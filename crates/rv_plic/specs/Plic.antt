@@ -15,15 +15,13 @@ priority_of plic source = slice_index plic.priorities source
 
 -- whether a source is pending and enabled, and has a priority above another one
 abbrev pub interrupts_above : PlicState → ℕ → ℕ → Bool
-interrupts_above plic priority source =
-    contains plic.pending source && contains plic.enabled source && nat_lt priority (priority_of plic source)
+interrupts_above p priority s = contains p.pending s && contains p.enabled s && nat_lt priority (priority_of p s)
 
 -- the first source above priority 0 that no source is above ("Interrupt Priorities": 0 never interrupts,
 -- and of equal priorities the lowest number goes first)
 unfoldable pub best : PlicState → Option ℕ
-best plic =
-    find (λ source. interrupts_above plic 0 source
-    && not (list_any (interrupts_above plic (priority_of plic source)) sources)) sources
+best p =
+    find (λ s. interrupts_above p 0 s && not (list_any (interrupts_above p (priority_of p s)) sources)) sources
 
 -- whether the external line is high ("Interrupt Notifications", "Priority Thresholds")
 unfoldable pub is_notified : PlicState → Bool
@@ -38,8 +36,7 @@ claimed plic = option_map_or (λ source. record plic { pending = remove plic.pen
 -- the controller after a completion, which frees the gateway of an enabled source. Any other word is ignored
 -- ("Interrupt Completion")
 abbrev pub completed : PlicState → ℕ → PlicState
-completed plic word =
-    if contains plic.enabled word then record plic { outstanding = remove plic.outstanding word } else plic
+completed p word = if contains p.enabled word then record p { outstanding = remove p.outstanding word } else p
 
 -- the registers by their offsets: the priority of each source, the pending and the enabled sources, the
 -- threshold, and claim and completion. Priorities and the threshold have three bits
@@ -58,5 +55,4 @@ registers =
 
 -- the register at an offset. Where there is none, a load returns 0 and a store changes nothing
 unfoldable pub at : ℕ → Register PlicState
-at off =
-    option_map_or (λ row. row.1) (find (λ row. off == row.0) registers) (register (λ p. 0) (λ p word. p))
+at off = option_map_or (λ row. row.1) (find (λ row. off == row.0) registers) (register (λ p. 0) (λ p word. p))
