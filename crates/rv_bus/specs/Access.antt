@@ -9,15 +9,15 @@ use Rattle.rv_ram.specs.Bytes.{value_at}
 use Rattle.rv_plic.specs.Plic as plic
 use Rattle.rv_mmio.specs.Timer as timer
 use Rattle.rv_bus.specs.State.{BusState}
-use Rattle.rv_bus.specs.Table.{window_at}
+use Rattle.rv_bus.specs.Table.{reached}
 
 -- the value that a load returns, with the bus after it, or none for a fault
 unfoldable pub load : BusState → ℕ → Width → Option (ℕ × BusState)
-load b a w = option_map (λ x. x.loaded (a - x.first)) (window_at b a w)
+load b a w = option_map (λ x. x.loaded) (reached b a w)
 
 -- the bus after a store, or none for a fault
 unfoldable pub store : BusState → ℕ → Width → ℕ → Option BusState
-store b a w v = option_map (λ x. x.stored (a - x.first) v) (window_at b a w)
+store b a w v = option_map (λ x. x.stored v) (reached b a w)
 
 -- whether an address is in the memory
 abbrev pub in_memory : List ℕ → ℕ → Bool
