@@ -19,10 +19,6 @@ boot_fault size pages slots =
     ∷ (nat_lt (4096 * pages) size, ImageTooLarge) ∷ []))
 
 -- the board at reset over `size` bytes of memory: the image, followed by zeros
-unfoldable pub start_over : List ℕ → ℕ → BoardState
-start_over image size =
-    record { machine = hart.start (bus.reset (image ++ zeros (size - length image))); traps = []; steps = 0 }
-
--- the board at reset over `pages` pages of memory
-abbrev pub start : List ℕ → ℕ → BoardState
-start image pages = start_over image (4096 * pages)
+unfoldable pub reset : List ℕ → ℕ → BoardState
+reset image size =
+    record { machine = hart.reset (bus.reset (image ++ zeros (size - length image))); traps = []; steps = 0 }

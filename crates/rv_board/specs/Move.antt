@@ -1,6 +1,7 @@
 -- The board after events.
 -- To audit: public contracts cite this.
-use Rattle.std.specs.Prelude.{◌≡◌, ◌<◌, ℕ, Bool, true, false, ◌&&◌, if◌then◌else◌, ◌+◌, ◌%◌, ◌^◌, List, [], ◌∷◌, ◌++◌, fold, length, take, slice_get, is_none, is_some, Some}
+use Rattle.std.specs.Prelude.{◌≡◌, ℕ, Bool, true, false, ◌&&◌, if◌then◌else◌, ◌+◌, ◌%◌, ◌^◌, List, [], ◌∷◌, ◌++◌, fold, take, slice_get, is_none, is_some}
+use Rattle.std.specs.Option.{option_map_or}
 use Rattle.circular_buffer.specs.Buffer.{keep_last}
 use Rattle.rv_hart.specs.State.{Machine}
 use Rattle.rv_hart.specs.Step.{step, with_line, receive}
@@ -44,6 +45,5 @@ run b es = fold moved b es
 -- a run was refused: the new board is the old one after the first `done` events, and the next event is a step
 -- that writes
 pub record IsStopped (old new : BoardState) (events : List Event) (done : ℕ) : Type 0 where
-  pub within : done < length events
   pub state : new ≡ run old (take done events)
-  pub next_writes : (e : Event) → slice_get events done ≡ Some e → writes new e ≡ true
+  pub next : option_map_or (writes new) (slice_get events done) false ≡ true

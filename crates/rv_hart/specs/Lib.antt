@@ -1,4 +1,5 @@
 pub mod State
+pub mod HartView
 pub mod Coherent
 pub mod Room
 pub mod Shortcuts

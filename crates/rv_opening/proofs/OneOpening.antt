@@ -1,5 +1,5 @@
 -- Texts and sizes open one session, or have one fault.
-use Rattle.std.proofs.Common.{◌≡◌, ◌∙◌, ℕ, List, length, true, Option, Some, None, Result, Ok, Err, refl, sym, ap, ⊎_elim}
+use Rattle.std.proofs.Common.{◌≡◌, ◌∙◌, ℕ, ◌*◌, List, length, true, Option, Some, None, Result, Ok, Err, refl, sym, ap, ⊎_elim}
 use Rattle.std.specs.Prelude.{◌≢◌, is_ok}
 use Rattle.rv_asm.specs.Assembly.{assembled}
 use Rattle.rv_base.specs.Lines.{lines}
@@ -92,7 +92,7 @@ module _ (source inputs : List ℕ) (pages slots limit : ℕ) where
     only_board fault boots (Err OutOfMemory) opens kept = absurd (kept refl)
 
     abbrev session : Assembly → List TimedInput → SessionState
-    session p xs = start (boot.start p.bytes pages) xs p limit
+    session p xs = start (boot.reset p.bytes (4096 * pages)) xs p limit
 
     only_session : fault_of program ≡ None → (other : Opening)
         → Opens source inputs pages slots limit other → other ≢ Err OutOfMemory

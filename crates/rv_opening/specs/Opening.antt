@@ -1,6 +1,6 @@
 -- A session that is opened from its texts and sizes, or the first fault of those.
 -- To audit: public contracts cite this.
-use Rattle.std.specs.Prelude.{◌≡◌, ℕ, ⊤, true, is_ok, List, length, None, Some, Result, Ok, Err}
+use Rattle.std.specs.Prelude.{◌≡◌, ℕ, ◌*◌, ⊤, true, is_ok, List, length, None, Some, Result, Ok, Err}
 use Rattle.rv_asm.specs.Assembly.{assembled}
 use Rattle.rv_board.specs.Boot.{boot_fault}
 use Rattle.rv_board.specs.Boot as boot
@@ -18,7 +18,7 @@ pub record IsOpened (source inputs : List ℕ) (pages slots limit : ℕ) (s : Se
   pub program : assembled source ≡ Ok s.program
   pub list : IsRead inputs (Ok s.timed.inputs)
   pub boots : boot_fault (length s.program.bytes) pages slots ≡ None
-  pub state : s ≡ start (boot.start s.program.bytes pages) s.timed.inputs s.program limit
+  pub state : s ≡ start (boot.reset s.program.bytes (4096 * pages)) s.timed.inputs s.program limit
 
 -- the session, or the first fault: of the source, of the timed list, of the board, which does not boot with
 -- these sizes; or memory ran out

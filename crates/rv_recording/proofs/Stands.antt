@@ -1,12 +1,12 @@
 -- What the calls of a session leave is a recording as well.
-use Rattle.std.proofs.Common.{◌≡◌, ◌∙◌, ℕ, ◌-◌, ◌<◌, ◌≤◌, Bool, true, false, List, [], ◌∷◌, length, refl, sym, ap, subst, arith, inl, inr}
+use Rattle.std.proofs.Common.{◌≡◌, ◌∙◌, ℕ, ◌-◌, ◌*◌, ◌<◌, ◌≤◌, Bool, true, false, List, [], ◌∷◌, length, refl, sym, ap, subst, arith, inl, inr}
 use Rattle.std.proofs.lemmas.Bool.Decides.{nat_tests}
 use Rattle.std.specs.FinSet as set
 use Rattle.std.specs.List.{list_all}
 use Rattle.std.specs.Prelude.{◌⊎◌, ◌&&◌, nat_le, nat_lt, is_none, min, Option, Some, None, Result, Ok, Err, OnOk, OnErr, OnOk}
 use Rattle.rv_base.specs.declared.memory.NoMemory.{NoMemory}
 use Rattle.rv_hart.specs.declared.trap.Outcome.{Outcome}
-use Rattle.rv_board.specs.Boot.{boot_fault, start}
+use Rattle.rv_board.specs.Boot.{boot_fault, reset}
 use Rattle.rv_board.specs.Move.{run}
 use Rattle.rv_board.specs.State.{BoardState, halted_of}
 use Rattle.rv_board.proofs.Runs.{run_append}
@@ -74,18 +74,18 @@ is_run first s r = run_by first s r.rising r.state
 abbrev Stands : SessionState → ℕ → ℕ → List KeptBoard → Type 0
 Stands s p q ks =
     IsRecorded (record { session = s; pages = p; slots = q })
-    × AreKept (start s.program.bytes p) s.timed.inputs ks
+    × AreKept (reset s.program.bytes (4096 * p)) s.timed.inputs ks
 
 begun_is : (s : SessionState) (board : BoardState) (program : Assembly) (inputs : List TimedInput)
     (pages slots : ℕ) → boot_fault (length program.bytes) pages slots ≡ None → never_falls inputs ≡ true
-    → HasSteps inputs → s ≡ monitor.start board inputs program 9999999999 → board ≡ start program.bytes pages
+    → HasSteps inputs → s ≡ monitor.start board inputs program 9999999999 → board ≡ reset program.bytes (4096 * pages)
     → IsRecorded (record { session = s; pages = pages; slots = slots })
 begun_is s board program inputs pages slots boots rising small is booted =
     subst (λ (u : SessionState). IsRecorded (record { session = u; pages = pages; slots = slots }))
     (sym (is ∙ ap (λ (c : BoardState). monitor.start c inputs program 9999999999) booted))
     (record {
       boots = boots;
-      reached = begun_stands (start program.bytes pages) inputs rising;
+      reached = begun_stands (reset program.bytes (4096 * pages)) inputs rising;
       steps = small;
       limit = refl;
     })
@@ -94,9 +94,9 @@ pub opened_is : (source inputs : List ℕ) (pages slots : ℕ) (s : SessionState
     → IsOpened source inputs pages slots 9999999999 s → never_falls s.timed.inputs ≡ true
     → HasSteps s.timed.inputs → (ks : List KeptBoard) → ks ≡ [] → Stands s pages slots ks
 opened_is source inputs pages slots s opens rising small ks none = (
-  begun_is s (start s.program.bytes pages) s.program s.timed.inputs pages slots opens.boots rising small
+  begun_is s (reset s.program.bytes (4096 * pages)) s.program s.timed.inputs pages slots opens.boots rising small
       opens.state refl,
-  subst (AreKept (start s.program.bytes pages) s.timed.inputs) (sym none) tt,
+  subst (AreKept (reset s.program.bytes (4096 * pages)) s.timed.inputs) (sym none) tt,
 )
 
 -- ---- what calls leave
@@ -146,7 +146,7 @@ given_steps t input h k =
 
 module _ (s new : SessionState) (p q : ℕ) (ks : List KeptBoard) (h : Stands s p q ks) where
   abbrev first : BoardState
-  first = start s.program.bytes p
+  first = reset s.program.bytes (4096 * p)
 
   abbrev after_call : RecordingState
   after_call = record { session = new; pages = p; slots = q }

@@ -1,7 +1,7 @@
 -- To audit: public contracts cite this.
 -- A session that can be run again: its board is the run of the recorded events from reset on.
-use Rattle.std.specs.Prelude.{◌≡◌, ◌⊎◌, ℕ, ◌++◌}
-use Rattle.rv_board.specs.Boot.{start}
+use Rattle.std.specs.Prelude.{◌≡◌, ◌⊎◌, ℕ, ◌*◌, ◌++◌}
+use Rattle.rv_board.specs.Boot.{reset}
 use Rattle.rv_board.specs.Move.{run}
 use Rattle.rv_board.specs.BoardState.{BoardState}
 use Rattle.rv_monitor.specs.Events.{events_of, inputs_at}
@@ -19,7 +19,7 @@ last_step = 9999999999
 
 -- the board at reset
 abbrev pub first_board : RecordingState → BoardState
-first_board r = start r.session.program.bytes r.pages
+first_board r = reset r.session.program.bytes (4096 * r.pages)
 
 -- the recording with its board, inputs and steps replaced
 abbrev pub with_timed : RecordingState → TimedState → RecordingState

@@ -52,11 +52,12 @@ impl Drop for Recording {
 }
 
 impl Model for Recording {
+    ghost use Rattle.std.specs.Prelude.{◌*◌};
     ghost use Rattle.std.specs.Coded.{codes, coded_ℕ};
     ghost use Rattle.std.specs.FinSet as set;
     ghost use Rattle.std.specs.Ordering.{nat_cmp};
     ghost use Rattle.rv_plic.specs.Codes.{plic_code};
-    ghost use Rattle.rv_board.specs.Boot.{start};
+    ghost use Rattle.rv_board.specs.Boot.{reset};
     ghost use Rattle.rv_recording.specs.Kept.{AreKept};
     ghost use Rattle.rv_recording.specs.Recording.{RecordingState};
     ghost use Rattle.rv_recording.specs.Recorded.{IsRecorded};
@@ -68,7 +69,7 @@ impl Model for Recording {
     ghost view = { λ r. record { session = r.session; pages = r.pages; slots = r.slots } };
 
     ghost invariant = { λ r. IsRecorded (record { session = r.session; pages = r.pages; slots = r.slots })
-        × AreKept (start r.session.program.bytes r.pages) r.session.timed.inputs r.kept };
+        × AreKept (reset r.session.program.bytes (4096 * r.pages)) r.session.timed.inputs r.kept };
 }
 
 impl Recording {

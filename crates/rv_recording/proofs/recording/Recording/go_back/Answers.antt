@@ -1,5 +1,5 @@
-use Rattle.std.proofs.Common.{◌≡◌, ◌∙◌, ap, sym, min, arith}
-use Rattle.rv_board.specs.Boot.{start}
+use Rattle.std.proofs.Common.{◌≡◌, ◌∙◌, ◌*◌, ap, sym, min, arith}
+use Rattle.rv_board.specs.Boot.{reset}
 use Rattle.rv_board.specs.Move.{run}
 use Rattle.rv_monitor.specs.Events.{events_of}
 use Rattle.rv_recording.specs.Recording.{RecordingState, first_board, gone_back}
@@ -10,7 +10,7 @@ use Rattle.rv_recording.proofs.recording.Recording.go_back.Goals as goal
 pub invariant_of-self : goal.invariant_of-self
 invariant_of-self c =
     let before : c.in-Ok.start.0
-    ≡ run (start c.self.inside.session.program.bytes c.self.inside.pages)
+    ≡ run (reset c.self.inside.session.program.bytes (4096 * c.self.inside.pages))
     (events_of c.self.inside.session.timed.inputs 0 c.in-Ok.start.1) =
     c.in-Ok.ensures.run
     ∙ ap (λ (r : RecordingState). run (first_board r) (events_of r.session.timed.inputs 0 c.in-Ok.start.1))
@@ -29,7 +29,7 @@ returns-clause-ok c = elim c.match-resume.branch [
       let count : c.min-count.result ≡ min c.args.steps c.args.self.now.session.timed.taken =
       omega (arith, c.min-count.ensures, c.taken.ensures.value) in
       let before : c.in-Ok.start.0
-      ≡ run (start c.self.inside.session.program.bytes c.self.inside.pages)
+      ≡ run (reset c.self.inside.session.program.bytes (4096 * c.self.inside.pages))
       (events_of c.self.inside.session.timed.inputs 0 c.in-Ok.start.1) =
       c.in-Ok.ensures.run
       ∙ ap (λ (r : RecordingState). run (first_board r) (events_of r.session.timed.inputs 0 c.in-Ok.start.1))
