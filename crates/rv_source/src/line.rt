@@ -103,9 +103,7 @@ impl<'a> Line<'a> {
         match &self.body {
             Body::Nothing => Ok(None),
             Body::Marker => Ok(Some(Statement::Marker)),
-            Body::Word { word, operands } => {
-                Ok(Some(meaning(word.bytes(), operands.as_slice())?))
-            }
+            Body::Word { word, operands } => meaning(word.bytes(), operands.as_slice()).map(Some),
         }
     }
 }

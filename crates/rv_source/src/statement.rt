@@ -1,11 +1,7 @@
 //! Statements: mnemonics and directives with their operands, before expressions are evaluated.
-ghost use Rattle.std.specs.Prelude.{◌≡◌, ◌++◌, [], OnOk, length, min};
-ghost use Rattle.std.specs.Option.{option_map_or};
-ghost use Rattle.rv_source.specs.Operands.{strings, text_of};
-
 use crate::{Form, Operand};
 use rv_isa::{Instr, Reg, Width};
-use rv_tokens::{Name, Text};
+use rv_tokens::Name;
 use std::alloc::AllocError;
 use std::marker::Model;
 
@@ -56,47 +52,6 @@ impl<'t, 'a> Values<'t, 'a> {
     }
 }
 
-/// Returns the string that an operand is.
-fn text_of<'t, 'a>(operand: &'t Operand<'a>) -> Option<&'t Text<'a>>
-    ensures { option_map_or (λ text. text.now) result [] ≡ text_of operand.now }
-{
-    match &operand.form {
-        Form::Text(text) => Some(text),
-        Form::Value { .. } => None,
-    }
-}
-
-/// Appends the bytes of strings, each followed by a byte 0 if they are terminated.
-#[tactic(auto, unfolding(crate::specs::Operands::strings))]
-fn append(terminated: bool, texts: &[Operand], out: &mut Vec<u8>) -> Result<(), AllocError>
-    ensures { OnOk result (out.new.items ≡ out.old.items ++ strings terminated texts.now) }
-{
-    let [first, rest @ ..] = texts else {
-        return Ok(());
-    };
-    if let Some(text) = text_of(first) {
-        text.append_to(out)?;
-    }
-    if terminated {
-        out.push(0)?;
-    }
-    append(terminated, rest, out)
-}
-
-/// Returns the number of bytes of strings, saturated at 2^32 - 1.
-#[tactic(auto, unfolding(crate::specs::Operands::strings))]
-fn size(terminated: bool, texts: &[Operand]) -> u32
-    ensures { result ≡ min (length (strings terminated texts.now)) 0xffffffff }
-{
-    let [first, rest @ ..] = texts else {
-        return 0;
-    };
-    let bytes = text_of(first).map_or(0, |text| text.len());
-    (bytes.min(0xffff_ffff) as u32)
-        .saturating_add(u32::from(terminated))
-        .saturating_add(size(terminated, rest))
-}
-
 /// The strings of a directive, borrowed from their line. The view is their bytes, each string followed by a
 /// byte 0 if they are terminated.
 #[derive(Drop)]
@@ -118,17 +73,34 @@ impl<'t, 'a> Strings<'t, 'a> {
     ghost use Rattle.std.specs.Prelude.{◌≡◌, ◌++◌, OnOk, length, min};
 
     /// Returns the number of bytes, saturated at 2^32 - 1.
+    #[tactic(auto, unfolding(crate::specs::Operands::strings))]
     pub fn size(&self) -> u32
         ensures { result ≡ min (length self.now) 0xffffffff }
     {
-        size(self.terminated, self.texts)
+        let mut size: u32 = 0;
+        for operand in self.texts {
+            if let Form::Text(text) = &operand.form {
+                size = size.saturating_add(text.len().min(0xffff_ffff) as u32);
+            }
+            size = size.saturating_add(u32::from(self.terminated));
+        }
+        size
     }
 
     /// Appends the bytes.
+    #[tactic(auto, unfolding(crate::specs::Operands::strings))]
     pub fn append_to(&self, out: &mut Vec<u8>) -> Result<(), AllocError>
         ensures { OnOk result (out.new.items ≡ out.old.items ++ self.now) }
     {
-        append(self.terminated, self.texts, out)
+        for operand in self.texts {
+            if let Form::Text(text) = &operand.form {
+                text.append_to(out)?;
+            }
+            if self.terminated {
+                out.push(0)?;
+            }
+        }
+        Ok(())
     }
 }
 

@@ -44,58 +44,30 @@ pub fn ways_of(operation: Operation) -> &'static [Way]
     }
 }
 
-/// Returns the statement of an operation in the first of these ways that takes the operands.
-fn first_way<'t, 'a>(
-    operation: Operation,
-    ways: &[Way],
-    operands: &'t [Operand<'a>],
-) -> Option<Statement<'t, 'a>>
-    ensures { result ≡ first_fit operands.now (map (row_by operation) ways.now) }
-{
-    let [way, rest @ ..] = ways else {
-        return None;
-    };
-    match meant(way.row(operation), operands) {
-        Some(statement) => Some(statement),
-        None => first_way(operation, rest, operands),
-    }
-}
-
 // ---- words
 
 /// Returns the statement of the first row of a word that takes the operands.
 ///
 /// # Errors
 ///
-/// `unless` if the word has no row, else `BadOperands`.
+/// `UnknownWord` if the word has no row, else `BadOperands`.
 fn of_word<'t, 'a>(
     table: &[(&str, Row)],
     word: &[u8],
     operands: &'t [Operand<'a>],
-    unless: LineFault,
 ) -> Result<Statement<'t, 'a>, LineFault>
-    ensures { result ≡ fitted_or unless operands.now (of_word word.now (rows table.now)) }
+    ensures { result ≡ fitted_or UnknownWord operands.now (of_word word.now (rows table.now)) }
 {
-    let [entry, rest @ ..] = table else {
-        return Err(unless);
-    };
-    if entry.0.as_bytes() != word {
-        return of_word(rest, word, operands, unless);
+    let mut fault = LineFault::UnknownWord;
+    for entry in table {
+        if entry.0.as_bytes() == word {
+            match meant(entry.1, operands) {
+                Some(statement) => return Ok(statement),
+                None => fault = LineFault::BadOperands,
+            }
+        }
     }
-    match meant(entry.1, operands) {
-        Some(statement) => Ok(statement),
-        None => of_word(rest, word, operands, LineFault::BadOperands),
-    }
-}
-
-/// Returns the part of a table from the first row of a word on.
-fn from_word<'r>(table: &'r [(&'static str, Row)], word: &[u8]) -> &'r [(&'static str, Row)]
-    ensures { of_word word.now (rows result.now) ≡ of_word word.now (rows table.now) }
-{
-    match table {
-        [entry, rest @ ..] if entry.0.as_bytes() != word => from_word(rest, word),
-        _ => table,
-    }
+    Err(fault)
 }
 
 /// Returns whether a word begins with `.`, as those of the directives do.
@@ -114,19 +86,9 @@ fn of_other_word<'t, 'a>(
     ensures { result ≡ fitted_or UnknownWord operands.now (of_word word.now words) }
 {
     if has_dot(word) {
-        of_word(
-            from_word(&DIRECTIVES, word),
-            word,
-            operands,
-            LineFault::UnknownWord,
-        )
+        of_word(&DIRECTIVES, word, operands)
     } else {
-        of_word(
-            from_word(&PSEUDO_INSTRUCTIONS, word),
-            word,
-            operands,
-            LineFault::UnknownWord,
-        )
+        of_word(&PSEUDO_INSTRUCTIONS, word, operands)
     }
 }
 
@@ -158,10 +120,13 @@ pub fn meaning<'t, 'a>(
 ) -> Result<Statement<'t, 'a>, LineFault>
     ensures { result ≡ meaning word.now operands.now }
 {
-    match operation_named(word) {
-        Some(operation) => {
-            first_way(operation, ways_of(operation), operands).ok_or(LineFault::BadOperands)
+    let Some(operation) = operation_named(word) else {
+        return of_other_word(word, operands);
+    };
+    for way in ways_of(operation) {
+        if let Some(statement) = meant(way.row(operation), operands) {
+            return Ok(statement);
         }
-        None => of_other_word(word, operands),
     }
+    Err(LineFault::BadOperands)
 }
