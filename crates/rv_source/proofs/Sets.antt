@@ -8,7 +8,7 @@ use Rattle.rv_base.specs.Tables.{lookup}
 use Rattle.rv_isa.specs.Names.{csr_names}
 use Rattle.rv_source.specs.Fields.{fence_sets}
 
-both_parts : (b c : Bool) → (b && c) ≡ true → (b ≡ true) × (c ≡ true)
+pub both_parts : (b c : Bool) → (b && c) ≡ true → (b ≡ true) × (c ≡ true)
 both_parts true true e = (refl, refl)
 both_parts true false e = cc
 both_parts false c e = cc

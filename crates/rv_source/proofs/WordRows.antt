@@ -1,10 +1,11 @@
 -- The rows of a word: those of one that begins with a dot and of one that doesn't, and those of an operation.
-use Rattle.std.proofs.Common.{◌≡◌, ℕ, Bool, true, false, List, [], ◌∷◌, ◌++◌, not, refl, arith}
-use Rattle.std.specs.Prelude.{◌==◌, ◌&&◌}
+use Rattle.std.proofs.Common.{◌≡◌, ℕ, Bool, true, false, cond, List, [], ◌∷◌, ◌++◌, not, refl, arith}
+use Rattle.std.specs.Prelude.{◌==◌, Some, None}
 use Rattle.std.specs.List.{list_all, list_any}
 use Rattle.std.specs.Str.{bytes_eq}
 use Rattle.std.proofs.lemmas.Bool.Decides.{nat_tests}
 use Rattle.std.proofs.lemmas.List.{append-nil}
+use Rattle.std.proofs.lemmas.List.Elements.{filter_map-append}
 use Rattle.std.specs.Option.{ok_or}
 use Rattle.rv_isa.specs.declared.op.Operation.{Operation}
 use Rattle.rv_isa.specs.declared.kind.Kind.{Kind}
@@ -12,6 +13,7 @@ use Rattle.rv_isa.specs.declared.kind.Kind.TheVariants.{Lui}
 use Rattle.rv_tokens.specs.declared.fault.LineFault.TheVariants.{UnknownWord, BadOperands}
 use Rattle.rv_source.specs.declared.operand.Operand.{Operand}
 use Rattle.rv_source.specs.Partial.{first_fit, fitted_or, has_dot, is_marker, of_word, words}
+use Rattle.rv_source.proofs.Sets.{both_parts}
 use Rattle.rv_source.specs.Table.{Row, directives, of_kind, markers, pseudo_instructions}
 
 first_bytes : (x y : ℕ) → (x == 46) ≡ true → (y == 46) ≡ false → (x == y) ≡ false
@@ -33,21 +35,9 @@ alone_dot (x ∷ xs) (y ∷ ys) e f = rw (first_bytes_too x y e f) refl
 
 -- ---- rows
 
-either_part : (b c : Bool) → (b && c) ≡ true → (b ≡ true) × (c ≡ true)
-either_part true true e = (refl, refl)
-either_part true false e = cc
-either_part false c e = cc
-
-with_row : (word : List ℕ) (x : List ℕ × Row) (xs ys : List (List ℕ × Row)) (b : Bool) → bytes_eq x.0 word ≡ b
-    → of_word word (xs ++ ys) ≡ of_word word xs ++ of_word word ys
-    → of_word word (x ∷ xs ++ ys) ≡ of_word word (x ∷ xs) ++ of_word word ys
-with_row word x xs ys true e h = rw (e, h) refl
-with_row word x xs ys false e h = rw (e, h) refl
-
 of_words : (word : List ℕ) (xs ys : List (List ℕ × Row)) →
     of_word word (xs ++ ys) ≡ of_word word xs ++ of_word word ys
-of_words word [] ys = refl
-of_words word (x ∷ xs) ys = with_row word x xs ys (bytes_eq x.0 word) refl (of_words word xs ys)
+of_words word xs ys = filter_map-append (λ row. cond (bytes_eq row.0 word) (Some row.1) None) xs ys
 
 is_not : (b : Bool) → not b ≡ true → b ≡ false
 is_not true e = cc
@@ -57,14 +47,14 @@ all_dots : (word : List ℕ) (rows : List (List ℕ × Row)) → list_all (λ ro
     has_dot word ≡ false → of_word word rows ≡ []
 all_dots word [] e f = refl
 all_dots word (row ∷ rows) e f =
-    let parts = either_part (has_dot row.0) _ e in
+    let parts = both_parts (has_dot row.0) _ e in
     rw (dot_alone row.0 word parts.0 f) (all_dots word rows parts.1 f)
 
 no_dots : (word : List ℕ) (rows : List (List ℕ × Row)) → list_all (λ row. not (has_dot row.0)) rows ≡ true →
     has_dot word ≡ true → of_word word rows ≡ []
 no_dots word [] e f = refl
 no_dots word (row ∷ rows) e f =
-    let parts = either_part (not (has_dot row.0)) _ e in
+    let parts = both_parts (not (has_dot row.0)) _ e in
     rw (alone_dot row.0 word (is_not (has_dot row.0) parts.0) f) (no_dots word rows parts.1 f)
 
 plain : list_all (λ row. not (has_dot row.0)) pseudo_instructions ≡ true
@@ -90,7 +80,7 @@ none_among : (word : List ℕ) (names : List (List ℕ)) → list_all has_dot na
     has_dot word ≡ false → list_any (λ name. bytes_eq name word) names ≡ false
 none_among word [] e f = refl
 none_among word (name ∷ names) e f =
-    let parts = either_part (has_dot name) _ e in
+    let parts = both_parts (has_dot name) _ e in
     rw (dot_alone name word parts.0 f) (none_among word names parts.1 f)
 
 pub no_marker : (word : List ℕ) → has_dot word ≡ false → is_marker word ≡ false
