@@ -2,7 +2,7 @@
 ghost use Rattle.std.specs.Prelude.{◌≡◌, ◌≤◌, length, IfOk, IfSome};
 ghost use Rattle.rv_tokens.specs.Faults.{Gives};
 ghost use Rattle.rv_tokens.specs.Parts.{IsCutInto};
-ghost use Rattle.rv_tokens.specs.Tokens.{tokens};
+ghost use Rattle.rv_tokens.specs.Cuts.{tokens};
 ghost use Rattle.rv_source.specs.Partial.{left_after, with_labels};
 ghost use Rattle.rv_source.specs.Reading.{body_of, label_of, labels_of, written};
 

@@ -6,7 +6,8 @@ use Rattle.rv_tokens.specs.declared.fault.LineFault.{LineFault}
 use Rattle.rv_tokens.specs.declared.fault.LineFault.TheVariants.{BadByte, LineTooLong, Syntax, UnknownWord, BadOperands, OutOfMemory}
 use Rattle.rv_tokens.specs.Faults.{Fails}
 use Rattle.rv_base.specs.Words.{is_blank}
-use Rattle.rv_tokens.specs.Tokens.{is_comment, front, fault_at}
+use Rattle.rv_tokens.specs.Cuts.{front}
+use Rattle.rv_tokens.specs.Tokens.{is_comment, fault_at}
 use Rattle.rv_tokens.specs.Partial.{tokens_after, with_tokens}
 
 pub cut_drop : (line : List ℕ) (n : ℕ) → tokens_after line n ≡ tokens_after (drop n line) 0

@@ -15,7 +15,8 @@ use Rattle.std.proofs.lemmas.List.Folds.{list_all_at, list_all_more}
 use Rattle.rv_tokens.specs.declared.token.Token.{Token}
 use Rattle.rv_tokens.specs.declared.token.Token.TheVariants.{Character, High, Low}
 use Rattle.rv_tokens.specs.Literals.{longest, spelled}
-use Rattle.rv_tokens.specs.Tokens.{is_name_byte, word, token_of, token_in, front}
+use Rattle.rv_tokens.specs.Cuts.{front}
+use Rattle.rv_tokens.specs.Tokens.{is_name_byte, word, token_of, token_in}
 use Rattle.rv_tokens.specs.Partial.{begins_with_name_byte, may_precede, sign, half, character}
 use Rattle.rv_tokens.proofs.Signs.{token_is}
 use Rattle.rv_tokens.proofs.Bools.{and_left, and_right}

@@ -138,7 +138,7 @@ rest_of n text = take_all (length text - n) (drop n text) (omega (arith, length-
 
 -- ---- tokens
 
-between_not : (q b : ℕ) (bs : List ℕ) → (b == q) ≡ false → between q (b ∷ bs) ≡ None
+between_not : (q b : ℕ) (bs : List ℕ) → (b == q) ≡ false → between q q (b ∷ bs) ≡ None
 between_not q b bs h = rw (h, no_more (nat_lt 1 (length (b ∷ bs)))) refl
 
 not_string : (b : ℕ) (bs : List ℕ) → (b == 34) ≡ false → string (b ∷ bs) ≡ None

@@ -14,7 +14,8 @@ use Rattle.rv_tokens.specs.declared.token.Token.{Token}
 use Rattle.rv_tokens.specs.declared.token.Token.TheVariants.{Text}
 use Rattle.rv_base.specs.Numbers.{hex_digit, number_in}
 use Rattle.rv_tokens.specs.Literals.{longest, escape, spelled, between, first_byte, bytes_after, string_bytes}
-use Rattle.rv_tokens.specs.Tokens.{token_of, token_in, front}
+use Rattle.rv_tokens.specs.Cuts.{front}
+use Rattle.rv_tokens.specs.Tokens.{token_of, token_in}
 use Rattle.rv_tokens.specs.Partial.{may_precede, is_digit, string}
 use Rattle.rv_tokens.proofs.Signs.{token_is}
 use Rattle.rv_tokens.proofs.Front.{kept_in, no_name_last, token_in_is}
@@ -197,7 +198,7 @@ first_byte_quote : (zs : List ℕ) → first_byte (34 ∷ zs) ≡ None
 first_byte_quote zs = longest_none (string_byte_in (34 ∷ zs)) (length (34 ∷ zs)) (λ m p q. quote_front zs m p)
 
 quoted_between : (ys : List ℕ) (n : ℕ) → length ys ≡ suc n
-    → between 34 (34 ∷ ys) ≡ cond (get_or ys n 0 == 34) (Some (take n ys)) None
+    → between 34 34 (34 ∷ ys) ≡ cond (get_or ys n 0 == 34) (Some (take n ys)) None
 quoted_between ys n len =
     let e : length (34 ∷ ys) ≡ suc (suc n) = omega (arith, len) in
     let f : nat_lt 1 (suc (suc n)) ≡ true = grind (arith, nat_tests) in

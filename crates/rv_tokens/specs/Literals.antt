@@ -1,9 +1,8 @@
 -- The spelling of numbers, characters and strings.
 -- To audit: public contracts cite this.
 -- The language is this project's own: docs/ASSEMBLER.md.
-use Rattle.std.specs.Prelude.{ℕ, zero, suc, pred, ◌+◌, ◌-◌, ◌*◌, Bool, not, ◌&&◌, ◌||◌, List, [], ◌∷◌, length, take, drop, fold, if◌then◌else◌, ◌==◌, nat_le, nat_lt, Option, Some, None, option_and_then, slice_index, codes}
-use Rattle.std.specs.List.{list_all}
-use Rattle.std.specs.Option.{option_map, option_map_or, option_or, unwrap_or}
+use Rattle.std.specs.Prelude.{ℕ, zero, suc, pred, ◌-◌, Bool, not, ◌&&◌, ◌||◌, List, [], ◌∷◌, length, take, drop, if◌then◌else◌, ◌==◌, nat_le, nat_lt, Option, Some, None, option_and_then, slice_index, codes}
+use Rattle.std.specs.Option.{option_map, option_map_or, option_or}
 use Rattle.rv_base.specs.Numbers.{number_in}
 use Rattle.rv_base.specs.Tables.{lookup}
 
@@ -63,11 +62,10 @@ spelled quote [] = None
 spelled quote (b ∷ []) = if is_plain quote b then Some b else None
 spelled quote (b ∷ bs) = if b == 92 then escape bs else None
 
--- the text between two quotes
-abbrev pub between : ℕ → List ℕ → Option (List ℕ)
-between quote text =
-    if nat_lt 1 (length text)
-    && ((slice_index text 0 == quote) && (slice_index text (length text - 1) == quote))
+-- what stands between two signs, the first and the last byte of a text
+abbrev pub between : ℕ → ℕ → List ℕ → Option (List ℕ)
+between left right text =
+    if nat_lt 1 (length text) && ((slice_index text 0 == left) && (slice_index text (length text - 1) == right))
     then Some (drop 1 (take (length text - 1) text))
     else None
 

@@ -8,7 +8,8 @@ use Rattle.rv_tokens.specs.declared.place.Place.{Place}
 use Rattle.rv_tokens.specs.declared.fault.LineFault.{LineFault}
 use Rattle.rv_base.specs.Numbers.{digit_value}
 use Rattle.rv_tokens.specs.Literals.{spelled, between, string_bytes}
-use Rattle.rv_tokens.specs.Tokens.{is_name_byte, front, is_comment, fault_at}
+use Rattle.rv_tokens.specs.Cuts.{front}
+use Rattle.rv_tokens.specs.Tokens.{is_name_byte, is_comment, fault_at}
 use Rattle.rv_tokens.specs.declared.token.Token.{Token}
 use Rattle.rv_tokens.specs.declared.token.Token.TheVariants.{Comma, Open, Close, Plus, Minus, Colon, At, High, Low}
 
@@ -62,11 +63,11 @@ is_digit base b = nat_lt (digit_value b) base
 
 -- the byte of a character with its quotes
 unfoldable pub character : List ℕ → Option ℕ
-character text = option_and_then (spelled 39) (between 39 text)
+character text = option_and_then (spelled 39) (between 39 39 text)
 
 -- the bytes of a string with its quotes
 unfoldable pub string : List ℕ → Option (List ℕ)
-string text = option_and_then string_bytes (between 34 text)
+string text = option_and_then string_bytes (between 34 34 text)
 
 -- ---- the tokens of a line, and their places
 

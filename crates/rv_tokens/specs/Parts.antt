@@ -10,7 +10,8 @@ use Rattle.rv_tokens.specs.declared.fault.LineFault.TheVariants.{LineTooLong}
 use Rattle.rv_base.specs.Limits.{line_limit}
 use Rattle.rv_base.specs.Words.{is_blank}
 use Rattle.rv_tokens.specs.Faults.{◌>>=◌}
-use Rattle.rv_tokens.specs.Tokens.{token_in, is_comment, fault_at, tokens}
+use Rattle.rv_tokens.specs.Cuts.{tokens}
+use Rattle.rv_tokens.specs.Tokens.{token_in, is_comment, fault_at}
 
 -- A line is cut into tokens from left to right, each the longest at its place, up to the end or a comment; or
 -- it has the fault of the first byte at which nothing begins.
@@ -29,6 +30,6 @@ pub data IsCut : List ℕ → Result (List Token) LineFault → Type 0 where
 abbrev pub IsCutInto : List ℕ → Result (List Token) LineFault → Type 0
 IsCutInto line r = MatchBool (nat_lt line_limit (length line)) (r ≡ Err LineTooLong) (IsCut line r)
 
--- a line is cut into exactly what `tokens` says
+-- `tokens` gives the cut of each line, which has no other
 abbrev pub OneCut : Type 0
 OneCut = (line : List ℕ) (r : Result (List Token) LineFault) → IsCutInto line r ↔ (tokens line ≡ r)

@@ -11,6 +11,7 @@ mod scan;
 mod token;
 
 pub use fault::LineFault;
+pub use literal::between;
 pub use name::Name;
 pub use place::{Place, place_of, stuck_at};
 pub use scan::{cut_line, one_cut};

@@ -1,7 +1,8 @@
 //! Numbers, characters and strings.
 ghost use Rattle.std.specs.Prelude.{◌≡◌, ◌<◌, ◌≤◌, IfSome, length};
 ghost use Rattle.rv_base.specs.Numbers.{digit_value, number_in};
-ghost use Rattle.rv_tokens.specs.Literals.{has_leading_zero, number, short_decimal, escape, spelled, is_plain, first_byte};
+ghost use Rattle.std.specs.Option.{option_map};
+ghost use Rattle.rv_tokens.specs.Literals.{has_leading_zero, number, short_decimal, escape, spelled, is_plain, between, first_byte};
 ghost use Rattle.rv_tokens.specs.Partial.{character, has_prefix, is_digit, letter_escape};
 
 use rv_base::hex_digit;
@@ -145,16 +146,22 @@ fn byte_between(quote: u8, text: &[u8]) -> Option<u8>
     }
 }
 
+/// Returns what stands between two signs, the first and the last byte of a text.
+pub fn between(left: u8, right: u8, text: &[u8]) -> Option<&[u8]>
+    ensures { option_map (λ t. t.now) result ≡ between left right text.now }
+{
+    if text.len() > 1 && text[0] == left && text[text.len() - 1] == right {
+        return Some(&text[1..text.len() - 1]);
+    }
+    None
+}
+
 /// Reads a character with its quotes, as the byte that it stands for.
 #[tactic(auto, unfolding(crate::specs::Partial::character))]
 pub fn character(text: &[u8]) -> Option<u8>
     ensures { result ≡ character text.now }
 {
-    if text.len() > 1 && text[0] == b'\'' && text[text.len() - 1] == b'\'' {
-        byte_between(b'\'', &text[1..text.len() - 1])
-    } else {
-        None
-    }
+    byte_between(b'\'', between(b'\'', b'\'', text)?)
 }
 
 /// Returns the first byte of a string, given the text from there to its closing quote, and the length of the

@@ -1,6 +1,6 @@
 //! Where the tokens of a line stand.
 ghost use Rattle.std.specs.Prelude.{◌≡◌, ◌+◌, ◌≤◌, ◌<◌, length, slice_get, IfSome};
-ghost use Rattle.rv_tokens.specs.Tokens.{places};
+ghost use Rattle.rv_tokens.specs.Cuts.{places};
 ghost use Rattle.rv_tokens.specs.Partial.{places_after};
 
 use crate::scan::{front, is_comment};

@@ -4,7 +4,8 @@ ghost use Rattle.std.specs.List.{list_all};
 ghost use Rattle.rv_tokens.specs.Faults.{Gives};
 ghost use Rattle.rv_tokens.specs.Parts.{IsCutInto, OneCut};
 ghost use Rattle.rv_tokens.specs.Partial.{begins_with_name_byte, sign, half, tokens_after};
-ghost use Rattle.rv_tokens.specs.Tokens.{is_name_start, is_name_byte, local, word, front, is_comment, fault_at, tokens};
+ghost use Rattle.rv_tokens.specs.Cuts.{front, tokens};
+ghost use Rattle.rv_tokens.specs.Tokens.{is_name_start, is_name_byte, local, word, is_comment, fault_at};
 
 use crate::literal::{character, first_byte, number, short_decimal};
 use crate::token::{Text, Token};
