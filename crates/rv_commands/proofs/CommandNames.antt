@@ -1,6 +1,6 @@
 -- The control register of a command is the one with its name.
 use Rattle.std.proofs.Common.{◌≡◌, ℕ, ℤ, Bool, true, false, cond, List, [], ◌∷◌, length, refl, sym, subst}
-use Rattle.std.specs.Prelude.{Option, Some, None, IfSome, codes, nat_lt, option_and_then}
+use Rattle.std.specs.Prelude.{Option, Some, None, IfSome, codes, nat_lt, option_and_then, unwrap_or}
 use Rattle.std.specs.Option.{option_map}
 use Rattle.std.specs.Str.{bytes_eq}
 use Rattle.rv_base.specs.Tables.{lookup}
@@ -9,7 +9,7 @@ use Rattle.rv_base.specs.Words.{words, begins_comment}
 use Rattle.rv_base.specs.Limits.{line_limit}
 use Rattle.rv_commands.specs.Addresses.{address_of}
 use Rattle.rv_commands.specs.Named.{IsNamed}
-use Rattle.rv_commands.specs.Commands.{number_between, control_register, alone, counted, with_one, ranged, commands, said_by, command_of}
+use Rattle.rv_commands.specs.Commands.{number_between, command_by, said_by, command_of}
 use Rattle.rv_commands.specs.declared.command.Command.{Command}
 use Rattle.rv_commands.specs.declared.command.Command.TheVariants.{Step, Go, SetBreak, ClearBreak, Registers, ControlRegister, Memory, Instruction, Traps, Edges, Quit, Nothing}
 
@@ -29,74 +29,53 @@ with_two : (command : ℕ → ℕ → Command) (o p : Option ℕ) → ((m n : �
 with_two command None p h = tt
 with_two command (Some m) p h = mapped (command m) p (h m)
 
-alone_named : (command : Command) (ws : List (List ℕ)) → IsNamed command → IfSome (alone command ws) IsNamed
-alone_named command [] h = h
-alone_named command (w ∷ ws) h = tt
-
-with_one_named : {A : Type 0} (command : A → Command) (f : List ℕ → Option A) (ws : List (List ℕ))
-    → ((x : A) → IsNamed (command x)) → IfSome (with_one command f ws) IsNamed
-with_one_named command f [] h = tt
-with_one_named command f (w ∷ []) h = mapped command (f w) h
-with_one_named command f (w ∷ v ∷ ws) h = tt
-
-counted_named : (uncounted : Command) (command : ℕ → Command) (ws : List (List ℕ)) → IsNamed uncounted
-    → ((n : ℕ) → IsNamed (command n)) → IfSome (counted uncounted command ws) IsNamed
-counted_named uncounted command [] h k = h
-counted_named uncounted command (w ∷ ws) h k =
-    with_one_named command (number_between 0 1000000000) (w ∷ ws) k
-
-ranged_named : (symbols : List ℕ → Option ℤ) (ws : List (List ℕ)) → IfSome (ranged symbols ws) IsNamed
-ranged_named symbols [] = tt
-ranged_named symbols (a ∷ []) = tt
-ranged_named symbols (a ∷ n ∷ []) =
-    with_two (λ addr count. Memory addr count) (address_of symbols a) (number_between 1 256 n) (λ m n. tt)
-ranged_named symbols (a ∷ n ∷ w ∷ ws) = tt
-
 register_found : (name : List ℕ) (o : Option ℕ) → lookup name csr_names ≡ o
     → IfSome (option_map (λ csr. ControlRegister name csr) o) IsNamed
 register_found name None e = tt
 register_found name (Some csr) e = e
 
-same_named : (o : Option Command) → IfSome o IsNamed → IfSome (option_map (λ command. command) o) IsNamed
-same_named None h = tt
-same_named (Some x) h = h
-
-register_named : (ws : List (List ℕ)) → IfSome (with_one (λ command. command) control_register ws) IsNamed
-register_named [] = tt
-register_named (name ∷ []) = same_named (control_register name) (register_found name (lookup name csr_names) refl)
-register_named (w ∷ v ∷ ws) = tt
-
 -- one row, or those below it
-found : (b : Bool) (f : List (List ℕ) → Option Command) (ws : List (List ℕ))
-    → (o : Option (List (List ℕ) → Option Command)) → IfSome (f ws) IsNamed
-    → IfSome (option_and_then (λ reads. reads ws) o) IsNamed
-    → IfSome (option_and_then (λ reads. reads ws) (cond b (Some f) o)) IsNamed
-found true f ws o h k = h
-found false f ws o h k = k
+row_named : (b : Bool) (x : Command) (o : Option Command) → IsNamed x → IfSome o IsNamed
+    → IfSome (cond b (Some x) o) IsNamed
+row_named true x o h k = h
+row_named false x o h k = k
 
-row_named : (symbols : List ℕ → Option ℤ) (w : List ℕ) (ws : List (List ℕ))
-    → IfSome (option_and_then (λ reads. reads ws) (lookup w (commands symbols))) IsNamed
-row_named symbols w ws =
-    found (bytes_eq (codes "s") w) _ ws _ (counted_named (Step 1) (λ n. Step n) ws tt (λ n. tt))
-    (found (bytes_eq (codes "c") w) _ ws _ (counted_named (Go None) (λ n. Go (Some n)) ws tt (λ n. tt))
-    (found (bytes_eq (codes "b") w) _ ws _
-    (with_one_named (λ addr. SetBreak addr) (address_of symbols) ws (λ n. tt))
-    (found (bytes_eq (codes "d") w) _ ws _
-    (with_one_named (λ addr. ClearBreak addr) (address_of symbols) ws (λ n. tt))
-    (found (bytes_eq (codes "r") w) _ ws _ (alone_named Registers ws tt)
-    (found (bytes_eq (codes "p") w) _ ws _ (register_named ws)
-    (found (bytes_eq (codes "m") w) _ ws _ (ranged_named symbols ws)
-    (found (bytes_eq (codes "i") w) _ ws _
-    (with_one_named (λ addr. Instruction addr) (address_of symbols) ws (λ n. tt))
-    (found (bytes_eq (codes "t") w) _ ws _ (alone_named Traps ws tt)
-    (found (bytes_eq (codes "e") w) _ ws _
-    (with_one_named (λ source. Edges source) (number_between 24 31) ws (λ n. tt))
-    (found (bytes_eq (codes "q") w) _ ws _ (alone_named Quit ws tt) tt))))))))))
+operand_named : (b : Bool) (x : Option Command) (o : Option (Option Command)) → IfSome x IsNamed
+    → IfSome (unwrap_or o None) IsNamed → IfSome (unwrap_or (cond b (Some x) o) None) IsNamed
+operand_named true x o h k = h
+operand_named false x o h k = k
+
+command_named : (symbols : List ℕ → Option ℤ) (w : List ℕ) (ws : List (List ℕ))
+    → IfSome (command_by symbols w ws) IsNamed
+command_named symbols w [] =
+    row_named (bytes_eq (codes "s") w) (Step 1) _ tt
+    (row_named (bytes_eq (codes "c") w) (Go None) _ tt
+    (row_named (bytes_eq (codes "r") w) Registers _ tt
+    (row_named (bytes_eq (codes "t") w) Traps _ tt
+    (row_named (bytes_eq (codes "q") w) Quit _ tt tt))))
+command_named symbols w (o ∷ []) =
+    operand_named (bytes_eq (codes "s") w) _ _
+    (mapped (λ n. Step n) (number_between 0 1000000000 o) (λ n. tt))
+    (operand_named (bytes_eq (codes "c") w) _ _
+    (mapped (λ n. Go (Some n)) (number_between 0 1000000000 o) (λ n. tt))
+    (operand_named (bytes_eq (codes "b") w) _ _
+    (mapped (λ addr. SetBreak addr) (address_of symbols o) (λ n. tt))
+    (operand_named (bytes_eq (codes "d") w) _ _
+    (mapped (λ addr. ClearBreak addr) (address_of symbols o) (λ n. tt))
+    (operand_named (bytes_eq (codes "p") w) _ _ (register_found o (lookup o csr_names) refl)
+    (operand_named (bytes_eq (codes "i") w) _ _
+    (mapped (λ addr. Instruction addr) (address_of symbols o) (λ n. tt))
+    (operand_named (bytes_eq (codes "e") w) _ _
+    (mapped (λ source. Edges source) (number_between 24 31 o) (λ n. tt)) tt))))))
+command_named symbols w (a ∷ n ∷ []) =
+    either (bytes_eq w (codes "m")) _ None
+    (with_two (λ addr count. Memory addr count) (address_of symbols a) (number_between 1 256 n) (λ m k. tt)) tt
+command_named symbols w (a ∷ n ∷ o ∷ ws) = tt
 
 said_named : (symbols : List ℕ → Option ℤ) (ws : List (List ℕ)) → IfSome (said_by symbols ws) IsNamed
 said_named symbols [] = tt
 said_named symbols (w ∷ ws) =
-    either (begins_comment w) (Some Nothing) _ tt (row_named symbols w ws)
+    either (begins_comment w) (Some Nothing) _ tt (command_named symbols w ws)
 
 line_named : (line : List ℕ) (symbols : List ℕ → Option ℤ) → IfSome (command_of line symbols) IsNamed
 unfolding command_of

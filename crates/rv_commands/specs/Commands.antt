@@ -1,8 +1,9 @@
 -- To audit: public contracts cite this.
 -- The command of each command line, or None if it isn't a command.
 -- The language is this project's own: docs/MONITOR.md.
-use Rattle.std.specs.Prelude.{ℕ, ℤ, List, [], ◌∷◌, length, if◌then◌else◌, nat_le, nat_lt, Option, Some, None, codes, option_and_then}
+use Rattle.std.specs.Prelude.{ℕ, ℤ, List, [], ◌∷◌, length, if◌then◌else◌, nat_le, nat_lt, Option, Some, None, codes, option_and_then, unwrap_or}
 use Rattle.std.specs.Option.{option_map}
+use Rattle.std.specs.Str.{bytes_eq}
 use Rattle.rv_base.specs.Tables.{lookup}
 use Rattle.rv_isa.specs.Names.{csr_names}
 use Rattle.rv_base.specs.Limits.{line_limit}
@@ -12,63 +13,52 @@ use Rattle.rv_commands.specs.Addresses.{address_of}
 use Rattle.rv_commands.specs.declared.command.Command.{Command}
 use Rattle.rv_commands.specs.declared.command.Command.TheVariants.{Step, Go, SetBreak, ClearBreak, Registers, ControlRegister, Memory, Instruction, Traps, Edges, Quit, Nothing}
 
--- ---- the words following the first
+-- ---- operands
 
 -- a decimal number from `low` to `high`
 unfoldable pub number_between : ℕ → ℕ → List ℕ → Option ℕ
 number_between low high word =
     option_and_then (λ n. if nat_le low n then Some n else None) (decimal high word)
 
--- NAME of `p`: a control register
-abbrev pub control_register : List ℕ → Option Command
-control_register name = option_map (λ csr. ControlRegister name csr) (lookup name csr_names)
-
--- no word
-abbrev pub alone : Command → List (List ℕ) → Option Command
-alone command [] = Some command
-alone command _ = None
-
--- one word, which says what it is a command of
-abbrev pub with_one : {A : Type 0} → (A → Command) → (List ℕ → Option A) → List (List ℕ) → Option Command
-with_one command meaning (word ∷ []) = option_map command (meaning word)
-with_one command meaning _ = None
-
--- `[N]`: a number of steps, or nothing
-abbrev pub counted : Command → (ℕ → Command) → List (List ℕ) → Option Command
-counted uncounted command [] = Some uncounted
-counted uncounted command more = with_one command (number_between 0 1000000000) more
-
--- `ADDR N`: an address and a number of bytes
-abbrev pub ranged : (List ℕ → Option ℤ) → List (List ℕ) → Option Command
-ranged symbols (address ∷ n ∷ []) =
+-- `m ADDR N`: an address and a number of bytes
+abbrev pub memory_command : (List ℕ → Option ℤ) → List ℕ → List ℕ → Option Command
+memory_command symbols address n =
     option_and_then (λ addr. option_map (λ count. Memory addr count) (number_between 1 256 n))
     (address_of symbols address)
-ranged symbols _ = None
 
 -- ---- command lines
 
--- the commands by their first word, each with what the words following it may be
-abbrev pub commands : (List ℕ → Option ℤ) → List (List ℕ × (List (List ℕ) → Option Command))
-commands symbols =
-    (codes "s", counted (Step 1) (λ n. Step n))
-    ∷ (codes "c", counted (Go None) (λ n. Go (Some n)))
-    ∷ (codes "b", with_one (λ addr. SetBreak addr) (address_of symbols))
-    ∷ (codes "d", with_one (λ addr. ClearBreak addr) (address_of symbols))
-    ∷ (codes "r", alone Registers)
-    ∷ (codes "p", with_one (λ command. command) control_register)
-    ∷ (codes "m", ranged symbols)
-    ∷ (codes "i", with_one (λ addr. Instruction addr) (address_of symbols))
-    ∷ (codes "t", alone Traps)
-    ∷ (codes "e", with_one (λ source. Edges source) (number_between 24 31))
-    ∷ (codes "q", alone Quit)
+-- the commands of one word
+abbrev pub without_operand : List (List ℕ × Command)
+without_operand =
+    (codes "s", Step 1) ∷ (codes "c", Go None)
+    ∷ (codes "r", Registers) ∷ (codes "t", Traps) ∷ (codes "q", Quit) ∷ []
+
+-- the commands of two words, each with what it is by the second, if that can be read
+abbrev pub with_operand : (List ℕ → Option ℤ) → List ℕ → List (List ℕ × Option Command)
+with_operand symbols word =
+    (codes "s", option_map (λ n. Step n) (number_between 0 1000000000 word))
+    ∷ (codes "c", option_map (λ n. Go (Some n)) (number_between 0 1000000000 word))
+    ∷ (codes "b", option_map (λ addr. SetBreak addr) (address_of symbols word))
+    ∷ (codes "d", option_map (λ addr. ClearBreak addr) (address_of symbols word))
+    ∷ (codes "p", option_map (λ csr. ControlRegister word csr) (lookup word csr_names))
+    ∷ (codes "i", option_map (λ addr. Instruction addr) (address_of symbols word))
+    ∷ (codes "e", option_map (λ source. Edges source) (number_between 24 31 word))
     ∷ []
+
+-- a command by its first word and those following it
+abbrev pub command_by : (List ℕ → Option ℤ) → List ℕ → List (List ℕ) → Option Command
+command_by symbols word [] = lookup word without_operand
+command_by symbols word (operand ∷ []) = unwrap_or (lookup word (with_operand symbols operand)) None
+command_by symbols word (address ∷ n ∷ []) =
+    if bytes_eq word (codes "m") then memory_command symbols address n else None
+command_by symbols word _ = None
 
 -- a line by its words; a blank line or a comment does nothing
 abbrev pub said_by : (List ℕ → Option ℤ) → List (List ℕ) → Option Command
 said_by symbols [] = Some Nothing
 said_by symbols (word ∷ more) =
-    if begins_comment word then Some Nothing
-    else option_and_then (λ reads. reads more) (lookup word (commands symbols))
+    if begins_comment word then Some Nothing else command_by symbols word more
 
 -- a line; a line of more than 1,024 bytes is refused whatever it says
 unfoldable pub command_of : List ℕ → (List ℕ → Option ℤ) → Option Command

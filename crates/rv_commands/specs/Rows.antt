@@ -4,14 +4,25 @@ use Rattle.std.specs.Prelude.{ℕ, ℤ, List, [], ◌∷◌, if◌then◌else◌
 use Rattle.std.specs.Option.{option_map}
 use Rattle.std.specs.Str.{bytes_eq}
 use Rattle.rv_commands.specs.Addresses.{address_of}
-use Rattle.rv_commands.specs.Commands.{number_between, control_register, alone, ranged}
+use Rattle.rv_base.specs.Tables.{lookup}
+use Rattle.rv_isa.specs.Names.{csr_names}
+use Rattle.rv_commands.specs.Commands.{number_between, memory_command}
 use Rattle.rv_commands.specs.declared.command.Command.{Command}
-use Rattle.rv_commands.specs.declared.command.Command.TheVariants.{Step, Go, SetBreak, ClearBreak, Registers, Instruction, Traps, Edges, Quit}
+use Rattle.rv_commands.specs.declared.command.Command.TheVariants.{Step, Go, SetBreak, ClearBreak, Registers, ControlRegister, Instruction, Traps, Edges, Quit}
 
 -- the only word
 abbrev pub only : List (List ℕ) → Option (List ℕ)
 only (word ∷ []) = Some word
 only _ = None
+
+-- a command, if no word follows its first
+abbrev pub alone : Command → List (List ℕ) → Option Command
+alone command [] = Some command
+alone command _ = None
+
+-- the command of a control register
+abbrev pub control_register : List ℕ → Option Command
+control_register name = option_map (λ csr. ControlRegister name csr) (lookup name csr_names)
 
 -- what the only word says
 unfoldable pub number_alone : ℕ → ℕ → List (List ℕ) → Option ℕ
@@ -35,7 +46,8 @@ named more = option_and_then control_register (only more)
 
 -- `m ADDR N`
 unfoldable pub memory : (List ℕ → Option ℤ) → List (List ℕ) → Option Command
-memory symbols more = ranged symbols more
+memory symbols (address ∷ n ∷ []) = memory_command symbols address n
+memory symbols _ = None
 
 -- a command by its first word and the words following it
 unfoldable pub row : (List ℕ → Option ℤ) → List ℕ → List (List ℕ) → Option Command

@@ -2,9 +2,9 @@
 ghost use Rattle.std.specs.Prelude.{◌≡◌, ◌≤◌, ◌<◌, IfSome};
 ghost use Rattle.std.specs.Option.{option_copied};
 ghost use Rattle.rv_base.specs.Words.{words};
-ghost use Rattle.rv_commands.specs.Commands.{number_between, alone, command_of};
+ghost use Rattle.rv_commands.specs.Commands.{number_between, command_of};
 ghost use Rattle.rv_commands.specs.Named.{IsNamed};
-ghost use Rattle.rv_commands.specs.Rows.{only, number_alone, address_alone, steps, going, named, memory, row};
+ghost use Rattle.rv_commands.specs.Rows.{alone, only, number_alone, address_alone, steps, going, named, memory, row};
 
 use crate::address::address;
 use crate::{Command, SymbolLookup};
