@@ -1,4 +1,5 @@
 pub mod Answer
+pub mod Forms
 pub mod Places
 pub mod Registers
 pub mod Memory

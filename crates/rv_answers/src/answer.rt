@@ -1,37 +1,9 @@
 //! The text of an answer.
 use itoa::Buffer;
-use rv_base::{byte_digits, low_word, word_digits};
+use rv_base::{byte_digits, word_digits};
 use rv_isa::{Instr, write_instr};
 use std::alloc::Global;
 use std::marker::Model;
-
-/// Splits a text before the first of a byte, or at its end.
-pub fn cut_at<'a>(text: &'a [u8], sign: u8) -> (&'a [u8], &'a [u8]) {
-    for (place, byte) in text.iter().enumerate() {
-        if *byte == sign {
-            return text.split_at(place);
-        }
-    }
-    text.split_at(text.len())
-}
-
-/// Returns a text without its first byte.
-fn without_first(text: &[u8]) -> &[u8] {
-    text.split_at(text.len().min(1)).1
-}
-
-/// Returns the text with a number, counted from 0, of some with `|` between them, or the last one.
-fn text_at(texts: &[u8], number: u64) -> &[u8] {
-    let mut left = texts;
-    for _ in 0..number {
-        let (_, more) = cut_at(left, b'|');
-        if more.is_empty() {
-            break;
-        }
-        left = without_first(more);
-    }
-    cut_at(left, b'|').0
-}
 
 /// A text that answers are appended to. Where memory runs out it takes nothing more, and remembers that.
 pub struct Answer {
@@ -164,38 +136,6 @@ impl Answer {
     {
         let mut buffer = Buffer::new();
         self.put(buffer.format(number).as_bytes());
-    }
-
-    /// Appends a form with a value in the place of each of its `%`: of `%d` in decimal, of `%x` as a word in
-    /// hexadecimal, and of `%{no|one|more}` the text whose number, from 0, it is, or the last one.
-    pub fn fill(&mut self, form: &str, values: &[u64]) {
-        let mut rest = form.as_bytes();
-        for value in values {
-            rest = self.fill_one(rest, *value);
-        }
-        self.put(rest);
-    }
-
-    /// Appends a form up to its first `%`, with a value in the place of that, and returns what follows.
-    fn fill_one<'a>(&mut self, form: &'a [u8], value: u64) -> &'a [u8] {
-        let (before, from) = cut_at(form, b'%');
-        self.put(before);
-        match from {
-            [_, b'd', rest @ ..] => {
-                self.number(value);
-                rest
-            }
-            [_, b'x', rest @ ..] => {
-                self.word(low_word(value));
-                rest
-            }
-            [_, b'{', rest @ ..] => {
-                let (texts, rest) = cut_at(rest, b'}');
-                self.put(text_at(texts, value));
-                without_first(rest)
-            }
-            _ => from,
-        }
     }
 
     /// Appends `count` spaces.

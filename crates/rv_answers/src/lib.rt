@@ -4,6 +4,7 @@
 
 mod answer;
 mod extent;
+mod forms;
 mod memory;
 mod places;
 mod registers;
@@ -11,7 +12,7 @@ mod rows;
 mod standing;
 mod traps;
 
-pub use answer::{Answer, cut_at};
+pub use answer::Answer;
 pub use extent::{Extent, Format, read_extent};
 pub use memory::{append_bytes_row, append_escaped, append_words_row};
 pub use places::{append_instruction, append_label, append_line_number, line_text};
