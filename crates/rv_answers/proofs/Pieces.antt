@@ -42,7 +42,7 @@ one_more f xs i x a b c e h o p =
 
 -- ---- the texts of the numbers from 0 on
 
-next_text : (f : ℕ → List ℕ) (s n : ℕ)
+pub next_text : (f : ℕ → List ℕ) (s n : ℕ)
     → flat_map f (range_with_len s n) ++ f (s + n) ≡ flat_map f (range_with_len s (suc n))
 next_text f s zero = let same : s + 0 ≡ s = omega arith in ap f same ∙ sym (append-nil (f s))
 next_text f s (suc n) =

@@ -5,3 +5,5 @@ pub mod Registers
 pub mod Memory
 pub mod Standing
 pub mod Traps
+pub mod Control
+pub mod Devices

@@ -3,6 +3,8 @@
 #![tactic(auto)]
 
 mod answer;
+mod control;
+mod devices;
 mod extent;
 mod forms;
 mod memory;
@@ -13,6 +15,8 @@ mod standing;
 mod traps;
 
 pub use answer::Answer;
+pub use control::{append_bits, has_bit};
+pub use devices::{append_controller, append_serial, append_timer};
 pub use extent::{Extent, Format, read_extent};
 pub use memory::{append_bytes_row, append_escaped, append_words_row};
 pub use places::{append_instruction, append_label, append_line_number, line_text};
