@@ -1,6 +1,6 @@
 -- To audit: public contracts cite this.
 -- The rows of memory, as `m` of the lab prints them (this project's own: docs/LAB.md).
-use Rattle.std.specs.Prelude.{ℕ, ◌-◌, ◌*◌, ◌==◌, List, [], ◌∷◌, ◌++◌, codes, find, if◌then◌else◌, length, map, replicate, Option, Some, None, unwrap_or}
+use Rattle.std.specs.Prelude.{ℕ, ◌-◌, ◌*◌, ◌==◌, List, [], ◌∷◌, ◌++◌, codes, drop, find, if◌then◌else◌, length, map, replicate, slice_get, Option, Some, None, is_some, option_and_then, unwrap_or}
 use Rattle.std.specs.Int.{is_in_range}
 use Rattle.std.specs.List.{flat_map}
 use Rattle.std.specs.Option.{option_map, option_map_or}
@@ -32,17 +32,16 @@ word_cell word = codes " " ++ option_map_or (hex 8) word (codes "--------")
 unfoldable pub words_row : ℕ → List (Option ℕ) → List ℕ
 words_row address words = hex 8 address ++ codes ":" ++ flat_map word_cell words ++ codes "\n"
 
--- a byte as it stands in a string: as its escape, or else as a character or its digits
-unfoldable pub escapes : List (ℕ × List ℕ)
+-- what stands for a byte after a backslash
+unfoldable pub escapes : List (List ℕ × ℕ)
 escapes =
-    (10, codes "\\n") ∷ (13, codes "\\r") ∷ (9, codes "\\t") ∷ (0, codes "\\0") ∷ (34, codes "\\\"")
-    ∷ (92, codes "\\\\") ∷ []
+    (codes "n", 10) ∷ (codes "r", 13) ∷ (codes "t", 9) ∷ (codes "0", 0) ∷ (codes "\"", 34) ∷ (codes "\\", 92) ∷ []
 
-abbrev pub other : ℕ → List ℕ
-other byte = if is_in_range 32 126 byte then byte ∷ [] else codes "\\x" ++ hex 2 byte
-
+-- a byte as it stands in a string: as its escape, or else as a character or its digits
 unfoldable pub escaped : ℕ → List ℕ
-escaped byte = option_map_or (λ row. row.1) (find (λ row. row.0 == byte) escapes) (other byte)
+escaped byte =
+    option_map_or (λ row. codes "\\" ++ row.0) (find (λ row. row.1 == byte) escapes)
+    (if is_in_range 32 126 byte then byte ∷ [] else codes "\\x" ++ hex 2 byte)
 
 -- ---- operands
 
@@ -63,7 +62,7 @@ format_of _ = None
 
 -- how many, and how, by the words that follow WHERE: a number may come first
 unfoldable pub extent : List (List ℕ) → Option Extent
-extent [] = Some (record { count = 64; format = Bytes })
-extent (word ∷ more) =
-    option_map_or (λ n. option_map (λ f. record { count = n; format = f }) (format_of more)) (decimal 4096 word)
-    (option_map (λ f. record { count = usual f; format = f }) (format_of (word ∷ more)))
+extent words =
+    let n = option_and_then (decimal 4096) (slice_get words 0) in
+    option_map (λ f. record { count = unwrap_or n (usual f); format = f })
+    (format_of (if is_some n then drop 1 words else words))

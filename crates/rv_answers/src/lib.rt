@@ -18,7 +18,7 @@ pub use answer::Answer;
 pub use control::{append_bits, has_bit};
 pub use devices::{append_controller, append_serial, append_timer};
 pub use extent::{Extent, Format, read_extent};
-pub use memory::{append_bytes_row, append_escaped, append_words_row};
+pub use memory::{append_bytes_row, append_escaped, append_words_row, escapes};
 pub use places::{append_instruction, append_label, append_line_number, line_text};
 pub use registers::{
     Registers, append_changes, append_register, append_registers, append_value, register_name,

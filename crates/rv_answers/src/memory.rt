@@ -1,9 +1,12 @@
 //! Rows of memory: bytes with their characters, and words; and bytes as they stand in a string.
-ghost use Rattle.std.specs.Prelude.{◌≡◌, ◌-◌, ◌*◌, ◌∷◌, ◌++◌, [], codes, length, map, replicate};
+ghost use Rattle.std.specs.Prelude.{◌≡◌, ◌==◌, ◌-◌, ◌*◌, ◌∷◌, ◌++◌, [], codes, find, if◌then◌else◌, length, map, replicate};
+ghost use Rattle.std.specs.Int.{is_in_range};
 ghost use Rattle.std.specs.List.{flat_map};
+ghost use Rattle.std.specs.Option.{option_map};
 ghost use Rattle.rv_base.specs.Digits.{hex};
+ghost use Rattle.rv_base.specs.Tables.{rows};
 ghost use Rattle.rv_answers.specs.Answer.{Appended};
-ghost use Rattle.rv_answers.specs.Memory.{byte_cell, bytes_row, character, escaped, other, word_cell, words_row};
+ghost use Rattle.rv_answers.specs.Memory.{byte_cell, bytes_row, character, escaped, escapes, word_cell, words_row};
 
 use crate::Answer;
 
@@ -108,10 +111,42 @@ pub fn append_words_row(address: u32, words: &[Option<u32>], answer: &mut Answer
     answer.end();
 }
 
-/// Appends a byte that isn't printed as `\x` and its digits.
+/// What stands for a byte after a backslash.
+static ESCAPES: [(&str, u8); 6] = [
+    ("n", b'\n'),
+    ("r", b'\r'),
+    ("t", b'\t'),
+    ("0", 0),
+    ("\"", b'"'),
+    ("\\", b'\\'),
+];
+
+/// Returns what stands for bytes after a backslash, each with its byte.
+#[tactic(auto, unfolding(crate::specs::Memory::escapes))]
+pub fn escapes() -> &'static [(&'static str, u8)]
+    ensures { rows result.now ≡ escapes }
+{
+    &ESCAPES
+}
+
+/// Returns what stands for a byte after a backslash in a table, if it is there.
+fn escape_in(table: &'static [(&'static str, u8)], byte: u8) -> Option<&'static str>
+    ensures { option_map (λ s. s.now) result
+        ≡ option_map (λ row. row.0) (find (λ row. row.1 == byte) (rows table.now)) }
+{
+    let [row, rest @ ..] = table else {
+        return None;
+    };
+    if row.1 == byte {
+        return Some(row.0);
+    }
+    escape_in(rest, byte)
+}
+
+/// Appends a byte that has no escape: as it is, or as `\x` and its digits.
 #[tactic(auto, using(crate::proofs::Pieces::then))]
-fn append_other(byte: u8, answer: &mut Answer)
-    ensures { Appended answer.old answer.new (other byte) }
+fn append_plain(byte: u8, answer: &mut Answer)
+    ensures { Appended answer.old answer.new (if is_in_range 32 126 byte then byte ∷ [] else codes "\\x" ++ hex 2 byte) }
 {
     match byte {
         32..=126 => answer.byte(byte),
@@ -123,17 +158,15 @@ fn append_other(byte: u8, answer: &mut Answer)
 }
 
 /// Appends a byte as it stands in a string of the language.
-#[tactic(auto, unfolding(crate::specs::Memory::escaped, crate::specs::Memory::escapes))]
+#[tactic(auto, using(crate::proofs::Pieces::then), unfolding(crate::specs::Memory::escaped))]
 pub fn append_escaped(byte: u8, answer: &mut Answer)
     ensures { Appended answer.old answer.new (escaped byte) }
 {
-    match byte {
-        b'\n' => answer.say("\\n"),
-        b'\r' => answer.say("\\r"),
-        b'\t' => answer.say("\\t"),
-        0 => answer.say("\\0"),
-        b'"' => answer.say("\\\""),
-        b'\\' => answer.say("\\\\"),
-        _ => append_other(byte, answer),
+    match escape_in(escapes(), byte) {
+        Some(escape) => {
+            answer.say("\\");
+            answer.say(escape);
+        }
+        None => append_plain(byte, answer),
     }
 }
