@@ -14,14 +14,11 @@ mode_text Machine = codes "machine mode"
 unfoldable pub step_text : ℕ → Mode → List ℕ
 step_text steps mode = codes "step " ++ decimal steps ++ codes ", " ++ mode_text mode ++ codes "\n"
 
--- a number of steps, as `1 step` or `2 steps`
-abbrev pub steps_text : ℕ → List ℕ
-steps_text n = decimal n ++ codes " step" ++ (if n == 1 then [] else codes "s")
-
 -- that the board has halted, with this code after these steps
 unfoldable pub halted_text : ℕ → ℕ → List ℕ
 halted_text code steps =
-    codes "halted with code " ++ decimal code ++ codes " after " ++ steps_text steps ++ codes "\n"
+    codes "halted with code " ++ decimal code ++ codes " after "
+    ++ (decimal steps ++ codes " step" ++ (if steps == 1 then [] else codes "s")) ++ codes "\n"
 
 -- `r` ends with pc, the label before it, and the mode
 unfoldable pub pc_text : ℕ → List ℕ → Mode → List ℕ

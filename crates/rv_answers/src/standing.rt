@@ -1,8 +1,9 @@
 //! How a board stands: its steps, its mode, and whether it has halted.
 ghost use Rattle.std.specs.Prelude.{◌==◌, ◌++◌, [], ◌≡◌, codes, if◌then◌else◌};
+ghost use Rattle.std.specs.Fmt.{decimal};
 ghost use Rattle.rv_base.specs.Digits.{hex};
 ghost use Rattle.rv_answers.specs.Answer.{Appended};
-ghost use Rattle.rv_answers.specs.Standing.{halted_text, mode_text, step_text, steps_text};
+ghost use Rattle.rv_answers.specs.Standing.{halted_text, mode_text, step_text};
 
 use crate::Answer;
 use rv_pmp::Mode;
@@ -51,7 +52,8 @@ fn append_plural(count: u64, answer: &mut Answer)
 /// Appends a number of steps.
 #[tactic(auto, using(crate::proofs::Pieces::then))]
 fn append_steps(steps: u64, answer: &mut Answer)
-    ensures { Appended answer.old answer.new (steps_text steps) }
+    ensures { Appended answer.old answer.new (decimal steps ++ codes " step"
+        ++ (if steps == 1 then [] else codes "s")) }
 {
     answer.number(steps);
     answer.say(" step");
