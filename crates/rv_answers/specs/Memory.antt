@@ -45,18 +45,13 @@ escaped byte =
 
 -- ---- operands
 
--- how memory is shown
-unfoldable pub formats : List (List ℕ × Format)
-formats = (codes "w", Words) ∷ (codes "t", Text) ∷ (codes "b", Bytes) ∷ []
-
--- how many are shown where no number is given
-abbrev pub usual : Format → ℕ
-usual Words = 16
-usual _ = 64
+-- how memory is shown, with how many bytes or words where no number is given
+unfoldable pub formats : List (List ℕ × (Format × ℕ))
+formats = (codes "w", (Words, 16)) ∷ (codes "t", (Text, 64)) ∷ (codes "b", (Bytes, 64)) ∷ []
 
 -- how, by the only word, or as bytes
-abbrev pub format_of : List (List ℕ) → Option Format
-format_of [] = Some Bytes
+abbrev pub format_of : List (List ℕ) → Option (Format × ℕ)
+format_of [] = Some (Bytes, 64)
 format_of (word ∷ []) = lookup word formats
 format_of _ = None
 
@@ -64,5 +59,5 @@ format_of _ = None
 unfoldable pub extent : List (List ℕ) → Option Extent
 extent words =
     let n = option_and_then (decimal 4096) (slice_get words 0) in
-    option_map (λ f. record { count = unwrap_or n (usual f); format = f })
+    option_map (λ f. record { count = unwrap_or n f.1; format = f.0 })
     (format_of (if is_some n then drop 1 words else words))

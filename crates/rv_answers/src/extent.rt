@@ -2,7 +2,7 @@
 ghost use Rattle.std.specs.Prelude.{◌≡◌, ◌≤◌, IfSome};
 ghost use Rattle.rv_base.specs.Tables.{lookup};
 ghost use Rattle.rv_base.specs.Words.{words};
-ghost use Rattle.rv_answers.specs.Memory.{extent, format_of, formats, usual};
+ghost use Rattle.rv_answers.specs.Memory.{extent, format_of, formats};
 
 use rv_base::{decimal, first_word, has_word, look_up};
 
@@ -24,43 +24,34 @@ pub struct Extent {
     pub format: Format,
 }
 
-/// The words for how memory is shown.
-static FORMATS: [(&str, Format); 3] = [
-    ("w", Format::Words),
-    ("t", Format::Text),
-    ("b", Format::Bytes),
+/// The words for how memory is shown, with how many bytes or words are shown where no number is given.
+static FORMATS: [(&str, (Format, u64)); 3] = [
+    ("w", (Format::Words, 16)),
+    ("t", (Format::Text, 64)),
+    ("b", (Format::Bytes, 64)),
 ];
 
-/// Returns how memory is shown, by its word.
-#[tactic(auto, unfolding(crate::specs::Memory::formats))]
-fn format_named(word: &[u8]) -> Option<Format>
-    ensures { result ≡ lookup word.now formats }
+/// Returns how memory is shown, by its word, and how many bytes or words where no number is given.
+#[tactic(auto, unfolding(crate::specs::Memory::formats), using(crate::proofs::Formats::few))]
+fn format_named(word: &[u8]) -> Option<(Format, u64)>
+    ensures value { result ≡ lookup word.now formats }
+    ensures most { IfSome result (λ f. f.1 ≤ 64) }
 {
     look_up(&FORMATS, word)
 }
 
 /// Reads how memory is shown, by the only word of a text.
-fn read_format(text: &[u8]) -> Option<Format>
-    ensures { result ≡ format_of (words text.now) }
+fn read_format(text: &[u8]) -> Option<(Format, u64)>
+    ensures value { result ≡ format_of (words text.now) }
+    ensures most { IfSome result (λ f. f.1 ≤ 64) }
 {
     let Some((word, rest)) = first_word(text) else {
-        return Some(Format::Bytes);
+        return Some((Format::Bytes, 64));
     };
     if has_word(rest) {
         return None;
     }
     format_named(word)
-}
-
-/// Returns how many bytes or words are shown where no number is given.
-fn usual(format: Format) -> u64
-    ensures value { result ≡ usual format }
-    ensures most { result ≤ 64 }
-{
-    match format {
-        Format::Words => 16,
-        _ => 64,
-    }
 }
 
 /// Reads how many bytes or words are shown, and how.
@@ -72,12 +63,9 @@ pub fn read_extent(text: &[u8]) -> Option<Extent>
     if let Some((word, rest)) = first_word(text)
         && let Some(count) = decimal(MOST_BYTES, word)
     {
-        let format = read_format(rest)?;
+        let (format, _) = read_format(rest)?;
         return Some(Extent { count, format });
     }
-    let format = read_format(text)?;
-    Some(Extent {
-        count: usual(format),
-        format,
-    })
+    let (format, count) = read_format(text)?;
+    Some(Extent { count, format })
 }
