@@ -1,5 +1,5 @@
 -- What is kept by every instruction, if those keep it that can change the mode or a control register.
-use Rattle.std.proofs.Common.{◌≡◌, ℕ, ◌*◌, ◌/◌, ◌%◌, ◌==◌, Option, Some, None, Ok, Err, Bool, true, false, refl}
+use Rattle.std.proofs.Common.{◌≡◌, ℕ, ◌*◌, ◌/◌, ◌%◌, ◌==◌, Option, Some, None, Ok, Err, Bool, true, false, refl, subst, sym}
 use Rattle.std.specs.Prelude.{◌||◌, not, if◌then◌else◌}
 use Rattle.rv_isa.specs.Word.{word}
 use Rattle.rv_isa.specs.Width.{bytes_of, load_width}
@@ -16,6 +16,7 @@ use Rattle.rv_bus.specs.Access.{load, store}
 use Rattle.rv_hart.specs.State as state
 use Rattle.rv_hart.specs.Effect.{Effect, effect, execute, load_value, plus, reg, require}
 use Rattle.rv_hart.specs.EffectParts.{at_next, branch_effect, exchange_effect, jump_effect, load_effect, load_result, misaligned_load, misaligned_store, next, refused_load, refused_store, registers_with, return_effect, store_effect, store_result, wait_effect, with_result, may_access}
+use Rattle.rv_hart.proofs.Exchanged.{exchange_is}
 
 -- a fact of the machine after an instruction that retires
 abbrev pub IfRetired : (state.Machine → Type 0) → Effect → Type 0
@@ -82,8 +83,12 @@ module _ (m : state.Machine) (P : state.Machine → Type 0)
       branches (is_taken cond (reg m rs1) (reg m rs2)) (plus m.pc offset)
   rows registers returns (Load op rd base offset) = loads op rd (plus (reg m base) offset)
   rows registers returns (Store w source base offset) = stores w (plus (reg m base) offset) (reg m source)
-  rows registers returns (Csr op rd rs1 csr) = registers (Csr op rd rs1 csr) op rs1 (reg m rs1) rd csr
-  rows registers returns (CsrImm op rd imm csr) = registers (CsrImm op rd imm csr) op imm imm rd csr
+  rows registers returns (Csr op rd rs1 csr) =
+      subst (IfRetired P) (sym (exchange_is (Csr op rd rs1 csr) m (reg m rs1) rd csr op rs1))
+      (registers (Csr op rd rs1 csr) op rs1 (reg m rs1) rd csr)
+  rows registers returns (CsrImm op rd imm csr) =
+      subst (IfRetired P) (sym (exchange_is (CsrImm op rd imm csr) m imm rd csr op imm))
+      (registers (CsrImm op rd imm csr) op imm imm rd csr)
   rows registers returns Ecall = tt
   rows registers returns Ebreak = tt
   rows registers returns Mret = returns

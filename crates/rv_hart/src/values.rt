@@ -4,7 +4,8 @@ ghost use Rattle.std.specs.Prelude.{◌≡◌, ◌+◌, ◌%◌, ◌^◌, ◌==�
 ghost use Rattle.rv_isa.specs.Number.{modulo};
 ghost use Rattle.rv_isa.specs.Word as spec;
 ghost use Rattle.rv_csr.specs.Registers.{level};
-ghost use Rattle.rv_hart.specs.Effect.{plus, load_value, is_write, csr_value, csr_written};
+ghost use Rattle.rv_hart.specs.Effect.{plus, load_value, csr_written};
+ghost use Rattle.rv_hart.specs.EffectParts.{is_write, csr_value};
 
 use crate::trap::Trap;
 use rv_isa::{AluOp, CsrOp, Instr, Kind, LoadOp, alu, encode};
@@ -55,7 +56,7 @@ pub(crate) fn csr_value(op: CsrOp, old: u32, operand: u32) -> u32
 }
 
 /// Returns the address of the control register that an instruction writes when it retires, if any.
-#[tactic(auto, unfolding(crate::specs::Effect::csr_written))]
+#[tactic(auto, using(crate::proofs::Exchanged::written), unfolding(crate::specs::Effect::csr_written))]
 pub(crate) fn csr_written_by(instr: Instr) -> Option<u16>
     ensures { result ≡ csr_written instr }
 {

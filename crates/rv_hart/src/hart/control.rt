@@ -4,8 +4,8 @@ ghost use Rattle.rv_isa.specs.Word as spec;
 ghost use Rattle.rv_isa.specs.declared.kind.Kind.{Kind};
 ghost use Rattle.rv_csr.specs.Registers as registers;
 ghost use Rattle.rv_pmp.specs.Pmp.{WritesOrRefuses};
-ghost use Rattle.rv_hart.specs.Effect.{reg};
-ghost use Rattle.rv_hart.specs.EffectParts.{exchange_effect, return_effect, wait_effect};
+ghost use Rattle.rv_hart.specs.Effect.{csr_change, exchange, reg};
+ghost use Rattle.rv_hart.specs.EffectParts.{at_next, exchange_effect, return_effect, wait_effect};
 ghost use Rattle.rv_hart.specs.StepParts.{Does};
 
 use super::Hart;
@@ -35,6 +35,7 @@ struct Exchange {
 impl<M: ByteMemory, C: Decoded> Hart<M, C> {
     /// Executes an instruction on a control register whose operand is in a register.
     #[inline(always)]
+    #[tactic(auto, using(crate::proofs::Exchanged::exchange_is))]
     pub(super) fn exchange_register(
         &mut self,
         instr: Instr,
@@ -43,7 +44,8 @@ impl<M: ByteMemory, C: Decoded> Hart<M, C> {
         rs1: Reg,
         csr: u16,
     ) -> Result<(), Trap>
-        ensures { Does self.old self.new result (exchange_effect instr self.old.machine op rs1 (reg self.old.machine rs1) rd csr) }
+        ensures { Does self.old self.new result
+            (exchange instr (at_next self.old.machine) (csr_change op rs1) (reg self.old.machine rs1) rd csr) }
     {
         let exchange = Exchange {
             op,
@@ -58,6 +60,7 @@ impl<M: ByteMemory, C: Decoded> Hart<M, C> {
 
     /// Executes an instruction on a control register whose operand is a number of its own.
     #[inline(always)]
+    #[tactic(auto, using(crate::proofs::Exchanged::exchange_is))]
     pub(super) fn exchange_number(
         &mut self,
         instr: Instr,
@@ -66,7 +69,8 @@ impl<M: ByteMemory, C: Decoded> Hart<M, C> {
         number: u8,
         csr: u16,
     ) -> Result<(), Trap>
-        ensures { Does self.old self.new result (exchange_effect instr self.old.machine op number number rd csr) }
+        ensures { Does self.old self.new result
+            (exchange instr (at_next self.old.machine) (csr_change op number) number rd csr) }
     {
         let exchange = Exchange {
             op,
