@@ -41,6 +41,10 @@ IsUnreadable r =
 
 -- ---- a writer
 
--- the writer took a beginning of the text
+-- the writer took the whole text, and did not fail
+abbrev pub Wrote : Side → List ℕ → Type 0
+Wrote w text = Appends w.old w.new text × (w.failed ≡ false)
+
+-- the writer took a beginning of the text, and failed
 abbrev pub WroteBeginning : Side → List ℕ → Type 0
-WroteBeginning writer text = (count : ℕ) × Appends writer.old writer.new (take count text)
+WroteBeginning w text = (count : ℕ) × Appends w.old w.new (take count text) × (w.failed ≡ true)
