@@ -15,7 +15,7 @@ use Rattle.clap.specs.declared.parser.matches.ValueSource.TheVariants.{DefaultVa
 use Rattle.rv_words.specs.Board.{OptionName, board_app, commands, input, name_of, pages, range_of, slots, steps}
 use Rattle.rv_words.specs.Read.{number_of}
 use Rattle.rv_words.specs.Parts.{ReadByRules, all_words, is_new, number_in, given_by, value_in}
-use Rattle.rv_words.specs.Rules.{Part, Says, are_new, is_allowed, is_plain, is_readable, named, source, words_of}
+use Rattle.rv_words.specs.Rules.{Part, Says, are_new, is_allowed, is_value, is_readable, named, source, words_of}
 use Rattle.rv_words.proofs.Rules.{absent, any_more, arguments, between, both, has_rows, has_source, holding, holding_rows, holding_source, joined_walked, name_walked, no_flag, not_source, or_false, or_true, parts_are_taken, position_of, row_added, row_for, rows_in, rule_for, rule_of, same_words, shape, source_rows, source_rule_built, source_used, source_walked, value_walked}
 
 -- ---- the rows at the end of the walk
@@ -44,7 +44,7 @@ rows_walked (source text ∷ more) before h true readable rows was fresh =
     (both (not (has_source before)) (are_new (before ++ source text ∷ []) more) fresh).0 in
     absurd cc
 rows_walked (source text ∷ more) before h false readable rows was fresh =
-    let r = both (is_plain text) (list_all is_readable more) readable in
+    let r = both (is_value text) (list_all is_readable more) readable in
     let f = both (not (has_source before)) (are_new (before ++ source text ∷ []) more) fresh in
     let none : has_row (codes "source") (map row_for before) ≡ false =
     has_rows (codes "source") before ∙ fresh_by (has_source before) f.0 in
@@ -56,7 +56,7 @@ rows_walked (source text ∷ more) before h false readable rows was fresh =
     ∙ or_true (has_source before))) f.1
     ∙ ap (map row_for) (append_assoc before (source text ∷ []) more))
 rows_walked (named o false value ∷ more) before h g readable rows was fresh =
-    let r = both (is_plain value) (list_all is_readable more) readable in
+    let r = both (is_value value) (list_all is_readable more) readable in
     let f = both (is_new before (named o false value)) (are_new (before ++ named o false value ∷ []) more) fresh in
     let none : has_row (name_of o) (map row_for before) ≡ false =
     has_rows (name_of o) before

@@ -14,7 +14,7 @@ use Rattle.rv_words.specs.Board.{OptionName, board_app, commands, input, name_of
 use Rattle.rv_words.specs.Chain.{input_rule, commands_rule, steps_rule, pages_rule, slots_rule}
 use Rattle.rv_words.proofs.BoardParse.{board_simple}
 use Rattle.rv_words.specs.Parts.{TakenByRules, all_words, may_be, given_by, value_in}
-use Rattle.rv_words.specs.Rules.{Part, are_new, is_allowed, is_plain, is_readable, named, source, words_of}
+use Rattle.rv_words.specs.Rules.{Part, are_new, is_allowed, is_value, is_readable, named, source, words_of}
 
 -- ---- tests
 
@@ -143,7 +143,7 @@ no_flag_by : (x y : ℕ) (more : Text) (t : Bool) → (x == 45) ≡ t → ((t &&
 no_flag_by x y more true is plain = absurd cc
 no_flag_by x y more false is plain = record { long = rw is refl; short = rw is refl; dashes = rw is refl }
 
-pub no_flag : (word : Text) → is_plain word ≡ true → IsNoFlag word
+pub no_flag : (word : Text) → is_value word ≡ true → IsNoFlag word
 no_flag [] plain = record { long = refl; short = refl; dashes = refl }
 no_flag (x ∷ []) plain = no_flag_alone x (x == 45) refl
 no_flag (x ∷ y ∷ more) plain = no_flag_by x y more (x == 45) refl plain
@@ -254,12 +254,12 @@ walk_parts : (parts : List Part) (h : Held) (given : Bool) → list_all is_reada
 unfolding walk_passes
 walk_parts [] h given readable = sym (and_true (is_settled h))
 walk_parts (source text ∷ more) h true readable =
-    let plain = no_flag text (both (is_plain text) (list_all is_readable more) readable).0 in
+    let plain = no_flag text (both (is_value text) (list_all is_readable more) readable).0 in
     one_more (between h 2) (walked shape.rules [] (between h 2) text) text (all_words more) false
     (second_turn text h plain) refl
     ∙ sym (and_false (is_settled h))
 walk_parts (source text ∷ more) h false readable =
-    let b = both (is_plain text) (list_all is_readable more) readable in
+    let b = both (is_value text) (list_all is_readable more) readable in
     let plain = no_flag text b.0 in
     one_more (between h 1) (between (holding_source text h) 2) text (all_words more) (is_settled h)
     (source_turn text h plain) (source_walked text h plain)
@@ -268,7 +268,7 @@ walk_parts (source text ∷ more) h false readable =
     ∙ ap (λ rows. use_of source_rule_built text (rows_in h) && uses_pass more rows true)
     (source_rows text h))))
 walk_parts (named o false value ∷ more) h given readable =
-    let b = both (is_plain value) (list_all is_readable more) readable in
+    let b = both (is_value value) (list_all is_readable more) readable in
     let plain = no_flag value b.0 in
     one_more (between h (position_of given)) (waiting_for o h (position_of given)) (codes "--" ++ name_of o)
     (value ∷ all_words more) (is_settled h && true)

@@ -9,11 +9,7 @@ use Rattle.clap.specs.declared.builder.value_parser.ValueParser.TheVariants.{Sig
 -- ---- the options
 
 pub data OptionName : Type 0 where
-  input : OptionName
-  commands : OptionName
-  steps : OptionName
-  pages : OptionName
-  slots : OptionName
+  input commands steps pages slots : OptionName
 
 -- decimal numbers, with the one that stands for an option that isn't given
 pub record Range : Type 0 where
@@ -22,18 +18,18 @@ pub record Range : Type 0 where
   pub default : Text
 
 -- a row an option: its name, and the numbers that it takes, if it doesn't take the path of a file
-abbrev pub row_of : OptionName → Text × Option Range
-row_of input = (codes "input", None)
-row_of commands = (codes "commands", None)
-row_of steps = (codes "steps", Some (record { least = 0; most = 1000000000; default = codes "1000000" }))
-row_of pages = (codes "pages", Some (record { least = 1; most = 4096; default = codes "256" }))
-row_of slots = (codes "slots", Some (record { least = 64; most = 4096; default = codes "1024" }))
+abbrev pub option_row : OptionName → Text × Option Range
+option_row input = (codes "input", None)
+option_row commands = (codes "commands", None)
+option_row steps = (codes "steps", Some (record { least = 0; most = 1000000000; default = codes "1000000" }))
+option_row pages = (codes "pages", Some (record { least = 1; most = 4096; default = codes "256" }))
+option_row slots = (codes "slots", Some (record { least = 64; most = 4096; default = codes "1024" }))
 
 abbrev pub name_of : OptionName → Text
-name_of o = (row_of o).0
+name_of o = (option_row o).0
 
 abbrev pub range_of : OptionName → Option Range
-range_of o = (row_of o).1
+range_of o = (option_row o).1
 
 -- ---- their rules
 

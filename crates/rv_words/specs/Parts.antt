@@ -9,7 +9,7 @@ use Rattle.clap.specs.ValueTests.{is_signed_in}
 use Rattle.clap.specs.Words.{Row, Text, fault_of, first_of, matches_of, takes, without_minus}
 use Rattle.clap.specs.declared.error.kind.ErrorKind.TheVariants.{DisplayHelp}
 use Rattle.rv_words.specs.Board.{OptionName, board_app, name_of, range_of}
-use Rattle.rv_words.specs.Rules.{Part, Says, are_new, given, is_allowed, is_readable, said, words_of}
+use Rattle.rv_words.specs.Rules.{Part, Says, are_new, text_for, is_allowed, is_readable, gives, words_of}
 
 abbrev pub all_words : List Part → List Text
 all_words [] = []
@@ -17,10 +17,10 @@ all_words (part ∷ more) = words_of part ++ all_words more
 
 -- what a part gives, and the text that it gives
 abbrev pub given_by : Part → Text
-given_by part = (said part).0
+given_by part = (gives part).0
 
 abbrev pub value_in : Part → Text
-value_in part = (said part).1
+value_in part = (gives part).1
 
 -- whether an option may have a value
 abbrev pub may_be : OptionName → Text → Bool
@@ -38,7 +38,7 @@ number_in value = digits_value 10 (without_leading_plus (without_minus value))
 
 -- what parts give for each argument: where none gives the source, it is `-`
 pub record ReadsAs (parts : List Part) (rows : List Row) : Type 0 where
-  pub source : first_of (codes "source") rows ≡ Some (unwrap_or (given (codes "source") parts) (codes "-"))
+  pub source : first_of (codes "source") rows ≡ Some (unwrap_or (text_for (codes "source") parts) (codes "-"))
   pub options : (o : OptionName) → Says (range_of o) (name_of o) parts rows
 
 abbrev pub TakenByRules : Type 0

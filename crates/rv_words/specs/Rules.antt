@@ -24,13 +24,13 @@ words_of (named name false value) = (codes "--" ++ name_of name) ∷ value ∷ [
 words_of (named name true value) = (codes "--" ++ (name_of name ++ (codes "=" ++ value))) ∷ []
 
 -- whether a word is no option: it is `-`, or doesn't begin with `-`
-abbrev pub is_plain : Text → Bool
-is_plain word = bytes_eq word (codes "-") || not (slice_index word 0 == 45)
+abbrev pub is_value : Text → Bool
+is_value word = bytes_eq word (codes "-") || not (slice_index word 0 == 45)
 
 -- whether the words are read as this part: a source, and a value in a word of its own, is no option
 abbrev pub is_readable : Part → Bool
-is_readable (source text) = is_plain text
-is_readable (named name is_joined value) = is_joined || is_plain value
+is_readable (source text) = is_value text
+is_readable (named name is_joined value) = is_joined || is_value value
 
 -- ---- when they are taken
 
@@ -42,27 +42,27 @@ is_allowed (named name is_joined value) =
     option_map_or (λ r. is_signed_in (pos r.least) (pos r.most) value) (range_of name) true
 
 -- what a part gives, the source or an option, and the text that it gives for it
-abbrev pub said : Part → Text × Text
-said (source text) = (codes "source", text)
-said (named name is_joined value) = (name_of name, value)
+abbrev pub gives : Part → Text × Text
+gives (source text) = (codes "source", text)
+gives (named name is_joined value) = (name_of name, value)
 
 -- whether each part gives what none before it does
 abbrev pub are_new : List Part → List Part → Bool
 are_new before [] = true
 are_new before (part ∷ more) =
-    not (list_any (λ other. bytes_eq (said other).0 (said part).0) before)
+    not (list_any (λ other. bytes_eq (gives other).0 (gives part).0) before)
     && are_new (before ++ part ∷ []) more
 
 -- ---- what they then mean
 
 -- the text that is given for an argument, if any part gives one
-abbrev pub given : Text → List Part → Option Text
-given id parts = option_map (λ part. (said part).1) (find (λ part. bytes_eq (said part).0 id) parts)
+abbrev pub text_for : Text → List Part → Option Text
+text_for id parts = option_map (λ part. (gives part).1) (find (λ part. bytes_eq (gives part).0 id) parts)
 
 -- what parts give for an option: a file, if any gives one, or a number, with a sign or none, or else its
 -- default
 abbrev pub Says : Option Range → Text → List Part → List Row → Type 0
-Says None name parts rows = first_of name rows ≡ given name parts
+Says None name parts rows = first_of name rows ≡ text_for name parts
 Says (Some r) name parts rows =
     number_of name rows
-    ≡ digits_value 10 (without_leading_plus (without_minus (unwrap_or (given name parts) r.default)))
+    ≡ digits_value 10 (without_leading_plus (without_minus (unwrap_or (text_for name parts) r.default)))

@@ -5,7 +5,7 @@ use Rattle.clap.specs.declared.error.kind.ErrorKind.{ErrorKind}
 use Rattle.clap.specs.declared.error.kind.ErrorKind.TheVariants.{DisplayHelp, OutOfMemory}
 
 -- by the kind of clap's error: help was asked for, memory ran out, or the words are refused
-abbrev pub status_of : ErrorKind → ℕ
-status_of DisplayHelp = 0
-status_of OutOfMemory = 4
-status_of kind = 3
+abbrev pub status_of_error : ErrorKind → ℕ
+status_of_error DisplayHelp = 0
+status_of_error OutOfMemory = 4
+status_of_error kind = 3

@@ -5,7 +5,7 @@ ghost use Rattle.clap.specs.Faults.{is_simple_and_free};
 ghost use Rattle.clap.specs.Words.{Text, fault_of, first_of, matches_of, takes};
 ghost use Rattle.clap.specs.declared.error.kind.ErrorKind.TheVariants.{DisplayHelp};
 ghost use Rattle.rv_words.specs.Board.{OptionName, board_app, name_of, range_of};
-ghost use Rattle.rv_words.specs.Rules.{Part, Says, are_new, given, is_allowed, is_readable, words_of};
+ghost use Rattle.rv_words.specs.Rules.{Part, Says, are_new, text_for, is_allowed, is_readable, words_of};
 
 /// Law: the command is one of those of which `clap`'s meaning says the matches and the errors. So what
 /// `read_words` ensures by them says something of all words.
@@ -34,7 +34,7 @@ pub fn words_are_read_by_rules()
     ensures source { (program : Text) (parts : List Part) → list_all is_readable parts ≡ true
         → takes board_app (program ∷ flat_map words_of parts) ≡ true
         → first_of (codes "source") (matches_of board_app (program ∷ flat_map words_of parts))
-        ≡ Some (unwrap_or (given (codes "source") parts) (codes "-")) }
+        ≡ Some (unwrap_or (text_for (codes "source") parts) (codes "-")) }
     ensures options { (program : Text) (parts : List Part) → list_all is_readable parts ≡ true
         → takes board_app (program ∷ flat_map words_of parts) ≡ true
         → (o : OptionName) → Says (range_of o) (name_of o) parts
