@@ -8,7 +8,7 @@ use Rattle.rv_lists.specs.declared.input.Input.{Input}
 use Rattle.rv_lists.specs.declared.input.Input.TheVariants.{Rx, Line}
 use Rattle.rv_lists.specs.declared.input.TimedInput.{TimedInput}
 use Rattle.rv_base.specs.Numbers.{hex_byte}
-use Rattle.rv_lists.specs.Timed.{all_of, byte_input, received, source_of, level_of, driven, inputs_of, at, never_falls}
+use Rattle.rv_lists.specs.Timed.{all_of, byte_input, received, source_of, level_of, driven, inputs_of, at_step, never_falls}
 use Rattle.rv_lists.specs.Reading.{joined, latest_step, with_inputs, with_line, inputs_by}
 
 pub latest_is : (xs : List TimedInput) (d : TimedInput) → 0 < length xs
@@ -33,7 +33,7 @@ with_pushed : (before : List TimedInput) (step b : ℕ) (r : Option (List Input)
     → with_inputs (before ++ record { step = step; input = Rx b } ∷ []) step r
     ≡ with_inputs before step (option_map (λ zs. Rx b ∷ zs) r)
 with_pushed before step b (Some is) =
-    ap (λ x. Some x) (append_assoc before (record { step = step; input = Rx b } ∷ []) (at step is))
+    ap (λ x. Some x) (append_assoc before (record { step = step; input = Rx b } ∷ []) (at_step step is))
 with_pushed before step b None = refl
 
 pub received_more : (before : List TimedInput) (step b : ℕ) (w : List ℕ) (ws words : List (List ℕ))
@@ -79,7 +79,7 @@ and_true : (a : Bool) → (a && true) ≡ a
 and_true true = refl
 and_true false = refl
 
-at_once : (step : ℕ) (is : List Input) → never_falls (at step is) ≡ true
+at_once : (step : ℕ) (is : List Input) → never_falls (at_step step is) ≡ true
 unfolding never_falls
 at_once step [] = refl
 at_once step (i ∷ []) = refl
@@ -87,7 +87,7 @@ at_once step (i ∷ j ∷ is) = rw (level step step (omega arith)) (at_once step
 
 -- whether the steps fall depends only on the last input before and the first input after
 falls_between : (before : List TimedInput) (step : ℕ) (i : Input) (is : List Input)
-    → never_falls before ≡ true → never_falls (before ++ at step (i ∷ is)) ≡ nat_le (latest_step before) step
+    → never_falls before ≡ true → never_falls (before ++ at_step step (i ∷ is)) ≡ nat_le (latest_step before) step
 unfolding never_falls
 falls_between [] step i is h = at_once step (i ∷ is) ∙ sym (level 0 step (omega arith))
 falls_between (x ∷ []) step i is h =
@@ -107,7 +107,7 @@ with_line-nothing before r h e = rw (e, append-nil, h) refl
 module _ (before : List TimedInput) (rising : never_falls before ≡ true) (step : ℕ) where
   pub with_line-step : nat_lt step (latest_step before) ≡ false → (r : Option (List Input))
       → ((is : List Input) → r ≡ Some is → 0 < length is)
-      → with_line before (option_map (at step) r) ≡ with_inputs before step r
+      → with_line before (option_map (at_step step) r) ≡ with_inputs before step r
   with_line-step le None some = refl
   with_line-step le (Some []) some = absurd (omega (arith, some [] refl))
   with_line-step le (Some (i ∷ is)) some =
@@ -118,7 +118,7 @@ module _ (before : List TimedInput) (rising : never_falls before ≡ true) (step
       ) refl
 
   pub with_line-fallen : nat_lt step (latest_step before) ≡ true → (r : Option (List Input))
-      → ((is : List Input) → r ≡ Some is → 0 < length is) → with_line before (option_map (at step) r) ≡ None
+      → ((is : List Input) → r ≡ Some is → 0 < length is) → with_line before (option_map (at_step step) r) ≡ None
   with_line-fallen lt None some = refl
   with_line-fallen lt (Some []) some = absurd (omega (arith, some [] refl))
   with_line-fallen lt (Some (i ∷ is)) some =

@@ -10,7 +10,7 @@ use Rattle.rv_lists.specs.declared.input.Input.{Input}
 use Rattle.rv_lists.specs.declared.input.TimedInput.{TimedInput}
 use Rattle.rv_lists.specs.Text.{HasSteps}
 use Rattle.rv_lists.specs.Reading.{joined}
-use Rattle.rv_lists.specs.Timed.{at, all_of, step_of, inputs_of, said_by, said, never_falls, timed}
+use Rattle.rv_lists.specs.Timed.{at_step, all_of, step_of, inputs_of, timed_words, timed_line, never_falls, timed}
 
 and_both : (a b c : Bool) → (a && (b && c)) ≡ true → c ≡ true
 and_both true true c h = h
@@ -44,38 +44,38 @@ step_small word n h = step_by (nat_le (length word) 10) word n h
 
 -- ---- the inputs of a line
 
-at_small : (step : ℕ) (is : List Input) → nat_le step 9999999999 ≡ true → HasSteps (at step is)
+at_small : (step : ℕ) (is : List Input) → nat_le step 9999999999 ≡ true → HasSteps (at_step step is)
 at_small step [] h = refl
 at_small step (i ∷ is) h =
-    both (nat_le step 9999999999) (list_all (λ x. nat_le x.step 9999999999) (at step is)) h
+    both (nat_le step 9999999999) (list_all (λ x. nat_le x.step 9999999999) (at_step step is)) h
     (at_small step is h)
 
 timed_by : (step : Option ℕ) (is : Option (List Input)) (xs : List TimedInput)
     → ((n : ℕ) → step ≡ Some n → nat_le n 9999999999 ≡ true)
-    → option_and_then (λ n. option_map (at n) is) step ≡ Some xs → HasSteps xs
+    → option_and_then (λ n. option_map (at_step n) is) step ≡ Some xs → HasSteps xs
 timed_by None is xs small h = absurd cc
 timed_by (Some n) None xs small h = absurd cc
 timed_by (Some n) (Some is) xs small h =
-    let same : at n is ≡ xs = cc in rw (← same) (at_small n is (small n refl))
+    let same : at_step n is ≡ xs = cc in rw (← same) (at_small n is (small n refl))
 
 words_by : (comment : Bool) (step : Option ℕ) (is : Option (List Input)) (xs : List TimedInput)
     → ((n : ℕ) → step ≡ Some n → nat_le n 9999999999 ≡ true)
-    → cond comment (Some []) (option_and_then (λ n. option_map (at n) is) step) ≡ Some xs → HasSteps xs
+    → cond comment (Some []) (option_and_then (λ n. option_map (at_step n) is) step) ≡ Some xs → HasSteps xs
 words_by true step is xs small h = let same : [] ≡ xs = cc in rw (← same) refl
 words_by false step is xs small h = timed_by step is xs small h
 
-said_by_small : (ws : List (List ℕ)) (xs : List TimedInput) → said_by ws ≡ Some xs → HasSteps xs
+said_by_small : (ws : List (List ℕ)) (xs : List TimedInput) → timed_words ws ≡ Some xs → HasSteps xs
 said_by_small [] xs h = let same : [] ≡ xs = cc in rw (← same) refl
 said_by_small (w ∷ ws) xs h =
     words_by (begins_comment w) (step_of w) (inputs_of ws) xs (step_small w) h
 
-said_long : (t : Bool) (ws : List (List ℕ)) (xs : List TimedInput) → cond t None (said_by ws) ≡ Some xs
+said_long : (t : Bool) (ws : List (List ℕ)) (xs : List TimedInput) → cond t None (timed_words ws) ≡ Some xs
     → HasSteps xs
 said_long true ws xs h = absurd cc
 said_long false ws xs h = said_by_small ws xs h
 
-said_small : (line : List ℕ) (xs : List TimedInput) → said line ≡ Some xs → HasSteps xs
-unfolding said
+said_small : (line : List ℕ) (xs : List TimedInput) → timed_line line ≡ Some xs → HasSteps xs
+unfolding timed_line
 said_small line xs h = said_long (nat_lt 1024 (length line)) (words line) xs h
 
 -- ---- the inputs of all lines
@@ -91,10 +91,10 @@ joined_small (Some ys) (Some zs) xs p q h =
     (list_all-append (λ x. nat_le x.step 9999999999) ys zs
     ∙ both (list_all (λ x. nat_le x.step 9999999999) ys) _ (p ys refl) (q zs refl))
 
-all_small : (texts : List (List ℕ)) (xs : List TimedInput) → all_of said texts ≡ Some xs → HasSteps xs
+all_small : (texts : List (List ℕ)) (xs : List TimedInput) → all_of timed_line texts ≡ Some xs → HasSteps xs
 unfolding all_of
 all_small [] xs h = let same : [] ≡ xs = cc in rw (← same) refl
-all_small (t ∷ ts) xs h = joined_small (said t) (all_of said ts) xs (said_small t) (all_small ts) h
+all_small (t ∷ ts) xs h = joined_small (timed_line t) (all_of timed_line ts) xs (said_small t) (all_small ts) h
 
 unless_by : (xs ys : List TimedInput) (t : Bool) → cond t (Some xs) None ≡ Some ys → xs ≡ ys
 unless_by xs ys true h = cc
@@ -107,4 +107,4 @@ listed_by (Some ys) xs h = ap (λ zs. Some zs) (unless_by ys xs (never_falls ys)
 
 pub steps_small : (texts : List (List ℕ)) (xs : List TimedInput) → timed texts ≡ Some xs → HasSteps xs
 unfolding timed
-steps_small texts xs h = all_small texts xs (listed_by (all_of said texts) xs h)
+steps_small texts xs h = all_small texts xs (listed_by (all_of timed_line texts) xs h)

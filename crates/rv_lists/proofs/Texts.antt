@@ -23,7 +23,7 @@ use Rattle.rv_lists.specs.declared.input.Input.TheVariants.{Rx, Line}
 use Rattle.rv_lists.specs.declared.input.TimedInput.{TimedInput}
 use Rattle.rv_lists.specs.Reading.{is_input}
 use Rattle.rv_lists.specs.Text.{input_text, line_text, list_text, HasSteps}
-use Rattle.rv_lists.specs.Timed.{all_of, step_of, source_of, level_of, inputs_of, said, never_falls, timed}
+use Rattle.rv_lists.specs.Timed.{all_of, step_of, source_of, level_of, inputs_of, timed_line, never_falls, timed}
 use Rattle.rv_lists.proofs.Lines.{said_step}
 
 -- ---- comparisons as tests
@@ -338,7 +338,7 @@ module _ (x : TimedInput) (ranges : is_input x.input ≡ true) (small : x.step �
       (graphic_printed (decimal x.step) (graphic_digits (decimal x.step) step_written.all))
       input_spelled.plain
 
-  body_said : said (body x) ≡ Some (x ∷ [])
+  body_said : timed_line (body x) ≡ Some (x ∷ [])
   body_said =
       said_step (body x) body_short (decimal x.step) (words (input_text x.input))
       (words_then (decimal x.step) (input_text x.input) step_written.some
@@ -352,7 +352,7 @@ module _ (x : TimedInput) (ranges : is_input x.input ≡ true) (small : x.step �
 -- ---- the text of a list
 
 all_said : (xs : List TimedInput) → list_all (λ x. is_input x.input) xs ≡ true → HasSteps xs
-    → all_of said (lines (list_text xs)) ≡ Some xs
+    → all_of timed_line (lines (list_text xs)) ≡ Some xs
 unfolding list_text all_of split
 all_said [] ranges small = refl
 all_said (x ∷ xs) ranges small =

@@ -3,7 +3,7 @@ use Rattle.std.proofs.Common.{◌≡◌, ◌∙◌, ℕ, zero, suc, ◌+◌, ◌
 use Rattle.std.specs.Prelude.{Option, Some, None, is_some, option_and_then}
 use Rattle.std.proofs.lemmas.List.{take_all}
 use Rattle.rv_lists.specs.declared.input.TimedInput.{TimedInput}
-use Rattle.rv_lists.specs.Timed.{all_of, said, never_falls, timed, IsFirstRefused}
+use Rattle.rv_lists.specs.Timed.{all_of, timed_line, never_falls, timed, IsFirstRefused}
 use Rattle.rv_lists.specs.Reading.{joined, unless_falling, with_line}
 
 joined_assoc : {B : Type 0} (a b c : Option (List B)) → joined a (joined b c) ≡ joined (joined a b) c
@@ -39,9 +39,9 @@ listed_by (Some xs) before h =
     let p = rising_by xs before (never_falls xs) refl h in (ap (λ x. Some x) p.0, rw p.0 at p.1)
 
 listed : (texts : List (List ℕ)) (before : List TimedInput) → timed texts ≡ Some before
-    → (all_of said texts ≡ Some before) × (never_falls before ≡ true)
+    → (all_of timed_line texts ≡ Some before) × (never_falls before ≡ true)
 unfolding timed
-listed texts before h = listed_by (all_of said texts) before h
+listed texts before h = listed_by (all_of timed_line texts) before h
 
 pub rising : (texts : List (List ℕ)) (before : List TimedInput) → timed texts ≡ Some before
     → never_falls before ≡ true
@@ -54,10 +54,10 @@ with_line_by before (Some xs) = refl
 
 -- one more line
 timed_more : (texts : List (List ℕ)) (text : List ℕ) (before : List TimedInput) → timed texts ≡ Some before
-    → timed (texts ++ text ∷ []) ≡ with_line before (said text)
+    → timed (texts ++ text ∷ []) ≡ with_line before (timed_line text)
 unfolding timed
 timed_more texts text before h =
-    rw (all_of_more said texts text, (listed texts before h).0) (with_line_by before (said text))
+    rw (all_of_more timed_line texts text, (listed texts before h).0) (with_line_by before (timed_line text))
 
 -- ---- the first n lines have these inputs, and the others are left
 
@@ -95,24 +95,24 @@ module _ (texts rest : List (List ℕ)) (n : ℕ) (inputs : List TimedInput)
     next : IsAt texts n text after
     next = dropped texts n text after (sym so.left ∙ cut)
 
-    next_is : timed (take (n + 1) texts) ≡ with_line inputs (said text)
+    next_is : timed (take (n + 1) texts) ≡ with_line inputs (timed_line text)
     next_is = rw (add-one, next.front) (timed_more (take n texts) text inputs so.inputs_are)
 
-    more_taken : (new : List TimedInput) → with_line inputs (said text) ≡ Some new → (k : ℕ) → k < n + 1 + 1
+    more_taken : (new : List TimedInput) → with_line inputs (timed_line text) ≡ Some new → (k : ℕ) → k < n + 1 + 1
         → is_some (timed (take k texts)) ≡ true
     more_taken new e =
         below_more (λ k. is_some (timed (take k texts)) ≡ true) (n + 1) so.taken (rw (next_is, e) refl)
 
-    pub read_more : (new : List TimedInput) → with_line inputs (said text) ≡ Some new
+    pub read_more : (new : List TimedInput) → with_line inputs (timed_line text) ≡ Some new
         → SoFar texts after (n + 1) new
     read_more new e =
         record { left = rw add-one (sym next.back); inputs_are = next_is ∙ e; taken = more_taken new e }
 
-    first_refused : with_line inputs (said text) ≡ None → IsFirstRefused texts (n + 1)
+    first_refused : with_line inputs (timed_line text) ≡ None → IsFirstRefused texts (n + 1)
     first_refused e =
         record { refused = next_is ∙ e; taken = so.taken }
 
-    pub refused : with_line inputs (said text) ≡ None → (k : ℕ) → k ≡ n + 1 → IsFirstRefused texts k
+    pub refused : with_line inputs (timed_line text) ≡ None → (k : ℕ) → k ≡ n + 1 → IsFirstRefused texts k
     refused e k is = rw is (first_refused e)
 
   pub read_all : rest ≡ [] → timed texts ≡ Some inputs

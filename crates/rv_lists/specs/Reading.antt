@@ -8,7 +8,7 @@ use Rattle.rv_lists.specs.declared.input.Input.TheVariants.{Rx, Line}
 use Rattle.rv_lists.specs.declared.input.TimedInput.{TimedInput}
 use Rattle.rv_lists.specs.declared.line_refusal.LineRefusal.{LineRefusal}
 use Rattle.rv_lists.specs.declared.line_refusal.LineRefusal.TheVariants.{BadLine, OutOfMemory}
-use Rattle.rv_lists.specs.Timed.{received, driven, at, never_falls}
+use Rattle.rv_lists.specs.Timed.{received, driven, at_step, never_falls}
 
 -- one list followed by the other, if there are both
 abbrev pub joined : {B : Type 0} → Option (List B) → Option (List B) → Option (List B)
@@ -36,7 +36,7 @@ Becomes new (Err refusal) meaning = Refuses refusal meaning
 
 -- the inputs of one step, following others
 abbrev pub with_inputs : List TimedInput → ℕ → Option (List Input) → Option (List TimedInput)
-with_inputs before step inputs = option_map (λ is. before ++ at step is) inputs
+with_inputs before step inputs = option_map (λ is. before ++ at_step step is) inputs
 
 -- the inputs of a line, following others, unless a step falls
 abbrev pub with_line : List TimedInput → Option (List TimedInput) → Option (List TimedInput)

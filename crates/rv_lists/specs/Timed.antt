@@ -58,19 +58,19 @@ inputs_of [] = None
 inputs_of (kind ∷ more) = option_and_then (λ reads. reads more) (lookup kind kinds)
 
 -- inputs, all at one step
-abbrev pub at : ℕ → List Input → List TimedInput
-at step inputs = map (λ input. record { step = step; input = input }) inputs
+abbrev pub at_step : ℕ → List Input → List TimedInput
+at_step step inputs = map (λ input. record { step = step; input = input }) inputs
 
 -- the inputs of a line by its words: none if it is blank or a comment
-abbrev pub said_by : List (List ℕ) → Option (List TimedInput)
-said_by [] = Some []
-said_by (word ∷ more) =
+abbrev pub timed_words : List (List ℕ) → Option (List TimedInput)
+timed_words [] = Some []
+timed_words (word ∷ more) =
     if begins_comment word then Some []
-    else option_and_then (λ step. option_map (at step) (inputs_of more)) (step_of word)
+    else option_and_then (λ step. option_map (at_step step) (inputs_of more)) (step_of word)
 
 -- the inputs of a line; a line of more than 1,024 bytes is refused whatever it says
-unfoldable pub said : List ℕ → Option (List TimedInput)
-said line = if nat_lt line_limit (length line) then None else said_by (words line)
+unfoldable pub timed_line : List ℕ → Option (List TimedInput)
+timed_line line = if nat_lt line_limit (length line) then None else timed_words (words line)
 
 -- ---- the inputs of a text
 
@@ -82,7 +82,7 @@ never_falls (x ∷ y ∷ more) = nat_le x.step y.step && never_falls (y ∷ more
 
 -- the inputs of all lines, in order, if each line can be read and no step falls
 unfoldable pub timed : List (List ℕ) → Option (List TimedInput)
-timed texts = option_and_then (λ xs. if never_falls xs then Some xs else None) (all_of said texts)
+timed texts = option_and_then (λ xs. if never_falls xs then Some xs else None) (all_of timed_line texts)
 
 -- line n, counted from 1, is the first refused: the first n lines have no list, and any fewer of them have
 -- one. So there is a line n, since all lines and no line at all are neither refused nor fewer.

@@ -2,7 +2,7 @@
 ghost use Rattle.std.specs.Prelude.{◌≡◌, ◌∷◌, ◌++◌, [], true, Some, nat_lt};
 ghost use Rattle.std.specs.Option.{option_map};
 ghost use Rattle.rv_base.specs.Words.{words};
-ghost use Rattle.rv_lists.specs.Timed.{received, driven, inputs_of, said, never_falls};
+ghost use Rattle.rv_lists.specs.Timed.{received, driven, inputs_of, timed_line, never_falls};
 ghost use Rattle.rv_lists.specs.Reading.{Becomes, latest_step, with_inputs, with_line};
 
 use crate::line_refusal::LineRefusal;
@@ -97,7 +97,7 @@ fn falls(step: u64, before: &[TimedInput]) -> bool
 /// Reads a line, and appends its inputs.
 pub fn read_line(line: &[u8], out: &mut Vec<TimedInput>) -> Result<(), LineRefusal>
     requires { never_falls out.old.items ≡ true }
-    ensures { Becomes out.new.items result (with_line out.old.items (said line.now)) }
+    ensures { Becomes out.new.items result (with_line out.old.items (timed_line line.now)) }
 {
     if line.len() > LINE_LIMIT {
         return Err(LineRefusal::BadLine);

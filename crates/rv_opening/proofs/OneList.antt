@@ -6,7 +6,7 @@ use Rattle.std.proofs.lemmas.Bool.{cases_lt, false≢true}
 use Rattle.std.proofs.lemmas.List.{take-append-drop}
 use Rattle.rv_lists.specs.declared.input.TimedInput.{TimedInput}
 use Rattle.rv_lists.specs.Reading.{joined, unless_falling}
-use Rattle.rv_lists.specs.Timed.{all_of, said, never_falls, timed, IsFirstRefused}
+use Rattle.rv_lists.specs.Timed.{all_of, timed_line, never_falls, timed, IsFirstRefused}
 use Rattle.rv_lists.proofs.Whole.{begun}
 
 -- ---- lines that have a list: so have those before them
@@ -61,10 +61,10 @@ front : (n : ℕ) (texts : List (List ℕ)) → is_some (timed texts) ≡ true
     → is_some (timed (take n texts)) ≡ true
 unfolding timed
 front n texts some =
-    let parts = all_of_parts said (take n texts) (drop n texts) in
-    front_by (all_of said (take n texts)) (all_of said (drop n texts))
+    let parts = all_of_parts timed_line (take n texts) (drop n texts) in
+    front_by (all_of timed_line (take n texts)) (all_of timed_line (drop n texts))
     (ap (λ o. is_some (option_and_then unless_falling o))
-    (sym parts ∙ ap (all_of said) (take-append-drop n texts)) ∙ some)
+    (sym parts ∙ ap (all_of timed_line) (take-append-drop n texts)) ∙ some)
 
 -- ---- at most one
 
