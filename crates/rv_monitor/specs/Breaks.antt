@@ -26,6 +26,13 @@ room_after b addresses =
 abbrev pub with_addresses : Breaks → FinSet nat_cmp → Breaks
 with_addresses b addresses = record { addresses = addresses; room = room_after b addresses }
 
+-- breakpoints with one address more, and with one less
+abbrev pub with_address : Breaks → ℕ → Breaks
+with_address b address = with_addresses b (set.insert b.addresses address)
+
+abbrev pub without_address : Breaks → ℕ → Breaks
+without_address b address = with_addresses b (set.remove b.addresses address)
+
 -- the addresses at which a call stops: none where it is given no breakpoints
 abbrev pub addresses_of : Option (Bor Breaks) → FinSet nat_cmp
 addresses_of None = set.empty

@@ -3,7 +3,6 @@
 use Rattle.std.specs.Prelude.{◌≡◌, ℕ, ◌+◌, ◌-◌, ◌≤◌, min, true, List, length, drop, filter, nat_le, nat_lt}
 use Rattle.std.specs.List.{list_all}
 use Rattle.std.specs.Ordering.{nat_cmp}
-use Rattle.std.specs.FinSet as set
 use Rattle.std.specs.FinSet.{FinSet}
 use Rattle.rv_program.specs.Program.{Assembly}
 use Rattle.rv_board.specs.BoardState.{BoardState}
@@ -11,7 +10,7 @@ use Rattle.rv_board.specs.Move.{run}
 use Rattle.rv_lists.specs.Timed.{never_falls, inserted}
 use Rattle.rv_lists.specs.declared.input.Input.{Input}
 use Rattle.rv_lists.specs.declared.input.TimedInput.{TimedInput}
-use Rattle.rv_monitor.specs.Breaks.{Breaks, no_breaks, with_addresses}
+use Rattle.rv_monitor.specs.Breaks.{Breaks, no_breaks, with_address, without_address}
 use Rattle.rv_monitor.specs.Events.{inputs_at, events_of}
 
 -- sets of addresses
@@ -48,14 +47,9 @@ abbrev pub begun : BoardState → List TimedInput → TimedState
 begun board inputs = record { board = board; inputs = inputs; place = 0; taken = 0 }
 
 -- a session before its first step
-abbrev pub start : BoardState → List TimedInput → Assembly → ℕ → SessionState
-start board inputs program limit =
-    record {
-      timed = begun board inputs;
-      program = program;
-      limit = limit;
-      breakpoints = no_breaks;
-    }
+abbrev pub new_session : BoardState → List TimedInput → Assembly → ℕ → SessionState
+new_session board inputs program limit =
+    record { timed = begun board inputs; program = program; limit = limit; breakpoints = no_breaks }
 
 -- the largest number of steps that a call for n may take
 abbrev pub most_of : SessionState → ℕ → ℕ
@@ -65,13 +59,11 @@ most_of s n = min n (s.limit - s.timed.taken)
 
 -- a session with one breakpoint more
 abbrev pub with_break : SessionState → ℕ → SessionState
-with_break s address =
-    record s { breakpoints = with_addresses s.breakpoints (set.insert s.breakpoints.addresses address) }
+with_break s address = record s { breakpoints = with_address s.breakpoints address }
 
 -- a session with one breakpoint less
 abbrev pub without_break : SessionState → ℕ → SessionState
-without_break s address =
-    record s { breakpoints = with_addresses s.breakpoints (set.remove s.breakpoints.addresses address) }
+without_break s address = record s { breakpoints = without_address s.breakpoints address }
 
 -- ---- steps
 

@@ -55,10 +55,8 @@ may_step s = is_none s.timed.board.machine.bus.halt && nat_lt s.timed.taken s.li
 -- a call for one step took it, and tells what the step did; or there was none to be taken; or memory ran out
 -- at it, once the inputs before it were given
 abbrev pub TakesStep : SessionState → SessionState → Result (Option Outcome) NoMemory → Type 0
-TakesStep old new (Ok (Some outcome)) =
-    (may_step old ≡ true) × (new ≡ record old { timed = after old.timed 1 })
-    × (outcome ≡ (step (with_due old.timed).board.machine).1)
+TakesStep old new (Ok (Some told)) = (may_step old ≡ true) × (new ≡ record old { timed = after old.timed 1 })
+    × (told ≡ (step (with_due old.timed).board.machine).1)
 TakesStep old new (Ok None) = (may_step old ≡ false) × (new ≡ old)
-TakesStep old new (Err refused) =
-    (may_step old ≡ true) × (new ≡ record old { timed = with_due old.timed })
+TakesStep old new (Err refused) = (may_step old ≡ true) × (new ≡ record old { timed = with_due old.timed })
     × (writes new.timed.board Step ≡ true)

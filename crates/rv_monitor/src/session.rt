@@ -11,7 +11,7 @@ ghost use Rattle.rv_monitor.specs.Events.{events_of};
 ghost use Rattle.rv_monitor.specs.Laws.{IsReached};
 ghost use Rattle.rv_monitor.specs.Resumed.{resumed_at};
 ghost use Rattle.rv_monitor.specs.Room.{NextWantsRoom};
-ghost use Rattle.rv_monitor.specs.State.{TimedState, SessionState, IsInTime, start, begun, count_before, after, with_due, with_break, without_break, given};
+ghost use Rattle.rv_monitor.specs.State.{TimedState, SessionState, IsInTime, new_session, begun, count_before, after, with_due, with_break, without_break, given};
 ghost use Rattle.rv_monitor.specs.Stops.{Took, WasRefused, stop_of, TakesStep};
 
 use crate::breakpoints::Breakpoints;
@@ -78,7 +78,7 @@ impl<M: ByteMemory, C: Decoded> Session<M, C> {
         program: Program,
         limit: u64,
     ) -> Session<M, C>
-        ensures { result ≡ start board timeline program limit }
+        ensures { result ≡ new_session board timeline program limit }
     {
         Session {
             timed: TimedBoard::new(board, timeline),
@@ -288,7 +288,7 @@ pub fn calls_join()
 /// Law: the breakpoints of a session are a set of addresses, which is empty before its first step.
 pub fn breakpoints_are_a_set()
     ensures none { (board : BoardState) (inputs : List TimedInput) (program : Assembly) (limit : ℕ)
-        → (start board inputs program limit).breakpoints.addresses ≡ set.empty }
+        → (new_session board inputs program limit).breakpoints.addresses ≡ set.empty }
     ensures more { (s : SessionState) (address : ℕ)
         → (with_break s address).breakpoints.addresses ≡ set.insert s.breakpoints.addresses address }
     ensures less { (s : SessionState) (address : ℕ)

@@ -8,7 +8,7 @@ use Rattle.rv_board.specs.Boot as boot
 use Rattle.rv_board.specs.declared.event.BootFault.{BootFault}
 use Rattle.rv_lists.specs.Timed.{IsRead, timed, IsFirstRefused}
 use Rattle.rv_lists.specs.declared.input.TimedInput.{TimedInput}
-use Rattle.rv_monitor.specs.State.{SessionState, start}
+use Rattle.rv_monitor.specs.State.{SessionState, new_session}
 use Rattle.rv_program.specs.Program.{Assembly}
 use Rattle.rv_program.specs.declared.fault.AsmFault.{AsmFault}
 use Rattle.rv_opening.specs.Opening.{Opens}
@@ -92,7 +92,7 @@ module _ (source inputs : List ℕ) (pages slots limit : ℕ) where
     only_board fault boots (Err OutOfMemory) opens kept = absurd (kept refl)
 
     abbrev session : Assembly → List TimedInput → SessionState
-    session p xs = start (boot.reset p.bytes (4096 * pages)) xs p limit
+    session p xs = new_session (boot.reset p.bytes (4096 * pages)) xs p limit
 
     only_session : fault_of program ≡ None → (other : Opening)
         → Opens source inputs pages slots limit other → other ≢ Err OutOfMemory

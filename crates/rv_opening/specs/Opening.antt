@@ -7,7 +7,7 @@ use Rattle.rv_board.specs.Boot as boot
 use Rattle.rv_lists.specs.Timed.{IsRead}
 use Rattle.rv_lists.specs.declared.fault.TimelineFault.TheVariants.{BadLine}
 use Rattle.rv_lists.specs.declared.input.TimedInput.{TimedInput}
-use Rattle.rv_monitor.specs.State.{SessionState, start}
+use Rattle.rv_monitor.specs.State.{SessionState, new_session}
 use Rattle.rv_program.specs.Program.{Assembly}
 use Rattle.rv_opening.specs.declared.fault.OpenFault.{OpenFault}
 use Rattle.rv_opening.specs.declared.fault.OpenFault.TheVariants.{Source, Input, Board, OutOfMemory}
@@ -18,16 +18,19 @@ pub record IsOpened (source inputs : List ℕ) (pages slots limit : ℕ) (s : Se
   pub program : assembled source ≡ Ok s.program
   pub list : IsRead inputs (Ok s.timed.inputs)
   pub boots : boot_fault (length s.program.bytes) pages slots ≡ None
-  pub state : s ≡ start (boot.reset s.program.bytes (4096 * pages)) s.timed.inputs s.program limit
+  pub state : s ≡ new_session (boot.reset s.program.bytes (4096 * pages)) s.timed.inputs s.program limit
 
--- the session, or the first fault: of the source, of the timed list, of the board, which does not boot with
--- these sizes; or memory ran out
-abbrev pub Opens : List ℕ → List ℕ → (pages slots limit : ℕ) → Result SessionState OpenFault → Type 0
-Opens source inputs pages slots limit (Ok session) = IsOpened source inputs pages slots limit session
-Opens source inputs pages slots limit (Err (Source fault)) = assembled source ≡ Err fault
-Opens source inputs pages slots limit (Err (Input n)) =
-    (is_ok (assembled source) ≡ true) × IsRead inputs (Err (BadLine n))
-Opens source inputs pages slots limit (Err (Board fault)) =
+-- the first fault: of the source, of the timed list, of the board, which does not boot with these sizes; or
+-- memory ran out
+abbrev pub HasFault : (source list : List ℕ) (pages slots : ℕ) → OpenFault → Type 0
+HasFault source list pages slots (Source fault) = assembled source ≡ Err fault
+HasFault source list pages slots (Input n) = (is_ok (assembled source) ≡ true) × IsRead list (Err (BadLine n))
+HasFault source list pages slots (Board fault) =
     (program : Assembly) × (timed : List TimedInput) × (assembled source ≡ Ok program)
-    × IsRead inputs (Ok timed) × (boot_fault (length program.bytes) pages slots ≡ Some fault)
-Opens source inputs pages slots limit (Err OutOfMemory) = ⊤
+    × IsRead list (Ok timed) × (boot_fault (length program.bytes) pages slots ≡ Some fault)
+HasFault source list pages slots OutOfMemory = ⊤
+
+-- the session, or the first fault
+abbrev pub Opens : (source inputs : List ℕ) (pages slots limit : ℕ) → Result SessionState OpenFault → Type 0
+Opens source inputs pages slots limit (Ok session) = IsOpened source inputs pages slots limit session
+Opens source inputs pages slots limit (Err fault) = HasFault source inputs pages slots fault
