@@ -27,7 +27,7 @@ obeys_more : (line : List ℕ) (more : List (List ℕ)) (now next new : SessionS
     Obeys more next new following
     → Obeys (line ∷ more) now new (answer (command_in line now) now next ++ following)
 obeys_more line more now next new following more_follow leaves rest =
-    goes_on line more now next new following (sym more_follow) leaves rest
+    goes_on line following more now next new (sym more_follow) leaves rest
 
 -- a line that quits
 obeys_last : (line : List ℕ) (more : List (List ℕ)) (now next : SessionState)

@@ -135,7 +135,7 @@ begun : (ls : List (List ℕ)) (old new : SessionState) (text : List ℕ) → Ob
     → Begins ls old new text
 begun _ _ _ _ (none s) = (refl, refl)
 begun _ _ _ _ (quits line more s quit) = rw quit (refl, refl)
-begun _ _ _ _ (goes_on line more old next new following more_follow leaves rest) =
+begun _ _ _ _ (goes_on line following more old next new more_follow leaves rest) =
     rw more_follow
     (record { next = next; following = following; left = leaves; rest = rest; is = refl })
 
@@ -182,7 +182,7 @@ some_begun More line more old is rest =
     record {
       new = follow.new;
       text = answer (command_in line old) old first.0 ++ follow.text;
-      done = goes_on line more old first.0 follow.new follow.text is first.1 follow.done;
+      done = goes_on line follow.text more old first.0 follow.new is first.1 follow.done;
     }
 some_begun Quit line more old is rest =
     record { new = old; text = []; done = quits line more old is }

@@ -1,10 +1,9 @@
 -- The results of a run, by those of its parts and by what the texts mean.
-use Rattle.std.proofs.Common.{◌≡◌, Option, Some, None, Ok, Err, false, subst, true}
-use Rattle.std.specs.Io.KnownBytes.{Appends}
-use Rattle.std.specs.Prelude.{ℕ, IfSome, List}
+use Rattle.std.proofs.Common.{◌≡◌, Option, Some, None, Ok, Err, subst}
+use Rattle.std.specs.Prelude.{ℕ, IfSome, IsErrAnd, List, Result}
 use Rattle.rv_words.specs.declared.Options.{Options}
 use Rattle.rv_texts.specs.Readers.{Reads, GaveIf, Readers, Texts}
-use Rattle.rv_texts.specs.Texts.{Gave, IsInOrder, Side, WroteBeginning}
+use Rattle.rv_texts.specs.Texts.{Gave, IsInOrder, Side, Wrote, WroteBeginning}
 use Rattle.rv_texts.specs.declared.fault.ReadFault.{ReadFault}
 use Rattle.rv_texts.specs.declared.fault.ReadFault.TheVariants as read
 use Rattle.rv_cli.specs.Conversions.{unread_fault}
@@ -51,15 +50,17 @@ refused_by r out options texts Write g h = absurd h
 -- the text that the run prints was written
 pub ended : (r : Readers) (out : Side) (options : Options) (texts : Texts) (text bytes : List ℕ)
     (ending : Ending)
-    → Reads r (Ok texts) → IsOutput texts options (Ok (text, ending)) → bytes ≡ text
-    → Appends out.old out.new bytes → out.failed ≡ false → Runs r out options (Ok ending)
-ended r out options texts text bytes ending read is same wrote sound =
-    (text, (texts, read, is), subst (λ (b : List ℕ). Appends out.old out.new b) same wrote, sound)
+    → Reads r (Ok texts) → IsOutput texts options (Ok (text, ending)) → bytes ≡ text → Wrote out bytes
+    → Runs r out options (Ok ending)
+ended r out options texts text bytes ending read is same wrote =
+    (text, (texts, read, is), subst (λ (b : List ℕ). Wrote out b) same wrote)
 
 -- a beginning of it was written, and the writer failed
-pub cut_short : (r : Readers) (out : Side) (options : Options) (texts : Texts) (text bytes : List ℕ)
-    (ending : Ending)
-    → Reads r (Ok texts) → IsOutput texts options (Ok (text, ending)) → bytes ≡ text
-    → WroteBeginning out bytes → out.failed ≡ true → Runs r out options (Err Write)
-cut_short r out options texts text bytes ending read is same wrote failed =
-    ((text, ending), (texts, read, is), subst (λ (b : List ℕ). WroteBeginning out b) same wrote, failed)
+pub cut_short : (r : Readers) (out : Side) (options : Options) (result : Result Ending CliFault)
+    (texts : Texts) (text bytes : List ℕ) (ending : Ending)
+    → IsErrAnd result (λ fault. fault ≡ Write) → Reads r (Ok texts)
+    → IsOutput texts options (Ok (text, ending)) → bytes ≡ text → WroteBeginning out bytes
+    → Runs r out options result
+cut_short r out options (Ok other) texts text bytes ending why read is same wrote = absurd why
+cut_short r out options (Err fault) texts text bytes ending why read is same wrote =
+    rw why ((text, ending), (texts, read, is), subst (λ (b : List ℕ). WroteBeginning out b) same wrote)

@@ -5,9 +5,10 @@ use Rattle.std.specs.Fmt.{decimal}
 use Rattle.rv_program.specs.Faults.{title_of}
 use Rattle.rv_program.specs.declared.fault.AsmFault.{AsmFault}
 use Rattle.rv_board.specs.declared.event.BootFault.TheVariants.{BadPages, BadSlots, ImageTooLarge}
+use Rattle.rv_board.specs.declared.event.BootFault.TheVariants as boot_fault
 use Rattle.rv_opening.specs.declared.fault.OpenFault.TheVariants as open_fault
 use Rattle.rv_cli.specs.declared.fault.CliFault.{CliFault}
-use Rattle.rv_cli.specs.declared.fault.CliFault.TheVariants.{Open, Read, Write}
+use Rattle.rv_cli.specs.declared.fault.CliFault.TheVariants.{Open, OutOfMemory, Read, Write}
 use Rattle.rv_texts.specs.declared.fault.TextName.TheVariants.{Commands, Input, Source}
 use Rattle.rv_cli.specs.declared.fault.Ending.{Ending}
 use Rattle.rv_cli.specs.declared.fault.Ending.TheVariants.{Halted, Running}
@@ -18,20 +19,22 @@ source_line_of fault = codes "source line " ++ decimal fault.line
     ++ codes ": E" ++ decimal (title_of fault.kind).0 ++ codes " " ++ (title_of fault.kind).1
 
 -- a row a fault: its line without the line end, and the exit status
-abbrev pub row_of : CliFault → List ℕ × ℕ
-row_of (Read Source) = (codes "cannot read source", 4)
-row_of (Read Input) = (codes "cannot read input", 4)
-row_of (Read Commands) = (codes "cannot read commands", 4)
-row_of (Open (open_fault.Source fault)) = (source_line_of fault, 3)
-row_of (Open (open_fault.Input n)) = (codes "input line " ++ decimal n ++ codes ": refused", 3)
-row_of (Open (open_fault.Board BadPages)) = (codes "bad pages", 3)
-row_of (Open (open_fault.Board BadSlots)) = (codes "bad slots", 3)
-row_of (Open (open_fault.Board ImageTooLarge)) = (codes "image too large", 3)
-row_of Write = (codes "cannot write", 4)
-row_of _ = (codes "out of memory", 4)
+abbrev pub fault_row : CliFault → List ℕ × ℕ
+fault_row (Read Source) = (codes "cannot read source", 4)
+fault_row (Read Input) = (codes "cannot read input", 4)
+fault_row (Read Commands) = (codes "cannot read commands", 4)
+fault_row (Open (open_fault.Source fault)) = (source_line_of fault, 3)
+fault_row (Open (open_fault.Input n)) = (codes "input line " ++ decimal n ++ codes ": refused", 3)
+fault_row (Open (open_fault.Board BadPages)) = (codes "bad pages", 3)
+fault_row (Open (open_fault.Board BadSlots)) = (codes "bad slots", 3)
+fault_row (Open (open_fault.Board ImageTooLarge)) = (codes "image too large", 3)
+fault_row Write = (codes "cannot write", 4)
+fault_row (Open (open_fault.Board boot_fault.OutOfMemory)) = (codes "out of memory", 4)
+fault_row (Open open_fault.OutOfMemory) = (codes "out of memory", 4)
+fault_row OutOfMemory = (codes "out of memory", 4)
 
 -- the exit status of a run
 abbrev pub status_of : Result Ending CliFault → ℕ
 status_of (Ok (Halted code)) = if code == 0 then 0 else 1
 status_of (Ok Running) = 2
-status_of (Err fault) = (row_of fault).1
+status_of (Err fault) = (fault_row fault).1

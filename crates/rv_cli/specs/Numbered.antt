@@ -3,7 +3,7 @@
 use Rattle.std.specs.Prelude.{ℕ, Bool, List, false, true}
 use Rattle.rv_monitor.specs.Views.{line}
 use Rattle.rv_opening.specs.declared.fault.OpenFault.TheVariants as open_fault
-use Rattle.rv_cli.specs.Faults.{row_of}
+use Rattle.rv_cli.specs.Faults.{fault_row}
 use Rattle.rv_cli.specs.declared.fault.CliFault.{CliFault}
 use Rattle.rv_cli.specs.declared.fault.CliFault.TheVariants.{Open}
 
@@ -15,4 +15,4 @@ has_number other = false
 
 -- the line of a fault
 abbrev pub line_of : CliFault → List ℕ
-line_of fault = line (row_of fault).0
+line_of fault = line (fault_row fault).0

@@ -23,8 +23,7 @@ use Rattle.rv_cli.specs.declared.fault.Ending.TheVariants.{Halted, Running}
 
 -- a text with a line end, unless it is empty or has one at its end
 abbrev pub with_line_end : List ℕ → List ℕ
-with_line_end text =
-    if length text == 0 || ends_with nat_eq text (10 ∷ []) then text else line text
+with_line_end text = if length text == 0 || ends_with nat_eq text (10 ∷ []) then text else line text
 
 -- the console and the status line
 abbrev pub printed : BoardState → List ℕ
@@ -42,10 +41,9 @@ pub data Obeys : List (List ℕ) → SessionState → SessionState → List ℕ 
   none : (s : SessionState) → Obeys [] s s []
   quits : (line : List ℕ) (more : List (List ℕ)) (s : SessionState) → next_of (command_in line s) ≡ Quit
       → Obeys (line ∷ more) s s []
-  goes_on : (line : List ℕ) (more : List (List ℕ)) (old next new : SessionState) (following : List ℕ)
-      → next_of (command_in line old) ≡ More → Leaves (command_in line old) old next
-      → Obeys more next new following
-      → Obeys (line ∷ more) old new (answer (command_in line old) old next ++ following)
+  goes_on : (line text : List ℕ) (more : List (List ℕ)) (s next new : SessionState)
+      → next_of (command_in line s) ≡ More → Leaves (command_in line s) s next → Obeys more next new text
+      → Obeys (line ∷ more) s new (answer (command_in line s) s next ++ text)
 
 -- the commands are executed; without commands all steps are taken, past any breakpoint, and there is no
 -- answer

@@ -1,10 +1,9 @@
 -- The results of a run, by what its readers gave and its writer took.
 -- To audit: public contracts cite this.
-use Rattle.std.specs.Prelude.{◌≡◌, ℕ, true, false, List, Result, Ok, Err}
-use Rattle.std.specs.Io.KnownBytes.{Appends}
+use Rattle.std.specs.Prelude.{ℕ, List, Result, Ok, Err}
 use Rattle.rv_words.specs.declared.Options.{Options}
 use Rattle.rv_texts.specs.Readers.{Reads, Readers, Texts}
-use Rattle.rv_texts.specs.Texts.{Side, WroteBeginning}
+use Rattle.rv_texts.specs.Texts.{Side, Wrote, WroteBeginning}
 use Rattle.rv_texts.specs.declared.fault.ReadFault.TheVariants as unread
 use Rattle.rv_cli.specs.Output.{IsOutput, Output}
 use Rattle.rv_cli.specs.declared.fault.CliFault.{CliFault}
@@ -18,11 +17,9 @@ HasOutput r options output = (texts : Texts) × Reads r (Ok texts) × IsOutput t
 -- a row a result: the text that the run prints was written, and nothing else; or there is a fault of the
 -- readers, of their texts, or of the writer, which took a beginning of the text
 abbrev pub Runs : Readers → Side → Options → Result Ending CliFault → Type 0
-Runs r out options (Ok ending) =
-    (text : List ℕ) × HasOutput r options (Ok (text, ending)) × Appends out.old out.new text
-    × (out.failed ≡ false)
+Runs r out options (Ok ending) = (text : List ℕ) × HasOutput r options (Ok (text, ending)) × Wrote out text
 Runs r out options (Err (Read text)) = Reads r (Err (unread.Unreadable text))
 Runs r out options (Err OutOfMemory) = Reads r (Err unread.OutOfMemory)
 Runs r out options (Err (Open fault)) = HasOutput r options (Err fault)
 Runs r out options (Err Write) =
-    (done : List ℕ × Ending) × HasOutput r options (Ok done) × WroteBeginning out done.0 × (out.failed ≡ true)
+    (done : List ℕ × Ending) × HasOutput r options (Ok done) × WroteBeginning out done.0

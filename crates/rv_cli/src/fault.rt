@@ -2,7 +2,7 @@
 ghost use Rattle.std.specs.Prelude.{◌≡◌, ◌++◌, Err, IfErr, IfOk, Ok, OnErr, OnOk, Some, false};
 ghost use Rattle.rv_monitor.specs.Views as spec;
 ghost use Rattle.rv_cli.specs.Shown.{IsAppended, input_line_of};
-ghost use Rattle.rv_cli.specs.Faults.{row_of, source_line_of, status_of};
+ghost use Rattle.rv_cli.specs.Faults.{fault_row, source_line_of, status_of};
 ghost use Rattle.rv_cli.specs.Numbered.{has_number, line_of};
 ghost use Rattle.rv_cli.specs.declared.fault.CliFault.TheVariants.{Read};
 
@@ -178,7 +178,7 @@ pub(crate) fn append_line<D: fmt::Display>(shown: &D, line: &mut Vec<u8>) -> Res
 ///
 /// `NoMemory` if memory runs out. `line` is left as it was.
 pub fn fault_line(fault: &CliFault, line: &mut Vec<u8>) -> Result<(), NoMemory>
-    ensures ok { OnOk result (line.new.items ≡ line.old.items ++ spec.line (row_of fault.now).0) }
+    ensures ok { OnOk result (line.new.items ≡ line.old.items ++ spec.line (fault_row fault.now).0) }
     ensures err { OnErr result (line.new.items ≡ line.old.items) }
 {
     match *fault {
@@ -190,7 +190,7 @@ pub fn fault_line(fault: &CliFault, line: &mut Vec<u8>) -> Result<(), NoMemory>
 
 /// Returns the exit status of a fault.
 fn status_of_fault(fault: CliFault) -> u8
-    ensures { result ≡ (row_of fault).1 }
+    ensures { result ≡ (fault_row fault).1 }
 {
     match fault {
         CliFault::Open(OpenFault::Source(_) | OpenFault::Input(_)) => 3,

@@ -1,3 +1,4 @@
+use Rattle.std.proofs.Common.{rules}
 use Rattle.std.proofs.lemmas.Result.{err_from_is_err_and}
 use Rattle.rv_cli.proofs.Conversions.{is_input, is_source}
 use Rattle.rv_cli.proofs.Refusals.{cut_short, ended, refused_by, refused_unread}
@@ -27,14 +28,10 @@ returns-in_err-printed-clause-runs g c =
 
 pub returns-in_err-write_whole-clause-runs : goal.returns-in_err-write_whole-clause-runs
 returns-in_err-write_whole-clause-runs g c =
-    let e = err_from_is_err_and c.from_residual-in_err-write_whole.result
-    c.from_residual-in_err-write_whole.ensures.1 in
-    rw (e.1, e.2) (cut_short _ _ c.args.options c.in_ok-texts.texts c.in_ok-printed.printed.text.items
-    c.as_slice.result.now c.in_ok-printed.printed.ending c.in_ok-texts.ensures.read c.in_ok-printed.ensures.ok
-    c.as_slice.ensures.value c.in_err-write_whole.ensures.err c.in_err-write_whole.ensures.failed)
+    cut_short _ _ c.args.options _ c.in_ok-texts.texts _ _ _ c.from_residual-in_err-write_whole.ensures.1
+    c.in_ok-texts.ensures.read c.in_ok-printed.ensures.ok c.as_slice.ensures.value (search rules)
 
 pub returns-clause-runs : goal.returns-clause-runs
 returns-clause-runs g c =
-    ended _ _ c.args.options c.in_ok-texts.texts c.in_ok-printed.printed.text.items c.as_slice.result.now
-    c.in_ok-printed.printed.ending c.in_ok-texts.ensures.read c.in_ok-printed.ensures.ok
-    c.as_slice.ensures.value c.in_ok-write_whole.ensures.ok c.in_ok-write_whole.ensures.sound
+    ended _ _ c.args.options c.in_ok-texts.texts _ _ _ c.in_ok-texts.ensures.read c.in_ok-printed.ensures.ok
+    c.as_slice.ensures.value (search rules)
