@@ -11,7 +11,8 @@ use Rattle.rv_answers.specs.declared.control.Bits.TheVariants.{Status, Lines, Ca
 
 -- the registers whose bits have names
 unfoldable pub with_bits : List (List ℕ × Bits)
-with_bits = (codes "mstatus", Status) ∷ (codes "mie", Lines) ∷ (codes "mip", Lines) ∷ (codes "mcause", Cause) ∷ []
+with_bits =
+    (codes "mstatus", Status) ∷ (codes "mie", Lines) ∷ (codes "mip", Lines) ∷ (codes "mcause", Cause) ∷ []
 
 -- the fields of mstatus, those of mie and mip, and the cause in mcause, which there is once a trap was taken
 -- (Privileged Architecture 20211203, sections 3.1.6, 3.1.9 and 3.1.15)

@@ -10,8 +10,8 @@ unfoldable pub choice : List ℕ → ℕ → List ℕ
 choice texts n =
     let parts = slice_split (λ b. b == 124) texts in slice_index_or parts (min n (length parts - 1)) []
 
--- a place and what follows it, with a value in it: `%d` (100) in decimal, `%x` (120) as a word in hexadecimal,
--- and `%{no|one|more}` the text with that number (`}` is 125)
+-- what follows a `%`, with a value in its place: `d` (100) in decimal, `x` (120) as a word in hexadecimal, and
+-- `{no|one|more}` the text with that number (`}` is 125)
 abbrev pub piece : List ℕ → ℕ → List ℕ
 piece [] v = []
 piece (letter ∷ rest) v =
@@ -19,7 +19,7 @@ piece (letter ∷ rest) v =
     else (if letter == 120 then hex 8 (v % 2 ^ 32) ++ rest
     else choice (before_first (λ b. b == 125) rest) v ++ after_first (λ b. b == 125) rest)
 
--- what follows the first place, with the values in the places
+-- what follows the first `%` (37), with the values in the places
 abbrev pub is_place : ℕ → Bool
 is_place byte = byte == 37
 
