@@ -9,7 +9,7 @@ use Rattle.rv_base.specs.Halves.{with_low, with_high}
 use Rattle.rv_isa.specs.Names.{csr_names}
 use Rattle.rv_isa.specs.Number.{flag, truth}
 use Rattle.rv_isa.specs.declared.InterruptLines.{InterruptLines}
-use Rattle.rv_pmp.specs.Pmp as protection
+use Rattle.rv_pmp.specs.Pmp.{read_register, write_register}
 use Rattle.rv_pmp.specs.declared.mode.Mode.{Mode}
 use Rattle.rv_pmp.specs.declared.mode.Mode.TheVariants.{User, Machine}
 use Rattle.rv_csr.specs.State.{CsrState}
@@ -69,20 +69,20 @@ Row = List ℕ × (CsrState → InterruptLines → ℕ) × (CsrState → ℕ →
 -- has no bit 1. A register with no other row, as mcounteren, reads 0, and a write to it changes nothing
 unfoldable pub table : List Row
 table =
-    (codes "mstatus", λ s lines. status_word s.mstatus, λ s w. record s { mstatus = with_status s.mstatus w })
-    ∷ (codes "misa", λ s lines. 0x40101100, λ s w. s)
-    ∷ (codes "mie", λ s lines. lines_word s.mie, λ s w. record s { mie = word_lines w })
-    ∷ (codes "mtvec", λ s lines. s.mtvec, λ s w. record s { mtvec = aligned w + w % 2 })
-    ∷ (codes "mscratch", λ s lines. s.mscratch, λ s w. record s { mscratch = w })
-    ∷ (codes "mepc", λ s lines. s.mepc, λ s w. record s { mepc = aligned w })
-    ∷ (codes "mcause", λ s lines. s.mcause, λ s w. record s { mcause = w })
-    ∷ (codes "mtval", λ s lines. s.mtval, λ s w. record s { mtval = w })
+    (codes "mstatus", λ s _. status_word s.mstatus, λ s w. record s { mstatus = with_status s.mstatus w })
+    ∷ (codes "misa", λ s _. 0x40101100, λ s w. s)
+    ∷ (codes "mie", λ s _. lines_word s.mie, λ s w. record s { mie = word_lines w })
+    ∷ (codes "mtvec", λ s _. s.mtvec, λ s w. record s { mtvec = aligned w + w % 2 })
+    ∷ (codes "mscratch", λ s _. s.mscratch, λ s w. record s { mscratch = w })
+    ∷ (codes "mepc", λ s _. s.mepc, λ s w. record s { mepc = aligned w })
+    ∷ (codes "mcause", λ s _. s.mcause, λ s w. record s { mcause = w })
+    ∷ (codes "mtval", λ s _. s.mtval, λ s w. record s { mtval = w })
     ∷ (codes "mip", λ s lines. lines_word lines, λ s w. s)
-    ∷ (codes "mcycle", λ s lines. s.mcycle % 2 ^ 32, λ s w. record s { mcycle = with_low s.mcycle w })
-    ∷ (codes "mcycleh", λ s lines. s.mcycle / 2 ^ 32, λ s w. record s { mcycle = with_high s.mcycle w })
-    ∷ (codes "minstret", λ s lines. s.minstret % 2 ^ 32, λ s w. record s { minstret = with_low s.minstret w })
-    ∷ (codes "minstreth", λ s lines. s.minstret / 2 ^ 32, λ s w. record s { minstret = with_high s.minstret w })
-    ∷ map (λ named. (named.0, λ s lines. 0, λ s w. s)) csr_names
+    ∷ (codes "mcycle", λ s _. s.mcycle % 2 ^ 32, λ s w. record s { mcycle = with_low s.mcycle w })
+    ∷ (codes "mcycleh", λ s _. s.mcycle / 2 ^ 32, λ s w. record s { mcycle = with_high s.mcycle w })
+    ∷ (codes "minstret", λ s _. s.minstret % 2 ^ 32, λ s w. record s { minstret = with_low s.minstret w })
+    ∷ (codes "minstreth", λ s _. s.minstret / 2 ^ 32, λ s w. record s { minstret = with_high s.minstret w })
+    ∷ map (λ named. (named.0, λ s _. 0, λ s w. s)) csr_names
 
 -- the row of the register at an address: the first with its number
 unfoldable pub row_at : ℕ → Option Row
@@ -95,13 +95,13 @@ row_at addr = find (λ row. addr == number_of row.0) table
 unfoldable pub read : CsrState → ℕ → Mode → InterruptLines → Option ℕ
 read state addr mode lines =
     if not (may_read addr mode) then None
-    else option_or (protection.read_register state.pmp addr) (option_map (λ row. row.1 state lines) (row_at addr))
+    else option_or (read_register state.pmp addr) (option_map (λ row. row.1 state lines) (row_at addr))
 
 -- the state after a mode's write at an address; None if it may not, or no register is there
 unfoldable pub write : CsrState → ℕ → Mode → ℕ → Option CsrState
 write state addr mode word =
     if not (may_write addr mode) then None
-    else option_or (option_map (λ pmp. record state { pmp = pmp }) (protection.write_register state.pmp addr word))
+    else option_or (option_map (λ pmp. record state { pmp = pmp }) (write_register state.pmp addr word))
     (option_map (λ row. row.2 state word) (row_at addr))
 
 -- ---- the counters

@@ -170,7 +170,8 @@ impl Csrs {
     /// read-only.
     #[tactic(auto, using(crate::proofs::Levels::no_store, crate::proofs::Table::write_by_cases))]
     pub fn write(&mut self, addr: u16, mode: Mode, value: u32) -> Option<()>
-        ensures written { WritesOrRefuses (registers.write self.old addr mode value) self.old self.new result }
+        ensures written { WritesOrRefuses (registers.write self.old addr mode value)
+            self.old self.new result }
         ensures user { mode ≡ User → result ≡ None }
     {
         if !may_write(addr, mode) {

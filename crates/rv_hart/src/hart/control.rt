@@ -108,7 +108,8 @@ impl<M: ByteMemory, C: Decoded> Hart<M, C> {
     /// Writes a control register, and computes the shortcuts anew. Returns None, and changes nothing, if the
     /// mode may not write it.
     fn write_csr(&mut self, addr: u16, value: u32) -> Option<()>
-        ensures written { WritesOrRefuses (registers.write self.old.machine.csrs addr self.old.machine.mode value)
+        ensures written { WritesOrRefuses
+            (registers.write self.old.machine.csrs addr self.old.machine.mode value)
             self.old.machine.csrs self.new.machine.csrs result }
         ensures machine { self.new.machine ≡ record self.old.machine { csrs = self.new.machine.csrs } }
         ensures cache { self.new.cache ≡ self.old.cache }
