@@ -5,7 +5,7 @@ use Rattle.std.specs.Int.{is_in_range}
 use Rattle.std.specs.List.{flat_map}
 use Rattle.std.specs.Option.{option_map, option_map_or}
 use Rattle.rv_base.specs.Digits.{hex}
-use Rattle.rv_base.specs.Numbers.{decimal}
+use Rattle.rv_base.specs.Numbers.{number_in}
 use Rattle.rv_base.specs.Tables.{lookup}
 use Rattle.rv_answers.specs.declared.extent.Extent.{Extent}
 use Rattle.rv_answers.specs.declared.extent.Format.{Format}
@@ -58,6 +58,6 @@ format_of _ = None
 -- how many, and how, by the words that follow WHERE: a number may come first
 unfoldable pub extent : List (List ℕ) → Option Extent
 extent words =
-    let n = option_and_then (decimal 4096) (slice_get words 0) in
+    let n = option_and_then (number_in 10 4096) (slice_get words 0) in
     option_map (λ f. record { count = unwrap_or n f.1; format = f.0 })
     (format_of (if is_some n then drop 1 words else words))

@@ -14,20 +14,16 @@ abbrev pub digit_value : ℕ → ℕ
 digit_value b = unwrap_or (hex_digit b) 16
 
 -- the value of digits in a base, the highest first
-abbrev pub value : ℕ → List ℕ → ℕ
-value base digits = fold (λ v b. base * v + digit_value b) 0 digits
+abbrev pub value_in_base : ℕ → List ℕ → ℕ
+value_in_base base digits = fold (λ v b. base * v + digit_value b) 0 digits
 
 -- one or more digits in a base of at most 16, of a value no more than this
 unfoldable pub number_in : ℕ → ℕ → List ℕ → Option ℕ
 number_in base most digits =
     if nat_le 1 (length digits)
-    && (list_all (λ b. nat_lt (digit_value b) base) digits && nat_le (value base digits) most)
-    then Some (value base digits)
+    && (list_all (λ b. nat_lt (digit_value b) base) digits && nat_le (value_in_base base digits) most)
+    then Some (value_in_base base digits)
     else None
-
--- a decimal number, with leading zeros or without
-abbrev pub decimal : ℕ → List ℕ → Option ℕ
-decimal most word = number_in 10 most word
 
 -- two hexadecimal digits
 unfoldable pub hex_byte : List ℕ → Option ℕ

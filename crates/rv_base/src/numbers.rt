@@ -1,12 +1,12 @@
 //! Reads numbers.
 ghost use Rattle.std.specs.Prelude.{◌≡◌, ◌+◌, ◌*◌, ◌<◌, ◌≤◌, Bool, IfSome};
-ghost use Rattle.rv_base.specs.Numbers.{decimal, hex_digit, hex_byte};
+ghost use Rattle.rv_base.specs.Numbers.{number_in, hex_digit, hex_byte};
 
 /// Returns the number that decimal digits stand for, or None where there is no digit, another byte, or a
 /// number above `most`. Leading zeros are allowed.
 pub fn decimal(most: u64, word: &[u8]) -> Option<u64>
     requires { most < 10000000000 }
-    ensures value { result ≡ decimal most word.now }
+    ensures value { result ≡ number_in 10 most word.now }
     ensures below { IfSome result (λ n. n ≤ most) }
 {
     if word.is_empty() {

@@ -9,7 +9,7 @@ use Rattle.std.proofs.lemmas.List.{drop_all}
 use Rattle.std.proofs.lemmas.List.Folds.{list_all_at}
 use Rattle.std.proofs.Math.Nat.{pow-le-pow_right}
 use Rattle.std.proofs.Math.Seq.{drop-cons}
-use Rattle.rv_base.specs.Numbers.{hex_digit, value, number_in}
+use Rattle.rv_base.specs.Numbers.{hex_digit, value_in_base, number_in}
 use Rattle.rv_tokens.specs.Partial as literal
 use Rattle.rv_commands.specs.Addresses.{hexadecimal}
 
@@ -21,7 +21,7 @@ abbrev step : ℕ → ℕ → ℕ
 step v b = 16 * v + unwrap_or (hex_digit b) 16
 
 abbrev hex_value : List ℕ → ℕ
-hex_value digits = value 16 digits
+hex_value digits = value_in_base 16 digits
 
 -- the first i bytes are digits, of the value sum
 pub record SoFar (digits : List ℕ) (i sum : ℕ) : Type 0 where
@@ -55,12 +55,12 @@ refused_at false some all x h = refl
 
 pub hexadecimal-refused : (ds : List ℕ) → is_count (length ds) ≡ false → None ≡ hexadecimal ds
 unfolding hexadecimal number_in
-hexadecimal-refused ds h = refused_at (nat_le (length ds) 8) (nat_le 1 (length ds)) _ (value 16 ds) h
+hexadecimal-refused ds h = refused_at (nat_le (length ds) 8) (nat_le 1 (length ds)) _ (value_in_base 16 ds) h
 
 hexadecimal-bad : (ds : List ℕ) → list_all is_digit ds ≡ false → None ≡ hexadecimal ds
 unfolding hexadecimal number_in
 hexadecimal-bad ds h =
-    none_at (nat_le (length ds) 8) (nat_le 1 (length ds)) (list_all is_digit ds) _ (value 16 ds) h
+    none_at (nat_le (length ds) 8) (nat_le 1 (length ds)) (list_all is_digit ds) _ (value_in_base 16 ds) h
 
 -- a byte isn't a digit
 pub not_a_digit : (ds : List ℕ) (i : ℕ) → i < length ds → hex_digit (get_or ds i 0) ≡ None

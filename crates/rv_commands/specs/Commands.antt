@@ -7,7 +7,7 @@ use Rattle.std.specs.Str.{bytes_eq}
 use Rattle.rv_base.specs.Tables.{lookup}
 use Rattle.rv_isa.specs.Names.{csr_names}
 use Rattle.rv_base.specs.Limits.{line_limit}
-use Rattle.rv_base.specs.Numbers.{decimal}
+use Rattle.rv_base.specs.Numbers.{number_in}
 use Rattle.rv_base.specs.Words.{words, begins_comment}
 use Rattle.rv_commands.specs.Addresses.{address_of}
 use Rattle.rv_commands.specs.declared.command.Command.{Command}
@@ -18,7 +18,7 @@ use Rattle.rv_commands.specs.declared.command.Command.TheVariants.{Step, Go, Set
 -- a decimal number from `low` to `high`
 unfoldable pub number_between : ℕ → ℕ → List ℕ → Option ℕ
 number_between low high word =
-    option_and_then (λ n. if nat_le low n then Some n else None) (decimal high word)
+    option_and_then (λ n. if nat_le low n then Some n else None) (number_in 10 high word)
 
 -- `m ADDR N`: an address and a number of bytes
 abbrev pub memory_command : (List ℕ → Option ℤ) → List ℕ → List ℕ → Option Command

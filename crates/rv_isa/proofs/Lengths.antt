@@ -6,7 +6,7 @@ use Rattle.std.specs.Fmt.{decimal, signed_decimal}
 use Rattle.rv_isa.specs.Number.{IsWithin}
 use Rattle.rv_isa.specs.Table.{mnemonic}
 use Rattle.rv_isa.specs.Kinds.{branch_operation, load_operation, store_operation, imm_operation, shift_operation, alu_operation, csr_operation, csr_imm_operation, IsInRange}
-use Rattle.rv_isa.specs.Text.{target, register, text}
+use Rattle.rv_isa.specs.Text.{target, register_text, text}
 use Rattle.rv_isa.specs.declared.kind.Kind.{Kind}
 use Rattle.rv_isa.specs.declared.kind.Kind.TheVariants.{Lui}
 use Rattle.rv_base.proofs.Hexadecimal.{hex_length}
@@ -52,7 +52,7 @@ alu_length op = grind arith
 small_length : (n : ℕ) → n < 32 → length (decimal n) ≤ 2
 small_length n h = length-decimal-le 2 n (omega arith) (omega arith) (omega arith)
 
-register_length : (n : ℕ) → n < 32 → length (register n) ≤ 3
+register_length : (n : ℕ) → n < 32 → length (register_text n) ≤ 3
 register_length n h = omega (arith, small_length n h)
 
 -- hexadecimal numbers of twenty and of twelve bits

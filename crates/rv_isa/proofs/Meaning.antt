@@ -9,7 +9,7 @@ use Rattle.rv_isa.proofs.OneLayout.{kept, branch_kind, load_kind, store_kind, im
 use Rattle.rv_isa.specs.Fields.{kind_of, unsigned}
 use Rattle.rv_isa.specs.Layout.{fields_of, laid}
 use Rattle.rv_isa.specs.Meaning.{first_below, first_within, first_distance, first_in, first_registers, first_fields, first_of, first_kind, means}
-use Rattle.rv_isa.specs.Fields.{blank, with_fields}
+use Rattle.rv_isa.specs.Fields.{zeroed, with_fields}
 use Rattle.rv_isa.specs.Kinds.{IsMeaning, operation_of, operations, word, format_of, FieldsFit, IsInRange}
 use Rattle.rv_isa.specs.Number.{modulo, IsWithin, IsDistance}
 use Rattle.rv_isa.specs.Mnemonics.{first_named}
@@ -166,22 +166,22 @@ found-fields op (Whole _) f r p = p
 
 -- ---- the kinds of an operation
 
-ranged : (x : Operation) (rd rs1 rs2 : ℕ) (imm : ℤ) → FieldsFit (refilled (format_of (blank x)) rd rs1 rs2 imm)
+ranged : (x : Operation) (rd rs1 rs2 : ℕ) (imm : ℤ) → FieldsFit (refilled (format_of (zeroed x)) rd rs1 rs2 imm)
     → IsInRange (kind_of (with_fields x rd rs1 rs2 imm))
-unfolding blank kind_of
+unfolding zeroed kind_of
 ranged o.Lui rd rs1 rs2 imm r = search rules
 ranged x rd rs1 rs2 imm r = search rules
 
 only-of : {A : Type 0} {P : A → Type 0} (x : Operation) (f : Kind → Option A) →
     ((k : Kind) → IsInRange k → Only P (f k)) → Only P (first_of f x)
 only-of x f h =
-    only-fields (format_of (blank x)) _
+    only-fields (format_of (zeroed x)) _
     (λ rd rs1 rs2 imm r. h (kind_of (with_fields x rd rs1 rs2 imm)) (ranged x rd rs1 rs2 imm r))
 
 -- the search is the same for all kinds of an operation
 like_blank : {A : Type 0} (k : Kind) (f : ℕ → ℕ → ℕ → ℤ → Option A) →
-    first_fields (format_of (blank (operation_of k))) f ≡ first_fields (format_of k) f
-unfolding blank kind_of
+    first_fields (format_of (zeroed (operation_of k))) f ≡ first_fields (format_of k) f
+unfolding zeroed kind_of
 like_blank (Branch op _ _ _) f = ap (λ (k : Kind). first_fields (format_of k) f) (branch_kind op _)
 like_blank (Load op _ _ _) f = ap (λ (k : Kind). first_fields (format_of k) f) (load_kind op _)
 like_blank (Store op _ _ _) f = ap (λ (k : Kind). first_fields (format_of k) f) (store_kind op _)

@@ -17,5 +17,5 @@ with_fields operation rd rs1 rs2 imm =
     record { operation = operation; rd = rd; rs1 = rs1; rs2 = rs2; imm = imm }
 
 -- the kind of an operation, with zeros in all fields
-unfoldable pub blank : Operation → Kind
-blank operation = kind_of (with_fields operation 0 0 0 (pos 0))
+unfoldable pub zeroed : Operation → Kind
+zeroed operation = kind_of (with_fields operation 0 0 0 (pos 0))

@@ -6,7 +6,7 @@ use Rattle.std.specs.Prelude.{ℕ, zero, suc, ◌^◌, ◌==◌, if◌then◌els
 use Rattle.std.specs.Option.{option_or}
 use Rattle.rv_isa.specs.Number.{modulo}
 use Rattle.rv_isa.specs.Fields.{kind_of}
-use Rattle.rv_isa.specs.Fields.{blank, with_fields}
+use Rattle.rv_isa.specs.Fields.{zeroed, with_fields}
 use Rattle.rv_isa.specs.Kinds.{operations, format_of, word}
 use Rattle.rv_isa.specs.declared.format.Format.{Format}
 use Rattle.rv_isa.specs.declared.format.Format.TheVariants.{R, Amount, I, Number, S, B, U, J, Whole}
@@ -54,7 +54,7 @@ first_fields (Whole _) f = f 0 0 0 (pos 0)
 
 -- among the kinds in range of an operation
 abbrev pub first_of : {A : Type 0} → (Kind → Option A) → Operation → Option A
-first_of f operation = first_fields (format_of (blank operation))
+first_of f operation = first_fields (format_of (zeroed operation))
     (λ rd rs1 rs2 imm. f (kind_of (with_fields operation rd rs1 rs2 imm)))
 
 -- among all kinds in range

@@ -6,7 +6,7 @@ use Rattle.rv_isa.specs.Kinds.{operations}
 use Rattle.rv_isa.specs.Table.{mnemonic}
 use Rattle.rv_isa.specs.declared.op.Operation.{Operation}
 pub use Rattle.rv_isa.specs.Fields.{with_fields}
-unfoldable pub use Rattle.rv_isa.specs.Fields.{blank}
+unfoldable pub use Rattle.rv_isa.specs.Fields.{zeroed}
 
 -- the first of these operations with a mnemonic
 abbrev pub first_named : List ℕ → List Operation → Option Operation

@@ -3,7 +3,7 @@
 use Rattle.std.specs.Prelude.{ℕ, List, []}
 use Rattle.std.specs.Fmt.{signed_decimal}
 use Rattle.rv_base.specs.Digits.{short_hex}
-use Rattle.rv_isa.specs.Text.{register, target, address, two, three}
+use Rattle.rv_isa.specs.Text.{register_text, target, address, two, three}
 use Rattle.rv_isa.specs.declared.text.TextOperand.{TextOperand}
 use Rattle.rv_isa.specs.declared.text.TextOperand.TheVariants.{Register, Hex, Number, Target, Address}
 use Rattle.rv_isa.specs.declared.text.TextOperands.{TextOperands}
@@ -11,7 +11,7 @@ use Rattle.rv_isa.specs.declared.text.TextOperands.TheVariants as texts
 
 -- the text of an operand
 abbrev pub operand : TextOperand → List ℕ
-operand (Register n) = register n
+operand (Register n) = register_text n
 operand (Hex n) = short_hex n
 operand (Number z) = signed_decimal z
 operand (Target z) = target z
@@ -20,5 +20,5 @@ operand (Address z base) = address z base
 -- operands after a mnemonic, as one text
 abbrev pub joined : TextOperands → List ℕ
 joined texts.None = []
-joined (texts.Two a b) = two (register a) (operand b)
-joined (texts.Three a b c) = three (register a) (operand b) (operand c)
+joined (texts.Two a b) = two (register_text a) (operand b)
+joined (texts.Three a b c) = three (register_text a) (operand b) (operand c)

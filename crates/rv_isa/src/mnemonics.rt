@@ -1,6 +1,6 @@
 //! The operation with a mnemonic, and its instruction with fields.
 ghost use Rattle.std.specs.Prelude.{◌≡◌};
-ghost use Rattle.rv_isa.specs.Fields.{blank, kind_of, with_fields};
+ghost use Rattle.rv_isa.specs.Fields.{zeroed, kind_of, with_fields};
 ghost use Rattle.rv_isa.specs.Laws.{OneMnemonic, OneOperation};
 ghost use Rattle.rv_isa.specs.Mnemonics.{first_named, named};
 ghost use Rattle.rv_isa.specs.Kinds.{IsInRange};
@@ -61,9 +61,9 @@ impl Operation {
     }
 
     /// Returns the operation's kind, with zeros in all fields.
-    #[tactic(auto, using(crate::proofs::Zeros::zeros_in_range), unfolding(crate::specs::Fields::blank))]
+    #[tactic(auto, using(crate::proofs::Zeros::zeros_in_range), unfolding(crate::specs::Fields::zeroed))]
     pub fn kind(self) -> Kind
-        ensures { result ≡ blank self }
+        ensures { result ≡ zeroed self }
     {
         let x0 = Reg::of(0);
         self.with(x0, x0, x0, 0).kind()

@@ -4,7 +4,7 @@
 //! chapter 24, has the function codes: funct3 has three bits, funct7 has seven. `from_funct3` and
 //! `from_codes` return the operation that has codes, or `None` where none has them.
 ghost use Rattle.std.specs.Prelude.{◌≡◌, ◌≢◌, ◌<◌, ◌+◌, ◌%◌, ◌==◌, MatchOption, true};
-ghost use Rattle.rv_isa.specs.Alu.{value};
+ghost use Rattle.rv_isa.specs.Alu.{alu_value};
 ghost use Rattle.rv_isa.specs.Fields as spec;
 ghost use Rattle.rv_isa.specs.Layout as layout;
 ghost use Rattle.rv_isa.specs.Letters.{beginning_with};
@@ -747,9 +747,9 @@ impl AluOp {
 /// the dividend. For a divisor of zero the quotient is all ones and the remainder is the dividend; for -2^31
 /// by -1 they are -2^31 and 0. RISC-V Unprivileged ISA 20191213, section 2.4 and chapter 7.
 #[inline(always)]
-#[tactic(auto, using(crate::proofs::Bits::bit_sums), unfolding(crate::specs::Alu::value))]
+#[tactic(auto, using(crate::proofs::Bits::bit_sums), unfolding(crate::specs::Alu::alu_value))]
 pub fn alu(op: AluOp, a: u32, b: u32) -> u32
-    ensures { result ≡ value op a b }
+    ensures { result ≡ alu_value op a b }
 {
     match op {
         AluOp::Add => a.wrapping_add(b),

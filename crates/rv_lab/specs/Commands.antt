@@ -2,7 +2,7 @@
 -- What each command leaves of a lab (this project's own: docs/LAB.md).
 use Rattle.std.specs.Prelude.{◌≡◌, ℕ, zero, suc, ◌-◌, ◌==◌, if◌then◌else◌, min, Bool, true, false, List, [], ◌∷◌, fold, Option, Some, None, IfSome, MatchOption, unwrap_or}
 use Rattle.std.specs.FinSet as set
-use Rattle.rv_base.specs.Numbers.{decimal}
+use Rattle.rv_base.specs.Numbers.{number_in}
 use Rattle.rv_base.specs.Words.{words}
 use Rattle.rv_board.specs.State.{BoardState}
 use Rattle.rv_lists.specs.Timed.{driven}
@@ -118,7 +118,7 @@ Monitors line old new =
 -- the number of some words, or the usual one where there are none
 abbrev pub count_of : ℕ → ℕ → List (List ℕ) → Option ℕ
 count_of usual most [] = Some usual
-count_of usual most (word ∷ []) = decimal most word
+count_of usual most (word ∷ []) = number_in 10 most word
 count_of usual most _ = None
 
 -- what a command does by its operands, which changes nothing where they can't be read

@@ -4,7 +4,7 @@ use Rattle.std.proofs.lemmas.List.Folds.{list_all-append}
 use Rattle.std.specs.List.{list_all}
 use Rattle.std.specs.Prelude.{Option, Some, None, nat_le, nat_lt, ◌&&◌, length, option_and_then}
 use Rattle.std.specs.Option.{option_map}
-use Rattle.rv_base.specs.Numbers.{decimal, number_in}
+use Rattle.rv_base.specs.Numbers.{number_in}
 use Rattle.rv_base.specs.Words.{words, begins_comment}
 use Rattle.rv_lists.specs.declared.input.Input.{Input}
 use Rattle.rv_lists.specs.declared.input.TimedInput.{TimedInput}
@@ -29,11 +29,11 @@ decimal_by v most n true true false e h = absurd cc
 decimal_by v most n true false c e h = absurd cc
 decimal_by v most n false b c e h = absurd cc
 
-decimal_small : (most : ℕ) (word : List ℕ) (n : ℕ) → decimal most word ≡ Some n → nat_le n most ≡ true
+decimal_small : (most : ℕ) (word : List ℕ) (n : ℕ) → number_in 10 most word ≡ Some n → nat_le n most ≡ true
 unfolding number_in
 decimal_small most word n h = decimal_by _ most n _ _ _ refl h
 
-step_by : (t : Bool) (word : List ℕ) (n : ℕ) → cond t (decimal 9999999999 word) None ≡ Some n
+step_by : (t : Bool) (word : List ℕ) (n : ℕ) → cond t (number_in 10 9999999999 word) None ≡ Some n
     → nat_le n 9999999999 ≡ true
 step_by true word n h = decimal_small 9999999999 word n h
 step_by false word n h = absurd cc

@@ -16,7 +16,6 @@ use Rattle.rv_base.specs.Lines.{lines, split}
 use Rattle.rv_base.proofs.DecimalDigits.{decimal_is}
 use Rattle.rv_base.specs.Decimals.{decimal_value, decimal_bytes}
 use Rattle.rv_base.specs.Numbers.{digit_value, hex_digit, hex_byte, number_in}
-use Rattle.rv_base.specs.Numbers as read
 use Rattle.rv_base.specs.Words.{words, is_blank, begins_comment}
 use Rattle.rv_lists.specs.declared.input.Input.{Input}
 use Rattle.rv_lists.specs.declared.input.Input.TheVariants.{Rx, Line}
@@ -160,7 +159,7 @@ more_digits n ds h w = record {
 written : (n : ℕ) → n < 2 ^ 64 → IsWritten n (decimal n)
 written n h = decimal_by_steps IsWritten one_digit more_digits n h
 
-read_back : (most n : ℕ) (ds : List ℕ) → IsWritten n ds → n ≤ most → read.decimal most ds ≡ Some n
+read_back : (most n : ℕ) (ds : List ℕ) → IsWritten n ds → n ≤ most → number_in 10 most ds ≡ Some n
 unfolding decimal_bytes
 read_back most n ds w small =
     let v : nat_le (decimal_value ds) most ≡ true = rw w.means (le n most small) in

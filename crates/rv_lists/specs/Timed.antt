@@ -11,7 +11,7 @@ use Rattle.rv_lists.specs.declared.input.Input.TheVariants.{Rx, Line}
 use Rattle.rv_lists.specs.declared.input.TimedInput.{TimedInput}
 use Rattle.rv_lists.specs.declared.fault.TimelineFault.{TimelineFault}
 use Rattle.rv_lists.specs.declared.fault.TimelineFault.TheVariants.{BadLine, OutOfMemory}
-use Rattle.rv_base.specs.Numbers.{decimal, hex_byte}
+use Rattle.rv_base.specs.Numbers.{number_in, hex_byte}
 use Rattle.rv_base.specs.Words.{words, begins_comment}
 
 -- the meanings of all parts, one after another, if each has one
@@ -23,11 +23,11 @@ all_of meaning (x ∷ xs) = option_and_then (λ ys. option_map (λ zs. ys ++ zs)
 
 -- STEP: one to ten decimal digits
 unfoldable pub step_of : List ℕ → Option ℕ
-step_of word = if nat_le (length word) 10 then decimal 9999999999 word else None
+step_of word = if nat_le (length word) 10 then number_in 10 9999999999 word else None
 
 -- N of `line`: a decimal number from 1 to 31
 unfoldable pub source_of : List ℕ → Option ℕ
-source_of word = option_and_then (λ n. if nat_le 1 n then Some n else None) (decimal 31 word)
+source_of word = option_and_then (λ n. if nat_le 1 n then Some n else None) (number_in 10 31 word)
 
 -- V of `line`: 0 for low, 1 for high
 unfoldable pub level_of : List ℕ → Option Bool

@@ -4,7 +4,7 @@
 use Rattle.std.specs.Prelude.{ℕ, ◌+◌, ◌-◌, ◌%◌, ◌^◌, ◌==◌, ◌&&◌, ◌||◌, Bool, List, [], ◌∷◌, length, map, take, drop, find, codes, if◌then◌else◌, nat_eq, nat_lt, slice_index, Option, Some, None, option_and_then, unwrap_or}
 use Rattle.std.specs.List.{before_first, ends_with, position_or_len, prefix_len, range_with_len, suffix_len}
 use Rattle.std.specs.Option.{option_map, option_map_or, option_or}
-use Rattle.rv_base.specs.Numbers.{decimal}
+use Rattle.rv_base.specs.Numbers.{number_in}
 use Rattle.rv_base.specs.Tables.{lookup}
 use Rattle.rv_base.specs.Words.{is_blank, words}
 use Rattle.rv_isa.specs.Names.{register_names}
@@ -41,12 +41,12 @@ between left right text =
 
 -- a number: decimal, or hexadecimal after `0x`
 unfoldable pub number : List ℕ → Option ℕ
-number word = option_or (decimal 4294967295 word) (address_of (λ name. None) word)
+number word = option_or (number_in 10 4294967295 word) (address_of (λ name. None) word)
 
 -- the number of a line, as `12` or `12:`
 unfoldable pub line_number : List ℕ → Option ℕ
 line_number word =
-    decimal 4294967295 (if ends_with nat_eq word (codes ":") then take (length word - 1) word else word)
+    number_in 10 4294967295 (if ends_with nat_eq word (codes ":") then take (length word - 1) word else word)
 
 -- a name of the source or `0x` and a number, as the monitor reads them, `pc`, or a register
 unfoldable pub base : Listed → BoardState → List ℕ → Option ℕ

@@ -6,7 +6,7 @@ use Rattle.std.specs.Option.{option_map}
 use Rattle.rv_base.specs.Tables.{lookup}
 use Rattle.rv_isa.specs.Names.{register_names, csr_names}
 use Rattle.rv_isa.specs.Fields.{kind_of}
-use Rattle.rv_isa.specs.Mnemonics.{blank, with_fields}
+use Rattle.rv_isa.specs.Mnemonics.{zeroed, with_fields}
 use Rattle.rv_isa.specs.declared.op.Operation.{Operation}
 use Rattle.rv_isa.specs.declared.kind.Kind.{Kind}
 use Rattle.rv_isa.specs.declared.kind.Kind.TheVariants as k
@@ -103,4 +103,4 @@ immediate _ f = pos 0
 
 -- the instruction of an operation with these fields; the field of a value that it waits for is 0
 unfoldable pub instruction : Operation → Fields → Kind
-instruction operation f = kind_of (with_fields operation f.rd f.rs1 f.rs2 (immediate (blank operation) f))
+instruction operation f = kind_of (with_fields operation f.rd f.rs1 f.rs2 (immediate (zeroed operation) f))

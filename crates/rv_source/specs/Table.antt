@@ -5,7 +5,7 @@ use Rattle.std.specs.Prelude.{ℕ, true, false, not, ◌&&◌, List, map, slice_
 use Rattle.std.specs.List.{filter_map, list_all}
 use Rattle.std.specs.Option.{option_map, option_map_or, ok_or}
 use Rattle.std.specs.Str.{bytes_eq}
-use Rattle.rv_isa.specs.Mnemonics.{named, blank}
+use Rattle.rv_isa.specs.Mnemonics.{named, zeroed}
 use Rattle.rv_isa.specs.declared.op.Operation.{Operation}
 use Rattle.rv_isa.specs.declared.op.Operation.TheVariants as o
 use Rattle.rv_isa.specs.declared.kind.Kind.{Kind}
@@ -142,7 +142,7 @@ markers =
 
 -- the rows of a word: of an operation, or of a pseudo-instruction or a directive
 abbrev pub rows_of : List ℕ → List Row
-rows_of word = option_map_or (λ op. of_kind op (blank op)) (named word)
+rows_of word = option_map_or (λ op. of_kind op (zeroed op)) (named word)
     (filter_map (λ row. if bytes_eq row.0 word then Some row.1 else None) (pseudo_instructions ++ directives))
 
 -- the statement of a word with these operands: that of its first row that takes them; E4 if it has no row,

@@ -2,7 +2,7 @@
 ghost use Rattle.std.specs.Prelude.{◌≡◌, map};
 ghost use Rattle.std.specs.List.{list_any};
 ghost use Rattle.std.specs.Str.{bytes_eq};
-ghost use Rattle.rv_isa.specs.Mnemonics.{blank};
+ghost use Rattle.rv_isa.specs.Mnemonics.{zeroed};
 ghost use Rattle.rv_tokens.specs.declared.fault.LineFault.TheVariants.{UnknownWord};
 ghost use Rattle.rv_source.specs.Partial.{first_fit, fitted_or, has_dot, is_marker, of_word, row_by, rows, words};
 ghost use Rattle.rv_source.specs.Table.{meaning, of_kind};
@@ -19,7 +19,7 @@ use rv_isa::{Kind, Operation, operation_named};
 /// Returns the ways to write an operation, in the order in which they are tried.
 #[tactic(auto, unfolding(crate::specs::Table::of_kind))]
 pub fn ways_of(operation: Operation) -> &'static [Way]
-    ensures { map (row_by operation) result.now ≡ of_kind operation (blank operation) }
+    ensures { map (row_by operation) result.now ≡ of_kind operation (zeroed operation) }
 {
     match operation.kind() {
         Kind::Lui { .. } => &[Near(&[Rd, Upper])],

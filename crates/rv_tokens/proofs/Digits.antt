@@ -7,13 +7,13 @@ use Rattle.std.specs.Prelude.{None, Some, ◌⊎◌, nat_le, ◌&&◌}
 use Rattle.std.proofs.lemmas.Bool.{false≢true}
 use Rattle.std.proofs.Math.Seq.{drop-cons}
 use Rattle.std.proofs.lemmas.List.{drop_all}
-use Rattle.rv_base.specs.Numbers.{value, digit_value, number_in}
+use Rattle.rv_base.specs.Numbers.{value_in_base, digit_value, number_in}
 use Rattle.rv_tokens.specs.Partial.{is_digit}
 
 -- the first i bytes are digits, of the value sum
 pub record SoFar (base most : ℕ) (digits : List ℕ) (i sum : ℕ) : Type 0 where
   pub small : sum ≤ most
-  pub sum_is : fold (λ v b. base * v + digit_value b) sum (drop i digits) ≡ value base digits
+  pub sum_is : fold (λ v b. base * v + digit_value b) sum (drop i digits) ≡ value_in_base base digits
   pub all_are : list_all (is_digit base) (drop i digits) ≡ list_all (is_digit base) digits
 
 -- more digits don't make the value smaller
@@ -41,19 +41,20 @@ below m n h = grind (arith, nat_tests)
 pub number_in-empty : (base most : ℕ) (ds : List ℕ) → length ds ≡ 0 → None ≡ number_in base most ds
 unfolding number_in
 number_in-empty base most ds h =
-    none_at (nat_le 1 (length ds)) (list_all (is_digit base) ds) (nat_le (value base ds) most)
-    (value base ds) (inl (above 1 (length ds) (omega arith)))
+    none_at (nat_le 1 (length ds)) (list_all (is_digit base) ds) (nat_le (value_in_base base ds) most)
+    (value_in_base base ds) (inl (above 1 (length ds) (omega arith)))
 
 pub number_in-bad : (base most : ℕ) (ds : List ℕ) → list_all (is_digit base) ds ≡ false → None ≡ number_in base most ds
 unfolding number_in
 number_in-bad base most ds h = none_at _ _ _ _ (inr (inl h))
 
-pub number_in-large : (base most : ℕ) (ds : List ℕ) → most < value base ds → None ≡ number_in base most ds
+pub number_in-large : (base most : ℕ) (ds : List ℕ) → most < value_in_base base ds
+    → None ≡ number_in base most ds
 unfolding number_in
-number_in-large base most ds h = none_at _ _ _ _ (inr (inr (above (value base ds) most h)))
+number_in-large base most ds h = none_at _ _ _ _ (inr (inr (above (value_in_base base ds) most h)))
 
 pub number_in-some : (base most : ℕ) (ds : List ℕ) (v : ℕ) → 0 < length ds → list_all (is_digit base) ds ≡ true
-    → v ≡ value base ds → v ≤ most → Some v ≡ number_in base most ds
+    → v ≡ value_in_base base ds → v ≤ most → Some v ≡ number_in base most ds
 unfolding number_in
 number_in-some base most ds v long all is small =
     rw (below 1 (length ds) long, all, ← is, below v most small) refl
@@ -61,7 +62,7 @@ number_in-some base most ds v long all is small =
 -- one more digit
 pub next_sum : (base most : ℕ) (ds : List ℕ) (i sum : ℕ) → i < length ds → SoFar base most ds i sum
     → fold (λ v b. base * v + digit_value b) (base * sum + digit_value (get_or ds i 0)) (drop (suc i) ds)
-    ≡ value base ds
+    ≡ value_in_base base ds
 next_sum base most ds i sum h so =
     let e : drop i ds ≡ get_or ds i 0 ∷ drop (suc i) ds = drop-cons ds i 0 h in rw e at so.sum_is
 
@@ -103,8 +104,8 @@ number_in_split false b d v n h = absurd cc
 
 -- a number consists of digits, and has their value
 pub number_in_is : (base most : ℕ) (ds : List ℕ) (n : ℕ) → number_in base most ds ≡ Some n
-    → (list_all (is_digit base) ds ≡ true) × (value base ds ≡ n)
+    → (list_all (is_digit base) ds ≡ true) × (value_in_base base ds ≡ n)
 unfolding number_in
 number_in_is base most ds n h =
-    number_in_split (nat_le 1 (length ds)) (list_all (is_digit base) ds) (nat_le (value base ds) most)
-    (value base ds) n h
+    number_in_split (nat_le 1 (length ds)) (list_all (is_digit base) ds) (nat_le (value_in_base base ds) most)
+    (value_in_base base ds) n h

@@ -1,12 +1,12 @@
 use Rattle.std.proofs.Common.{ne_eqb, SFits, w32}
 use Rattle.std.specs.Prelude.{int_rem}
 use Rattle.rv_isa.specs.Number.{unsigned}
-use Rattle.rv_isa.specs.Alu.{value}
+use Rattle.rv_isa.specs.Alu.{alu_value}
 use Rattle.rv_isa.proofs.Signed.{word_of, remainder_word}
 use Rattle.rv_isa.proofs.arith.rem.Goals as goal
 
 pub returns-else-b-eq0 : goal.returns-else-b-eq0
-unfolding value
+unfolding alu_value
 returns-else-b-eq0 c =
     let f : SFits w32 c.cast_signed.result = record { sfits = c.cast_signed.type_inv } in
     let g : SFits w32 c.cast_signed-else-b-eq0.result =
