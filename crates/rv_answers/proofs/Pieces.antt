@@ -40,7 +40,7 @@ one_more f xs i x a b c e h o p =
     subst (Appended a c) (one_more_text f xs i x e h ∙ ap (λ k. flat_map f (take k xs)) (sym (add-one i)))
     (then a b c _ _ o p)
 
--- ---- the texts of the numbers from 0 on
+-- ---- the texts of the numbers from one on
 
 pub next_text : (f : ℕ → List ℕ) (s n : ℕ)
     → flat_map f (range_with_len s n) ++ f (s + n) ≡ flat_map f (range_with_len s (suc n))
@@ -51,9 +51,13 @@ next_text f s (suc n) =
     ∙ ap (λ text. f s ++ text)
     (ap (λ k. flat_map f (range_with_len (s + 1) n) ++ f k) same ∙ next_text f (s + 1) n)
 
+pub next_from : (f : ℕ → List ℕ) (s n k : ℕ) (a b c : Written) → s + n ≡ k
+    → Appended a b (flat_map f (range_with_len s n)) → Appended b c (f k)
+    → Appended a c (flat_map f (range_with_len s (n + 1)))
+next_from f s n k a b c e o p =
+    subst (Appended a c) (ap (λ i. flat_map f (range_with_len s n) ++ f i) (sym e) ∙ (next_text f s n
+    ∙ ap (λ i. flat_map f (range_with_len s i)) (sym (add-one n)))) (then a b c _ _ o p)
+
 pub next : (f : ℕ → List ℕ) (n : ℕ) (a b c : Written) → Appended a b (flat_map f (range_with_len 0 n))
     → Appended b c (f n) → Appended a c (flat_map f (range_with_len 0 (n + 1)))
-next f n a b c o p =
-    let same : n ≡ 0 + n = omega arith in
-    subst (Appended a c) (ap (λ k. flat_map f (range_with_len 0 n) ++ f k) same ∙ (next_text f 0 n
-    ∙ ap (λ k. flat_map f (range_with_len 0 k)) (sym (add-one n)))) (then a b c _ _ o p)
+next f n a b c o p = next_from f 0 n n a b c (omega arith) o p

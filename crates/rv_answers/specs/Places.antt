@@ -38,6 +38,11 @@ row_text row number text =
     mark row.is_here (codes ">") ++ mark row.is_marked (codes "*") ++ cell_text row ++ number_text number
     ++ text ++ codes "\n"
 
+-- how many lines a source has, as `l` tells it where none of those that it is to list is there
+unfoldable pub length_text : ℕ → List ℕ
+length_text n =
+    codes "the source has " ++ decimal n ++ codes " line" ++ (if n == 1 then [] else codes "s") ++ codes "\n"
+
 -- a word of memory and its instruction
 unfoldable pub instruction_text : Option ℕ → List ℕ
 instruction_text word =

@@ -19,10 +19,10 @@ pub use control::{append_bits, has_bit};
 pub use devices::{append_controller, append_serial, append_timer};
 pub use extent::{Extent, Format, read_extent};
 pub use memory::{append_bytes_row, append_escaped, append_words_row, escapes};
-pub use places::{append_instruction, append_label, append_line_number, line_text};
+pub use places::{append_instruction, append_label, append_line_number, line_text, lines_from};
 pub use registers::{
     Registers, append_changes, append_register, append_registers, append_value, register_name,
 };
-pub use rows::{Row, append_row};
+pub use rows::{Row, append_length, append_row};
 pub use standing::{append_halted, append_mode, append_step};
 pub use traps::{append_cause, append_times, append_trap, cause_name};

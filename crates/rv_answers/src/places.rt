@@ -1,5 +1,5 @@
 //! Labels with their distances, and instructions.
-ghost use Rattle.std.specs.Prelude.{◌≡◌, ◌==◌, ◌++◌, [], codes, get_or, if◌then◌else◌};
+ghost use Rattle.std.specs.Prelude.{◌≡◌, ◌==◌, ◌++◌, ◌-◌, [], codes, drop, get_or, if◌then◌else◌};
 ghost use Rattle.std.specs.Fmt.{decimal};
 ghost use Rattle.std.specs.Option.{option_map_or};
 ghost use Rattle.rv_base.specs.Lines.{lines};
@@ -8,21 +8,27 @@ ghost use Rattle.rv_answers.specs.Answer.{Appended};
 ghost use Rattle.rv_answers.specs.Places.{instruction_text, label_text};
 
 use crate::Answer;
-use rv_base::cut_lines;
+use rv_base::{TextLines, cut_lines};
 use rv_isa::decode;
 
-/// Returns the text of a line of a source, counted from 0; an empty one where there is no such line.
-pub fn line_text(source: &[u8], index: usize) -> &[u8]
-    ensures { result.now ≡ get_or (lines source.now) index [] }
+/// Returns the lines of a source from one on, counted from 1; all of them from 0 on.
+pub fn lines_from(source: &[u8], first: usize) -> TextLines<'_>
+    ensures { result ≡ drop (first - 1) (lines source.now) }
 {
-    let mut left = index;
-    for line in cut_lines(source) {
-        if left == 0 {
-            return line;
+    let mut left = cut_lines(source);
+    for passed in 0..first.saturating_sub(1) {
+        if left.next().is_none() {
+            break;
         }
-        left -= 1;
     }
-    b""
+    left
+}
+
+/// Returns the text of a line of a source, counted from 1; an empty one where there is no such line.
+pub fn line_text(source: &[u8], line: usize) -> &[u8]
+    ensures { result.now ≡ get_or (lines source.now) (line - 1) [] }
+{
+    lines_from(source, line).next().unwrap_or(b"")
 }
 
 /// Appends a distance from a label.

@@ -3,9 +3,10 @@ ghost use Rattle.std.specs.Prelude.{◌++◌, codes};
 ghost use Rattle.std.specs.Option.{option_map_or};
 ghost use Rattle.rv_base.specs.Digits.{hex};
 ghost use Rattle.rv_answers.specs.Answer.{Appended};
-ghost use Rattle.rv_answers.specs.Places.{cell_text, mark, row_text};
+ghost use Rattle.rv_answers.specs.Places.{cell_text, length_text, mark, row_text};
 
 use crate::Answer;
+use crate::standing::append_plural;
 
 /// What a row of a list says of a line of the source beside its number and its text.
 #[derive(Clone, Copy)]
@@ -73,5 +74,17 @@ pub fn append_row(row: Row, number: usize, text: &[u8], answer: &mut Answer)
     append_cell(row, answer);
     answer.line_number(number);
     answer.put(text);
+    answer.say("\n");
+}
+
+/// Appends how many lines a source has.
+#[tactic(auto, using(crate::proofs::Pieces::then), unfolding(crate::specs::Places::length_text))]
+pub fn append_length(lines: usize, answer: &mut Answer)
+    ensures { Appended answer.old answer.new (length_text lines) }
+{
+    answer.say("the source has ");
+    answer.number(lines as u64);
+    answer.say(" line");
+    append_plural(lines as u64, answer);
     answer.say("\n");
 }

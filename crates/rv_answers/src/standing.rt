@@ -41,7 +41,7 @@ pub fn append_step(steps: u64, mode: Mode, answer: &mut Answer)
 
 /// Appends an `s` where there are several, or none.
 #[tactic(auto, using(crate::proofs::Pieces::nothing))]
-fn append_plural(count: u64, answer: &mut Answer)
+pub(crate) fn append_plural(count: u64, answer: &mut Answer)
     ensures { Appended answer.old answer.new (if count == 1 then [] else codes "s") }
 {
     if count != 1 {

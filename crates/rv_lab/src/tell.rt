@@ -49,7 +49,7 @@ impl Lab {
         match line_at(&self.listing, address) {
             Some(line) => {
                 answer.line_number(line);
-                answer.put(line_text(&self.source, line.saturating_sub(1)));
+                answer.put(line_text(&self.source, line));
             }
             None => append_instruction_at(self.board(), address, answer),
         }
