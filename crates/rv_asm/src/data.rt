@@ -26,16 +26,14 @@ pub fn write_fitting(width: Width, value: i64, out: &mut Vec<u8>) -> Result<(), 
         return Err(FaultKind::OutOfRange);
     }
     let bytes = bits(value).to_le_bytes();
-    out.extend_from_slice(&bytes[..width.bytes() as usize])?;
-    Ok(())
+    Ok(out.extend_from_slice(&bytes[..width.bytes() as usize])?)
 }
 
 /// Appends `count` copies of a byte.
 pub fn fill(count: u32, byte: u8, out: &mut Vec<u8>) -> Result<(), FaultKind>
     ensures { KindBecomes out.new.items result (Ok (out.old.items ++ replicate count byte)) }
 {
-    out.resize(out.len() + count as usize, byte)?;
-    Ok(())
+    Ok(out.resize(out.len() + count as usize, byte)?)
 }
 
 /// Appends the words of `count` instructions `nop`.

@@ -25,7 +25,7 @@ fn has_unknown(scope: Scope, operands: &[Operand]) -> bool
 
 /// Appends values of a width. An undefined value is reported before one that is out of range.
 #[tactic(auto, using(crate::proofs::DataBytes::placed_more, crate::proofs::DataBytes::unknown_later, crate::proofs::DataBytes::first_fails))]
-fn write_values(
+fn write_data(
     scope: Scope,
     width: Width,
     values: &[Operand],
@@ -43,7 +43,7 @@ fn write_values(
         }
         return Err(kind);
     }
-    write_values(scope, width, rest, out)
+    write_data(scope, width, rest, out)
 }
 
 impl<'a> Scope<'a> {
@@ -87,16 +87,8 @@ impl<'a> Scope<'a> {
                 waiting.write(self.here, self.value(target.operand()), out)
             }
             Statement::Li { rd, .. } => loading(*rd, bits(constant)).write(out),
-            Statement::Data { width, values } => write_values(
-                *self,
-                *width,
-                values.as_slice(),
-                out,
-            ),
-            Statement::Bytes(bytes) => {
-                bytes.append_to(out)?;
-                Ok(())
-            }
+            Statement::Data { width, values } => write_data(*self, *width, values.as_slice(), out),
+            Statement::Bytes(bytes) => Ok(bytes.append_to(out)?),
             Statement::Space { fill, .. } => data::fill(bits(constant), self.fill_byte(fill)?, out),
             Statement::Align { .. } => pad(gap(self.here, 1 << bits(constant)), out),
             Statement::Balign { .. } => pad(gap(self.here, bits(constant)), out),

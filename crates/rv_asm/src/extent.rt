@@ -1,10 +1,11 @@
 //! The extent of a statement, and its faults in phase two.
 ghost use Rattle.std.specs.Prelude.{◌≡◌, ◌==◌, ◌&&◌, ◌%◌, ◌≤◌, ◌<◌, ◌+◌, ◌*◌, ℕ, List, ℤ, min, not, is_some, true, false, Some, IfOk, IfSome};
+ghost use Rattle.std.specs.Option.{option_map_or};
 ghost use Rattle.rv_isa.specs.Width.{bytes_of};
 ghost use Rattle.rv_source.specs.declared.statement.Statement.{Statement};
 ghost use Rattle.rv_asm.specs.Counted.{renames};
 ghost use Rattle.rv_asm.specs.Kept.{KindGives, values_in};
-ghost use Rattle.rv_asm.specs.Constants.{IsKnown, IsTaken, is_unknown, is_instruction, size_of};
+ghost use Rattle.rv_asm.specs.Constants.{asked, IsKnown, IsTaken, is_unknown, is_instruction, size_of};
 ghost use Rattle.rv_asm.specs.Steps.{image_end, free};
 
 use crate::FaultKind;
@@ -24,6 +25,19 @@ pub struct Extent {
     pub end: u32,
 }
 
+/// Returns whether a value is in the range of the constant of a statement.
+fn is_taken(statement: &Statement, value: i64) -> bool
+    ensures { result ≡ option_map_or (λ a. a.1 value) (asked statement.now) true }
+{
+    match statement {
+        Statement::Space { .. } => is_between(0, IMAGE_LIMIT as i64, value),
+        Statement::Align { .. } => is_between(0, 12, value),
+        Statement::Balign { .. } => is_multiple(value),
+        Statement::Li { .. } | Statement::Constant { .. } => is_word(value),
+        _ => true,
+    }
+}
+
 /// Returns the constant of a statement: the value that must be known on its line, because its size or a name
 /// depends on it. Other statements have the constant 0. None if the value isn't known there, or isn't in the
 /// range of the statement.
@@ -32,28 +46,15 @@ fn constant(scope: Scope, statement: &Statement) -> Option<i64>
     ensures unknown { is_unknown (values_in scope.entry) statement.now ≡ not (is_some result) }
     ensures known { IfSome result (λ c. IsKnown (values_in scope.entry) c statement.now) }
 {
-    match statement {
-        Statement::Li { value, .. } | Statement::Constant { value, .. } => {
-            scope.value(value.operand()).filter(|value| is_word(*value))
-        }
-        Statement::Space { size, .. } => {
-            let limit = IMAGE_LIMIT as i64;
-            scope
-                .value(size.operand())
-                .filter(|size| is_between(0, limit, *size))
-        }
-        Statement::Align { power } => {
-            scope
-                .value(power.operand())
-                .filter(|power| is_between(0, 12, *power))
-        }
-        Statement::Balign { multiple } => {
-            scope
-                .value(multiple.operand())
-                .filter(|value| is_multiple(*value))
-        }
-        _ => Some(0),
-    }
+    let operand = match statement {
+        Statement::Li { value, .. } | Statement::Constant { value, .. } => value.operand(),
+        Statement::Space { size, .. } => size.operand(),
+        Statement::Align { power } => power.operand(),
+        Statement::Balign { multiple } => multiple.operand(),
+        _ => return Some(0),
+    };
+    let value = scope.value(operand)?;
+    is_taken(statement, value).then_some(value)
 }
 
 /// Returns the size in bytes of `count` values of a width, saturated at 2^32 - 1.
@@ -119,15 +120,12 @@ pub fn extent_of(scope: Scope, statement: &Statement) -> Result<Extent, FaultKin
     if renames(scope.symbols, statement) {
         return Err(FaultKind::DuplicateSymbol);
     }
-    let Some(constant) = constant(scope, statement) else {
-        return Err(FaultKind::NotConstant);
-    };
+    let constant = constant(scope, statement).ok_or(FaultKind::NotConstant)?;
     if is_misplaced(scope.here, statement) {
         return Err(FaultKind::Misplaced);
     }
-    let end = scope
-        .here
-        .saturating_add(size_of(scope.here, constant, statement));
+    let size = size_of(scope.here, constant, statement);
+    let end = scope.here.saturating_add(size);
     if end > RAM_BASE + IMAGE_LIMIT {
         return Err(FaultKind::TooLarge);
     }

@@ -51,8 +51,7 @@ impl Instructions {
 pub fn write_instr(instr: Instr, out: &mut Vec<u8>) -> Result<(), FaultKind>
     ensures { KindBecomes out.new.items result (Ok (out.old.items ++ bytes (instr ∷ []))) }
 {
-    out.extend_from_slice(&encode(instr).to_le_bytes())?;
-    Ok(())
+    Ok(out.extend_from_slice(&encode(instr).to_le_bytes())?)
 }
 
 // `number()` is called for its postcondition, `< 32`.

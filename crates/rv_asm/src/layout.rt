@@ -159,10 +159,7 @@ impl Known {
         let address = self.address;
         let constant = self.advance(alloc, number, statement)?;
         let item = PlacedStatement::new(number, address, constant, text, statement);
-        if items.push(item).is_err() {
-            return Err(FaultKind::OutOfMemory);
-        }
-        Ok(())
+        Ok(items.push(item)?)
     }
 
     /// Returns the address of the next statement.

@@ -20,9 +20,7 @@ pub struct LocalLabel {
 
 /// The definitions of one number, in order of lines.
 #[derive(Drop)]
-struct Repeated {
-    labels: Vec<LocalLabel>,
-}
+struct Repeated(Vec<LocalLabel>);
 
 impl Model for Repeated {
     ghost use Rattle.std.specs.Prelude.{List};
@@ -31,9 +29,9 @@ impl Model for Repeated {
 
     ghost Value = { List LocalLabel };
 
-    ghost view = { λ r. r.labels.items };
+    ghost view = { λ r. r.0.items };
 
-    ghost invariant = { λ r. IsNonDecreasingBy (λ d. d.line) r.labels.items };
+    ghost invariant = { λ r. IsNonDecreasingBy (λ d. d.line) r.0.items };
 }
 
 impl Repeated {
@@ -42,21 +40,12 @@ impl Repeated {
     ghost use Rattle.rv_asm.specs.Symbols.{nearest};
     ghost use Rattle.rv_asm.specs.Kept.{last_of};
 
-    fn new(alloc: Global) -> Self
-        ensures { result ≡ [] }
-    {
-        Repeated {
-            labels: Vec::new(alloc),
-        }
-    }
-
     fn push(&mut self, label: LocalLabel) -> Result<(), AllocError>
         requires { All (λ d. d.line ≤ label.line) self.old }
         ensures ok { OnOk result (self.new ≡ self.old ++ label ∷ []) }
         ensures err { OnErr result (self.new ≡ self.old) }
     {
-        self.labels.push(label)?;
-        Ok(())
+        Ok(self.0.push(label)?)
     }
 
     /// Returns the number of definitions on a line or before it.
@@ -64,7 +53,7 @@ impl Repeated {
         ensures last { last_or None (filter (λ d. nat_le d.line line) self.now) ≡ last_of self.now result }
         ensures next { find (λ d. nat_lt line d.line) self.now ≡ slice_get self.now result }
     {
-        self.labels.partition_point(|label| label.line <= line)
+        self.0.partition_point(|label| label.line <= line)
     }
 
     /// Returns the definition that a reference on a line means, if there is one.
@@ -73,9 +62,8 @@ impl Repeated {
     {
         let count = self.count_up_to(line);
         match direction {
-            Direction::Backward if count == 0 => None,
-            Direction::Backward => self.labels.get(count - 1).copied(),
-            Direction::Forward => self.labels.get(count).copied(),
+            Direction::Backward => self.0.get(count.checked_sub(1)?).copied(),
+            Direction::Forward => self.0.get(count).copied(),
         }
     }
 }
@@ -87,7 +75,7 @@ fn file(alloc: Global, lists: &mut Vec<Repeated>, label: LocalLabel) -> Result<(
 {
     let number = usize::from(label.number);
     while lists.len() <= number {
-        lists.push(Repeated::new(alloc))?;
+        lists.push(Repeated(Vec::new(alloc)))?;
     }
     lists[number].push(label)
 }
@@ -141,13 +129,11 @@ impl Locals {
         ensures { OnOk result (self.new ≡ self.old ++ label ∷ []) }
     {
         self.labels.push(label)?;
-        match file(alloc, &mut self.by_number, label) {
-            Ok(()) => Ok(()),
-            Err(refused) => {
-                self.labels.truncate(self.labels.len() - 1);
-                Err(refused)
-            }
+        let filed = file(alloc, &mut self.by_number, label);
+        if filed.is_err() {
+            self.labels.truncate(self.labels.len() - 1);
         }
+        filed
     }
 
     /// Returns the definition that a reference on a line means, if there is one.

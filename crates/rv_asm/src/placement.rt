@@ -104,25 +104,22 @@ impl<'a> PlacedStatement<'a> {
     ghost use Rattle.rv_asm.specs.Constants.{IsTaken, statement_in, statement_bytes};
     ghost use Rattle.rv_asm.specs.Steps.{item_bytes, appended};
 
-    /// Makes the statement of a line, with its constant, at an address.
+    /// Makes the statement of a line with these bytes, with its constant, at an address.
     #[tactic(auto, unfolding(crate::specs::Steps::kept_bytes))]
     pub fn new(
         line: usize,
         address: u32,
         constant: i64,
-        text: &'a [u8],
+        bytes: &'a [u8],
         statement: &Statement<'_, 'a>,
     ) -> PlacedStatement<'a>
         requires counted { line < 0xffffffffffffffff }
         requires taken { IsTaken constant statement.now }
-        requires said { statement_in text.now ≡ Some statement.now }
+        requires said { statement_in bytes.now ≡ Some statement.now }
         ensures at { result.line ≡ line }
         ensures bytes { (ds : Definitions) → item_bytes ds result ≡ statement_bytes constant (operand_value ds line address) address statement.now }
     {
-        let line_text = Kept::Line(LineText {
-            bytes: text,
-            constant,
-        });
+        let line_text = Kept::Line(LineText { bytes, constant });
         let kept = short(constant, statement).unwrap_or(line_text);
         PlacedStatement {
             line,

@@ -3,7 +3,7 @@ ghost use Rattle.std.specs.Prelude.{◌≡◌, [], ◌∷◌, IfSome};
 ghost use Rattle.rv_asm.specs.Steps.{IsNumber, IsSum};
 
 use crate::symbols::{Scope, added};
-use rv_source::{Atom, Expression, Term};
+use rv_source::{Atom, Expression};
 
 /// The value of an atom or its negative, with a number added to it, or subtracted from it.
 #[derive(Drop)]
@@ -46,27 +46,22 @@ pub fn as_single<'a>(sum: &Expression<'a>) -> Option<Single<'a>>
     ensures { IfSome result (IsSum sum.now) }
 {
     let (first, more) = sum.terms();
-    match more {
-        [] => Some(Single::new(first, false, 0)),
-        [second] => Some(Single::new(first, second.negative, number(&second.atom)?)),
-        _ => None,
-    }
+    let (negative, number) = match more {
+        [] => (false, 0),
+        [second] => (second.negative, number(&second.atom)?),
+        _ => return None,
+    };
+    Some(Single {
+        atom: again(&first.atom),
+        negated: first.negative,
+        negative,
+        number,
+    })
 }
 
 impl<'a> Single<'a> {
     ghost use Rattle.std.specs.Prelude.{◌≡◌};
     ghost use Rattle.rv_asm.specs.Steps.{single_value};
-
-    fn new(first: &Term<'a>, negative: bool, number: u32) -> Self
-        ensures { result ≡ record { negated = first.now.negative; atom = first.now.atom; negative = negative; number = number } }
-    {
-        Single {
-            atom: again(&first.atom),
-            negated: first.negative,
-            negative,
-            number,
-        }
-    }
 
     /// Returns the value, or None if the symbol isn't defined.
     pub fn value(&self, scope: Scope) -> Option<i64>

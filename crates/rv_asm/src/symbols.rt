@@ -50,13 +50,10 @@ impl Symbols {
         requires new { renames self.old.names statement.now ≡ false }
         ensures { KindBecomes self.new result (Ok (record { names = self.old.names ++ constant_in constant statement.now; locals = self.old.locals })) }
     {
-        match statement {
-            Statement::Constant { name, .. } => {
-                self.names.define(alloc, name.bytes(), constant)?;
-                Ok(())
-            }
-            _ => Ok(()),
+        if let Statement::Constant { name, .. } = statement {
+            self.names.define(alloc, name.bytes(), constant)?;
         }
+        Ok(())
     }
 }
 
