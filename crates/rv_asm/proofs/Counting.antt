@@ -12,8 +12,8 @@ use Rattle.rv_source.specs.Operands.{is_nothing}
 use Rattle.rv_program.specs.declared.fault.FaultKind.{FaultKind}
 use Rattle.rv_program.specs.declared.fault.AsmFault.{AsmFault}
 use Rattle.rv_asm.specs.Layout.{phase_two_fault}
-use Rattle.rv_asm.specs.Assembly.{all_said, assembled, faults_in, first_faults, line_bytes, phase_one_fault}
-use Rattle.rv_asm.specs.Counted.{phase_three_fault, first, joined, up_to, first_fault, assembled_by, all_faults, unless_faulty, first_of}
+use Rattle.rv_asm.specs.Assembly.{all_said, assembled, faults_in, line_bytes, phase_one_fault}
+use Rattle.rv_asm.specs.Counted.{phase_three_fault, first, joined, up_to, first_fault, assembled_by, all_faults, faults_of_phases, unless_faulty, first_of}
 
 -- ---- numbers
 
@@ -92,7 +92,7 @@ phases_found [] [] [] = refl
 
 -- the faults of the first phase that has any, of which the first is the first of any phase
 module _ (one two three : ℕ → Option FaultKind) (n : ℕ) where
-  pub phases_are : first_faults (one ∷ two ∷ three ∷ []) n
+  pub phases_are : faults_of_phases one two three n
       ≡ unless_faulty (all_faults one n) (unless_faulty (all_faults two n) (all_faults three n))
   phases_are =
       phases_found (faults_in one n) (faults_in two n) (faults_in three n)
@@ -102,10 +102,10 @@ module _ (one two three : ℕ → Option FaultKind) (n : ℕ) where
   first_unless [] ys = refl
   first_unless (x ∷ xs) ys = refl
 
-  pub first_phase : slice_get (first_faults (one ∷ two ∷ three ∷ []) n) 0
+  pub first_phase : slice_get (faults_of_phases one two three n) 0
       ≡ option_or (first_fault one n) (option_or (first_fault two n) (first_fault three n))
   first_phase =
-      first_is (first_faults (one ∷ two ∷ three ∷ []) n) ∙ ap first_of phases_are
+      first_is (faults_of_phases one two three n) ∙ ap first_of phases_are
       ∙ first_unless (all_faults one n) (unless_faulty (all_faults two n) (all_faults three n))
       ∙ rw (first_unless (all_faults two n) (all_faults three n), firsts one n, firsts two n, firsts three n) refl
 

@@ -235,7 +235,7 @@ first_said source =
     let ls : List Said = all_said texts in
     first_phase (phase_one_fault texts) (judged ls) (phase_three_fault ls) n
     ∙ (rw (first_judged ls n) (sym (first_phase (phase_one_fault texts) (phase_two_fault ls) (phase_three_fault ls) n))
-    ∙ sym (fault_answered (slice_get (first_faults (phase_one_fault texts ∷ phase_two_fault ls ∷ phase_three_fault ls ∷ []) n) 0) _))
+    ∙ sym (fault_answered (slice_get (first_faults (phase_two_fault ls) texts) 0) _))
 
 -- ---- phases two and three, line by line
 

@@ -13,9 +13,9 @@ use Rattle.rv_program.specs.declared.fault.FaultKind.TheVariants.{DuplicateSymbo
 use Rattle.rv_program.specs.declared.fault.AsmFault.{AsmFault}
 use Rattle.rv_asm.specs.declared.locals.LocalLabel.{LocalLabel}
 use Rattle.rv_asm.specs.Listing.{Row, row}
-use Rattle.rv_asm.specs.Layout.{line_at, known_on, row_at, names_in, redefines, phase_two_fault}
+use Rattle.rv_asm.specs.Layout.{line_at, row_on, names_in, redefines, phase_two_fault}
 use Rattle.rv_asm.specs.Kept.{Valuation}
-use Rattle.rv_asm.specs.Counted.{address, names, relabels, fault_stated_by, fault_on, first, first_fault}
+use Rattle.rv_asm.specs.Counted.{address, names, known_on, relabels, fault_stated_by, fault_on, first, first_fault}
 use Rattle.rv_asm.specs.Judged.{new_among}
 use Rattle.rv_asm.specs.Steps.{Known, values_of, labelled, stated, with_line, unless, after_statement, after_line, at_line, known_before, laid_out, extended}
 use Rattle.rv_asm.proofs.Labels.{IsUpTo, redefines-append, all_new, up_to_labelled}
@@ -77,10 +77,9 @@ pub phase_two_is : (lines : List Said) (n : ℕ) → address lines n ≤ ram_bas
 unfolding phase_two_fault fault_on
 phase_two_is lines n within =
     let known = known_on lines n in
-    let r = row_at n known (line_at lines n).statement in
     let twice = relabels (known_before lines n) (line_at lines n).labels in
-    rw (redefines-append (names lines n) (names_in (address lines n) (line_at lines n).labels) r.defines)
-    (either_cond twice (redefines known.definitions.names r.defines) _ _
+    rw (redefines-append (names lines n) (names_in (address lines n) (line_at lines n).labels) (row_on lines n).defines)
+    (either_cond twice (redefines known.definitions.names (row_on lines n).defines) _ _
     ∙ ap (cond twice (Some DuplicateSymbol)) (by_row known (values_of n known) within (line_at lines n).statement))
 
 -- ---- one more line

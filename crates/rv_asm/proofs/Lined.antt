@@ -82,15 +82,13 @@ unfolding assembled_by
 accepted source a h =
     let texts = lines source in
     let n = length texts in
-    let r = answered (first_fault (phase_one_fault texts) n) (first_fault (phase_two_fault (all_said
-    texts)) n)
+    let r = answered (first_fault (phase_one_fault texts) n) (first_fault (phase_two_fault (all_said texts)) n)
     (first_fault (phase_three_fault (all_said texts)) n) _ a (sym (assembled_is source) ∙ h) in
     record {
       one = r.first;
       two = r.second;
       three = r.third;
-      is = sym (ap (λ (x : Assembly). x.bytes)
-          r.same);
+      is = sym (ap (λ (x : Assembly). x.bytes) r.same);
     }
 
 -- ---- numbers up to one

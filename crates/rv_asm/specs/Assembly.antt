@@ -13,7 +13,7 @@ use Rattle.rv_program.specs.declared.fault.FaultKind.{FaultKind}
 use Rattle.rv_program.specs.declared.fault.AsmFault.{AsmFault}
 use Rattle.rv_program.specs.Faults.{kind_of}
 use Rattle.rv_asm.specs.Symbols.{operand_value}
-use Rattle.rv_asm.specs.Layout.{blank, line_at, known_on, row_at, definitions, phase_two_fault}
+use Rattle.rv_asm.specs.Layout.{blank, address, row_on, definitions, phase_two_fault}
 
 -- ---- a line
 
@@ -27,9 +27,7 @@ all_said texts = map (λ text. result_unwrap_or (said text) blank) texts
 
 -- the bytes of line k, once all symbols are known, or its fault in phase three
 abbrev pub line_bytes : List Said → ℕ → Result (List ℕ) FaultKind
-line_bytes lines k =
-    let known = known_on lines k in
-    (row_at k known (line_at lines k).statement).contents (operand_value (definitions lines) k known.address)
+line_bytes lines k = (row_on lines k).contents (operand_value (definitions lines) k (address lines k))
 
 -- ---- all lines
 
@@ -38,18 +36,22 @@ abbrev pub faults_in : (ℕ → Option FaultKind) → ℕ → List AsmFault
 faults_in fault n =
     filter_map (λ k. option_map (λ kind. record { line = suc k; kind = kind }) (fault k)) (range_with_len 0 n)
 
--- those of the first phase that has any, by the fault that each line has in each phase
-abbrev pub first_faults : List (ℕ → Option FaultKind) → ℕ → List AsmFault
-first_faults phases n =
-    unwrap_or (find (λ faults. not (is_nothing faults)) (map (λ fault. faults_in fault n) phases)) []
+-- the faults of a source in the first phase that has any, by those of its lines in phase two
+abbrev pub first_faults : (ℕ → Option FaultKind) → List (List ℕ) → List AsmFault
+first_faults phase_two texts =
+    let phases = phase_one_fault texts ∷ phase_two ∷ (λ k. result_err (line_bytes (all_said texts) k)) ∷ [] in
+    unwrap_or (find (λ faults. not (is_nothing faults)) (map (λ f. faults_in f (length texts)) phases)) []
+
+-- the image and the names of lines without a fault
+abbrev pub assembly_of : List Said → Assembly
+assembly_of lines = record {
+  bytes = flat_map (λ k. result_unwrap_or (line_bytes lines k) []) (range_with_len 0 (length lines));
+  symbols = (definitions lines).names;
+}
 
 -- the image and the names of a source, or the first of its faults
 unfoldable pub assembled : List ℕ → Result Assembly AsmFault
 assembled source =
-    let texts = lines source in
-    let said = all_said texts in
-    let phases = phase_one_fault texts ∷ phase_two_fault said ∷ (λ k. result_err (line_bytes said k)) ∷ [] in
-    option_map_or (λ fault. Err fault) (slice_get (first_faults phases (length texts)) 0) (Ok (record {
-      bytes = flat_map (λ k. result_unwrap_or (line_bytes said k) []) (range_with_len 0 (length said));
-      symbols = (definitions said).names;
-    }))
+    let said = all_said (lines source) in
+    let faults = first_faults (phase_two_fault said) (lines source) in
+    option_map_or (λ fault. Err fault) (slice_get faults 0) (Ok (assembly_of said))

@@ -1,7 +1,9 @@
 -- What is said of all lines, by recursion on the number of a line. The language is this project's own: docs/ASSEMBLER.md.
 -- Not to audit: private contracts alone cite this.
-use Rattle.std.specs.Prelude.{ℕ, zero, suc, ◌+◌, ◌%◌, Bool, false, not, ◌&&◌, ◌==◌, nat_lt, ℤ, is_some, option_and_then, List, [], ◌∷◌, ◌++◌, length, Option, Some, None, if◌then◌else◌, Result, Ok, Err}
-use Rattle.std.specs.Option.{option_map, option_map_or, option_or}
+use Rattle.std.specs.Prelude.{ℕ, zero, suc, ◌+◌, ◌%◌, Bool, false, not, ◌&&◌, ◌==◌, nat_lt, ℤ, is_some, option_and_then, List, [], ◌∷◌, ◌++◌, map, length, Option, Some, None, if◌then◌else◌, Result, Ok, Err}
+use Rattle.std.specs.List.{find}
+use Rattle.std.specs.Option.{option_map, option_map_or, option_or, unwrap_or}
+use Rattle.rv_source.specs.Operands.{is_nothing}
 use Rattle.std.specs.Result.{result_err, result_unwrap_or}
 use Rattle.rv_base.specs.Lines.{lines}
 use Rattle.rv_source.specs.Reading.{Said}
@@ -18,7 +20,9 @@ use Rattle.rv_program.specs.Program.{Assembly}
 use Rattle.rv_program.specs.declared.fault.FaultKind.{FaultKind}
 use Rattle.rv_program.specs.declared.fault.AsmFault.{AsmFault}
 use Rattle.rv_asm.specs.Layout.{Known, line_at, known_before, labelled, definitions, labels_in, names_in, redefines, phase_two_fault}
+pub use Rattle.rv_asm.specs.Layout.{address, names}
 use Rattle.rv_asm.specs.Assembly.{all_said, line_bytes, phase_one_fault}
+use Rattle.rv_asm.specs.Assembly.{faults_in}
 
 -- ---- over the numbers below n, in their order
 
@@ -63,12 +67,9 @@ assembled_by source =
     option_map_or (λ fault. Err fault) (first_of_phases texts)
     (Ok (record { bytes = joined_bytes (all_said texts); symbols = (definitions (all_said texts)).names }))
 
--- the address of line k, and the names that are defined before it
-abbrev pub address : List Said → ℕ → ℕ
-address lines k = (known_before lines k).address
-
-abbrev pub names : List Said → ℕ → List (List ℕ × ℤ)
-names lines k = (known_before lines k).definitions.names
+-- what is known at the statement of line k
+abbrev pub known_on : List Said → ℕ → Known
+known_on lines k = labelled k (known_before lines k) (line_at lines k).labels
 
 -- the names that n lines define as labels, with their addresses
 abbrev pub labels : List Said → ℕ → List (List ℕ × ℕ)
@@ -112,6 +113,11 @@ fault_on k known line =
 abbrev pub all_faults : (ℕ → Option FaultKind) → ℕ → List AsmFault
 all_faults fault n =
     joined (λ k. option_map_or (λ kind. record { line = suc k; kind = kind } ∷ []) (fault k) []) n
+
+-- those in the first of three phases that has any
+abbrev pub faults_of_phases : (one two three : ℕ → Option FaultKind) → ℕ → List AsmFault
+faults_of_phases one two three n = unwrap_or
+    (find (λ faults. not (is_nothing faults)) (map (λ f. faults_in f n) (one ∷ two ∷ three ∷ []))) []
 
 abbrev pub unless_faulty : List AsmFault → List AsmFault → List AsmFault
 unless_faulty [] later = later

@@ -2,12 +2,11 @@
 -- To audit: public contracts cite this.
 -- Lines are counted from 0 here, but from 1 in a fault and in a diagnosis.
 use Rattle.std.specs.Prelude.{ℕ, zero, suc, List, [], ◌∷◌, ◌++◌, length, set, ℤ, None, is_some, if◌then◌else◌}
-use Rattle.std.specs.Result.{result_err}
 use Rattle.rv_source.specs.Reading.{Said}
 use Rattle.rv_source.specs.declared.line.Label.{Label}
 use Rattle.rv_program.specs.declared.fault.AsmFault.{AsmFault}
-use Rattle.rv_asm.specs.Layout.{line_at, names_in, known_before, redefines, phase_two_fault}
-use Rattle.rv_asm.specs.Assembly.{all_said, first_faults, line_bytes, phase_one_fault}
+use Rattle.rv_asm.specs.Layout.{line_at, address, names, names_in, redefines, phase_two_fault}
+use Rattle.rv_asm.specs.Assembly.{all_said, first_faults}
 use Rattle.rv_asm.specs.declared.diagnosis.Diagnosis.{Diagnosis}
 
 -- ---- the faults of all lines
@@ -19,23 +18,21 @@ new_labels here known (l ∷ ls) =
     let names = names_in here (l ∷ []) in
     if redefines known names then new_labels here known ls else l ∷ new_labels here (known ++ names) ls
 
+-- line k without its statement, and without labels that define a name a second time
+abbrev pub cleared : List Said → ℕ → Said
+cleared ls k =
+    record { labels = new_labels (address ls k) (names ls k) (line_at ls k).labels; statement = None }
+
 -- the lines, of which those of the first n that are faulty in phase two, each judged by the lines that are
--- kept before it, lose their statement and the labels that define a name a second time
+-- kept before it, are cleared
 unfoldable pub kept : List Said → ℕ → List Said
 kept lines zero = lines
 kept lines (suc k) =
-    let ls = kept lines k in
-    let before = known_before ls k in
-    let labels = new_labels before.address before.definitions.names (line_at ls k).labels in
-    let cleared : Said = record { labels = labels; statement = None } in
-    if is_some (phase_two_fault ls k) then set ls k cleared else ls
+    let ls = kept lines k in if is_some (phase_two_fault ls k) then set ls k (cleared ls k) else ls
 
 -- the faults of a source in the first phase that has one
 unfoldable pub faults_of : List (List ℕ) → List AsmFault
-faults_of texts =
-    let said = all_said texts in
-    first_faults (phase_one_fault texts ∷ (λ k. phase_two_fault (kept said k) k)
-    ∷ (λ k. result_err (line_bytes said k)) ∷ []) (length texts)
+faults_of texts = first_faults (λ k. phase_two_fault (kept (all_said texts) k) k) texts
 
 -- ---- a diagnosis
 

@@ -17,6 +17,7 @@ use Rattle.rv_asm.specs.Symbols.{Definitions}
 use Rattle.rv_asm.specs.Counted.{fault_on}
 use Rattle.rv_asm.specs.Steps.{Known, labelled, with_line, stated_bytes, after_line, known_before}
 use Rattle.rv_asm.specs.Layout.{line_at, phase_two_fault}
+pub use Rattle.rv_asm.specs.Diagnosed.{cleared}
 use Rattle.rv_asm.specs.Diagnosed.{new_labels, kept, fault_of}
 
 -- unless memory ran out, nothing changed
@@ -38,11 +39,6 @@ unfoldable pub known_after : ℕ → Known → Said → Known
 known_after k known line =
     if is_some (fault_on k known line) then labelled k known (new_among known line.labels)
     else with_line k known line
-
--- line k without its statement, and without labels that define a name a second time
-abbrev pub cleared : List Said → ℕ → Said
-cleared lines k =
-    record { labels = new_among (known_before lines k) (line_at lines k).labels; statement = None }
 
 -- the fault of line k in phase two, judged by the lines that are kept before it
 abbrev pub judged : List Said → ℕ → Option FaultKind

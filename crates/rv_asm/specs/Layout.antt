@@ -14,6 +14,7 @@ use Rattle.rv_program.specs.declared.fault.FaultKind.{FaultKind}
 use Rattle.rv_program.specs.declared.fault.FaultKind.TheVariants.{DuplicateSymbol, NotConstant, Misplaced, TooLarge}
 use Rattle.rv_asm.specs.declared.locals.LocalLabel.{LocalLabel}
 use Rattle.rv_asm.specs.Symbols.{Definitions, followed, value_of, operand_value}
+use Rattle.rv_asm.specs.Values.{first_that}
 use Rattle.rv_asm.specs.Listing.{Row, row}
 
 -- ---- the labels of a line at an address
@@ -70,9 +71,16 @@ known_before lines zero = record { address = ram_base; definitions = record { na
 known_before lines (suc k) =
     let line = line_at lines k in stated k (labelled k (known_before lines k) line.labels) line.statement
 
--- at the statement of line k
-abbrev pub known_on : List Said → ℕ → Known
-known_on lines k = labelled k (known_before lines k) (line_at lines k).labels
+-- its address, and the names that are defined before it
+abbrev pub address : List Said → ℕ → ℕ
+address lines k = (known_before lines k).address
+
+abbrev pub names : List Said → ℕ → List (List ℕ × ℤ)
+names lines k = (known_before lines k).definitions.names
+
+-- the row of its statement, once its labels are defined
+abbrev pub row_on : List Said → ℕ → Row
+row_on ls k = row_at k (labelled k (known_before ls k) (line_at ls k).labels) (line_at ls k).statement
 
 -- all symbols
 abbrev pub definitions : List Said → Definitions
@@ -88,10 +96,8 @@ redefines known (d ∷ ds) = is_some (value_of known d.0) || redefines (known ++
 -- the fault of line k in phase two
 unfoldable pub phase_two_fault : List Said → ℕ → Option FaultKind
 phase_two_fault lines k =
-    let before = known_before lines k in
-    let r = row_at k (known_on lines k) (line_at lines k).statement in
-    if redefines before.definitions.names (names_in before.address (line_at lines k).labels ++ r.defines)
-    then Some DuplicateSymbol
-    else (if not r.is_known then Some NotConstant
-    else (if not (before.address % r.alignment == 0) then Some Misplaced
-    else (if nat_lt (ram_base + image_limit) (before.address + r.size) then Some TooLarge else None)))
+    let r = row_on lines k in
+    let new = names_in (address lines k) (line_at lines k).labels ++ r.defines in
+    first_that ((redefines (names lines k) new, DuplicateSymbol) ∷ (not r.is_known, NotConstant)
+    ∷ (not (address lines k % r.alignment == 0), Misplaced)
+    ∷ (nat_lt (ram_base + image_limit) (address lines k + r.size), TooLarge) ∷ [])

@@ -1,6 +1,6 @@
 -- The lines of an accepted source with their addresses and their bytes, and its labels.
 -- To audit: public contracts cite this.
--- Here lines are counted from 1, but `known_before`, `line_at` and `line_bytes` count them from 0.
+-- Here lines are counted from 1, but `labels_on`, `address` and `line_bytes` count them from 0.
 use Rattle.std.specs.Prelude.{ℕ, suc, ◌-◌, ◌<◌, ◌≤◌, ◌&&◌, nat_lt, List, [], map, length, get_or, slice_range, Option, Some, None, if◌then◌else◌, Result, Ok}
 use Rattle.std.specs.List.{flat_map, range_with_len}
 use Rattle.std.specs.Option.{option_map_or}
@@ -8,7 +8,8 @@ use Rattle.rv_base.specs.Lines.{lines}
 use Rattle.rv_base.specs.Limits.{ram_base}
 use Rattle.rv_program.specs.Program.{Assembly}
 use Rattle.rv_program.specs.declared.fault.AsmFault.{AsmFault}
-use Rattle.rv_asm.specs.Layout.{line_at, known_before, labels_in}
+use Rattle.rv_source.specs.Reading.{Said}
+use Rattle.rv_asm.specs.Layout.{line_at, address, labels_in}
 use Rattle.rv_asm.specs.Listing.{◌>>=◌}
 use Rattle.rv_asm.specs.Assembly.{all_said, assembled}
 
@@ -19,16 +20,18 @@ pub record Listed : Type 0 where
   pub addresses : List ℕ
   pub labels : List (List ℕ × ℕ)
 
+-- the names that line k, counted from 0, has as labels, with their address
+abbrev pub labels_on : List Said → ℕ → List (List ℕ × ℕ)
+labels_on lines k = labels_in (address lines k) (line_at lines k).labels
+
 -- the listing of a source, or its fault
 unfoldable pub listed : List ℕ → Result Listed AsmFault
 listed source =
     let said = all_said (lines source) in
-    assembled source >>= λ assembly. Ok (record {
-      assembly = assembly;
-      addresses = map (λ k. (known_before said k).address) (range_with_len 0 (suc (length said)));
-      labels = flat_map (λ k. labels_in (known_before said k).address (line_at said k).labels)
-          (range_with_len 0 (length said));
-    })
+    let addresses = map (address said) (range_with_len 0 (suc (length said))) in
+    let labels = flat_map (labels_on said) (range_with_len 0 (length said)) in
+    assembled source >>= λ assembly.
+    Ok (record { assembly = assembly; addresses = addresses; labels = labels })
 
 -- ---- what a listing says of a line
 

@@ -13,6 +13,11 @@ use Rattle.rv_isa.specs.declared.op.Width.{Width}
 use Rattle.rv_source.specs.declared.operand.Part.{Part}
 use Rattle.rv_source.specs.declared.operand.Part.TheVariants.{Whole, High, Low}
 
+-- what stands beside the first condition that holds
+abbrev pub first_that : {A : Type 0} → List (Bool × A) → Option A
+first_that [] = None
+first_that (row ∷ rows) = if row.0 then Some row.1 else first_that rows
+
 abbrev pub is_between : ℤ → ℤ → ℤ → Bool
 is_between low high v = int_le low v && int_le v high
 
@@ -23,9 +28,8 @@ fits width = let n = 2 ^ (8 * bytes_of width) in is_between (negsuc (n / 2 - 1))
 -- the immediate of an I-type or S-type instruction: a value from -2048 to 2047 itself,
 -- and one from 0xFFFFF800 to 0xFFFFFFFF less 2 ^ 32
 abbrev pub immediate : ℤ → Option ℤ
-immediate v =
-    if is_between (negsuc 2047) (pos 2047) v then Some v
-    else (if is_between (pos 0xfffff800) (pos 0xffffffff) v then Some (v -ℤ pos (2 ^ 32)) else None)
+immediate v = first_that ((is_between (negsuc 2047) (pos 2047) v, v)
+    ∷ (is_between (pos 0xfffff800) (pos 0xffffffff) v, v -ℤ pos (2 ^ 32)) ∷ [])
 
 -- a value in a range as a field of so many bits, and so modulo 2 ^ bits
 abbrev pub field : ℤ → ℤ → ℕ → ℤ → Option ℕ
