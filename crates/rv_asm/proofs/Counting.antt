@@ -12,7 +12,7 @@ use Rattle.rv_source.specs.Operands.{is_nothing}
 use Rattle.rv_program.specs.declared.fault.FaultKind.{FaultKind}
 use Rattle.rv_program.specs.declared.fault.AsmFault.{AsmFault}
 use Rattle.rv_asm.specs.Layout.{phase_two_fault}
-use Rattle.rv_asm.specs.Assembly.{all_said, assembled, faults_in, line_bytes, phase_one_fault}
+use Rattle.rv_asm.specs.Assembly.{all_parsed, assembled, faults_in, line_bytes, phase_one_fault}
 use Rattle.rv_asm.specs.Counted.{phase_three_fault, first, joined, up_to, first_fault, assembled_by, all_faults, faults_of_phases, unless_faulty, first_of}
 
 -- ---- numbers
@@ -113,8 +113,8 @@ pub assembled_is : (source : List ℕ) → assembled source ≡ assembled_by sou
 unfolding assembled assembled_by
 assembled_is source =
     let texts = lines source in
-    let said = all_said texts in
+    let parsed = all_parsed texts in
     rw (
-      first_phase (phase_one_fault texts) (phase_two_fault said) (phase_three_fault said) (length texts),
-      joined_is (λ k. result_unwrap_or (line_bytes said k) []) (length said),
+      first_phase (phase_one_fault texts) (phase_two_fault parsed) (phase_three_fault parsed) (length texts),
+      joined_is (λ k. result_unwrap_or (line_bytes parsed k) []) (length parsed),
     ) refl

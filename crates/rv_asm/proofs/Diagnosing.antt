@@ -7,13 +7,13 @@ use Rattle.std.proofs.lemmas.List.{map-append, length-set, get_or-set_same, get_
 use Rattle.std.proofs.lemmas.List.Elements.{All-nil, All-push}
 use Rattle.std.proofs.lemmas.Bool.Decides.{nat_tests}
 use Rattle.rv_base.specs.Lines.{lines}
-use Rattle.rv_source.specs.Reading.{Said, said}
+use Rattle.rv_source.specs.Reading.{Parsed, parsed}
 use Rattle.rv_program.specs.Program.{Assembly}
 use Rattle.rv_program.specs.declared.fault.FaultKind.{FaultKind}
 use Rattle.rv_program.specs.declared.fault.AsmFault.{AsmFault}
 use Rattle.rv_asm.specs.declared.diagnosis.Diagnosis.{Diagnosis}
 use Rattle.rv_asm.specs.Layout.{line_at, blank, phase_two_fault, definitions}
-use Rattle.rv_asm.specs.Assembly.{first_faults, phase_one_fault, all_said, assembled}
+use Rattle.rv_asm.specs.Assembly.{first_faults, phase_one_fault, all_parsed, assembled}
 use Rattle.rv_asm.specs.Counted.{phase_three_fault, fault_on, joined, first, first_fault, all_faults, unless_faulty, first_of, address}
 use Rattle.rv_asm.specs.Symbols.{Definitions}
 use Rattle.rv_asm.specs.Steps.{Known, start, known_before, labelled, with_line, stated_bytes, laid_out}
@@ -25,7 +25,7 @@ use Rattle.rv_asm.proofs.Laying.{phase_two_is, not_stated, up_to_before}
 use Rattle.rv_base.specs.Limits.{ram_base, image_limit}
 use Rattle.rv_asm.proofs.Listed.{none_last, none_before, within_line}
 use Rattle.rv_asm.proofs.Reading.{IsAt, dropped, SoFar, is_before, read_line_at, known_is}
-use Rattle.rv_asm.proofs.Whole.{length-said}
+use Rattle.rv_asm.proofs.Whole.{length-parsed}
 
 -- ---- diagnoses are collected line by line
 
@@ -81,20 +81,20 @@ module _ (texts rest : List (List ℕ)) (n : ℕ) (so : LeftOf texts rest n) whe
 
 -- ---- the lines that are kept
 
-one_more : (xs : List Said) (n : ℕ) → known_before xs (suc n) ≡ with_line n (known_before xs n) (line_at xs n)
+one_more : (xs : List Parsed) (n : ℕ) → known_before xs (suc n) ≡ with_line n (known_before xs n) (line_at xs n)
 unfolding known_before
 one_more xs n = refl
 
-with_same : (n : ℕ) (s t : Known) (line other : Said) → s ≡ t → line ≡ other →
+with_same : (n : ℕ) (s t : Known) (line other : Parsed) → s ≡ t → line ≡ other →
     with_line n s line ≡ with_line n t other
 with_same n s t line other e f = rw (e, f) refl
 
-none_before_first : (xs ys : List Said) → known_before xs 0 ≡ known_before ys 0
+none_before_first : (xs ys : List Parsed) → known_before xs 0 ≡ known_before ys 0
 unfolding known_before
 none_before_first xs ys = refl
 
 -- a line changes nothing that is known before it
-known_other : (xs : List Said) (k : ℕ) (line : Said) (n : ℕ) → n ≤ k →
+known_other : (xs : List Parsed) (k : ℕ) (line : Parsed) (n : ℕ) → n ≤ k →
     known_before (set xs k line) n ≡ known_before xs n
 known_other xs k line zero h = none_before_first (set xs k line) xs
 known_other xs k line (suc n) h =
@@ -105,21 +105,21 @@ known_other xs k line (suc n) h =
     (known_other xs k line n (omega (arith, h))) other
     ∙ sym (one_more xs n)
 
-length_by : (xs : List Said) (k : ℕ) (line : Said) (b : Bool) → length (cond b (set xs k line) xs) ≡ length xs
+length_by : (xs : List Parsed) (k : ℕ) (line : Parsed) (b : Bool) → length (cond b (set xs k line) xs) ≡ length xs
 length_by xs k line true = length-set xs k line
 length_by xs k line false = refl
 
-length_kept : (ls : List Said) (n : ℕ) → length (kept ls n) ≡ length ls
+length_kept : (ls : List Parsed) (n : ℕ) → length (kept ls n) ≡ length ls
 unfolding kept
 length_kept ls zero = refl
 length_kept ls (suc n) = length_by (kept ls n) n (cleared (kept ls n) n) (is_some (judged ls n)) ∙ length_kept ls n
 
-other_by : (xs : List Said) (k n : ℕ) (line : Said) (b : Bool) → k < n →
+other_by : (xs : List Parsed) (k n : ℕ) (line : Parsed) (b : Bool) → k < n →
     line_at (cond b (set xs k line) xs) n ≡ line_at xs n
 other_by xs k n line true h = get_or-set_other xs k n line blank (λ e. omega (arith, h, e))
 other_by xs k n line false h = refl
 
-later_line : (ls : List Said) (n k : ℕ) → n ≤ k → line_at (kept ls n) k ≡ line_at ls k
+later_line : (ls : List Parsed) (n k : ℕ) → n ≤ k → line_at (kept ls n) k ≡ line_at ls k
 unfolding kept
 later_line ls zero k h = refl
 later_line ls (suc n) k h =
@@ -127,24 +127,24 @@ later_line ls (suc n) k h =
     ∙ later_line ls n k (omega (arith, h))
 
 -- the address of line n isn't past the largest image
-abbrev IsWithin : List Said → ℕ → Type 0
+abbrev IsWithin : List Parsed → ℕ → Type 0
 IsWithin xs n = address xs n ≤ ram_base + image_limit
 
-after_faulty : (n : ℕ) (s : Known) (line : Said) → is_some (fault_on n s line) ≡ true →
+after_faulty : (n : ℕ) (s : Known) (line : Parsed) → is_some (fault_on n s line) ≡ true →
     known_after n s line ≡ labelled n s (new_among s line.labels)
 unfolding known_after
 after_faulty n s line e = rw e refl
 
-after_right : (n : ℕ) (s : Known) (line : Said) → is_some (fault_on n s line) ≡ false →
+after_right : (n : ℕ) (s : Known) (line : Parsed) → is_some (fault_on n s line) ≡ false →
     known_after n s line ≡ with_line n s line
 unfolding known_after
 after_right n s line e = rw e refl
 
-known_by : (xs : List Said) (n : ℕ) (b : Bool) → IsWithin xs n → n < length xs → is_some (phase_two_fault xs n) ≡ b →
+known_by : (xs : List Parsed) (n : ℕ) (b : Bool) → IsWithin xs n → n < length xs → is_some (phase_two_fault xs n) ≡ b →
     known_before (cond b (set xs n (cleared xs n)) xs) (suc n)
     ≡ known_after n (known_before xs n) (line_at xs n)
 known_by xs n true within h e =
-    let line : Said = cleared xs n in
+    let line : Parsed = cleared xs n in
     let s : Known = known_before xs n in
     let here : line_at (set xs n line) n ≡ line = get_or-set_same xs n line blank h in
     one_more (set xs n line) n
@@ -159,7 +159,7 @@ unfaulty : (o : Option FaultKind) → is_some o ≡ false → o ≡ None
 unfaulty None h = refl
 unfaulty (Some kind) h = absurd cc
 
-within_by : (xs : List Said) (n : ℕ) (b : Bool) → IsWithin xs n → n < length xs → is_some (phase_two_fault xs n) ≡ b →
+within_by : (xs : List Parsed) (n : ℕ) (b : Bool) → IsWithin xs n → n < length xs → is_some (phase_two_fault xs n) ≡ b →
     IsWithin (cond b (set xs n (cleared xs n)) xs) (suc n)
 within_by xs n true within h e =
     let s : Known = known_before xs n in
@@ -168,19 +168,19 @@ within_by xs n true within h e =
     rw at within
 within_by xs n false within h e = within_line xs n (unfaulty (phase_two_fault xs n) e)
 
-within_kept : (ls : List Said) (n : ℕ) → n ≤ length ls → IsWithin (kept ls n) n
+within_kept : (ls : List Parsed) (n : ℕ) → n ≤ length ls → IsWithin (kept ls n) n
 unfolding kept known_before
 within_kept ls zero h = omega arith
 within_kept ls (suc n) h =
     within_by (kept ls n) n (is_some (judged ls n)) (within_kept ls n (omega (arith, h))) (rw (length_kept ls n) h) refl
 
-pub judged_is : (ls : List Said) (n : ℕ) → n < length ls →
+pub judged_is : (ls : List Parsed) (n : ℕ) → n < length ls →
     judged ls n ≡ fault_on n (known_before (kept ls n) n) (line_at ls n)
 judged_is ls n h =
     phase_two_is (kept ls n) n (within_kept ls n (omega (arith, h)))
     ∙ ap (fault_on n (known_before (kept ls n) n)) (later_line ls n n (omega arith))
 
-pub known_kept : (ls : List Said) (n : ℕ) → n < length ls →
+pub known_kept : (ls : List Parsed) (n : ℕ) → n < length ls →
     known_before (kept ls (suc n)) (suc n) ≡ known_after n (known_before (kept ls n) n) (line_at ls n)
 unfolding kept
 known_kept ls n h =
@@ -190,18 +190,18 @@ known_kept ls n h =
 -- ---- the first diagnosis
 
 -- where no line is faulty all are kept
-kept_all : (ls : List Said) (n : ℕ) → first_fault (judged ls) n ≡ None → kept ls n ≡ ls
+kept_all : (ls : List Parsed) (n : ℕ) → first_fault (judged ls) n ≡ None → kept ls n ≡ ls
 unfolding kept
 kept_all ls zero h = refl
 kept_all ls (suc n) h = rw (none_last (judged ls) n h) (kept_all ls n (none_before (judged ls) n h))
 
-same_by : (ls : List Said) (n : ℕ) (before : Option AsmFault) → first_fault (judged ls) n ≡ before →
+same_by : (ls : List Parsed) (n : ℕ) (before : Option AsmFault) → first_fault (judged ls) n ≡ before →
     option_or before (option_map (λ kind. record { line = suc n; kind = kind }) (judged ls n))
     ≡ option_or before (option_map (λ kind. record { line = suc n; kind = kind }) (phase_two_fault ls n))
 same_by ls n (Some fault) e = refl
 same_by ls n None e = rw (kept_all ls n e) refl
 
-first_judged : (ls : List Said) (n : ℕ) → first_fault (judged ls) n ≡ first_fault (phase_two_fault ls) n
+first_judged : (ls : List Parsed) (n : ℕ) → first_fault (judged ls) n ≡ first_fault (phase_two_fault ls) n
 unfolding first
 first_judged ls zero = refl
 first_judged ls (suc n) =
@@ -217,70 +217,70 @@ abbrev in_phase_one : List (List ℕ) → List AsmFault
 in_phase_one texts = all_faults (phase_one_fault texts) (length texts)
 
 abbrev in_phase_two : List (List ℕ) → List AsmFault
-in_phase_two texts = all_faults (judged (all_said texts)) (length texts)
+in_phase_two texts = all_faults (judged (all_parsed texts)) (length texts)
 
 abbrev in_phase_three : List (List ℕ) → List AsmFault
-in_phase_three texts = all_faults (phase_three_fault (all_said texts)) (length texts)
+in_phase_three texts = all_faults (phase_three_fault (all_parsed texts)) (length texts)
 
 all_are : (texts : List (List ℕ)) → faults_of texts
     ≡ unless_faulty (in_phase_one texts) (unless_faulty (in_phase_two texts) (in_phase_three texts))
 unfolding faults_of
-all_are texts = phases_are (phase_one_fault texts) (judged (all_said texts)) (phase_three_fault (all_said texts)) (length texts)
+all_are texts = phases_are (phase_one_fault texts) (judged (all_parsed texts)) (phase_three_fault (all_parsed texts)) (length texts)
 
 first_said : (source : List ℕ) → slice_get (faults_of (lines source)) 0 ≡ result_err (assembled source)
 unfolding faults_of assembled
 first_said source =
     let texts : List (List ℕ) = lines source in
     let n = length texts in
-    let ls : List Said = all_said texts in
+    let ls : List Parsed = all_parsed texts in
     first_phase (phase_one_fault texts) (judged ls) (phase_three_fault ls) n
     ∙ (rw (first_judged ls n) (sym (first_phase (phase_one_fault texts) (phase_two_fault ls) (phase_three_fault ls) n))
     ∙ sym (fault_answered (slice_get (first_faults (phase_two_fault ls) texts) 0) _))
 
 -- ---- phases two and three, line by line
 
-pub known_begun : (ls : List Said) → known_before (kept ls 0) 0 ≡ start
+pub known_begun : (ls : List Parsed) → known_before (kept ls 0) 0 ≡ start
 unfolding kept known_before
 known_begun ls = refl
 
-pub kept_up_to : (ls : List Said) (n : ℕ) → IsUpTo n (known_before (kept ls n) n)
+pub kept_up_to : (ls : List Parsed) (n : ℕ) → IsUpTo n (known_before (kept ls n) n)
 kept_up_to ls n = up_to_before (kept ls n) n
 
 module _ (texts rest : List (List ℕ)) (n : ℕ) (so : SoFar texts rest n) (text : List ℕ)
-    (after : List (List ℕ)) (cut : rest ≡ text ∷ after) (line : Said) (is : said text ≡ Ok line) (s : Known) where
-  at : line_at (all_said texts) n ≡ line
+    (after : List (List ℕ)) (cut : rest ≡ text ∷ after) (line : Parsed) (is : parsed text ≡ Ok line) (s : Known) where
+  at : line_at (all_parsed texts) n ≡ line
   at = read_line_at texts rest n so text after cut line is
 
   at_text : get_or texts n [] ≡ text
   at_text = (dropped texts n text after [] (sym so.left ∙ cut)).item
 
-  before : n < length (all_said texts)
-  before = rw (length-said texts) (is_before texts rest n so text after cut)
+  before : n < length (all_parsed texts)
+  before = rw (length-parsed texts) (is_before texts rest n so text after cut)
 
-  module _ (known : s ≡ known_before (kept (all_said texts) n) n) where
-    pub known_more : (new : Known) → new ≡ known_after n s line → new ≡ known_before (kept (all_said texts) (n + 1)) (n + 1)
+  module _ (known : s ≡ known_before (kept (all_parsed texts) n) n) where
+    pub known_more : (new : Known) → new ≡ known_after n s line → new ≡ known_before (kept (all_parsed texts) (n + 1)) (n + 1)
     known_more new e =
-        rw add-one (e ∙ rw (known, ← at) (sym (known_kept (all_said texts) n before)))
+        rw add-one (e ∙ rw (known, ← at) (sym (known_kept (all_parsed texts) n before)))
 
-    pub judged_more : (ds : List Diagnosis) → Diagnoses texts (all_faults (judged (all_said texts)) n) ds
+    pub judged_more : (ds : List Diagnosis) → Diagnoses texts (all_faults (judged (all_parsed texts)) n) ds
         → (found : Option Diagnosis) (more : List Diagnosis) → IsFound n text (fault_on n s line) found
-        → more ≡ ds ++ listed found → Diagnoses texts (all_faults (judged (all_said texts)) (n + 1)) more
+        → more ≡ ds ++ listed found → Diagnoses texts (all_faults (judged (all_parsed texts)) (n + 1)) more
     judged_more ds so_far found more f e =
-        let same : judged (all_said texts) n ≡ fault_on n s line = judged_is (all_said texts) n before ∙ rw (known, ← at) refl in
-        found_more texts (judged (all_said texts)) n ds so_far text found more at_text (rw same f) e
+        let same : judged (all_parsed texts) n ≡ fault_on n s line = judged_is (all_parsed texts) n before ∙ rw (known, ← at) refl in
+        found_more texts (judged (all_parsed texts)) n ds so_far text found more at_text (rw same f) e
 
-  module _ (layout : laid_out (all_said texts) n ≡ Ok s) where
-    pub tried_more : (symbols : Definitions) → symbols ≡ definitions (all_said texts) → (ds : List Diagnosis)
-        → Diagnoses texts (all_faults (phase_three_fault (all_said texts)) n) ds
+  module _ (layout : laid_out (all_parsed texts) n ≡ Ok s) where
+    pub tried_more : (symbols : Definitions) → symbols ≡ definitions (all_parsed texts) → (ds : List Diagnosis)
+        → Diagnoses texts (all_faults (phase_three_fault (all_parsed texts)) n) ds
         → (found : Option Diagnosis) (more : List Diagnosis)
         → IsFound n text (result_err (stated_bytes symbols n (labelled n s line.labels) line.statement)) found
-        → more ≡ ds ++ listed found → Diagnoses texts (all_faults (phase_three_fault (all_said texts)) (n + 1)) more
+        → more ≡ ds ++ listed found → Diagnoses texts (all_faults (phase_three_fault (all_parsed texts)) (n + 1)) more
     tried_more symbols all ds so_far found more f e =
-        let known : s ≡ known_before (all_said texts) n = known_is (all_said texts) n s layout in
-        let same : phase_three_fault (all_said texts) n
+        let known : s ≡ known_before (all_parsed texts) n = known_is (all_parsed texts) n s layout in
+        let same : phase_three_fault (all_parsed texts) n
         ≡ result_err (stated_bytes symbols n (labelled n s line.labels) line.statement) =
         rw (all, known, ← at) refl in
-        found_more texts (phase_three_fault (all_said texts)) n ds so_far text found more at_text (rw same f) e
+        found_more texts (phase_three_fault (all_parsed texts)) n ds so_far text found more at_text (rw same f) e
 
 -- ---- the phases together
 
@@ -328,17 +328,17 @@ module _ (source : List ℕ) (one : List Diagnosis)
       in_three three third = together source three (rw (later ∙ none_by two (in_phase_two (lines source))
           (in_phase_three (lines source)) second.each no_two) third)
 
-      first_none : first_fault (judged (all_said (lines source))) (length (lines source)) ≡ None
-      first_none = sym (firsts (judged (all_said (lines source))) (length (lines source)))
+      first_none : first_fault (judged (all_parsed (lines source))) (length (lines source)) ≡ None
+      first_none = sym (firsts (judged (all_parsed (lines source))) (length (lines source)))
           ∙ ap first_of (sym second.each ∙ ap (map fault_of) no_two)
 
       -- all lines are kept
       pub symbols_are : (known : Known)
-          → known ≡ known_before (kept (all_said (lines source)) (length (lines source))) (length (lines source))
-          → known.definitions ≡ definitions (all_said (lines source))
+          → known ≡ known_before (kept (all_parsed (lines source)) (length (lines source))) (length (lines source))
+          → known.definitions ≡ definitions (all_parsed (lines source))
       symbols_are known e =
-          rw (e, kept_all (all_said (lines source)) (length (lines source)) first_none)
-          (ap (λ n. (known_before (all_said (lines source)) n).definitions) (sym (length-said (lines source))))
+          rw (e, kept_all (all_parsed (lines source)) (length (lines source)) first_none)
+          (ap (λ n. (known_before (all_parsed (lines source)) n).definitions) (sym (length-parsed (lines source))))
 
 pub filled_by : (ds seen : List Diagnosis) (b : Bool) → seen ≡ ds → b ≡ (length seen == 0) → b ≡ false → ds ≡ [] → ⊥
 filled_by [] seen b s e h z =

@@ -3,8 +3,8 @@ use Rattle.std.proofs.Common.{◌≡◌, ℕ, true, false, cond, List, [], refl,
 use Rattle.std.specs.Prelude.{Option, None, Some, is_some, Result, Ok, Err}
 use Rattle.std.specs.Option.{option_map}
 use Rattle.std.specs.Result.{result_err}
-use Rattle.rv_source.specs.Reading.{Said, said, written, statement_of}
-use Rattle.rv_source.specs.Written.{Written}
+use Rattle.rv_source.specs.Reading.{Parsed, parsed, line_form, statement_of}
+use Rattle.rv_source.specs.LineForm.{LineForm}
 use Rattle.rv_source.specs.declared.statement.Statement.{Statement}
 use Rattle.rv_tokens.specs.Faults.{Fails as LineFails}
 use Rattle.rv_tokens.specs.declared.fault.LineFault.{LineFault}
@@ -19,7 +19,7 @@ use Rattle.rv_asm.specs.Counted.{relabels, fault_stated, fault_on, fault_in}
 use Rattle.rv_asm.specs.Kept.{KindFails}
 use Rattle.rv_asm.specs.Steps.{Known, Item, labelled, stated, unless, after_statement, stated_bytes, at_line, appended, image_of, run, AddsOptional}
 use Rattle.rv_asm.specs.Judged.{Keeps, IsUnreadBy, new_among, known_after, IsFound, Judges}
-use Rattle.rv_asm.proofs.Reading.{unread_bind, fails_by, said_of, with_labels}
+use Rattle.rv_asm.proofs.Reading.{unread_bind, fails_by, parsed_of, with_labels}
 use Rattle.rv_asm.proofs.Labels.{all_new}
 use Rattle.rv_asm.proofs.Laying.{all_labelled, not_stated}
 
@@ -68,7 +68,7 @@ module _ (k : ℕ) (s : Known) (statement : Option Statement) where
 
 -- ---- a line in phase two
 
-module _ (k : ℕ) (text : List ℕ) (old new : Known) (line : Said) (read : said text ≡ Ok line)
+module _ (k : ℕ) (text : List ℕ) (old new : Known) (line : Parsed) (read : parsed text ≡ Ok line)
     (found : Option Diagnosis) where
   pub duplicate : relabels old line.labels ≡ true → new ≡ labelled k old (new_among old line.labels)
       → IsFound k text (Some DuplicateSymbol) found → Judges k text old new found
@@ -107,15 +107,15 @@ module _ (k : ℕ) (text : List ℕ) (old new : Known) (line : Said) (read : sai
 -- ---- phase one
 
 -- the fault of a line or of its statement is that of the line
-pub line_fails : (text : List ℕ) (fault : LineFault) → LineFails fault (written text) →
-    IsUnreadBy (said text) (Some fault)
-unfolding said
-line_fails text fault h = unread_bind fault (written text) _ h
+pub line_fails : (text : List ℕ) (fault : LineFault) → LineFails fault (line_form text) →
+    IsUnreadBy (parsed text) (Some fault)
+unfolding parsed
+line_fails text fault h = unread_bind fault (line_form text) _ h
 
-pub statement_fails : (text : List ℕ) (read : Written) (fault : LineFault) → written text ≡ Ok read →
-    Err fault ≡ statement_of read.body → IsUnreadBy (said text) (Some fault)
+pub statement_fails : (text : List ℕ) (read : LineForm) (fault : LineFault) → line_form text ≡ Ok read →
+    Err fault ≡ statement_of read.body → IsUnreadBy (parsed text) (Some fault)
 statement_fails text read fault w h =
-    fails_by fault (said text) (said_of text read w ∙ ap (with_labels read.labels) (sym h))
+    fails_by fault (parsed text) (parsed_of text read w ∙ ap (with_labels read.labels) (sym h))
 
 -- ---- a line in phase three
 

@@ -5,7 +5,7 @@ use Rattle.std.specs.Option.{option_map, unwrap_or}
 use Rattle.std.proofs.lemmas.List.Elements.{All-nil, All-weaker}
 use Rattle.std.proofs.lemmas.Bool.Decides.{nat_tests}
 use Rattle.rv_base.specs.Limits.{ram_base, image_limit}
-use Rattle.rv_source.specs.Reading.{Said}
+use Rattle.rv_source.specs.Reading.{Parsed}
 use Rattle.rv_source.specs.declared.statement.Statement.{Statement}
 use Rattle.rv_source.specs.declared.statement.Statement.TheVariants.{Marker}
 use Rattle.rv_program.specs.declared.fault.FaultKind.{FaultKind}
@@ -28,7 +28,7 @@ pub not_stated : (k : ℕ) (known : Known) → stated k known None ≡ known
 unfolding row
 not_stated k known = rw (append-nil, add-zero) refl
 
-module _ (k : ℕ) (known : Known) (line : Said) where
+module _ (k : ℕ) (known : Known) (line : Parsed) where
   pub labelled_twice : relabels known line.labels ≡ true → after_line k known line ≡ Err DuplicateSymbol
   unfolding after_line fault_on
   labelled_twice e = rw e refl
@@ -72,7 +72,7 @@ module _ (known : Known) (early : Valuation) (within : known.address ≤ ram_bas
     aligned early known.address statement,
   ) refl
 
-pub phase_two_is : (lines : List Said) (n : ℕ) → address lines n ≤ ram_base + image_limit →
+pub phase_two_is : (lines : List Parsed) (n : ℕ) → address lines n ≤ ram_base + image_limit →
     phase_two_fault lines n ≡ fault_on n (known_before lines n) (line_at lines n)
 unfolding phase_two_fault fault_on
 phase_two_is lines n within =
@@ -89,7 +89,7 @@ line_meant : (k : ℕ) (fault : Option FaultKind) (s : Known) → at_line k (unl
 line_meant k None s = refl
 line_meant k (Some kind) s = refl
 
-extended_by : (lines : List Said) (n : ℕ) (fault : Option AsmFault) →
+extended_by : (lines : List Parsed) (n : ℕ) (fault : Option AsmFault) →
     first_fault (phase_two_fault lines) n ≡ fault →
     extended n (line_at lines n) (laid_out lines n) ≡ laid_out lines (suc n)
 unfolding laid_out first known_before after_line
@@ -99,13 +99,13 @@ extended_by lines n None e =
     rw (e, phase_two_is lines n (within_limit lines n e))
     (line_meant n (fault_on n known (line_at lines n)) (with_line n known (line_at lines n)))
 
-pub extended_line : (lines : List Said) (n : ℕ) → extended n (line_at lines n) (laid_out lines n)
+pub extended_line : (lines : List Parsed) (n : ℕ) → extended n (line_at lines n) (laid_out lines n)
     ≡ laid_out lines (suc n)
 extended_line lines n = extended_by lines n (first_fault (phase_two_fault lines) n) refl
 
 -- ---- local labels are in order of lines
 
-pub up_to_before : (lines : List Said) (n : ℕ) → IsUpTo n (known_before lines n)
+pub up_to_before : (lines : List Parsed) (n : ℕ) → IsUpTo n (known_before lines n)
 unfolding known_before
 up_to_before lines zero = All-nil (λ (d : LocalLabel). d.line ≤ 0)
 up_to_before lines (suc n) =

@@ -12,21 +12,21 @@ use Rattle.std.proofs.lemmas.List.Elements.{All-nil, All-push, All-weaker, All-g
 use Rattle.std.proofs.lemmas.List.Sorted.{IsNonDecreasingBy-push, IsNonDecreasingBy-short, IsNonDecreasingBy-from_default}
 use Rattle.rv_base.specs.Lines.{lines}
 use Rattle.rv_base.specs.Limits.{ram_base}
-use Rattle.rv_source.specs.Reading.{Said, said as said_of}
+use Rattle.rv_source.specs.Reading.{Parsed, parsed as parsed_of}
 use Rattle.rv_source.specs.declared.line.Label.{Label}
 use Rattle.rv_source.specs.declared.line.Label.TheVariants as label
 use Rattle.rv_program.specs.Program.{Assembly}
 use Rattle.rv_program.specs.declared.fault.FaultKind.{FaultKind}
 use Rattle.rv_program.specs.declared.fault.AsmFault.{AsmFault}
 use Rattle.rv_asm.specs.Layout.{line_at, definitions, phase_two_fault, labels_in}
-use Rattle.rv_asm.specs.Assembly.{phase_one_fault, all_said, line_bytes, assembled}
+use Rattle.rv_asm.specs.Assembly.{phase_one_fault, all_parsed, line_bytes, assembled}
 use Rattle.rv_asm.specs.Counted.{phase_three_fault, address, joined, first, first_fault, joined_bytes, assembled_by, up_to, labels}
 use Rattle.rv_asm.proofs.Counting.{joined_is, up_to_is, assembled_is}
 use Rattle.rv_asm.specs.Lines.{Listed, listed, bytes_of}
 use Rattle.rv_asm.specs.Steps.{Known, known_before, laid_out, after_line}
 use Rattle.rv_asm.specs.Looked.{LabelsRise, LiesWhole, AreLinesOf}
 use Rattle.rv_asm.proofs.Listed.{size_listed, none_last, none_before}
-use Rattle.rv_asm.proofs.Whole.{length-said}
+use Rattle.rv_asm.proofs.Whole.{length-parsed}
 use Rattle.rv_asm.proofs.Reading.{SoFar, known_is, read_line_at, laid_out_more}
 
 -- ---- no fault
@@ -56,9 +56,9 @@ joined_same f g (suc n) h =
 
 pub record IsAccepted (source : List ℕ) (a : Assembly) : Type 0 where
   pub one : first_fault (phase_one_fault (lines source)) (length (lines source)) ≡ None
-  pub two : first_fault (phase_two_fault (all_said (lines source))) (length (lines source)) ≡ None
-  pub three : first_fault (phase_three_fault (all_said (lines source))) (length (lines source)) ≡ None
-  pub is : a.bytes ≡ joined_bytes (all_said (lines source))
+  pub two : first_fault (phase_two_fault (all_parsed (lines source))) (length (lines source)) ≡ None
+  pub three : first_fault (phase_three_fault (all_parsed (lines source))) (length (lines source)) ≡ None
+  pub is : a.bytes ≡ joined_bytes (all_parsed (lines source))
 
 abbrev answer : Option AsmFault → Assembly → Result Assembly AsmFault
 answer fault program = option_map_or (λ fault. Err fault) fault (Ok program)
@@ -82,8 +82,8 @@ unfolding assembled_by
 accepted source a h =
     let texts = lines source in
     let n = length texts in
-    let r = answered (first_fault (phase_one_fault texts) n) (first_fault (phase_two_fault (all_said texts)) n)
-    (first_fault (phase_three_fault (all_said texts)) n) _ a (sym (assembled_is source) ∙ h) in
+    let r = answered (first_fault (phase_one_fault texts) n) (first_fault (phase_two_fault (all_parsed texts)) n)
+    (first_fault (phase_three_fault (all_parsed texts)) n) _ a (sym (assembled_is source) ∙ h) in
     record {
       one = r.first;
       two = r.second;
@@ -119,15 +119,15 @@ up_to_at f (suc n) i h = by (up_to_at f n i) (nat_lt n i) refl
 
 -- ---- addresses rise
 
-address_rises : (ls : List Said) (i d : ℕ) → address ls i ≤ address ls (i + d)
+address_rises : (ls : List Parsed) (i d : ℕ) → address ls i ≤ address ls (i + d)
 unfolding known_before
 address_rises ls i zero = rw add-zero (omega arith)
 address_rises ls i (suc d) = let h = address_rises ls i d in rw add-suc (omega (arith, h))
 
-rises_by : (ls : List Said) (i j : ℕ) → i ≤ j → address ls i ≤ address ls j
+rises_by : (ls : List Parsed) (i j : ℕ) → i ≤ j → address ls i ≤ address ls j
 rises_by ls i j h = let e : i + (j - i) ≡ j = omega arith in rw e at (address_rises ls i (j - i))
 
-pub addresses_rise : (ls : List Said) (n : ℕ) → IsNonDecreasing (up_to (address ls) n)
+pub addresses_rise : (ls : List Parsed) (n : ℕ) → IsNonDecreasing (up_to (address ls) n)
 addresses_rise ls n = IsNonDecreasingBy-from_default (λ x. x) (up_to (address ls) n) 0 (λ i j h p.
     let l = length_up_to (address ls) n in
     let r = rises_by ls i j h in
@@ -173,7 +173,7 @@ raised a b xs le h = record {
   rises = h.rises;
 }
 
-labels_to : (ls : List Said) (n : ℕ) → AreUpTo (address ls n) (labels ls n)
+labels_to : (ls : List Parsed) (n : ℕ) → AreUpTo (address ls n) (labels ls n)
 unfolding joined
 labels_to ls zero = record {
   below = All-nil (λ (l : List ℕ × ℕ). l.1 ≤ address ls zero);
@@ -184,7 +184,7 @@ labels_to ls (suc n) =
     (rises_by ls n (suc n) (omega arith))
     (labels_up (address ls n) (labels ls n) (line_at ls n).labels (labels_to ls n))
 
-pub labels_rise : (ls : List Said) (n : ℕ) → LabelsRise (labels ls n)
+pub labels_rise : (ls : List Parsed) (n : ℕ) → LabelsRise (labels ls n)
 labels_rise ls n = (labels_to ls n).rises
 
 -- ---- the bytes of a line
@@ -242,39 +242,39 @@ bytes_by image xs f n k i h t x y =
 -- ---- the listing
 
 module _ (source : List ℕ) (a : Assembly) (ok : IsAccepted source a) where
-  abbrev said : List Said
-  said = all_said (lines source)
+  abbrev parsed : List Parsed
+  parsed = all_parsed (lines source)
 
   abbrev n : ℕ
   n = length (lines source)
 
-  same_length : length said ≡ n
-  same_length = length-said (lines source)
+  same_length : length parsed ≡ n
+  same_length = length-parsed (lines source)
 
   abbrev image_of : ℕ → List ℕ
-  image_of k = result_unwrap_or (line_bytes said k) []
+  image_of k = result_unwrap_or (line_bytes parsed k) []
 
   image_is : a.bytes ≡ joined image_of n
   image_is = ok.is ∙ ap (joined image_of) same_length
 
   -- the image reaches from the base to the last address
-  reaches : (k : ℕ) → k ≤ n → ram_base + length (joined image_of k) ≡ address said k
-  reaches k h = size_listed said (definitions said) k (none_below (phase_three_fault said) n k ok.three h)
+  reaches : (k : ℕ) → k ≤ n → ram_base + length (joined image_of k) ≡ address parsed k
+  reaches k h = size_listed parsed (definitions parsed) k (none_below (phase_three_fault parsed) n k ok.three h)
 
   abbrev pub listing : Listed
-  listing = record { assembly = a; addresses = up_to (address said) n; labels = labels said n }
+  listing = record { assembly = a; addresses = up_to (address parsed) n; labels = labels parsed n }
 
   pub listing_is : assembled source ≡ Ok a → listed source ≡ Ok listing
   unfolding listed
   listing_is h =
-      rw (h, same_length, up_to_is (address said) n, joined_is (λ k. labels_in (address said k) (line_at said k).labels) n)
+      rw (h, same_length, up_to_is (address parsed) n, joined_is (λ k. labels_in (address parsed k) (line_at parsed k).labels) n)
       refl
 
-  address_at : (k : ℕ) → k ≤ n → get_or listing.addresses k 0 ≡ address said k
-  address_at k h = up_to_at (address said) n k h
+  address_at : (k : ℕ) → k ≤ n → get_or listing.addresses k 0 ≡ address parsed k
+  address_at k h = up_to_at (address parsed) n k h
 
   count_is : length listing.addresses ≡ suc n
-  count_is = length_up_to (address said) n
+  count_is = length_up_to (address parsed) n
 
   pub lies_whole : LiesWhole listing
   unfolding known_before
@@ -284,8 +284,8 @@ module _ (source : List ℕ) (a : Assembly) (ok : IsAccepted source a) where
     last =
         let e : length listing.addresses - 1 ≡ n = omega (arith, count_is) in
         rw (e, image_is) (address_at n (omega arith) ∙ sym (reaches n (omega arith)));
-    rises = addresses_rise said n;
-    labels = labels_rise said n;
+    rises = addresses_rise parsed n;
+    labels = labels_rise parsed n;
   }
 
   is_ok : (r : Result (List ℕ) FaultKind) → result_err r ≡ None → r ≡ Ok (result_unwrap_or r [])
@@ -301,7 +301,7 @@ module _ (source : List ℕ) (a : Assembly) (ok : IsAccepted source a) where
 
   pub are_lines : AreLinesOf source listing
   are_lines = record {
-    each = λ k h. is_ok (line_bytes said k) (none_at (phase_three_fault said) n k ok.three h) ∙
+    each = λ k h. is_ok (line_bytes parsed k) (none_at (phase_three_fault parsed) n k ok.three h) ∙
         ap (λ bs. Ok bs) (sym (part_is k h));
     all = joined_is (λ k. bytes_of listing (suc k)) n
         ∙ (joined_same (λ k. bytes_of listing (suc k)) image_of n part_is ∙ sym image_is);
@@ -310,29 +310,29 @@ module _ (source : List ℕ) (a : Assembly) (ok : IsAccepted source a) where
 -- ---- one more line
 
 module _ (texts rest : List (List ℕ)) (n : ℕ) (so : SoFar texts rest n) (text : List ℕ)
-    (after : List (List ℕ)) (cut : rest ≡ text ∷ after) (line : Said) (is : said_of text ≡ Ok line) (known
+    (after : List (List ℕ)) (cut : rest ≡ text ∷ after) (line : Parsed) (is : parsed_of text ≡ Ok line) (known
     new : Known)
-    (old : laid_out (all_said texts) n ≡ Ok known) (next : after_line n known line ≡ Ok new) where
-  pub layout_more : laid_out (all_said texts) (n + 1) ≡ Ok new
+    (old : laid_out (all_parsed texts) n ≡ Ok known) (next : after_line n known line ≡ Ok new) where
+  pub layout_more : laid_out (all_parsed texts) (n + 1) ≡ Ok new
   layout_more = sym (laid_out_more texts rest n so text after cut line is) ∙ (rw (old, next) refl)
 
-  pub addresses_more : (xs : List ℕ) → xs ≡ up_to (address (all_said texts)) n →
-      xs ++ new.address ∷ [] ≡ up_to (address (all_said texts)) (n + 1)
+  pub addresses_more : (xs : List ℕ) → xs ≡ up_to (address (all_parsed texts)) n →
+      xs ++ new.address ∷ [] ≡ up_to (address (all_parsed texts)) (n + 1)
   unfolding up_to
   addresses_more xs h =
-      let e : new.address ≡ address (all_said texts) (n + 1) = ap (λ (s : Known). s.address)
-      (known_is (all_said texts) (n + 1) new layout_more) in
+      let e : new.address ≡ address (all_parsed texts) (n + 1) = ap (λ (s : Known). s.address)
+      (known_is (all_parsed texts) (n + 1) new layout_more) in
       rw (e, h, add-one) refl
 
   pub addresses_pushed : (xs ys : List ℕ) → ys ≡ xs ++ new.address ∷ [] →
-      xs ≡ up_to (address (all_said texts)) n →
-      ys ≡ up_to (address (all_said texts)) (n + 1)
+      xs ≡ up_to (address (all_parsed texts)) n →
+      ys ≡ up_to (address (all_parsed texts)) (n + 1)
   addresses_pushed xs ys e h = e ∙ addresses_more xs h
 
-  pub labels_more : (xs ys : List (List ℕ × ℕ)) → xs ≡ labels (all_said texts) n →
-      ys ≡ xs ++ labels_in known.address line.labels → ys ≡ labels (all_said texts) (n + 1)
+  pub labels_more : (xs ys : List (List ℕ × ℕ)) → xs ≡ labels (all_parsed texts) n →
+      ys ≡ xs ++ labels_in known.address line.labels → ys ≡ labels (all_parsed texts) (n + 1)
   unfolding joined
   labels_more xs ys h e =
-      let here : known.address ≡ address (all_said texts) n = ap (λ (s : Known). s.address)
-      (known_is (all_said texts) n known old) in
+      let here : known.address ≡ address (all_parsed texts) n = ap (λ (s : Known). s.address)
+      (known_is (all_parsed texts) n known old) in
       rw (e, h, here, ← read_line_at texts rest n so text after cut line is, add-one) refl

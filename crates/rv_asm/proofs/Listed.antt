@@ -4,7 +4,7 @@ use Rattle.std.specs.Prelude.{Option, None, Some, Result, Ok, Err, nat_lt}
 use Rattle.std.specs.Option.{unwrap_or, option_map, option_or}
 use Rattle.std.specs.Result.{result_err}
 use Rattle.std.proofs.lemmas.Bool.Decides.{nat_tests}
-use Rattle.rv_source.specs.Reading.{Said}
+use Rattle.rv_source.specs.Reading.{Parsed}
 use Rattle.rv_source.specs.declared.statement.Statement.{Statement}
 use Rattle.rv_source.specs.declared.statement.Statement.TheVariants.{Marker}
 use Rattle.rv_program.specs.declared.fault.FaultKind.{FaultKind}
@@ -81,7 +81,7 @@ pub adds_pushed : (k : ℕ) (known : Known) (statement : Statement) (items : Lis
 adds_pushed k known statement items item at is ds =
     run_append (item_step ds) [] items (item ∷ []) ∙ pushed (image_of ds items) ds item _ k at (is ds)
 
-module _ (ds : Definitions) (lines : List Said) (n : ℕ) where
+module _ (ds : Definitions) (lines : List Parsed) (n : ℕ) where
   written_by : (fault : Option AsmFault) → first_fault (λ k. result_err (bytes_by ds lines k)) n ≡ fault
       → (written ds lines n >>= λ out. at_line n (appended out (bytes_by ds lines n))) ≡ written ds lines
       (suc n)
@@ -94,11 +94,11 @@ module _ (ds : Definitions) (lines : List Said) (n : ℕ) where
       ≡ written ds lines (suc n)
   written_more = written_by (first_fault (λ k. result_err (bytes_by ds lines k)) n) refl
 
-pub writes_none : (lines : List Said) → Writes lines 0 []
+pub writes_none : (lines : List Parsed) → Writes lines 0 []
 unfolding written first joined run
 writes_none lines ds = refl
 
-pub writes_more : (lines : List Said) (n : ℕ) (old new : List Item) → Writes lines n old →
+pub writes_more : (lines : List Parsed) (n : ℕ) (old new : List Item) → Writes lines n old →
     AddsLine n (known_before lines n) (line_at lines n) old new → Writes lines (suc n) new
 writes_more lines n old new writes adds ds =
     adds ds ∙ (ap (λ r. r >>= λ out. at_line n (appended out (bytes_by ds lines n))) (writes ds)
@@ -133,7 +133,7 @@ module _ (ds : Definitions) (k : ℕ) (known : Known) where
       (λ bs. statement_size (values_of k known) (operand_value ds k known.address) known.address bs
       (unwrap_or statement Marker)) e))
 
-module _ (lines : List Said) where
+module _ (lines : List Parsed) where
   pub within_line : (n : ℕ) → phase_two_fault lines n ≡ None → address lines (suc n) ≤ ram_base + image_limit
   unfolding known_before phase_two_fault
   within_line n h = below _ _ (not_past _ _ _ _ h)

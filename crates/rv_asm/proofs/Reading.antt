@@ -4,8 +4,8 @@ use Rattle.std.specs.Prelude.{Option, None, Some, Result, Ok, Err, IfOk, ◌⊎�
 use Rattle.std.specs.Option.{option_map}
 use Rattle.std.specs.Result.{result_err, result_unwrap_or}
 use Rattle.std.proofs.lemmas.List.{get_or-map, get_or-drop, drop-drop}
-use Rattle.rv_source.specs.Reading.{Said, said, written, statement_of}
-use Rattle.rv_source.specs.Written.{Written}
+use Rattle.rv_source.specs.Reading.{Parsed, parsed, line_form, statement_of}
+use Rattle.rv_source.specs.LineForm.{LineForm}
 use Rattle.rv_source.specs.declared.line.Label.{Label}
 use Rattle.rv_source.specs.declared.statement.Statement.{Statement}
 use Rattle.rv_tokens.specs.Faults.{Fails as LineFails, ◌>>=◌}
@@ -16,7 +16,7 @@ use Rattle.rv_program.specs.declared.fault.FaultKind.TheVariants.{OutOfMemory}
 use Rattle.rv_program.specs.declared.fault.AsmFault.{AsmFault}
 use Rattle.rv_program.specs.Faults.{Fails, Gives, IsFaultAt, kind_of}
 use Rattle.rv_asm.specs.Layout.{line_at, blank}
-use Rattle.rv_asm.specs.Assembly.{phase_one_fault, all_said}
+use Rattle.rv_asm.specs.Assembly.{phase_one_fault, all_parsed}
 use Rattle.rv_asm.specs.Counted.{first, first_fault}
 use Rattle.rv_asm.specs.Steps.{Known, Item, start, unless, known_before, laid_out, lines_laid_out, extended, AddsLine, Writes}
 use Rattle.rv_asm.specs.Taken.{so_far, Without, IsUnread}
@@ -35,33 +35,33 @@ pub begun : (texts : List (List ℕ)) → SoFar texts texts 0
 unfolding first
 begun texts = record { left = refl; none = refl; within = omega arith }
 
-pub laid_out-zero : (ls : List Said) → laid_out ls 0 ≡ Ok start
+pub laid_out-zero : (ls : List Parsed) → laid_out ls 0 ≡ Ok start
 unfolding laid_out first known_before
 laid_out-zero ls = refl
 
 -- ---- what is known before a line
 
-known_by : (ls : List Said) (n : ℕ) (fault : Option AsmFault) (s : Known) →
+known_by : (ls : List Parsed) (n : ℕ) (fault : Option AsmFault) (s : Known) →
     unless fault (Ok (known_before ls n)) ≡ Ok s → s ≡ known_before ls n
 known_by ls n (Some fault) s e = absurd cc
 known_by ls n None s e = cc
 
-pub known_is : (ls : List Said) (n : ℕ) (s : Known) → laid_out ls n ≡ Ok s → s ≡ known_before ls n
+pub known_is : (ls : List Parsed) (n : ℕ) (s : Known) → laid_out ls n ≡ Ok s → s ≡ known_before ls n
 unfolding laid_out
 known_is ls n s e = known_by ls n (first_fault _ n) s e
 
 -- no local label that is laid out is on a later line
 
-pub up_to_laid_out : (ls : List Said) (n : ℕ) (layout : Result Known AsmFault) →
+pub up_to_laid_out : (ls : List Parsed) (n : ℕ) (layout : Result Known AsmFault) →
     Gives (λ s. s) layout (laid_out ls n) → IfOk layout (IsUpTo n)
 up_to_laid_out ls n (Err fault) h = tt
 up_to_laid_out ls n (Ok s) h = rw (known_is ls n s h) (up_to_before ls n)
 
 -- ---- what the items write
 
-pub writes_line : (ls : List Said) (n : ℕ) (old new : Option AsmFault) (known : Known)
+pub writes_line : (ls : List Parsed) (n : ℕ) (old new : Option AsmFault) (known : Known)
     (items after : List Item)
-    (line : Said) → line_at ls n ≡ line → Gives (λ s. s) (so_far old known) (laid_out ls n)
+    (line : Parsed) → line_at ls n ≡ line → Gives (λ s. s) (so_far old known) (laid_out ls n)
     → Without old (Writes ls n items) → Without new ((old ≡ None) × AddsLine n known line items after)
     → Without new (Writes ls (n + 1) after)
 writes_line ls n old (Some fault) known items after line at layout writes adds = tt
@@ -98,7 +98,7 @@ dropped xs n x ys d e = record {
 }
 
 -- out of memory, or the fault of the line
-unread_kind : (fault : LineFault) (r : Result Said LineFault) → LineFails fault r →
+unread_kind : (fault : LineFault) (r : Result Parsed LineFault) → LineFails fault r →
     (kind_of fault ≡ OutOfMemory) ⊎ (r ≡ Err fault)
 unread_kind line.OutOfMemory r h = inl refl
 unread_kind kind r h = inr h
@@ -112,9 +112,9 @@ module _ (texts rest : List (List ℕ)) (n : ℕ) (so : SoFar texts rest n) wher
     is_before = next.below
 
     -- a line that can be read
-    module _ (line : Said) (is : said text ≡ Ok line) where
-      here : said (get_or texts n []) ≡ Ok line
-      here = ap said next.item ∙ is
+    module _ (line : Parsed) (is : parsed text ≡ Ok line) where
+      here : parsed (get_or texts n []) ≡ Ok line
+      here = ap parsed next.item ∙ is
 
       none_here : phase_one_fault texts n ≡ None
       none_here = ap (λ r. option_map kind_of (result_err r)) here
@@ -128,36 +128,36 @@ module _ (texts rest : List (List ℕ)) (n : ℕ) (so : SoFar texts rest n) wher
             omega (arith, next.below);
       })
 
-      pub read_line_at : line_at (all_said texts) n ≡ line
+      pub read_line_at : line_at (all_parsed texts) n ≡ line
       read_line_at =
-          get_or-map (λ t. result_unwrap_or (said t) blank) texts n [] blank next.below
+          get_or-map (λ t. result_unwrap_or (parsed t) blank) texts n [] blank next.below
           ∙ ap (λ r. result_unwrap_or r blank) here
 
-      pub laid_out_more : extended n line (laid_out (all_said texts) n) ≡ laid_out (all_said texts) (n + 1)
-      laid_out_more = rw (add-one, ← read_line_at) (extended_line (all_said texts) n)
+      pub laid_out_more : extended n line (laid_out (all_parsed texts) n) ≡ laid_out (all_parsed texts) (n + 1)
+      laid_out_more = rw (add-one, ← read_line_at) (extended_line (all_parsed texts) n)
 
     -- a line that can't be read
     module _ (fault : LineFault) where
-      unread_all : said text ≡ Err fault → lines_laid_out texts
+      unread_all : parsed text ≡ Err fault → lines_laid_out texts
           ≡ Err (record { line = n + 1; kind = kind_of fault })
       unfolding lines_laid_out first
       unread_all is =
           let some : phase_one_fault texts n ≡ Some (kind_of fault) =
-          ap (λ r. option_map kind_of (result_err r)) (ap said next.item ∙ is) in
+          ap (λ r. option_map kind_of (result_err r)) (ap parsed next.item ∙ is) in
           let here : first_fault (phase_one_fault texts) (suc n) ≡ Some (record { line = suc n; kind = kind_of fault }) =
           rw (so.none, some) refl in
           rw (first_more (phase_one_fault texts) (suc n) (length texts) _ (omega (arith, next.below)) here, add-one) refl
 
-      unread_by : (at : AsmFault) → ((kind_of fault ≡ OutOfMemory) ⊎ (said text ≡ Err fault)) →
+      unread_by : (at : AsmFault) → ((kind_of fault ≡ OutOfMemory) ⊎ (parsed text ≡ Err fault)) →
           IsFaultAt (n + 1) (kind_of fault) at → Fails at (lines_laid_out texts)
       unread_by at (inl o) e = let f = rw o at e in rw f refl
       unread_by at (inr p) e = fails_at (n + 1) (kind_of fault) at (lines_laid_out texts) e (unread_all p)
 
-      pub unread : (at answer : AsmFault) → LineFails fault (said text) →
+      pub unread : (at answer : AsmFault) → LineFails fault (parsed text) →
           IsFaultAt (n + 1) (kind_of fault) at → answer ≡ at → Fails answer (lines_laid_out texts)
-      unread at answer h e is = rw is (unread_by at (unread_kind fault (said text) h) e)
+      unread at answer h e is = rw is (unread_by at (unread_kind fault (parsed text) h) e)
 
-  pub read_all : rest ≡ [] → (lines_laid_out texts ≡ laid_out (all_said texts) n) × (length texts ≡ n)
+  pub read_all : rest ≡ [] → (lines_laid_out texts ≡ laid_out (all_parsed texts) n) × (length texts ≡ n)
   unfolding lines_laid_out
   read_all h =
       let none : length rest ≡ 0 = rw h refl in
@@ -166,41 +166,41 @@ module _ (texts rest : List (List ℕ)) (n : ℕ) (so : SoFar texts rest n) wher
 
 -- ---- a line that can't be read
 
-pub unread_bind : (fault : LineFault) (r : Result Written LineFault) (f : Written → Result Said LineFault) →
+pub unread_bind : (fault : LineFault) (r : Result LineForm LineFault) (f : LineForm → Result Parsed LineFault) →
     LineFails fault r → LineFails fault (r >>= f)
 unread_bind line.OutOfMemory r f h = h
 unread_bind fault r f h = rw h refl
 
 pub unread_line : (k : ℕ) (text : List ℕ) (fault : LineFault) (at : AsmFault) → LineFails fault
-    (written text) →
+    (line_form text) →
     IsFaultAt (k + 1) (kind_of fault) at → IsUnread k text at
-unfolding said
+unfolding parsed
 unread_line k text fault at h e = record
-    { kind = fault; fails = unread_bind fault (written text) _ h; at = e }
+    { kind = fault; fails = unread_bind fault (line_form text) _ h; at = e }
 
-pub said_of : (text : List ℕ) (read : Written) → written text ≡ Ok read
-    → said text ≡ (statement_of read.body >>= λ s. Ok (record { labels = read.labels; statement = s }))
-unfolding said
-said_of text read w = rw w refl
+pub parsed_of : (text : List ℕ) (read : LineForm) → line_form text ≡ Ok read
+    → parsed text ≡ (statement_of read.body >>= λ s. Ok (record { labels = read.labels; statement = s }))
+unfolding parsed
+parsed_of text read w = rw w refl
 
-abbrev pub with_labels : List Label → Result (Option Statement) LineFault → Result Said LineFault
+abbrev pub with_labels : List Label → Result (Option Statement) LineFault → Result Parsed LineFault
 with_labels labels m = m >>= λ s. Ok (record { labels = labels; statement = s })
 
-pub fails_by : (fault : LineFault) (r : Result Said LineFault) → r ≡ Err fault → LineFails fault r
+pub fails_by : (fault : LineFault) (r : Result Parsed LineFault) → r ≡ Err fault → LineFails fault r
 fails_by line.OutOfMemory r h = tt
 fails_by fault r h = h
 
-pub unread_statement : (k : ℕ) (text : List ℕ) (read : Written) (fault : LineFault) (at : AsmFault) →
-    written text ≡ Ok read → Err fault ≡ statement_of read.body → IsFaultAt (k + 1) (kind_of fault) at →
+pub unread_statement : (k : ℕ) (text : List ℕ) (read : LineForm) (fault : LineFault) (at : AsmFault) →
+    line_form text ≡ Ok read → Err fault ≡ statement_of read.body → IsFaultAt (k + 1) (kind_of fault) at →
     IsUnread k text at
 unread_statement k text read fault at w h e = record {
   kind = fault;
-  fails = fails_by fault (said text) (said_of text read w ∙ ap (with_labels read.labels) (sym h));
+  fails = fails_by fault (parsed text) (parsed_of text read w ∙ ap (with_labels read.labels) (sym h));
   at = e;
 }
 
-pub read_statement : (text : List ℕ) (read : Written) (statement : Option Statement) → written text ≡ Ok
+pub read_statement : (text : List ℕ) (read : LineForm) (statement : Option Statement) → line_form text ≡ Ok
     read →
     Ok statement ≡ statement_of read.body
-    → said text ≡ Ok (record { labels = read.labels; statement = statement })
-read_statement text read statement w h = said_of text read w ∙ ap (with_labels read.labels) (sym h)
+    → parsed text ≡ Ok (record { labels = read.labels; statement = statement })
+read_statement text read statement w h = parsed_of text read w ∙ ap (with_labels read.labels) (sym h)

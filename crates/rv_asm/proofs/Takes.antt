@@ -1,7 +1,7 @@
 -- One more line in the first two phases.
 use Rattle.std.proofs.Common.{◌≡◌, ℕ, ◌+◌, List, true, false, refl}
 use Rattle.std.specs.Prelude.{Option, None, Some, is_some, Ok}
-use Rattle.rv_source.specs.Reading.{Said, said}
+use Rattle.rv_source.specs.Reading.{Parsed, parsed}
 use Rattle.rv_program.specs.declared.fault.FaultKind.{FaultKind}
 use Rattle.rv_program.specs.declared.fault.AsmFault.{AsmFault}
 use Rattle.rv_program.specs.Faults.{IsFaultAt}
@@ -10,7 +10,7 @@ use Rattle.rv_asm.specs.Steps.{Known, Item, after_line, AddsLine}
 use Rattle.rv_asm.specs.Taken.{Takes}
 use Rattle.rv_asm.proofs.Runs.{fails_bind, fails_at_line}
 
-module _ (k : ℕ) (text : List ℕ) (line : Said) (read : said text ≡ Ok line) (known : Known)
+module _ (k : ℕ) (text : List ℕ) (line : Parsed) (read : parsed text ≡ Ok line) (known : Known)
     (items : List Item) where
   -- following a fault
   pub takes_nothing : (old : Option AsmFault) → is_some old ≡ true → Takes k text old known items old known items

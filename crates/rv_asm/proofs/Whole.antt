@@ -4,14 +4,14 @@ use Rattle.std.specs.Prelude.{Option, None, Some, Result, Ok, Err}
 use Rattle.std.specs.Option.{option_map_or, option_or}
 use Rattle.std.specs.Result.{result_err}
 use Rattle.std.proofs.lemmas.List.{length-map}
-use Rattle.rv_source.specs.Reading.{Said}
+use Rattle.rv_source.specs.Reading.{Parsed}
 use Rattle.rv_base.specs.Lines.{lines}
 use Rattle.rv_base.specs.Limits.{image_limit}
 use Rattle.rv_program.specs.declared.fault.AsmFault.{AsmFault}
 use Rattle.rv_asm.specs.Symbols.{Definitions}
 use Rattle.rv_asm.specs.Layout.{definitions, phase_two_fault}
 use Rattle.rv_asm.specs.Listing.{◌>>=◌}
-use Rattle.rv_asm.specs.Assembly.{Assembly, phase_one_fault, all_said, assembled}
+use Rattle.rv_asm.specs.Assembly.{Assembly, phase_one_fault, all_parsed, assembled}
 use Rattle.rv_asm.specs.Counted.{phase_three_fault, joined, first_fault, joined_bytes, assembled_by}
 use Rattle.rv_asm.proofs.Counting.{assembled_is}
 use Rattle.rv_asm.specs.Steps.{Known, unless, known_before, bytes_by, listed, written, laid_out, lines_laid_out}
@@ -23,13 +23,13 @@ program_of ds image = Ok (record { bytes = image; symbols = ds.names })
 -- the result of phase three on the state after all lines
 abbrev pub finished : List (List ℕ) → Known → Result Assembly AsmFault
 finished texts known =
-    written known.definitions (all_said texts) (length texts) >>= program_of known.definitions
+    written known.definitions (all_parsed texts) (length texts) >>= program_of known.definitions
 
 abbrev answer : Option AsmFault → Assembly → Result Assembly AsmFault
 answer fault program = option_map_or (λ fault. Err fault) fault (Ok program)
 
-pub length-said : (texts : List (List ℕ)) → length (all_said texts) ≡ length texts
-length-said texts = length-map texts _
+pub length-parsed : (texts : List (List ℕ)) → length (all_parsed texts) ≡ length texts
+length-parsed texts = length-map texts _
 
 answered : (fault : Option AsmFault) (ds : Definitions) (out : List ℕ) →
     answer fault (record { bytes = out; symbols = ds.names }) ≡ (unless fault (Ok out) >>= program_of ds)
@@ -37,7 +37,7 @@ answered (Some fault) ds out = refl
 answered None ds out = refl
 
 -- over all n lines
-module _ (ls : List Said) (n : ℕ) (all : length ls ≡ n) where
+module _ (ls : List Parsed) (n : ℕ) (all : length ls ≡ n) where
   finished_by : answer (first_fault (phase_three_fault ls) n)
       (record { bytes = joined_bytes ls; symbols = (definitions ls).names })
       ≡ (written (known_before ls n).definitions ls n >>= program_of (known_before ls n).definitions)
@@ -60,13 +60,13 @@ unfolding assembled_by lines_laid_out laid_out
 whole source =
     let texts = lines source in
     assembled_is source
-    ∙ whole_by (all_said texts) (length texts) (length-said texts)
+    ∙ whole_by (all_parsed texts) (length texts) (length-parsed texts)
     (first_fault (phase_one_fault texts) (length texts))
-    (first_fault (phase_two_fault (all_said texts)) (length texts))
+    (first_fault (phase_two_fault (all_parsed texts)) (length texts))
 
 -- ---- the size of the image
 
-module _ (ls : List Said) (n : ℕ) where
+module _ (ls : List Parsed) (n : ℕ) where
   size_by : (three : Option AsmFault) (ds : Definitions) (out : List ℕ) →
       first_fault (phase_two_fault ls) n ≡ None
       → first_fault (λ k. result_err (bytes_by ds ls k)) n ≡ three
@@ -87,11 +87,11 @@ module _ (ls : List Said) (n : ℕ) where
   laid_out_size None None known out e h g = size_by _ known.definitions out e refl g
 
 pub image_fits : (source : List ℕ) (known : Known) (out : List ℕ) → lines_laid_out (lines source) ≡ Ok known →
-    written known.definitions (all_said (lines source)) (length (lines source)) ≡ Ok out → length out ≤
+    written known.definitions (all_parsed (lines source)) (length (lines source)) ≡ Ok out → length out ≤
     image_limit
 unfolding lines_laid_out laid_out
 image_fits source known out h g =
     let texts = lines source in
-    laid_out_size (all_said texts) (length texts) (first_fault (phase_one_fault texts) (length texts)) _
+    laid_out_size (all_parsed texts) (length texts) (first_fault (phase_one_fault texts) (length texts)) _
     known out
     refl h g

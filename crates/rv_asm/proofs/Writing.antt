@@ -4,12 +4,12 @@ use Rattle.std.specs.Prelude.{Option, Some, None, Result, Ok, Err}
 use Rattle.std.specs.Option.{unwrap_or}
 use Rattle.rv_source.specs.declared.statement.Statement.{Statement}
 use Rattle.rv_source.specs.declared.statement.Statement.TheVariants as s
-use Rattle.rv_source.specs.Reading.{Said, written, statement_of}
-use Rattle.rv_source.specs.Written.{Written}
+use Rattle.rv_source.specs.Reading.{Parsed, line_form, statement_of}
+use Rattle.rv_source.specs.LineForm.{LineForm}
 use Rattle.rv_source.specs.declared.line.Label.{Label}
 use Rattle.rv_tokens.specs.declared.fault.LineFault.{LineFault}
 use Rattle.rv_program.specs.declared.fault.FaultKind.{FaultKind}
-use Rattle.rv_asm.proofs.Reading.{said_of, with_labels}
+use Rattle.rv_asm.proofs.Reading.{parsed_of, with_labels}
 use Rattle.rv_asm.specs.Constants.{IsTaken, KeptLine, stated_in, statement_bytes}
 use Rattle.rv_asm.specs.Kept.{KindBecomes}
 use Rattle.rv_asm.specs.Steps.{line_text_bytes, appended}
@@ -24,7 +24,7 @@ nothing_written ds line here text out h = rw (sym h) (ap (λ x. Ok x) (append-ni
 abbrev stated : Result (Option Statement) LineFault → Statement
 stated m = elim m as (λ _. Statement) [ Ok o ↦ unwrap_or o s.Marker | Err fault ↦ s.Marker ]
 
-abbrev statement_by : Result Said LineFault → Statement
+abbrev statement_by : Result Parsed LineFault → Statement
 statement_by m = unwrap_or
     (elim m as (λ _. Option Statement) [ Ok line ↦ line.statement | Err fault ↦ None ]) s.Marker
 
@@ -33,13 +33,13 @@ stated_by : (labels : List Label) (m : Result (Option Statement) LineFault) →
 stated_by labels (Ok o) = refl
 stated_by labels (Err fault) = refl
 
-again : (text : List ℕ) (read : Written) (m : Result (Option Statement) LineFault) → written text ≡ Ok read →
+again : (text : List ℕ) (read : LineForm) (m : Result (Option Statement) LineFault) → line_form text ≡ Ok read →
     m ≡ statement_of read.body → stated_in text ≡ stated m
 again text read m w e =
-    ap statement_by (said_of text read w ∙ ap (with_labels read.labels) (sym e)) ∙ stated_by read.labels m
+    ap statement_by (parsed_of text read w ∙ ap (with_labels read.labels) (sym e)) ∙ stated_by read.labels m
 
 -- a line that is read again
-module _ (text : KeptLine) (read : Written) (w : written text.bytes ≡ Ok read) where
+module _ (text : KeptLine) (read : LineForm) (w : line_form text.bytes ≡ Ok read) where
   pub taken_again : (statement : Statement) → Ok (Some statement) ≡ statement_of read.body →
       IsTaken text.constant (stated_in text.bytes) → IsTaken text.constant statement
   taken_again statement e t = rw (again text.bytes read (Ok (Some statement)) w e) at t

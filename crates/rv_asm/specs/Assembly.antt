@@ -6,7 +6,7 @@ use Rattle.std.specs.List.{find, flat_map, filter_map, range_with_len}
 use Rattle.std.specs.Option.{option_map, option_map_or, unwrap_or}
 use Rattle.std.specs.Result.{result_err, result_unwrap_or}
 pub use Rattle.rv_program.specs.Program.{Assembly}
-use Rattle.rv_source.specs.Reading.{Said, said}
+use Rattle.rv_source.specs.Reading.{Parsed, parsed}
 use Rattle.rv_source.specs.Operands.{is_nothing}
 use Rattle.rv_base.specs.Lines.{lines}
 use Rattle.rv_program.specs.declared.fault.FaultKind.{FaultKind}
@@ -19,14 +19,14 @@ use Rattle.rv_asm.specs.Layout.{blank, address, row_on, definitions, phase_two_f
 
 -- the fault of line k in phase one, if it has one
 abbrev pub phase_one_fault : List (List ℕ) → ℕ → Option FaultKind
-phase_one_fault texts k = option_map kind_of (result_err (said (get_or texts k [])))
+phase_one_fault texts k = option_map kind_of (result_err (parsed (get_or texts k [])))
 
 -- the lines as read, if each can be read
-abbrev pub all_said : List (List ℕ) → List Said
-all_said texts = map (λ text. result_unwrap_or (said text) blank) texts
+abbrev pub all_parsed : List (List ℕ) → List Parsed
+all_parsed texts = map (λ text. result_unwrap_or (parsed text) blank) texts
 
 -- the bytes of line k, once all symbols are known, or its fault in phase three
-abbrev pub line_bytes : List Said → ℕ → Result (List ℕ) FaultKind
+abbrev pub line_bytes : List Parsed → ℕ → Result (List ℕ) FaultKind
 line_bytes lines k = (row_on lines k).contents (operand_value (definitions lines) k (address lines k))
 
 -- ---- all lines
@@ -39,11 +39,11 @@ faults_in fault n =
 -- the faults of a source in the first phase that has any, by those of its lines in phase two
 abbrev pub first_faults : (ℕ → Option FaultKind) → List (List ℕ) → List AsmFault
 first_faults phase_two texts =
-    let phases = phase_one_fault texts ∷ phase_two ∷ (λ k. result_err (line_bytes (all_said texts) k)) ∷ [] in
+    let phases = phase_one_fault texts ∷ phase_two ∷ (λ k. result_err (line_bytes (all_parsed texts) k)) ∷ [] in
     unwrap_or (find (λ faults. not (is_nothing faults)) (map (λ f. faults_in f (length texts)) phases)) []
 
 -- the image and the names of lines without a fault
-abbrev pub assembly_of : List Said → Assembly
+abbrev pub assembly_of : List Parsed → Assembly
 assembly_of lines = record {
   bytes = flat_map (λ k. result_unwrap_or (line_bytes lines k) []) (range_with_len 0 (length lines));
   symbols = (definitions lines).names;
@@ -52,6 +52,6 @@ assembly_of lines = record {
 -- the image and the names of a source, or the first of its faults
 unfoldable pub assembled : List ℕ → Result Assembly AsmFault
 assembled source =
-    let said = all_said (lines source) in
-    let faults = first_faults (phase_two_fault said) (lines source) in
-    option_map_or (λ fault. Err fault) (slice_get faults 0) (Ok (assembly_of said))
+    let parsed = all_parsed (lines source) in
+    let faults = first_faults (phase_two_fault parsed) (lines source) in
+    option_map_or (λ fault. Err fault) (slice_get faults 0) (Ok (assembly_of parsed))

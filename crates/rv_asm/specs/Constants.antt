@@ -5,7 +5,7 @@ use Rattle.std.specs.Prelude.{◌≡◌, ℕ, ◌^◌, Bool, true, false, not, L
 use Rattle.std.specs.Option.{unwrap_or, option_map_or}
 use Rattle.rv_base.specs.Limits.{image_limit}
 use Rattle.rv_isa.specs.Number.{modulo}
-use Rattle.rv_source.specs.Reading.{said}
+use Rattle.rv_source.specs.Reading.{parsed}
 use Rattle.rv_source.specs.Operands.{part_of}
 use Rattle.rv_source.specs.declared.operand.Operand.{Operand}
 use Rattle.rv_source.specs.declared.statement.Statement.{Statement}
@@ -80,7 +80,7 @@ IsTaken c statement = elim (asked statement) as (λ _. Type 0) [ None ↦ c ≡ 
 -- the statement of a line with this text, if it can be read and has one
 abbrev pub statement_in : List ℕ → Option Statement
 statement_in text =
-    elim (said text) as (λ _. Option Statement) [ Ok line ↦ line.statement | Err fault ↦ None ]
+    elim (parsed text) as (λ _. Option Statement) [ Ok line ↦ line.statement | Err fault ↦ None ]
 
 -- the same, with a marker, which has no bytes, for a line without a statement
 abbrev pub stated_in : List ℕ → Statement

@@ -6,7 +6,7 @@ use Rattle.std.specs.Option.{option_map, option_map_or, option_or, unwrap_or}
 use Rattle.rv_source.specs.Operands.{is_nothing}
 use Rattle.std.specs.Result.{result_err, result_unwrap_or}
 use Rattle.rv_base.specs.Lines.{lines}
-use Rattle.rv_source.specs.Reading.{Said}
+use Rattle.rv_source.specs.Reading.{Parsed}
 use Rattle.rv_base.specs.Limits.{ram_base, image_limit}
 use Rattle.rv_source.specs.declared.line.Label.{Label}
 use Rattle.rv_source.specs.declared.statement.Statement.{Statement}
@@ -21,7 +21,7 @@ use Rattle.rv_program.specs.declared.fault.FaultKind.{FaultKind}
 use Rattle.rv_program.specs.declared.fault.AsmFault.{AsmFault}
 use Rattle.rv_asm.specs.Layout.{Known, line_at, known_before, labelled, definitions, labels_in, names_in, redefines, phase_two_fault}
 pub use Rattle.rv_asm.specs.Layout.{address, names}
-use Rattle.rv_asm.specs.Assembly.{all_said, line_bytes, phase_one_fault}
+use Rattle.rv_asm.specs.Assembly.{all_parsed, line_bytes, phase_one_fault}
 use Rattle.rv_asm.specs.Assembly.{faults_in}
 
 -- ---- over the numbers below n, in their order
@@ -44,36 +44,36 @@ up_to f (suc n) = up_to f n ++ f (suc n) ∷ []
 -- ---- the image, or its fault
 
 -- the fault of line k in phase three, if it has one
-abbrev pub phase_three_fault : List Said → ℕ → Option FaultKind
+abbrev pub phase_three_fault : List Parsed → ℕ → Option FaultKind
 phase_three_fault lines k = result_err (line_bytes lines k)
 
 -- the fault of the first faulty line among n lines
 abbrev pub first_fault : (ℕ → Option FaultKind) → ℕ → Option AsmFault
 first_fault fault n = first (λ k. option_map (λ kind. record { line = suc k; kind = kind }) (fault k)) n
 
-abbrev pub joined_bytes : List Said → List ℕ
+abbrev pub joined_bytes : List Parsed → List ℕ
 joined_bytes lines = joined (λ k. result_unwrap_or (line_bytes lines k) []) (length lines)
 
 abbrev pub first_of_phases : List (List ℕ) → Option AsmFault
 first_of_phases texts =
     let n = length texts in
     option_or (first_fault (phase_one_fault texts) n)
-    (option_or (first_fault (phase_two_fault (all_said texts)) n)
-    (first_fault (phase_three_fault (all_said texts)) n))
+    (option_or (first_fault (phase_two_fault (all_parsed texts)) n)
+    (first_fault (phase_three_fault (all_parsed texts)) n))
 
 unfoldable pub assembled_by : List ℕ → Result Assembly AsmFault
 assembled_by source =
     let texts = lines source in
     option_map_or (λ fault. Err fault) (first_of_phases texts)
-    (Ok (record { bytes = joined_bytes (all_said texts); symbols = (definitions (all_said texts)).names }))
+    (Ok (record { bytes = joined_bytes (all_parsed texts); symbols = (definitions (all_parsed texts)).names }))
 
 -- what is known at the statement of line k
-abbrev pub known_on : List Said → ℕ → Known
+abbrev pub known_on : List Parsed → ℕ → Known
 known_on lines k = labelled k (known_before lines k) (line_at lines k).labels
 
 -- the names that n lines define as labels, with their addresses
-abbrev pub labels : List Said → ℕ → List (List ℕ × ℕ)
-labels said n = joined (λ k. labels_in (address said k) (line_at said k).labels) n
+abbrev pub labels : List Parsed → ℕ → List (List ℕ × ℕ)
+labels parsed n = joined (λ k. labels_in (address parsed k) (line_at parsed k).labels) n
 
 -- ---- phase two
 
@@ -102,7 +102,7 @@ fault_stated k known statement = option_and_then
     statement
 
 -- `phase_two_fault`, by what is known before the line
-unfoldable pub fault_on : ℕ → Known → Said → Option FaultKind
+unfoldable pub fault_on : ℕ → Known → Parsed → Option FaultKind
 fault_on k known line =
     if relabels known line.labels then Some DuplicateSymbol
     else fault_stated k (labelled k known line.labels) line.statement

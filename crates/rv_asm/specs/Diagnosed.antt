@@ -2,11 +2,11 @@
 -- To audit: public contracts cite this.
 -- Lines are counted from 0 here, but from 1 in a fault and in a diagnosis.
 use Rattle.std.specs.Prelude.{ℕ, zero, suc, List, [], ◌∷◌, ◌++◌, length, set, ℤ, None, is_some, if◌then◌else◌}
-use Rattle.rv_source.specs.Reading.{Said}
+use Rattle.rv_source.specs.Reading.{Parsed}
 use Rattle.rv_source.specs.declared.line.Label.{Label}
 use Rattle.rv_program.specs.declared.fault.AsmFault.{AsmFault}
 use Rattle.rv_asm.specs.Layout.{line_at, address, names, names_in, redefines, phase_two_fault}
-use Rattle.rv_asm.specs.Assembly.{all_said, first_faults}
+use Rattle.rv_asm.specs.Assembly.{all_parsed, first_faults}
 use Rattle.rv_asm.specs.declared.diagnosis.Diagnosis.{Diagnosis}
 
 -- ---- the faults of all lines
@@ -19,20 +19,20 @@ new_labels here known (l ∷ ls) =
     if redefines known names then new_labels here known ls else l ∷ new_labels here (known ++ names) ls
 
 -- line k without its statement, and without labels that define a name a second time
-abbrev pub cleared : List Said → ℕ → Said
+abbrev pub cleared : List Parsed → ℕ → Parsed
 cleared ls k =
     record { labels = new_labels (address ls k) (names ls k) (line_at ls k).labels; statement = None }
 
 -- the lines, of which those of the first n that are faulty in phase two, each judged by the lines that are
 -- kept before it, are cleared
-unfoldable pub kept : List Said → ℕ → List Said
+unfoldable pub kept : List Parsed → ℕ → List Parsed
 kept lines zero = lines
 kept lines (suc k) =
     let ls = kept lines k in if is_some (phase_two_fault ls k) then set ls k (cleared ls k) else ls
 
 -- the faults of a source in the first phase that has one
 unfoldable pub faults_of : List (List ℕ) → List AsmFault
-faults_of texts = first_faults (λ k. phase_two_fault (kept (all_said texts) k) k) texts
+faults_of texts = first_faults (λ k. phase_two_fault (kept (all_parsed texts) k) k) texts
 
 -- ---- a diagnosis
 

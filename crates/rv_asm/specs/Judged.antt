@@ -5,7 +5,7 @@ use Rattle.std.specs.Prelude.{◌≡◌, ℕ, suc, ◌+◌, ◌-◌, ◌≤◌, 
 use Rattle.std.specs.Option.{option_map}
 use Rattle.std.specs.List.{All}
 use Rattle.std.specs.Result.{result_err}
-use Rattle.rv_source.specs.Reading.{Said, said}
+use Rattle.rv_source.specs.Reading.{Parsed, parsed}
 use Rattle.rv_tokens.specs.Faults.{Fails as LineFails}
 use Rattle.rv_tokens.specs.declared.fault.LineFault.{LineFault}
 use Rattle.rv_source.specs.declared.line.Label.{Label}
@@ -26,7 +26,7 @@ Keeps OutOfMemory old new = Unit {0}
 Keeps kind old new = new ≡ old
 
 -- a line can't be read, for this fault or for out of memory
-abbrev pub IsUnreadBy : Result Said LineFault → Option LineFault → Type 0
+abbrev pub IsUnreadBy : Result Parsed LineFault → Option LineFault → Type 0
 IsUnreadBy r None = result_err r ≡ None
 IsUnreadBy r (Some fault) = LineFails fault r
 
@@ -35,13 +35,13 @@ abbrev pub new_among : Known → List Label → List Label
 new_among known ls = new_labels known.address known.definitions.names ls
 
 -- what is known after line k, which is cleared if it is faulty
-unfoldable pub known_after : ℕ → Known → Said → Known
+unfoldable pub known_after : ℕ → Known → Parsed → Known
 known_after k known line =
     if is_some (fault_on k known line) then labelled k known (new_among known line.labels)
     else with_line k known line
 
 -- the fault of line k in phase two, judged by the lines that are kept before it
-abbrev pub judged : List Said → ℕ → Option FaultKind
+abbrev pub judged : List Parsed → ℕ → Option FaultKind
 judged lines k = phase_two_fault (kept lines k) k
 
 -- a diagnosis of line k, which has this text, if there is this fault
@@ -53,15 +53,15 @@ pub record IsFound (k : ℕ) (text : List ℕ) (fault : Option FaultKind) (found
 
 -- line k is read and judged in phase two
 pub record Judges (k : ℕ) (text : List ℕ) (old new : Known) (found : Option Diagnosis) : Type 0 where
-  pub line : Said
-  pub read : said text ≡ Ok line
+  pub line : Parsed
+  pub read : parsed text ≡ Ok line
   pub finds : IsFound k text (fault_on k old line) found
   pub after : new ≡ known_after k old line
 
 -- line k is read and laid out, and its bytes are tried by these symbols
 pub record Tries (k : ℕ) (text : List ℕ) (ds : Definitions) (old new : Known) (found : Option Diagnosis) : Type 0 where
-  pub line : Said
-  pub read : said text ≡ Ok line
+  pub line : Parsed
+  pub read : parsed text ≡ Ok line
   pub after : after_line k old line ≡ Ok new
   pub finds : IsFound k text (result_err (stated_bytes ds k (labelled k old line.labels) line.statement)) found
 

@@ -5,7 +5,7 @@
 use Rattle.std.specs.Prelude.{ℕ, zero, suc, ◌+◌, ◌%◌, Bool, false, not, ◌||◌, List, [], ◌∷◌, ◌++◌, map, length, get_or, ℤ, pos, nat_lt, ◌==◌, Option, Some, None, is_some, if◌then◌else◌}
 use Rattle.std.specs.Option.{unwrap_or}
 use Rattle.rv_base.specs.Limits.{ram_base, image_limit}
-use Rattle.rv_source.specs.Reading.{Said}
+use Rattle.rv_source.specs.Reading.{Parsed}
 use Rattle.rv_source.specs.declared.line.Label.{Label}
 use Rattle.rv_source.specs.declared.line.Label.TheVariants as label
 use Rattle.rv_source.specs.declared.statement.Statement.{Statement}
@@ -37,10 +37,10 @@ locals_in k here (label.Local n ∷ ls) = record { number = n; line = k; address
 -- ---- where lines lie
 
 -- a line with no label and no statement, as every line past the end
-abbrev pub blank : Said
+abbrev pub blank : Parsed
 blank = record { labels = []; statement = None }
 
-abbrev pub line_at : List Said → ℕ → Said
+abbrev pub line_at : List Parsed → ℕ → Parsed
 line_at lines k = get_or lines k blank
 
 -- what is known at a place of a source: its address, and the symbols that are defined before it
@@ -66,24 +66,24 @@ stated k known statement = let r = row_at k known statement in record {
 }
 
 -- before line k
-unfoldable pub known_before : List Said → ℕ → Known
+unfoldable pub known_before : List Parsed → ℕ → Known
 known_before lines zero = record { address = ram_base; definitions = record { names = []; locals = [] } }
 known_before lines (suc k) =
     let line = line_at lines k in stated k (labelled k (known_before lines k) line.labels) line.statement
 
 -- its address, and the names that are defined before it
-abbrev pub address : List Said → ℕ → ℕ
+abbrev pub address : List Parsed → ℕ → ℕ
 address lines k = (known_before lines k).address
 
-abbrev pub names : List Said → ℕ → List (List ℕ × ℤ)
+abbrev pub names : List Parsed → ℕ → List (List ℕ × ℤ)
 names lines k = (known_before lines k).definitions.names
 
 -- the row of its statement, once its labels are defined
-abbrev pub row_on : List Said → ℕ → Row
+abbrev pub row_on : List Parsed → ℕ → Row
 row_on ls k = row_at k (labelled k (known_before ls k) (line_at ls k).labels) (line_at ls k).statement
 
 -- all symbols
-abbrev pub definitions : List Said → Definitions
+abbrev pub definitions : List Parsed → Definitions
 definitions lines = (known_before lines (length lines)).definitions
 
 -- ---- phase two
@@ -94,7 +94,7 @@ redefines known [] = false
 redefines known (d ∷ ds) = is_some (value_of known d.0) || redefines (known ++ d ∷ []) ds
 
 -- the fault of line k in phase two
-unfoldable pub phase_two_fault : List Said → ℕ → Option FaultKind
+unfoldable pub phase_two_fault : List Parsed → ℕ → Option FaultKind
 phase_two_fault lines k =
     let r = row_on lines k in
     let new = names_in (address lines k) (line_at lines k).labels ++ r.defines in

@@ -8,10 +8,10 @@ use Rattle.rv_base.specs.Lines.{lines}
 use Rattle.rv_base.specs.Limits.{ram_base}
 use Rattle.rv_program.specs.Program.{Assembly}
 use Rattle.rv_program.specs.declared.fault.AsmFault.{AsmFault}
-use Rattle.rv_source.specs.Reading.{Said}
+use Rattle.rv_source.specs.Reading.{Parsed}
 use Rattle.rv_asm.specs.Layout.{line_at, address, labels_in}
 use Rattle.rv_asm.specs.Listing.{◌>>=◌}
-use Rattle.rv_asm.specs.Assembly.{all_said, assembled}
+use Rattle.rv_asm.specs.Assembly.{all_parsed, assembled}
 
 -- the image and the names of a source; the address of each line, and last the one following them all; and the
 -- labels with their addresses, in order of definition
@@ -21,15 +21,15 @@ pub record Listed : Type 0 where
   pub labels : List (List ℕ × ℕ)
 
 -- the names that line k, counted from 0, has as labels, with their address
-abbrev pub labels_on : List Said → ℕ → List (List ℕ × ℕ)
+abbrev pub labels_on : List Parsed → ℕ → List (List ℕ × ℕ)
 labels_on lines k = labels_in (address lines k) (line_at lines k).labels
 
 -- the listing of a source, or its fault
 unfoldable pub listed : List ℕ → Result Listed AsmFault
 listed source =
-    let said = all_said (lines source) in
-    let addresses = map (address said) (range_with_len 0 (suc (length said))) in
-    let labels = flat_map (labels_on said) (range_with_len 0 (length said)) in
+    let parsed = all_parsed (lines source) in
+    let addresses = map (address parsed) (range_with_len 0 (suc (length parsed))) in
+    let labels = flat_map (labels_on parsed) (range_with_len 0 (length parsed)) in
     assembled source >>= λ assembly.
     Ok (record { assembly = assembly; addresses = addresses; labels = labels })
 

@@ -5,17 +5,17 @@ use Rattle.std.specs.Prelude.{◌≡◌, ℕ, suc, ◌+◌, ◌-◌, ◌<◌, Li
 use Rattle.std.specs.List.{flat_map, range_with_len}
 use Rattle.std.specs.List.Sorted.{IsNonDecreasing, IsNonDecreasingBy}
 use Rattle.rv_base.specs.Limits.{ram_base}
-use Rattle.rv_source.specs.Reading.{Said, said}
+use Rattle.rv_source.specs.Reading.{Parsed, parsed}
 use Rattle.rv_base.specs.Lines.{lines}
-use Rattle.rv_asm.specs.Assembly.{all_said, line_bytes}
+use Rattle.rv_asm.specs.Assembly.{all_parsed, line_bytes}
 use Rattle.rv_asm.specs.Lines.{Listed, bytes_of}
 use Rattle.rv_asm.specs.Layout.{labels_in}
 use Rattle.rv_asm.specs.Steps.{Known, after_line}
 
 -- line k is read and laid out, and its labels are appended
 pub record Lists (k : ℕ) (text : List ℕ) (old new : Known) (labels more : List (List ℕ × ℕ)) : Type 0 where
-  pub line : Said
-  pub read : said text ≡ Ok line
+  pub line : Parsed
+  pub read : parsed text ≡ Ok line
   pub after : after_line k old line ≡ Ok new
   pub appends : more ≡ labels ++ labels_in old.address line.labels
 
@@ -34,5 +34,5 @@ pub record LiesWhole (l : Listed) : Type 0 where
 -- the bytes of each line are those of the assembly, and joined in order they are the image
 pub record AreLinesOf (source : List ℕ) (l : Listed) : Type 0 where
   pub each : (k : ℕ) → k < length (lines source) →
-      line_bytes (all_said (lines source)) k ≡ Ok (bytes_of l (suc k))
+      line_bytes (all_parsed (lines source)) k ≡ Ok (bytes_of l (suc k))
   pub all : flat_map (λ k. bytes_of l (suc k)) (range_with_len 0 (length (lines source))) ≡ l.assembly.bytes

@@ -4,7 +4,7 @@ use Rattle.std.specs.Prelude.{◌≡◌, ℕ, suc, ◌+◌, List, [], ◌∷◌,
 use Rattle.std.specs.Option.{option_map}
 use Rattle.std.specs.Result.{result_err, result_unwrap_or}
 use Rattle.rv_base.specs.Limits.{ram_base, image_limit}
-use Rattle.rv_source.specs.Reading.{Said}
+use Rattle.rv_source.specs.Reading.{Parsed}
 use Rattle.rv_source.specs.declared.expression.Atom.{Atom}
 use Rattle.rv_source.specs.declared.expression.Term.{Term}
 use Rattle.rv_source.specs.declared.statement.Statement.{Statement}
@@ -20,7 +20,7 @@ unfoldable pub use Rattle.rv_asm.specs.Layout.{known_before}
 use Rattle.rv_asm.specs.Layout.{line_at, row_at, phase_two_fault}
 use Rattle.rv_asm.specs.Counted.{fault_stated_by, fault_stated, fault_on, first_fault, joined}
 use Rattle.rv_asm.specs.Listing.{◌>>=◌, bytes}
-use Rattle.rv_asm.specs.Assembly.{phase_one_fault, all_said}
+use Rattle.rv_asm.specs.Assembly.{phase_one_fault, all_parsed}
 use Rattle.rv_asm.specs.Constants.{KeptLine, stated_in, statement_bytes}
 use Rattle.rv_asm.specs.Kept.{Valuation, added, wanted, kinds, with_value}
 
@@ -100,7 +100,7 @@ abbrev pub values_of : ℕ → Known → Valuation
 values_of k known = operand_value known.definitions k known.address
 
 -- following line k
-abbrev pub with_line : ℕ → Known → Said → Known
+abbrev pub with_line : ℕ → Known → Parsed → Known
 with_line k known line = stated k (labelled k known line.labels) line.statement
 
 -- a result, unless there is a fault
@@ -117,7 +117,7 @@ unfoldable pub after_statement : ℕ → Known → Option Statement → Result K
 after_statement k known statement = unless (fault_stated k known statement) (Ok (stated k known statement))
 
 -- following line k, or its fault
-unfoldable pub after_line : ℕ → Known → Said → Result Known FaultKind
+unfoldable pub after_line : ℕ → Known → Parsed → Result Known FaultKind
 after_line k known line = unless (fault_on k known line) (Ok (with_line k known line))
 
 -- the bytes of the statement of line k, once all symbols are known
@@ -134,28 +134,28 @@ abbrev pub Adds : ℕ → Known → Statement → List Item → List Item → Ty
 Adds k known statement = AddsOptional k known (Some statement)
 
 -- in addition, the bytes of line k
-abbrev pub AddsLine : ℕ → Known → Said → List Item → List Item → Type 0
+abbrev pub AddsLine : ℕ → Known → Parsed → List Item → List Item → Type 0
 AddsLine k known line = AddsOptional k (labelled k known line.labels) line.statement
 
 -- ---- the first two phases
 
 -- what is known before line n, or the first fault of the lines before it in phase two
-unfoldable pub laid_out : List Said → ℕ → Result Known AsmFault
+unfoldable pub laid_out : List Parsed → ℕ → Result Known AsmFault
 laid_out lines n = unless (first_fault (phase_two_fault lines) n) (Ok (known_before lines n))
 
 -- with one more line, which is line k
-abbrev pub extended : ℕ → Said → Result Known AsmFault → Result Known AsmFault
+abbrev pub extended : ℕ → Parsed → Result Known AsmFault → Result Known AsmFault
 extended k line m = m >>= λ known. at_line k (after_line k known line)
 
 -- the state after all lines of a source, or its first fault in the first two phases
 unfoldable pub lines_laid_out : List (List ℕ) → Result Known AsmFault
 lines_laid_out texts =
-    unless (first_fault (phase_one_fault texts) (length texts)) (laid_out (all_said texts) (length texts))
+    unless (first_fault (phase_one_fault texts) (length texts)) (laid_out (all_parsed texts) (length texts))
 
 -- ---- the third phase
 
 -- the bytes of line k, by any symbols
-abbrev pub bytes_by : Definitions → List Said → ℕ → Result (List ℕ) FaultKind
+abbrev pub bytes_by : Definitions → List Parsed → ℕ → Result (List ℕ) FaultKind
 bytes_by ds lines k =
     stated_bytes ds k (labelled k (known_before lines k) (line_at lines k).labels) (line_at lines k).statement
 
@@ -163,9 +163,9 @@ abbrev pub listed : Result (List ℕ) FaultKind → List ℕ
 listed r = result_unwrap_or r []
 
 -- the bytes of the first n lines, or their first fault in phase three
-unfoldable pub written : Definitions → List Said → ℕ → Result (List ℕ) AsmFault
+unfoldable pub written : Definitions → List Parsed → ℕ → Result (List ℕ) AsmFault
 written ds lines n = unless (first_fault (λ k. result_err (bytes_by ds lines k)) n)
     (Ok (joined (λ k. listed (bytes_by ds lines k)) n))
 
-abbrev pub Writes : List Said → ℕ → List Item → Type 0
+abbrev pub Writes : List Parsed → ℕ → List Item → Type 0
 Writes lines n items = (ds : Definitions) → image_of ds items ≡ written ds lines n

@@ -2,7 +2,7 @@
 -- The language is this project's own: docs/ASSEMBLER.md.
 -- Not to audit: private contracts alone cite this.
 use Rattle.std.specs.Prelude.{◌≡◌, ℕ, ◌+◌, List, Option, Some, None, Result, Ok, Err}
-use Rattle.rv_source.specs.Reading.{Said, said}
+use Rattle.rv_source.specs.Reading.{Parsed, parsed}
 use Rattle.rv_tokens.specs.declared.fault.LineFault.{LineFault}
 use Rattle.rv_tokens.specs.Faults.{Fails as LineFails}
 use Rattle.rv_program.specs.declared.fault.AsmFault.{AsmFault}
@@ -22,14 +22,14 @@ Without (Some fault) P = Unit {0}
 -- the fault for which line k can't be read
 pub record IsUnread (k : ℕ) (text : List ℕ) (fault : AsmFault) : Type 0 where
   pub kind : LineFault
-  pub fails : LineFails kind (said text)
+  pub fails : LineFails kind (parsed text)
   pub at : IsFaultAt (k + 1) (kind_of kind) fault
 
 -- phases one and two on line k: it is read, and laid out unless there was a fault
 pub record Takes (k : ℕ) (text : List ℕ) (old : Option AsmFault) (known : Known) (items : List Item)
     (new : Option AsmFault) (after : Known) (more : List Item) : Type 0 where
-  pub line : Said
-  pub read : said text ≡ Ok line
+  pub line : Parsed
+  pub read : parsed text ≡ Ok line
   pub state : (m : Result Known AsmFault) → Gives (λ l. l) (so_far old known) m →
       Gives (λ l. l) (so_far new after) (extended k line m)
   pub adds : Without new ((old ≡ None) × AddsLine k known line items more)

@@ -2,10 +2,10 @@
 ghost use Rattle.std.specs.Prelude.{◌≡◌, ◌+◌, ◌≤◌, ◌<◌, [], None, Result, Ok, IfOk, IfErr, OnOk, length};
 ghost use Rattle.std.specs.List.{All};
 ghost use Rattle.rv_base.specs.Lines.{lines};
-ghost use Rattle.rv_source.specs.Reading.{said, written};
+ghost use Rattle.rv_source.specs.Reading.{parsed, line_form};
 ghost use Rattle.rv_program.specs.declared.fault.AsmFault.{AsmFault};
 ghost use Rattle.rv_program.specs.Faults.{Gives, IsFaultAt, kind_of};
-ghost use Rattle.rv_asm.specs.Assembly.{all_said, assembled};
+ghost use Rattle.rv_asm.specs.Assembly.{all_parsed, assembled};
 ghost use Rattle.rv_asm.specs.Steps.{Known as KnownValue, AddsLine, Writes, start, extended, lines_laid_out, image_of};
 ghost use Rattle.rv_asm.specs.Taken.{so_far, Without, IsUnread, Takes};
 
@@ -69,7 +69,7 @@ pub fn lay_out<'a>(
     requires known { known.old ≡ start }
     requires items { items.old.items ≡ [] }
     ensures layout { Gives (λ _. known.new) result (lines_laid_out (lines source.now)) }
-    ensures items { OnOk result (Writes (all_said (lines source.now)) (length (lines source.now)) items.new.items) }
+    ensures items { OnOk result (Writes (all_parsed (lines source.now)) (length (lines source.now)) items.new.items) }
 {
     let mut fault = None;
     let mut number: usize = 0;

@@ -4,9 +4,9 @@ ghost use Rattle.std.specs.List.{All};
 ghost use Rattle.std.specs.Option.{option_map};
 ghost use Rattle.std.specs.Result.{result_err};
 ghost use Rattle.rv_base.specs.Lines.{lines};
-ghost use Rattle.rv_source.specs.Reading.{said};
+ghost use Rattle.rv_source.specs.Reading.{parsed};
 ghost use Rattle.rv_program.specs.Faults.{kind_of};
-ghost use Rattle.rv_asm.specs.Assembly.{all_said, assembled, phase_one_fault};
+ghost use Rattle.rv_asm.specs.Assembly.{all_parsed, assembled, phase_one_fault};
 ghost use Rattle.rv_asm.specs.Counted.{phase_three_fault, all_faults, fault_in};
 ghost use Rattle.rv_asm.specs.Layout.{definitions};
 ghost use Rattle.rv_asm.specs.Steps.{start, known_before, image_of};
@@ -59,7 +59,7 @@ fn append(found: Option<Diagnosis>, out: &mut Vec<Diagnosis>) -> Result<(), NoMe
 /// Returns the fault of a line that can't be read.
 #[tactic(auto, using(crate::proofs::Reading::read_statement, crate::proofs::Judging::line_fails, crate::proofs::Judging::statement_fails))]
 fn unread(alloc: Global, text: &[u8]) -> Option<LineFault>
-    ensures { IsUnreadBy (said text.now) result }
+    ensures { IsUnreadBy (parsed text.now) result }
 {
     match read_line(alloc, text) {
         Ok(line) => line.statement().err(),
@@ -83,7 +83,7 @@ fn reading_finding(alloc: Global, text: &[u8], fault: LineFault) -> Result<Findi
 /// Returns the diagnosis of a line that can't be read.
 fn find_unread(alloc: Global, number: usize, text: &[u8]) -> Result<Option<Diagnosis>, NoMemory>
     requires { number < 0xffffffffffffffff }
-    ensures { IfOk result (IsFound number text.now (option_map kind_of (result_err (said text.now)))) }
+    ensures { IfOk result (IsFound number text.now (option_map kind_of (result_err (parsed text.now)))) }
 {
     let Some(fault) = unread(alloc, text) else {
         return Ok(None);
@@ -159,8 +159,8 @@ fn diagnose_layout(
     known: &mut Known,
 ) -> Result<Vec<Diagnosis>, NoMemory>
     requires { known.old ≡ start }
-    ensures all { IfOk result (λ ds. Diagnoses (lines source.now) (all_faults (judged (all_said (lines source.now))) (length (lines source.now))) ds.items) }
-    ensures known { OnOk result (known.new ≡ known_before (kept (all_said (lines source.now)) (length (lines source.now))) (length (lines source.now))) }
+    ensures all { IfOk result (λ ds. Diagnoses (lines source.now) (all_faults (judged (all_parsed (lines source.now))) (length (lines source.now))) ds.items) }
+    ensures known { OnOk result (known.new ≡ known_before (kept (all_parsed (lines source.now)) (length (lines source.now))) (length (lines source.now))) }
 {
     let mut out = Vec::new(alloc);
     let mut origins = Origins::new(alloc);
@@ -257,8 +257,8 @@ fn diagnose_values(
     source: &[u8],
     symbols: &Symbols,
 ) -> Result<Vec<Diagnosis>, NoMemory>
-    requires { symbols.now ≡ definitions (all_said (lines source.now)) }
-    ensures { IfOk result (λ ds. Diagnoses (lines source.now) (all_faults (phase_three_fault (all_said (lines source.now))) (length (lines source.now))) ds.items) }
+    requires { symbols.now ≡ definitions (all_parsed (lines source.now)) }
+    ensures { IfOk result (λ ds. Diagnoses (lines source.now) (all_faults (phase_three_fault (all_parsed (lines source.now))) (length (lines source.now))) ds.items) }
 {
     let mut out = Vec::new(alloc);
     let mut known = Known::new(alloc);

@@ -28,7 +28,7 @@ impl Model for Known {
 impl Known {
     ghost use Rattle.std.specs.Prelude.{◌≡◌, ◌≤◌, ◌<◌, ◌∷◌, [], is_some, length, Some, Ok, OnOk, IfOk, IfErr, IfSome};
     ghost use Rattle.std.specs.List.{All};
-    ghost use Rattle.rv_source.specs.Reading.{said};
+    ghost use Rattle.rv_source.specs.Reading.{parsed};
     ghost use Rattle.rv_asm.specs.Kept.{KindBecomes};
     ghost use Rattle.rv_asm.specs.Counted.{relabels};
     ghost use Rattle.rv_asm.specs.Steps.{start, values_of, labelled, after_statement, after_line, Adds, AddsLine};
@@ -146,7 +146,7 @@ impl Known {
     ) -> Result<(), FaultKind>
         requires up_to { All (λ d. d.line ≤ number) self.old.definitions.locals }
         requires counted { number < 0xffffffffffffffff }
-        requires read { said text.now ≡ Ok (record { labels = labels.now; statement = statement.now }) }
+        requires read { parsed text.now ≡ Ok (record { labels = labels.now; statement = statement.now }) }
         ensures known { KindBecomes self.new result (after_line number self.old (record { labels = labels.now; statement = statement.now })) }
         ensures items { OnOk result (AddsLine number self.old (record { labels = labels.now; statement = statement.now }) items.old.items items.new.items) }
     {

@@ -5,7 +5,7 @@ ghost use Rattle.std.specs.List.Sorted.{IsNonDecreasing, IsPartitionPoint};
 ghost use Rattle.std.specs.Option.{option_map};
 ghost use Rattle.rv_base.specs.Lines.{lines};
 ghost use Rattle.rv_program.specs.Faults.{Gives};
-ghost use Rattle.rv_asm.specs.Assembly.{all_said, line_bytes};
+ghost use Rattle.rv_asm.specs.Assembly.{all_parsed, line_bytes};
 ghost use Rattle.rv_asm.specs.Lines.{listed, bytes_of};
 ghost use Rattle.rv_asm.specs.Layout.{labels_in};
 ghost use Rattle.rv_asm.specs.Counted.{address, labels, up_to};
@@ -93,8 +93,8 @@ struct Places {
 
 /// Returns the addresses and the labels of an accepted source.
 fn find_places(alloc: Global, source: &[u8]) -> Result<Places, NoMemory>
-    ensures addresses { IfOk result (λ p. p.addresses.items ≡ up_to (address (all_said (lines source.now))) (length (lines source.now))) }
-    ensures labels { IfOk result (λ p. p.labels.items ≡ labels (all_said (lines source.now)) (length (lines source.now))) }
+    ensures addresses { IfOk result (λ p. p.addresses.items ≡ up_to (address (all_parsed (lines source.now))) (length (lines source.now))) }
+    ensures labels { IfOk result (λ p. p.labels.items ≡ labels (all_parsed (lines source.now)) (length (lines source.now))) }
 {
     let mut known = Known::new(alloc);
     let mut labels = Vec::new(alloc);
@@ -273,7 +273,7 @@ impl Listing {
 /// The fault of `assemble`. `OutOfMemory`, at line 0, may come in place of any result.
 pub fn list(alloc: Global, source: &[u8]) -> Result<Listing, AsmFault>
     ensures value { Gives (λ l. l) result (listed source.now) }
-    ensures bytes { IfOk result (λ l. (k : ℕ) → k < length (lines source.now) → line_bytes (all_said (lines source.now)) k ≡ Ok (bytes_of l (suc k))) }
+    ensures bytes { IfOk result (λ l. (k : ℕ) → k < length (lines source.now) → line_bytes (all_parsed (lines source.now)) k ≡ Ok (bytes_of l (suc k))) }
     ensures image { IfOk result (λ l. flat_map (λ k. bytes_of l (suc k)) (range_with_len 0 (length (lines source.now))) ≡ l.assembly.bytes) }
 {
     let program = assemble(alloc, source)?;

@@ -115,7 +115,7 @@ impl<'a> PlacedStatement<'a> {
     ) -> PlacedStatement<'a>
         requires counted { line < 0xffffffffffffffff }
         requires taken { IsTaken constant statement.now }
-        requires said { statement_in bytes.now ≡ Some statement.now }
+        requires parsed { statement_in bytes.now ≡ Some statement.now }
         ensures at { result.line ≡ line }
         ensures bytes { (ds : Definitions) → item_bytes ds result ≡ statement_bytes constant (operand_value ds line address) address statement.now }
     {

@@ -88,8 +88,8 @@ in_roles (role ∷ roles) (x ∷ xs) fields = option_and_then (in_roles roles xs
 in_roles _ _ fields = None
 
 -- the fields before operands are read, but for what a row gives; a fence orders all before all after it
-abbrev pub zeros : Fields
-zeros = record { rd = 0; rs1 = 0; rs2 = 0; imm = pos 0; csr = 0; before = 15; after = 15; value = None; second = None }
+abbrev pub unset : Fields
+unset = record { rd = 0; rs1 = 0; rs2 = 0; imm = pos 0; csr = 0; before = 15; after = 15; value = None; second = None }
 
 -- ---- instructions
 

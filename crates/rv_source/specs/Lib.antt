@@ -5,4 +5,4 @@ pub mod Partial
 pub mod Reading
 pub mod Sums
 pub mod Table
-pub mod Written
+pub mod LineForm

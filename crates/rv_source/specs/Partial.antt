@@ -21,7 +21,7 @@ use Rattle.rv_source.specs.declared.row.Given.{Given}
 use Rattle.rv_source.specs.declared.row.Given.TheVariants as g
 use Rattle.rv_isa.specs.declared.op.Operation.{Operation}
 use Rattle.rv_source.specs.declared.field.Fields.{Fields}
-use Rattle.rv_source.specs.Fields.{zeros}
+use Rattle.rv_source.specs.Fields.{unset}
 use Rattle.rv_source.specs.Table.{Row, These, Each, meant, near, far, pseudo_instructions, directives, markers}
 
 -- ---- operands
@@ -39,13 +39,13 @@ pieces_after (_ ∷ ts) = pieces ts
 
 -- the fields before operands are read
 abbrev pub given : Given → Fields
-given g.Zeros = zeros
-given g.Link = record zeros { rd = 1 }
-given g.Return = record zeros { rs1 = 1 }
-given g.Call = record zeros { rd = 1; rs1 = 1 }
-given g.Tail = record zeros { rs1 = 6 }
-given g.One = record zeros { imm = pos 1 }
-given g.Ones = record zeros { imm = negsuc 0 }
+given g.Zeros = unset
+given g.Link = record unset { rd = 1 }
+given g.Return = record unset { rs1 = 1 }
+given g.Call = record unset { rd = 1; rs1 = 1 }
+given g.Tail = record unset { rs1 = 6 }
+given g.One = record unset { imm = pos 1 }
+given g.Ones = record unset { imm = negsuc 0 }
 
 -- the rows of a word in a table, the statement of the first row that takes the operands, and all rows of
 -- words
@@ -66,7 +66,7 @@ row_of (row.Each role template) = Each role template
 -- the row of an operation that is written in a way
 abbrev pub row_by : Operation → Way → Row
 row_by op (way.Near roles) = near op roles.now
-row_by op (way.Link roles) = These roles.now (t.Near op) (record zeros { rd = 1 })
+row_by op (way.Link roles) = These roles.now (t.Near op) (record unset { rd = 1 })
 row_by op (way.Far roles) = far op roles.now
 
 -- a table of the program, with its words as bytes

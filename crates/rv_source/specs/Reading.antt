@@ -20,9 +20,9 @@ use Rattle.rv_source.specs.declared.statement.Statement.TheVariants as s
 use Rattle.rv_source.specs.Expressions.{is_symbol}
 use Rattle.rv_source.specs.Operands.{operands_of}
 use Rattle.rv_source.specs.Table.{markers, meaning}
-use Rattle.rv_source.specs.Written.{Written}
+use Rattle.rv_source.specs.LineForm.{LineForm}
 
--- ---- a line as written, or E1 to E3
+-- ---- the form of a line, or E1 to E3
 
 -- the label of a token before a colon: a name other than `.`, or a short number
 abbrev pub label_of : Token → Option Label
@@ -46,8 +46,8 @@ body_of n (Name word ∷ ts) =
 body_of n _ = None
 
 -- A fault in cutting the line into tokens takes precedence.
-unfoldable pub written : List ℕ → Result Written LineFault
-written line =
+unfoldable pub line_form : List ℕ → Result LineForm LineFault
+line_form line =
     tokens line >>= λ ts. ok_or (labels_of ts) Syntax >>= λ p.
     ok_or (body_of (length ts) p.1) Syntax >>= λ body. Ok (record { labels = p.0; body = body })
 
@@ -61,9 +61,9 @@ statement_of (b.Word word xs) = meaning word xs >>= λ statement. Ok (Some state
 -- ---- both
 
 -- a line as read: its labels from left to right, and its statement
-pub record Said : Type 0 where
+pub record Parsed : Type 0 where
   pub labels : List Label
   pub statement : Option Statement
 
-unfoldable pub said : List ℕ → Result Said LineFault
-said line = written line >>= λ w. statement_of w.body >>= λ s. Ok (record { labels = w.labels; statement = s })
+unfoldable pub parsed : List ℕ → Result Parsed LineFault
+parsed line = line_form line >>= λ w. statement_of w.body >>= λ s. Ok (record { labels = w.labels; statement = s })

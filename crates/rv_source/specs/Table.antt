@@ -22,7 +22,7 @@ use Rattle.rv_source.specs.declared.row.Role.TheVariants as r
 use Rattle.rv_source.specs.declared.row.Template.{Template}
 use Rattle.rv_source.specs.declared.row.Template.TheVariants as t
 use Rattle.rv_source.specs.Operands.{is_nothing, strings}
-use Rattle.rv_source.specs.Fields.{in_roles, zeros, instruction, name_alone, takes}
+use Rattle.rv_source.specs.Fields.{in_roles, unset, instruction, name_alone, takes}
 
 -- ---- the meaning of a row
 
@@ -49,24 +49,24 @@ pub data Row : Type 0 where
 abbrev pub meant : Row → List Operand → Option Statement
 meant (These roles template fields) xs = option_and_then (filled template xs) (in_roles roles xs fields)
 meant (Each role template) xs =
-    if not (is_nothing xs) && list_all (λ x. takes role x.form) xs then filled template xs zeros else None
+    if not (is_nothing xs) && list_all (λ x. takes role x.form) xs then filled template xs unset else None
 
 -- ---- the tables
 
 abbrev pub near : Operation → List Role → Row
-near op roles = These roles (t.Near op) zeros
+near op roles = These roles (t.Near op) unset
 
 abbrev pub far : Operation → List Role → Row
-far op roles = These roles (t.Far op) zeros
+far op roles = These roles (t.Far op) unset
 
 -- the rows of an operation, by its kind
 unfoldable pub of_kind : Operation → Kind → List Row
 of_kind op (k.Lui _ _) = near op (r.Rd ∷ r.Upper ∷ []) ∷ []
 of_kind op (k.Auipc _ _) = near op (r.Rd ∷ r.Value ∷ []) ∷ []
-of_kind op (k.Jal _ _) = near op (r.Rd ∷ r.Value ∷ []) ∷ These (r.Value ∷ []) (t.Near op) (record zeros { rd = 1 }) ∷ []
+of_kind op (k.Jal _ _) = near op (r.Rd ∷ r.Value ∷ []) ∷ These (r.Value ∷ []) (t.Near op) (record unset { rd = 1 }) ∷ []
 of_kind op (k.Jalr _ _ _) =
     near op (r.Rd ∷ r.Rs1 ∷ []) ∷ near op (r.Rd ∷ r.Memory ∷ []) ∷ near op (r.Rd ∷ r.Rs1 ∷ r.Imm ∷ [])
-    ∷ These (r.Rs1 ∷ []) (t.Near op) (record zeros { rd = 1 }) ∷ []
+    ∷ These (r.Rs1 ∷ []) (t.Near op) (record unset { rd = 1 }) ∷ []
 of_kind op (k.Branch _ _ _ _) = near op (r.Rs1 ∷ r.Rs2 ∷ r.Value ∷ []) ∷ []
 of_kind op (k.Load _ _ _ _) = near op (r.Rd ∷ r.Memory ∷ []) ∷ far op (r.Both ∷ r.Value ∷ []) ∷ []
 of_kind op (k.Store _ _ _ _) = near op (r.Rs2 ∷ r.Memory ∷ []) ∷ far op (r.Rs2 ∷ r.Value ∷ r.Rs1 ∷ []) ∷ []
@@ -86,9 +86,9 @@ unfoldable pub pseudo_instructions : List (List ℕ × Row)
 pseudo_instructions =
     (codes "nop", near o.Addi [])
     ∷ (codes "mv", near o.Addi (r.Rd ∷ r.Rs1 ∷ []))
-    ∷ (codes "not", These (r.Rd ∷ r.Rs1 ∷ []) (t.Near o.Xori) (record zeros { imm = negsuc 0 }))
+    ∷ (codes "not", These (r.Rd ∷ r.Rs1 ∷ []) (t.Near o.Xori) (record unset { imm = negsuc 0 }))
     ∷ (codes "neg", near o.Sub (r.Rd ∷ r.Rs2 ∷ []))
-    ∷ (codes "seqz", These (r.Rd ∷ r.Rs1 ∷ []) (t.Near o.Sltiu) (record zeros { imm = pos 1 }))
+    ∷ (codes "seqz", These (r.Rd ∷ r.Rs1 ∷ []) (t.Near o.Sltiu) (record unset { imm = pos 1 }))
     ∷ (codes "snez", near o.Sltu (r.Rd ∷ r.Rs2 ∷ []))
     ∷ (codes "sltz", near o.Slt (r.Rd ∷ r.Rs1 ∷ []))
     ∷ (codes "sgtz", near o.Slt (r.Rd ∷ r.Rs2 ∷ []))
@@ -104,7 +104,7 @@ pseudo_instructions =
     ∷ (codes "bleu", near o.Bgeu (r.Rs2 ∷ r.Rs1 ∷ r.Value ∷ []))
     ∷ (codes "j", near o.Jal (r.Value ∷ []))
     ∷ (codes "jr", near o.Jalr (r.Rs1 ∷ []))
-    ∷ (codes "ret", These [] (t.Near o.Jalr) (record zeros { rs1 = 1 }))
+    ∷ (codes "ret", These [] (t.Near o.Jalr) (record unset { rs1 = 1 }))
     ∷ (codes "csrr", near o.Csrrs (r.Rd ∷ r.Csr ∷ []))
     ∷ (codes "csrw", near o.Csrrw (r.Csr ∷ r.Rs1 ∷ []))
     ∷ (codes "csrs", near o.Csrrs (r.Csr ∷ r.Rs1 ∷ []))
@@ -112,9 +112,9 @@ pseudo_instructions =
     ∷ (codes "csrwi", near o.Csrrwi (r.Csr ∷ r.Value ∷ []))
     ∷ (codes "csrsi", near o.Csrrsi (r.Csr ∷ r.Value ∷ []))
     ∷ (codes "csrci", near o.Csrrci (r.Csr ∷ r.Value ∷ []))
-    ∷ (codes "li", These (r.Rd ∷ r.Value ∷ []) t.Li zeros)
-    ∷ (codes "call", These (r.Value ∷ []) (t.Far o.Jalr) (record zeros { rd = 1; rs1 = 1 }))
-    ∷ (codes "tail", These (r.Value ∷ []) (t.Far o.Jalr) (record zeros { rs1 = 6 }))
+    ∷ (codes "li", These (r.Rd ∷ r.Value ∷ []) t.Li unset)
+    ∷ (codes "call", These (r.Value ∷ []) (t.Far o.Jalr) (record unset { rd = 1; rs1 = 1 }))
+    ∷ (codes "tail", These (r.Value ∷ []) (t.Far o.Jalr) (record unset { rs1 = 6 }))
     ∷ alike (codes "la" ∷ codes "lla" ∷ []) (far o.Addi (r.Both ∷ r.Value ∷ []))
 
 -- the directives that take operands
@@ -125,11 +125,11 @@ directives =
     ++ alike (codes ".byte" ∷ []) (Each r.Value (t.Data width.One))
     ++ alike (codes ".ascii" ∷ []) (Each r.Text (t.Text false))
     ++ alike (codes ".asciz" ∷ codes ".string" ∷ []) (Each r.Text (t.Text true))
-    ++ alike (codes ".space" ∷ codes ".skip" ∷ codes ".zero" ∷ []) (These (r.Value ∷ []) t.Space zeros)
-    ++ alike (codes ".space" ∷ codes ".skip" ∷ codes ".zero" ∷ []) (These (r.Value ∷ r.Second ∷ []) t.Space zeros)
-    ++ alike (codes ".align" ∷ codes ".p2align" ∷ []) (These (r.Value ∷ []) t.Align zeros)
-    ++ alike (codes ".balign" ∷ []) (These (r.Value ∷ []) t.Balign zeros)
-    ++ alike (codes ".equ" ∷ codes ".set" ∷ []) (These (r.Symbol ∷ r.Second ∷ []) t.Constant zeros)
+    ++ alike (codes ".space" ∷ codes ".skip" ∷ codes ".zero" ∷ []) (These (r.Value ∷ []) t.Space unset)
+    ++ alike (codes ".space" ∷ codes ".skip" ∷ codes ".zero" ∷ []) (These (r.Value ∷ r.Second ∷ []) t.Space unset)
+    ++ alike (codes ".align" ∷ codes ".p2align" ∷ []) (These (r.Value ∷ []) t.Align unset)
+    ++ alike (codes ".balign" ∷ []) (These (r.Value ∷ []) t.Balign unset)
+    ++ alike (codes ".equ" ∷ codes ".set" ∷ []) (These (r.Symbol ∷ r.Second ∷ []) t.Constant unset)
 
 -- the directives without effect, which any tokens may follow
 unfoldable pub markers : List (List ℕ)

@@ -52,7 +52,7 @@ pub enum Body<'a> {
     },
 }
 
-/// A line as written: its labels, a word and its operands.
+/// The form of a line: its labels, a word and its operands.
 pub struct Line<'a> {
     pub(crate) labels: Vec<Label<'a>>,
     pub(crate) body: Body<'a>,
@@ -66,9 +66,9 @@ impl<'a> Drop for Line<'a> {
 }
 
 impl<'a> Model for Line<'a> {
-    ghost use Rattle.rv_source.specs.Written.{Written};
+    ghost use Rattle.rv_source.specs.LineForm.{LineForm};
 
-    ghost Value = { Written };
+    ghost Value = { LineForm };
 
     ghost view = { λ l. record { labels = l.labels.items; body = l.body } };
 }

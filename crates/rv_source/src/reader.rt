@@ -4,7 +4,7 @@ ghost use Rattle.rv_tokens.specs.Faults.{Gives};
 ghost use Rattle.rv_tokens.specs.Parts.{IsCutInto};
 ghost use Rattle.rv_tokens.specs.Cuts.{tokens};
 ghost use Rattle.rv_source.specs.Partial.{left_after, with_labels};
-ghost use Rattle.rv_source.specs.Reading.{body_of, label_of, labels_of, written};
+ghost use Rattle.rv_source.specs.Reading.{body_of, label_of, labels_of, line_form};
 
 use crate::line::{Body, Operands};
 use crate::operand::read_operands;
@@ -77,10 +77,10 @@ fn read_body<'a>(
 ///
 /// `LineTooLong`, `BadByte` or `Syntax` if the line can't be cut into tokens; else `Syntax` if they aren't
 /// labels and a statement. `OutOfMemory` may come in place of any result.
-#[tactic(auto, unfolding(crate::specs::Reading::written))]
+#[tactic(auto, unfolding(crate::specs::Reading::line_form))]
 pub fn read_line<'a>(alloc: Global, text: &'a [u8]) -> Result<Line<'a>, LineFault>
     ensures cut { IsCutInto text.now (tokens text.now) }
-    ensures written { Gives (λ l. l) result (written text.now) }
+    ensures form { Gives (λ l. l) result (line_form text.now) }
 {
     let tokens = cut_line(alloc, text)?;
     let mut labels = Vec::new(alloc);

@@ -1,7 +1,7 @@
 use Rattle.std.proofs.Common.{length, refl}
 use Rattle.std.proofs.lemmas.Result.{err_from_is_err_and}
 use Rattle.rv_base.specs.Lines.{lines}
-use Rattle.rv_asm.specs.Assembly.{all_said}
+use Rattle.rv_asm.specs.Assembly.{all_parsed}
 use Rattle.rv_asm.specs.Steps.{lines_laid_out, written}
 use Rattle.rv_asm.proofs.Runs.{fails_bind}
 use Rattle.rv_asm.proofs.Whole.{whole, finished, program_of, image_fits}
@@ -24,7 +24,7 @@ returns-in_err-bytes c =
     let ds = c.lay_out.new.known.definitions in
     let g = rw (c.symbols.ensures, c.deref.ensures.value, c.in_ok-lay_out.ensures.items ds) at
     c.in_err-bytes.ensures in
-    let f = fails_bind fault.kind fault (written ds (all_said texts) (length texts)) (program_of ds) g in
+    let f = fails_bind fault.kind fault (written ds (all_parsed texts) (length texts)) (program_of ds) g in
     rw (p.1, p.2, whole c.args.source.now, c.in_ok-lay_out.ensures.layout) f
 
 pub new-requires : goal.new-requires

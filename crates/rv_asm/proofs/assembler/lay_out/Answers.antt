@@ -1,7 +1,7 @@
 use Rattle.std.proofs.Common.{◌≡◌, ◌∙◌, ◌∷◌, length, ap, sym, arith, rules}
 use Rattle.std.specs.Prelude.{Ok}
 use Rattle.rv_base.specs.Lines.{lines}
-use Rattle.rv_asm.specs.Assembly.{all_said}
+use Rattle.rv_asm.specs.Assembly.{all_parsed}
 use Rattle.rv_asm.specs.Steps.{Known, laid_out}
 use Rattle.rv_asm.specs.Taken.{so_far}
 use Rattle.rv_asm.proofs.Reading.{begun, laid_out-zero, up_to_laid_out, writes_line, read_more, read_line_at, laid_out_more, unread, read_all}
@@ -16,9 +16,9 @@ loop-text-init c =
       can_next = tt;
       is_finite = tt;
       read = rw all (begun (lines c.args.source.now));
-      layout = laid_out-zero (all_said (lines c.args.source.now)) ∙ ap (λ (s : Known). Ok s)
+      layout = laid_out-zero (all_parsed (lines c.args.source.now)) ∙ ap (λ (s : Known). Ok s)
           (sym c.requires.known);
-      writes = rw c.requires.items (writes_none (all_said (lines c.args.source.now)));
+      writes = rw c.requires.items (writes_none (all_parsed (lines c.args.source.now)));
       counted = omega (
         arith,
         ap length c.into_iter-text-iterator.ensures.into_iter_gives,
@@ -28,7 +28,7 @@ loop-text-init c =
 
 pub take-requires-clause-up_to : goal.take-requires-clause-up_to
 take-requires-clause-up_to c =
-    up_to_laid_out (all_said (lines c.args.source.now)) c.loop-text.number
+    up_to_laid_out (all_parsed (lines c.args.source.now)) c.loop-text.number
     (so_far c.loop-text.fault c.loop-text.known) c.loop-text.invariant.layout
 
 pub returns-in-Err-clause-layout : goal.returns-in-Err-clause-layout
@@ -53,8 +53,8 @@ loop-text-preserved c =
       is_finite = tt;
       read = read_more texts rest n so text after cut took.line took.read;
       layout = rw (← laid_out_more texts rest n so text after cut took.line took.read)
-          (took.state (laid_out (all_said texts) n) c.loop-text.invariant.layout);
-      writes = writes_line (all_said texts) n c.loop-text.fault c.take.new.fault c.loop-text.known
+          (took.state (laid_out (all_parsed texts) n) c.loop-text.invariant.layout);
+      writes = writes_line (all_parsed texts) n c.loop-text.fault c.take.new.fault c.loop-text.known
           c.loop-text.items.items c.take.new.items.items took.line
           (read_line_at texts rest n so text after cut took.line took.read)
           c.loop-text.invariant.layout c.loop-text.invariant.writes took.adds;

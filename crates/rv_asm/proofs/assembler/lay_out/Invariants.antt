@@ -1,7 +1,7 @@
 use Rattle.std.proofs.Common.{◌≤◌, ◌+◌, length}
 use Rattle.rv_base.specs.Lines.{lines}
 use Rattle.rv_program.specs.Faults.{Gives}
-use Rattle.rv_asm.specs.Assembly.{all_said}
+use Rattle.rv_asm.specs.Assembly.{all_parsed}
 use Rattle.rv_asm.specs.Steps.{laid_out, Writes}
 use Rattle.rv_asm.specs.Taken.{so_far, Without}
 use Rattle.rv_asm.proofs.Reading.{SoFar}
@@ -13,7 +13,7 @@ invariant-loop-text l =
       can_next : (goal.iterator-loop-text).can_next l.text-iterator;
       is_finite : (goal.iterator-loop-text).is_finite l.text-iterator;
       read : SoFar (lines l.source) l.text-iterator l.number;
-      layout : Gives (λ s. s) (so_far l.fault l.known) (laid_out (all_said (lines l.source)) l.number);
-      writes : Without l.fault (Writes (all_said (lines l.source)) l.number l.items.items);
+      layout : Gives (λ s. s) (so_far l.fault l.known) (laid_out (all_parsed (lines l.source)) l.number);
+      writes : Without l.fault (Writes (all_parsed (lines l.source)) l.number l.items.items);
       counted : l.number + length l.text-iterator ≤ length l.source;
     }

@@ -1,6 +1,6 @@
 use Rattle.std.proofs.Common.{◌≡◌, sym}
 use Rattle.std.specs.Prelude.{Ok}
-use Rattle.rv_source.specs.Reading.{Said, said}
+use Rattle.rv_source.specs.Reading.{Parsed, parsed}
 use Rattle.rv_asm.proofs.Reading.{read_statement}
 use Rattle.rv_asm.proofs.Takes.{takes_nothing, takes_line, takes_fault}
 use Rattle.rv_asm.proofs.assembler.take.Goals.{in-Err-add, in_default}
@@ -9,16 +9,16 @@ use Rattle.rv_asm.proofs.assembler.take.Goals as goal
 pub returns-then-is_some-clause-ok : goal.returns-then-is_some-clause-ok
 returns-then-is_some-clause-ok c =
     takes_nothing c.args.number c.args.text.now _
-    (read_statement c.args.text.now c.in-Ok.line c.in-Ok-statement.statement c.in-Ok.ensures.written
+    (read_statement c.args.text.now c.in-Ok.line c.in-Ok-statement.statement c.in-Ok.ensures.form
     c.in-Ok-statement.ensures)
     c.args.known.now c.args.items.now.items c.args.fault.now (sym c.if-is_some.ensures)
 
 pub returns-clause-ok : goal.returns-clause-ok
 returns-clause-ok c =
-    let line : Said = record { labels = c.labels.result.now; statement = c.in-Ok-statement.statement } in
-    let read : said c.args.text.now ≡ Ok line =
+    let line : Parsed = record { labels = c.labels.result.now; statement = c.in-Ok-statement.statement } in
+    let read : parsed c.args.text.now ≡ Ok line =
     rw c.labels.ensures (read_statement c.args.text.now c.in-Ok.line c.in-Ok-statement.statement
-    c.in-Ok.ensures.written c.in-Ok-statement.ensures) in
+    c.in-Ok.ensures.form c.in-Ok-statement.ensures) in
     elim c.match-add.branch [
       | in-Err-add w ↦ rw w.fault-is (takes_fault c.args.number c.args.text.now line read c.args.known.now
           c.args.items.now.items c.add.new.self c.add.new.items.items c.args.fault.now _ _

@@ -1,6 +1,6 @@
 use Rattle.std.proofs.Common.{◌≡◌, ◌∙◌, ◌∷◌, length, ap, sym, arith}
 use Rattle.rv_base.specs.Lines.{lines}
-use Rattle.rv_asm.specs.Assembly.{all_said}
+use Rattle.rv_asm.specs.Assembly.{all_parsed}
 use Rattle.rv_asm.specs.Judged.{judged}
 use Rattle.rv_asm.proofs.Reading.{begun, read_more, read_all}
 use Rattle.rv_asm.proofs.Diagnosing.{none_found, known_begun, kept_up_to, judged_more, known_more}
@@ -14,8 +14,8 @@ loop-text-init c =
       can_next = tt;
       is_finite = tt;
       read = rw all (begun (lines c.args.source.now));
-      known = c.requires ∙ sym (known_begun (all_said (lines c.args.source.now)));
-      found = rw c.new-out.ensures.items (none_found (lines c.args.source.now) (judged (all_said (lines c.args.source.now))));
+      known = c.requires ∙ sym (known_begun (all_parsed (lines c.args.source.now)));
+      found = rw c.new-out.ensures.items (none_found (lines c.args.source.now) (judged (all_parsed (lines c.args.source.now))));
       counted = omega (
         arith,
         ap length c.into_iter-text-iterator.ensures.into_iter_gives,
@@ -25,7 +25,7 @@ loop-text-init c =
 
 pub judge-requires-clause-up_to : goal.judge-requires-clause-up_to
 judge-requires-clause-up_to c =
-    rw c.loop-text.invariant.known (kept_up_to (all_said (lines c.args.source.now)) c.loop-text.number)
+    rw c.loop-text.invariant.known (kept_up_to (all_parsed (lines c.args.source.now)) c.loop-text.number)
 
 pub loop-text-preserved : goal.loop-text-preserved
 loop-text-preserved c =

@@ -1,6 +1,6 @@
 use Rattle.std.proofs.Common.{◌≡◌, ◌≤◌, ◌+◌, length}
 use Rattle.rv_base.specs.Lines.{lines}
-use Rattle.rv_asm.specs.Assembly.{all_said}
+use Rattle.rv_asm.specs.Assembly.{all_parsed}
 use Rattle.rv_asm.specs.Steps.{known_before}
 use Rattle.rv_asm.specs.Diagnosed.{kept}
 use Rattle.rv_asm.specs.Judged.{Diagnoses, judged}
@@ -14,7 +14,7 @@ invariant-loop-text l =
       can_next : (goal.iterator-loop-text).can_next l.text-iterator;
       is_finite : (goal.iterator-loop-text).is_finite l.text-iterator;
       read : SoFar (lines l.source) l.text-iterator l.number;
-      known : l.known ≡ known_before (kept (all_said (lines l.source)) l.number) l.number;
-      found : Diagnoses (lines l.source) (all_faults (judged (all_said (lines l.source))) l.number) l.out.items;
+      known : l.known ≡ known_before (kept (all_parsed (lines l.source)) l.number) l.number;
+      found : Diagnoses (lines l.source) (all_faults (judged (all_parsed (lines l.source))) l.number) l.out.items;
       counted : l.number + length l.text-iterator ≤ length l.source;
     }

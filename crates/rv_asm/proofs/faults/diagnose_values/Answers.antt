@@ -1,7 +1,7 @@
 use Rattle.std.proofs.Common.{◌≡◌, ◌∙◌, ◌∷◌, length, ap, sym, arith}
 use Rattle.std.specs.Prelude.{Ok}
 use Rattle.rv_base.specs.Lines.{lines}
-use Rattle.rv_asm.specs.Assembly.{all_said}
+use Rattle.rv_asm.specs.Assembly.{all_parsed}
 use Rattle.rv_asm.specs.Counted.{phase_three_fault}
 use Rattle.rv_asm.specs.Steps.{Known}
 use Rattle.rv_asm.proofs.Reading.{begun, laid_out-zero, up_to_laid_out, read_more, read_all}
@@ -17,9 +17,9 @@ loop-text-init c =
       can_next = tt;
       is_finite = tt;
       read = rw all (begun (lines c.args.source.now));
-      layout = laid_out-zero (all_said (lines c.args.source.now)) ∙ ap (λ (s : Known). Ok s)
+      layout = laid_out-zero (all_parsed (lines c.args.source.now)) ∙ ap (λ (s : Known). Ok s)
           (sym c.new-known.ensures);
-      found = rw c.new-out.ensures.items (none_found (lines c.args.source.now) (phase_three_fault (all_said (lines c.args.source.now))));
+      found = rw c.new-out.ensures.items (none_found (lines c.args.source.now) (phase_three_fault (all_parsed (lines c.args.source.now))));
       counted = omega (
         arith,
         ap length c.into_iter-text-iterator.ensures.into_iter_gives,
@@ -29,7 +29,7 @@ loop-text-init c =
 
 pub try_line-requires-clause-up_to : goal.try_line-requires-clause-up_to
 try_line-requires-clause-up_to c =
-    up_to_laid_out (all_said (lines c.args.source.now)) c.loop-text.number (Ok c.loop-text.known)
+    up_to_laid_out (all_parsed (lines c.args.source.now)) c.loop-text.number (Ok c.loop-text.known)
     c.loop-text.invariant.layout
 
 pub loop-text-preserved : goal.loop-text-preserved

@@ -1,7 +1,7 @@
 use Rattle.std.proofs.Common.{◌≡◌, ◌≤◌, ◌+◌, length}
 use Rattle.std.specs.Prelude.{Ok}
 use Rattle.rv_base.specs.Lines.{lines}
-use Rattle.rv_asm.specs.Assembly.{all_said}
+use Rattle.rv_asm.specs.Assembly.{all_parsed}
 use Rattle.rv_asm.specs.Counted.{phase_three_fault, all_faults}
 use Rattle.rv_asm.specs.Steps.{laid_out}
 use Rattle.rv_asm.specs.Judged.{Diagnoses}
@@ -14,7 +14,7 @@ invariant-loop-text l =
       can_next : (goal.iterator-loop-text).can_next l.text-iterator;
       is_finite : (goal.iterator-loop-text).is_finite l.text-iterator;
       read : SoFar (lines l.source) l.text-iterator l.number;
-      layout : laid_out (all_said (lines l.source)) l.number ≡ Ok l.known;
-      found : Diagnoses (lines l.source) (all_faults (phase_three_fault (all_said (lines l.source))) l.number) l.out.items;
+      layout : laid_out (all_parsed (lines l.source)) l.number ≡ Ok l.known;
+      found : Diagnoses (lines l.source) (all_faults (phase_three_fault (all_parsed (lines l.source))) l.number) l.out.items;
       counted : l.number + length l.text-iterator ≤ length l.source;
     }

@@ -1,6 +1,6 @@
 use Rattle.std.proofs.Common.{◌≡◌, ◌∙◌, sym}
 use Rattle.std.specs.Prelude.{Some, Ok}
-use Rattle.rv_source.specs.Reading.{Said, said}
+use Rattle.rv_source.specs.Reading.{Parsed, parsed}
 use Rattle.rv_asm.specs.Steps.{labelled}
 use Rattle.rv_asm.proofs.Reading.{read_statement}
 use Rattle.rv_asm.proofs.Judging.{tried}
@@ -9,9 +9,9 @@ use Rattle.rv_asm.proofs.faults.try_line.Goals as goal
 pub returns : goal.returns
 returns c =
     let old = c.args.known.now in
-    let line : Said = record { labels = c.in-Ok.line.labels; statement = c.in-Ok-statement.statement } in
-    let read : said c.args.text.now ≡ Ok line = read_statement c.args.text.now c.in-Ok.line
-    c.in-Ok-statement.statement c.in-Ok.ensures.written c.in-Ok-statement.ensures in
+    let line : Parsed = record { labels = c.in-Ok.line.labels; statement = c.in-Ok-statement.statement } in
+    let read : parsed c.args.text.now ≡ Ok line = read_statement c.args.text.now c.in-Ok.line
+    c.in-Ok-statement.statement c.in-Ok.ensures.form c.in-Ok-statement.ensures in
     let adds = rw (c.labels.ensures, c.new-items.ensures.items) at c.in-Ok-add.ensures.items in
     let kind = sym c.in-Some.is ∙ (rw c.deref.ensures.value at c.in_ok-kind.ensures) in
     record {

@@ -1,7 +1,7 @@
 use Rattle.std.proofs.Common.{◌≡◌, ◌∙◌, ◌∷◌, length, ap, sym, arith, rules}
 use Rattle.std.specs.Prelude.{Ok}
 use Rattle.rv_base.specs.Lines.{lines}
-use Rattle.rv_asm.specs.Assembly.{all_said}
+use Rattle.rv_asm.specs.Assembly.{all_parsed}
 use Rattle.rv_asm.specs.Counted.{joined, up_to}
 use Rattle.rv_asm.specs.Steps.{Known, known_before}
 use Rattle.rv_asm.proofs.Reading.{begun, laid_out-zero, up_to_laid_out, read_more}
@@ -17,7 +17,7 @@ loop-text-init c =
       can_next = tt;
       is_finite = tt;
       read = rw all (begun (lines c.args.source.now));
-      layout = laid_out-zero (all_said (lines c.args.source.now)) ∙ ap (λ (s : Known). Ok s)
+      layout = laid_out-zero (all_parsed (lines c.args.source.now)) ∙ ap (λ (s : Known). Ok s)
           (sym c.new-known.ensures);
       addresses = search rules;
       labels = search rules;
@@ -30,7 +30,7 @@ loop-text-init c =
 
 pub pass-requires-clause-up_to : goal.pass-requires-clause-up_to
 pass-requires-clause-up_to c =
-    up_to_laid_out (all_said (lines c.args.source.now)) c.loop-text.number (Ok c.loop-text.known)
+    up_to_laid_out (all_parsed (lines c.args.source.now)) c.loop-text.number (Ok c.loop-text.known)
     c.loop-text.invariant.layout
 
 pub loop-text-preserved : goal.loop-text-preserved

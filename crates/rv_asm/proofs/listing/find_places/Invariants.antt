@@ -1,7 +1,7 @@
 use Rattle.std.proofs.Common.{◌≡◌, ◌≤◌, ◌+◌, length}
 use Rattle.std.specs.Prelude.{Ok}
 use Rattle.rv_base.specs.Lines.{lines}
-use Rattle.rv_asm.specs.Assembly.{all_said}
+use Rattle.rv_asm.specs.Assembly.{all_parsed}
 use Rattle.rv_asm.specs.Counted.{address, labels, up_to}
 use Rattle.rv_asm.specs.Steps.{laid_out}
 use Rattle.rv_asm.proofs.Reading.{SoFar}
@@ -13,8 +13,8 @@ invariant-loop-text l =
       can_next : (goal.iterator-loop-text).can_next l.text-iterator;
       is_finite : (goal.iterator-loop-text).is_finite l.text-iterator;
       read : SoFar (lines l.source) l.text-iterator l.number;
-      layout : laid_out (all_said (lines l.source)) l.number ≡ Ok l.known;
-      addresses : l.addresses.items ≡ up_to (address (all_said (lines l.source))) l.number;
-      labels : l.labels.items ≡ labels (all_said (lines l.source)) l.number;
+      layout : laid_out (all_parsed (lines l.source)) l.number ≡ Ok l.known;
+      addresses : l.addresses.items ≡ up_to (address (all_parsed (lines l.source))) l.number;
+      labels : l.labels.items ≡ labels (all_parsed (lines l.source)) l.number;
       counted : l.number + length l.text-iterator ≤ length l.source;
     }

@@ -3,7 +3,7 @@ use Rattle.std.specs.Prelude.{Ok}
 use Rattle.std.proofs.lemmas.Int.{to_z-of_z}
 use mir.Syntax.{w64}
 use mir.Val.{to_z, of_z, SFits}
-use Rattle.rv_source.specs.Reading.{written, statement_of}
+use Rattle.rv_source.specs.Reading.{line_form, statement_of}
 use Rattle.rv_asm.specs.Constants.{KeptLine}
 use Rattle.rv_asm.proofs.Writing.{taken_again, written_again}
 use Rattle.rv_asm.proofs.placement.write_line.Goals as goal
@@ -11,7 +11,7 @@ use Rattle.rv_asm.proofs.placement.write_line.Goals as goal
 pub write-requires : goal.write-requires
 write-requires c =
     let text : KeptLine = record { bytes = c.text.inside.bytes.now; constant = c.text.inside.constant } in
-    let read : written c.text.inside.bytes.now ≡ Ok c.in-Ok.line = c.in-Ok.ensures.written in
+    let read : line_form c.text.inside.bytes.now ≡ Ok c.in-Ok.line = c.in-Ok.ensures.form in
     let is : Ok (Some c.in-Ok-Some.statement) ≡ statement_of c.in-Ok.line.body = cc in
     let fits : SFits w64 c.text.inside.constant = search rules in
     let back : to_z w64 (of_z w64 c.text.inside.constant) ≡ c.text.inside.constant = rw to_z-of_z refl in
@@ -20,7 +20,7 @@ write-requires c =
 pub returns-in-Ok-Some : goal.returns-in-Ok-Some
 returns-in-Ok-Some c =
     let text : KeptLine = record { bytes = c.text.inside.bytes.now; constant = c.text.inside.constant } in
-    let read : written c.text.inside.bytes.now ≡ Ok c.in-Ok.line = c.in-Ok.ensures.written in
+    let read : line_form c.text.inside.bytes.now ≡ Ok c.in-Ok.line = c.in-Ok.ensures.form in
     let is : Ok (Some c.in-Ok-Some.statement) ≡ statement_of c.in-Ok.line.body = cc in
     let fits : SFits w64 c.text.inside.constant = search rules in
     rw (← c.text.view_is) (written_again text c.in-Ok.line read c.args.scope.symbols.now c.args.scope.line

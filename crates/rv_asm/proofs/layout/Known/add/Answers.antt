@@ -4,7 +4,7 @@ use Rattle.std.proofs.lemmas.Result.{err_from_is_err_and}
 use Rattle.std.proofs.lemmas.Int.{to_z-of_z}
 use mir.Syntax.{w64}
 use mir.Val.{SFits}
-use Rattle.rv_source.specs.Reading.{Said}
+use Rattle.rv_source.specs.Reading.{Parsed}
 use Rattle.rv_asm.specs.Steps.{Known}
 use Rattle.rv_asm.specs.Counted.{relabels}
 use Rattle.rv_asm.proofs.Laying.{labelled_twice, all_labelled, statement_follows, nothing_follows}
@@ -17,7 +17,7 @@ returns-then-is_some-clause-known c = labelled_twice _ _ _ (sym c.in_ok-new_labe
 
 pub returns-in_default-clause-known : goal.returns-in_default-clause-known
 returns-in_default-clause-known c =
-    let line : Said = record { labels = c.args.labels.now; statement = c.args.statement.now } in
+    let line : Parsed = record { labels = c.args.labels.now; statement = c.args.statement.now } in
     let once : relabels c.args.self.now line.labels ≡ false = sym c.in_ok-new_labels.ensures.index ∙ search rules in
     nothing_follows c.args.number c.args.self.now line _ once c.in_ok-new_labels.ensures.known (search rules)
 
@@ -28,29 +28,29 @@ returns-in_default-clause-items c =
 
 pub returns-in_err-constant-clause-known : goal.returns-in_err-constant-clause-known
 returns-in_err-constant-clause-known c =
-    let line : Said = record { labels = c.args.labels.now; statement = c.args.statement.now } in
+    let line : Parsed = record { labels = c.args.labels.now; statement = c.args.statement.now } in
     let once : relabels c.args.self.now line.labels ≡ false = sym c.in_ok-new_labels.ensures.index ∙ search rules in
-    let said : line.statement ≡ Some c.in-Some.statement = search rules in
+    let parsed : line.statement ≡ Some c.in-Some.statement = search rules in
     let p = err_from_is_err_and c.from_residual-in_err-constant.result c.from_residual-in_err-constant.ensures.1 in
     let follows = statement_follows c.args.number c.args.self.now line _ once c.in_ok-new_labels.ensures.known in
-    rw (p.1, p.2, follows, said) c.in_err-constant.ensures.known
+    rw (p.1, p.2, follows, parsed) c.in_err-constant.ensures.known
 
 pub returns-clause-known : goal.returns-clause-known
 returns-clause-known c =
-    let line : Said = record { labels = c.args.labels.now; statement = c.args.statement.now } in
+    let line : Parsed = record { labels = c.args.labels.now; statement = c.args.statement.now } in
     let once : relabels c.args.self.now line.labels ≡ false = sym c.in_ok-new_labels.ensures.index ∙ search rules in
-    let said : line.statement ≡ Some c.in-Some.statement = search rules in
-    rw (statement_follows c.args.number c.args.self.now line _ once c.in_ok-new_labels.ensures.known, said)
+    let parsed : line.statement ≡ Some c.in-Some.statement = search rules in
+    rw (statement_follows c.args.number c.args.self.now line _ once c.in_ok-new_labels.ensures.known, parsed)
     c.in_ok-constant.ensures.known
 
 pub returns-clause-items : goal.returns-clause-items
 returns-clause-items c =
-    let line : Said = record { labels = c.args.labels.now; statement = c.args.statement.now } in
+    let line : Parsed = record { labels = c.args.labels.now; statement = c.args.statement.now } in
     let once : relabels c.args.self.now line.labels ≡ false = sym c.in_ok-new_labels.ensures.index ∙ search rules in
-    let said : line.statement ≡ Some c.in-Some.statement = search rules in
+    let parsed : line.statement ≡ Some c.in-Some.statement = search rules in
     let pushed : c.push.new.self.items ≡ c.args.items.now.items ++ c.new-item.result ∷ [] = search rules in
     let fits : SFits w64 c.in_ok-constant.constant = search rules in
     let here = ap (λ (s : Known). s.address) c.self.view_is in
-    rw (said, ← all_labelled c.args.number c.args.self.now line _ once c.in_ok-new_labels.ensures.known, pushed)
+    rw (parsed, ← all_labelled c.args.number c.args.self.now line _ once c.in_ok-new_labels.ensures.known, pushed)
     (adds c.args.number _ c.in-Some.statement _ c.in_ok-constant.ensures.constant c.args.items.now.items c.new-item.result
     c.new-item.ensures.at (rw here at (simp to_z-of_z at c.new-item.ensures.bytes)))
