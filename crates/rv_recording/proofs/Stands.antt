@@ -78,11 +78,11 @@ Stands s p q ks =
 
 begun_is : (s : SessionState) (board : BoardState) (program : Assembly) (inputs : List TimedInput)
     (pages slots : ℕ) → boot_fault (length program.bytes) pages slots ≡ None → never_falls inputs ≡ true
-    → HasSteps inputs → s ≡ monitor.start board inputs program 9999999999 → board ≡ reset program.bytes (4096 * pages)
+    → HasSteps inputs → s ≡ monitor.new_session board inputs program 9999999999 → board ≡ reset program.bytes (4096 * pages)
     → IsRecorded (record { session = s; pages = pages; slots = slots })
 begun_is s board program inputs pages slots boots rising small is booted =
     subst (λ (u : SessionState). IsRecorded (record { session = u; pages = pages; slots = slots }))
-    (sym (is ∙ ap (λ (c : BoardState). monitor.start c inputs program 9999999999) booted))
+    (sym (is ∙ ap (λ (c : BoardState). monitor.new_session c inputs program 9999999999) booted))
     (record {
       boots = boots;
       reached = begun_stands (reset program.bytes (4096 * pages)) inputs rising;
