@@ -26,8 +26,9 @@ use Rattle.rv_answers.specs.declared.extent.Format.{Format}
 use Rattle.rv_answers.specs.declared.extent.Format.TheVariants.{Bytes, Words, Text}
 use Rattle.rv_lab.specs.State.{LabState, registers_of}
 use Rattle.rv_lab.specs.Commands.{board}
+use Rattle.rv_lab.specs.Devices.{csr_told, edges_told}
 use Rattle.rv_lab.specs.declared.command.Command.{Command}
-use Rattle.rv_lab.specs.declared.command.Command.TheVariants.{Where, Break, Registers, Memory, Traps}
+use Rattle.rv_lab.specs.declared.command.Command.TheVariants.{Where, Break, Registers, ControlRegister, Memory, Traps, Edges}
 
 -- ---- places
 
@@ -158,8 +159,10 @@ abbrev pub told : Command → List ℕ → LabState → Option (List ℕ)
 told Where operands l = Some (where_told l)
 told Break operands l = alone (words operands) (breaks_told l)
 told Registers operands l = registers_told l (words operands)
+told ControlRegister operands l = csr_told l (words operands)
 told Memory operands l = memory_told l (words operands)
 told Traps operands l = Some (traps_told l)
+told Edges operands l = edges_told l (words operands)
 told _ operands l = None
 
 -- a command that looks appends its text

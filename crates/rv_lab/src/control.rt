@@ -1,8 +1,21 @@
-//! What the bits of control registers say.
-use rv_answers::{Answer, cause_name};
+//! Control registers.
+ghost use Rattle.std.specs.Prelude.{◌≡◌, ◌++◌, [], IfSome, codes, unwrap_or};
+ghost use Rattle.rv_base.specs.Words.{words};
+ghost use Rattle.rv_answers.specs.Answer.{Appended};
+ghost use Rattle.rv_operands.specs.Words.{only_of};
+ghost use Rattle.rv_lab.specs.Commands.{board};
+ghost use Rattle.rv_lab.specs.Devices.{csr_text, csr_told};
+
+use crate::lab::Lab;
+use crate::nearest::Nearest;
+use rv_answers::{Answer, append_bits};
+use rv_board::BootedBoard;
+use rv_isa::csr_named;
+use rv_operands::only_word;
+use std::alloc::Global;
 
 /// The names of the control registers that are often asked for.
-pub(crate) static NAMES: [&str; 20] = [
+static NAMES: [&str; 20] = [
     "mstatus",
     "misa",
     "mie",
@@ -32,48 +45,61 @@ pub(crate) const MIE: u16 = 0x304;
 
 pub(crate) const MTVEC: u16 = 0x305;
 
-pub(crate) const MCAUSE: u16 = 0x342;
-
 pub(crate) const MIP: u16 = 0x344;
 
-/// Returns whether a bit of a word is 1.
-pub(crate) fn has_bit(word: u32, bit: u32) -> bool {
-    bit < 32 && (word >> bit) & 1 == 1
+/// Returns the name of a control register that some operands may be: their only word, or else nothing.
+#[tactic(auto, using(crate::proofs::ControlTold::named))]
+fn name_in(operands: &[u8]) -> &[u8]
+    ensures { result.now ≡ unwrap_or (only_of (words operands.now)) [] }
+{
+    only_word(operands).unwrap_or(b"")
 }
 
-/// Returns a bit of a word.
-fn bit(word: u32, bit: u32) -> u64 {
-    has_bit(word, bit) as u64
+/// Says that a name is no control register, and which is the nearest.
+fn refuse_csr(alloc: Global, name: &[u8], answer: &mut Answer) {
+    let mut nearest = Nearest::new(alloc, name);
+    for known in &NAMES {
+        nearest.offer(known.as_bytes());
+    }
+    answer.refuse("p", name, "is no control register");
+    nearest.append(answer);
+    answer.say("; docs/BOARD.md has them all\n");
 }
 
-/// Appends the bits of mstatus.
-fn append_status(word: u32, answer: &mut Answer) {
-    let values = [
-        bit(word, 3),
-        bit(word, 7),
-        bit(word, 11),
-        bit(word, 17),
-        bit(word, 21),
-    ];
-    let form = "  MIE %d  MPIE %d  MPP %{user|machine}  MPRV %d  TW %d";
-    answer.fill(form, &values);
+/// Appends a control register as machine mode reads it, and what its bits say.
+#[tactic(auto, using(rv_answers::proofs::Pieces::then), unfolding(crate::specs::Devices::csr_text))]
+fn append_csr(board: &BootedBoard, name: &[u8], csr: u16, answer: &mut Answer)
+    ensures { Appended answer.old answer.new (csr_text board.now name.now csr) }
+{
+    let Some(word) = board.csr(csr) else {
+        return answer.say("--------");
+    };
+    answer.word(word);
+    append_bits(board.trap_count(), name, word, answer);
 }
 
-/// Appends the bits of mie or mip.
-fn append_lines(word: u32, answer: &mut Answer) {
-    let values = [bit(word, 3), bit(word, 7), bit(word, 11)];
-    answer.fill("  software %d  timer %d  external %d", &values);
-}
+impl Lab {
+    /// Appends the line of a control register.
+    #[tactic(auto, using(rv_answers::proofs::Pieces::then))]
+    fn append_named_csr(&self, name: &[u8], csr: u16, answer: &mut Answer)
+        ensures { Appended answer.old answer.new
+            (name.now ++ codes " = " ++ csr_text (board self.now) name.now csr ++ codes "\n") }
+    {
+        answer.put(name);
+        answer.say(" = ");
+        append_csr(self.board(), name, csr, answer);
+        answer.end();
+    }
 
-/// Appends what the bits of a control register say, if they say something.
-pub(crate) fn append_bits(csr: u16, word: u32, answer: &mut Answer) {
-    match csr {
-        MSTATUS => append_status(word, answer),
-        MIE | MIP => append_lines(word, answer),
-        MCAUSE => {
-            answer.say("  ");
-            answer.say(cause_name(word));
-        }
-        _ => {}
+    /// Executes `p`.
+    #[tactic(auto, using(crate::proofs::ControlTold::no_csr, crate::proofs::ControlTold::is_csr))]
+    pub(crate) fn control_register_command(&self, operands: &[u8], answer: &mut Answer)
+        ensures { IfSome (csr_told self.now (words operands.now)) (Appended answer.old answer.new) }
+    {
+        let name = name_in(operands);
+        let Some(csr) = csr_named(name) else {
+            return refuse_csr(self.alloc, name, answer);
+        };
+        self.append_named_csr(name, csr, answer);
     }
 }

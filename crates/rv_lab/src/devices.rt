@@ -1,41 +1,17 @@
 //! The state of the devices.
-use crate::control::{MIE, MIP, MSTATUS, has_bit};
+ghost use Rattle.std.specs.Prelude.{◌≡◌, ◌<◌, IfSome};
+ghost use Rattle.rv_base.specs.Words.{words};
+ghost use Rattle.rv_answers.specs.Answer.{Appended};
+ghost use Rattle.rv_lab.specs.Devices.{edge_source, edges_told, pending_text};
+
+use crate::control::{MIE, MIP, MSTATUS};
 use crate::lab::Lab;
+use crate::operands::count_or;
 use crate::protection::append_protection;
-use rv_answers::Answer;
+use rv_answers::{Answer, append_controller, append_serial, append_timer, has_bit};
 use rv_board::BootedBoard;
-use rv_mmio::{Serial, Timer};
-use rv_plic::{Plic, Source};
+use rv_plic::Source;
 use rv_pmp::Mode;
-
-/// The offsets of the interrupt controller's registers.
-const PENDING: u32 = 0x1000;
-
-const ENABLES: u32 = 0x2000;
-
-const THRESHOLD: u32 = 0x20_0000;
-
-/// Appends the timer.
-fn append_timer(timer: &Timer, answer: &mut Answer) {
-    answer.fill("timer: mtime %d, mtimecmp ", &[timer.time()]);
-    if timer.compare() == u64::MAX {
-        answer.say("never");
-    } else {
-        answer.number(timer.compare());
-    }
-    let values = [timer.due() as u64, timer.software() as u64];
-    answer.fill(", its line is %{low|high}; msip %d\n", &values);
-}
-
-/// Appends the serial port.
-fn append_serial(serial: &Serial, answer: &mut Answer) {
-    let waiting = serial.waiting() as u64;
-    let sent = serial.console().len() as u64;
-    let values = [waiting, waiting, sent, serial.overrun() as u64];
-    let form =
-        "serial: %d byte%{s||s} waiting, %d sent%{|; a byte was lost since the last look at the status}\n";
-    answer.fill(form, &values);
-}
 
 /// How a hart stands to its interrupts.
 #[derive(Clone, Copy)]
@@ -61,7 +37,9 @@ fn outcome(is_high: bool, is_enabled: bool, is_let_in: bool) -> u64 {
 }
 
 /// Appends an interrupt of the hart: its line, its bit of mie, and whether it is taken at the next step.
-fn append_interrupt(form: &str, bit: u32, interrupts: Interrupts, answer: &mut Answer) {
+fn append_interrupt(form: &str, bit: u32, interrupts: Interrupts, answer: &mut Answer)
+    requires { bit < 32 }
+{
     let is_high = has_bit(interrupts.pending, bit);
     let is_enabled = has_bit(interrupts.enabled, bit);
     let outcome = outcome(is_high, is_enabled, interrupts.are_let_in);
@@ -85,85 +63,51 @@ fn append_interrupts(board: &BootedBoard, answer: &mut Answer) {
         enabled: board.csr(MIE).unwrap_or(0),
         are_let_in: is_on || is_user,
     };
-    for (form, bit) in &INTERRUPTS {
-        append_interrupt(form, *bit, interrupts, answer);
-    }
+    append_interrupt(EXTERNAL, 11, interrupts, answer);
+    append_interrupt(SOFTWARE, 3, interrupts, answer);
+    append_interrupt(TIMER, 7, interrupts, answer);
 }
 
-/// The interrupts of the hart: how each is told, and its bit in mie and mip.
-static INTERRUPTS: [(&str, u32); 3] = [
-    (
-        "  external line %{low|high}, %{not enabled in mie (bit 11)|enabled in mie}",
-        11,
-    ),
-    (
-        "  software line %{low|high}, %{not enabled in mie (bit 3)|enabled in mie}",
-        3,
-    ),
-    (
-        "  timer    line %{low|high}, %{not enabled in mie (bit 7)|enabled in mie}",
-        7,
-    ),
-];
+/// How each interrupt of the hart is told.
+const EXTERNAL: &str = "  external line %{low|high}, %{not enabled in mie (bit 11)|enabled in mie}";
 
-/// Returns whether a source has anything to tell: it isn't as at reset.
-fn is_told(source: Source, plic: &Plic) -> bool {
-    let number = u32::from(source.number());
-    has_bit(plic.peek(PENDING) | plic.peek(ENABLES), number)
-        || plic.peek(4 * number) > 0
-        || plic.edges(source) > 0
-        || plic.is_high(source)
-        || plic.is_outstanding(source)
-}
+const SOFTWARE: &str = "  software line %{low|high}, %{not enabled in mie (bit 3)|enabled in mie}";
 
-/// Returns what became of the request of a source, counted from 0: there is none, it is claimed and not
-/// completed, or it is pending.
-fn request(is_pending: bool, is_outstanding: bool) -> u64 {
-    if is_pending {
-        return 2;
-    }
-    is_outstanding as u64
-}
+const TIMER: &str = "  timer    line %{low|high}, %{not enabled in mie (bit 7)|enabled in mie}";
 
-/// Appends a source of the interrupt controller, if it has anything to tell.
-fn append_source(source: Source, plic: &Plic, answer: &mut Answer) {
-    if !is_told(source, plic) {
-        return;
-    }
-    let number = u32::from(source.number());
-    let is_pending = has_bit(plic.peek(PENDING), number);
-    let values = [
-        number as u64,
-        plic.is_high(source) as u64,
-        request(is_pending, plic.is_outstanding(source)),
-        has_bit(plic.peek(ENABLES), number) as u64,
-        plic.peek(4 * number) as u64,
-    ];
-    answer.fill(SOURCE, &values);
-    let edges = plic.edges(source) as u64;
-    if edges > 0 {
-        answer.fill(", %d pending edge%{s||s}", &[edges, edges]);
-    }
-    answer.end();
-}
-
-/// How a source is told.
-const SOURCE: &str =
-    "  source %d: line %{low|high}, %{not pending|claimed and not completed|pending}, %{not enabled|enabled}, priority %d";
-
-/// Appends the interrupt controller.
-fn append_controller(plic: &Plic, answer: &mut Answer) {
-    let values = [plic.peek(THRESHOLD) as u64, plic.external() as u64];
-    let form = "interrupt controller: threshold %d, its line is %{low|high}\n";
-    answer.fill(form, &values);
-    for number in 1..32u8 {
-        if let Some(source) = Source::new(number) {
-            append_source(source, plic, answer);
-        }
+/// Reads the number of an edge source, 24 to 31.
+#[tactic(auto, unfolding(crate::specs::Devices::edge_source))]
+fn edge_source(operands: &[u8]) -> Option<Source>
+    ensures { result ≡ edge_source (words operands.now) }
+{
+    match count_or(operands, 0, 31)? {
+        source @ 24..=31 => Source::new(source as u8),
+        _ => None,
     }
 }
 
 impl Lab {
+    /// Appends the pending edges of a source.
+    #[tactic(auto, unfolding(crate::specs::Devices::pending_text))]
+    fn append_pending(&self, source: Source, answer: &mut Answer)
+        ensures { Appended answer.old answer.new (pending_text self.now source) }
+    {
+        let edges = self.board().plic().edges(source) as u64;
+        let values = [source.number() as u64, edges, edges];
+        answer.fill("source %d: %d pending edge%{s||s}\n", &values);
+    }
+
+    /// Executes `e`.
+    #[tactic(auto, using(crate::proofs::ControlTold::no_edges, crate::proofs::ControlTold::has_edges))]
+    pub(crate) fn edges_command(&self, operands: &[u8], answer: &mut Answer)
+        ensures { IfSome (edges_told self.now (words operands.now)) (Appended answer.old answer.new) }
+    {
+        let Some(source) = edge_source(operands) else {
+            return answer.say("e: a source from 24 to 31 is wanted; `dev` shows the others\n");
+        };
+        self.append_pending(source, answer);
+    }
+
     /// Executes `dev`.
     pub(crate) fn devices_command(&self, answer: &mut Answer) {
         let board = self.board();

@@ -1,6 +1,5 @@
 //! Protection as a list of regions.
-use crate::control::has_bit;
-use rv_answers::Answer;
+use rv_answers::{Answer, has_bit};
 use rv_board::BootedBoard;
 
 /// The numbers of the first control registers of protection.

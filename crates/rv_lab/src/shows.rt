@@ -10,40 +10,16 @@ ghost use Rattle.rv_answers.specs.Traps.{trap_text};
 ghost use Rattle.rv_lab.specs.Looks.{all_registers, comes_again, label_at, memory_told, registers_told, short_place, trap_rows, traps_told};
 ghost use Rattle.rv_lab.specs.Rows.{register_of};
 
-use crate::control::{MCAUSE, append_bits};
 use crate::lab::Lab;
 use crate::memory::{append_instruction_at, append_memory};
-use crate::nearest::Nearest;
-use crate::operands::count_or;
 use crate::registers::registers_of;
 use rv_answers::{
     Answer, append_mode, append_register, append_registers, append_times, append_trap, read_extent,
 };
 use rv_base::{first_word, has_word};
 use rv_board::TrapRecord;
-use rv_isa::{Reg, csr_named, reg_named};
+use rv_isa::{Reg, reg_named};
 use rv_operands::only_word;
-use rv_plic::Source;
-use std::alloc::Global;
-
-/// Reads the number of an edge source, 24 to 31.
-fn edge_source(operands: &[u8]) -> Option<Source> {
-    match count_or(operands, 0, 31)? {
-        source @ 24..=31 => Source::new(source as u8),
-        _ => None,
-    }
-}
-
-/// Says that a name is no control register, and which is the nearest.
-fn refuse_csr(alloc: Global, name: &[u8], answer: &mut Answer) {
-    let mut nearest = Nearest::new(alloc, name);
-    for known in &crate::control::NAMES {
-        nearest.offer(known.as_bytes());
-    }
-    answer.refuse("p", name, "is no control register");
-    nearest.append(answer);
-    answer.say("; docs/BOARD.md has them all\n");
-}
 
 /// Returns the register that some operands name.
 fn register_of(operands: &[u8]) -> Option<Reg>
@@ -108,27 +84,6 @@ impl Lab {
             return answer.refuse("r", operands, why);
         };
         self.append_named(register, answer);
-    }
-
-    /// Executes `p`.
-    pub(crate) fn control_register_command(&self, operands: &[u8], answer: &mut Answer) {
-        let name = only_word(operands).unwrap_or(b"");
-        let Some(csr) = csr_named(name) else {
-            return refuse_csr(self.alloc, name, answer);
-        };
-        answer.put(name);
-        answer.say(" = ");
-        match self.board().csr(csr) {
-            Some(word) => {
-                answer.word(word);
-                // Before the first trap the 0 of mcause is no cause.
-                if csr != MCAUSE || self.board().trap_count() > 0 {
-                    append_bits(csr, word, answer);
-                }
-            }
-            None => answer.say("--------"),
-        }
-        answer.end();
     }
 
     /// Executes `m`.
@@ -207,15 +162,5 @@ impl Lab {
         self.append_short_place(trap.epc, answer);
         append_times(times, answer);
         answer.end();
-    }
-
-    /// Executes `e`.
-    pub(crate) fn edges_command(&self, operands: &[u8], answer: &mut Answer) {
-        let Some(source) = edge_source(operands) else {
-            return answer.say("e: a source from 24 to 31 is wanted; `dev` shows the others\n");
-        };
-        let edges = self.board().plic().edges(source) as u64;
-        let values = [source.number() as u64, edges, edges];
-        answer.fill("source %d: %d pending edge%{s||s}\n", &values);
     }
 }

@@ -1,9 +1,9 @@
 //! Why the first trap that met no handler came.
-use crate::control::{MSTATUS, MTVEC, has_bit};
+use crate::control::{MSTATUS, MTVEC};
 use crate::lab::Lab;
 use crate::memory::{append_instruction_at, instruction_at};
 use crate::protection::{append_region, entry_at, read_region};
-use rv_answers::{Answer, append_cause, register_name};
+use rv_answers::{Answer, append_cause, has_bit, register_name};
 use rv_base::NoMemory;
 use rv_board::{BootedBoard, TrapRecord};
 use rv_hart::Outcome;
