@@ -16,7 +16,8 @@ use Rattle.rv_monitor.specs.Stops.{TakesStep, WasRefused, may_step, stop_after, 
 use Rattle.rv_monitor.specs.Stops as stops
 use Rattle.rv_monitor.proofs.Steps.{after_due, after_more, after_rises}
 use Rattle.rv_recording.specs.Recording.{RecordingState, with_timed}
-use Rattle.rv_recording.specs.Until.{HasRun, IsRefusedIn, until_at}
+use Rattle.rv_recording.specs.Until.{HasRun, until_at}
+use Rattle.rv_recording.specs.Refused.{IsRefusedIn}
 use Rattle.rv_recording.specs.Out.{out_at}
 use Rattle.rv_recording.specs.declared.until.Condition.{Condition}
 use Rattle.rv_recording.specs.declared.until.End.{End}

@@ -3,7 +3,7 @@ ghost use Rattle.std.specs.Prelude.{◌≡◌, ◌≤◌, max, false, Err, IfErr
 ghost use Rattle.rv_asm.specs.Lines.{listed};
 ghost use Rattle.rv_monitor.specs.Laws.{IsReached};
 ghost use Rattle.rv_opening.specs.Opening.{Opens};
-ghost use Rattle.rv_recording.specs.Recording.{IsRun, first_board, last_step};
+ghost use Rattle.rv_recording.specs.Recording.{first_board, last_step};
 ghost use Rattle.rv_lab.specs.State.{setup, registers_of};
 ghost use Rattle.rv_lab.specs.Commands.{Obeys, ready};
 ghost use Rattle.rv_lab.specs.Refusals.{Refuses};
@@ -151,7 +151,7 @@ impl Lab {
     /// Returns the board. Whatever the commands, it is the run of the recorded events from reset on.
     pub fn board(&self) -> &BootedBoard
         ensures value { result.now ≡ self.now.recording.session.timed.board }
-        ensures run { IsRun (first_board self.now.recording) self.now.recording.session.timed }
+        ensures run { IsReached (first_board self.now.recording) self.now.recording.session.timed }
     {
         self.recording.session().board()
     }

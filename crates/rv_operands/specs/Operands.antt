@@ -116,7 +116,7 @@ at l b word =
 -- `until`
 unfoldable pub condition : Listed → BoardState → List (List ℕ) → Option Condition
 condition l b (word ∷ []) =
-    option_or (option_map (λ w. Changed w (recording.value_of b w)) (watched l b word))
+    option_or (option_map (λ w. Changed w (recording.watched_value b w)) (watched l b word))
     (option_or (lookup word
     ((codes "trap", Trap) ∷ (codes "console", Console (length b.machine.bus.serial.sent)) ∷ []))
     (at l b word))

@@ -8,7 +8,7 @@ use Rattle.rv_monitor.specs.State.{Addresses, SessionState, most_of, after}
 use Rattle.rv_monitor.specs.Stops.{Took, may_step, stop_after}
 use Rattle.rv_monitor.specs.declared.stop.Stop.{Stop}
 use Rattle.rv_recording.specs.Recording.{RecordingState}
-use Rattle.rv_recording.specs.Until.{GoesOn, HasRun}
+use Rattle.rv_recording.specs.Until.{NoneEnds, HasRun}
 use Rattle.rv_recording.specs.declared.until.End.{End}
 use Rattle.rv_recording.specs.declared.until.End.TheVariants.{Limit, Stuck}
 use Rattle.rv_recording.proofs.Running.{stands, more_goes, ran}
@@ -86,7 +86,7 @@ module _ (ends : ℕ → Option End) (most : ℕ) (old : RecordingState) where
       stuck_by (is_none (halted_of (after old.session.timed m).board)) (old.session.timed.taken + m)
       old.session.limit h
 
-  over : (m : ℕ) → m ≡ most_of old.session most → GoesOn ends m
+  over : (m : ℕ) → m ≡ most_of old.session most → NoneEnds ends m
       → (end : End) × HasRun ends most old (stands old m) end
   over m all going = ⊎_elim
       (λ less. (
@@ -101,19 +101,19 @@ module _ (ends : ℕ → Option End) (most : ℕ) (old : RecordingState) where
       ))
       (cases_lt m most)
 
-  runs_by : (end : Option End) (k : ℕ) → k < most_of old.session most → ends k ≡ end → GoesOn ends k
-      → (GoesOn ends (k + 1) → RunsFrom k) → RunsFrom k
+  runs_by : (end : Option End) (k : ℕ) → k < most_of old.session most → ends k ≡ end → NoneEnds ends k
+      → (NoneEnds ends (k + 1) → RunsFrom k) → RunsFrom k
   runs_by (Some end) k within is going rest =
       let before : (k + 1) - 1 ≡ k = omega arith in (
         k + 1,
         omega arith,
         end,
         ran ends old most (k + 1) (stands old (k + 1)) end (omega (arith, within)) refl
-            (inl (omega arith, subst (GoesOn ends) (sym before) going, ap ends before ∙ is)),
+            (inl (omega arith, subst (NoneEnds ends) (sym before) going, ap ends before ∙ is)),
       )
   runs_by None k within is going rest = rest (more_goes ends old k going is)
 
-  pub runs_from : (left k : ℕ) → k + suc left ≡ most_of old.session most → GoesOn ends k → RunsFrom k
+  pub runs_from : (left k : ℕ) → k + suc left ≡ most_of old.session most → NoneEnds ends k → RunsFrom k
   runs_from zero k all going =
       runs_by (ends k) k (omega (arith, all)) refl going
       (λ further.

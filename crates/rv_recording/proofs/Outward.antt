@@ -6,7 +6,8 @@ use Rattle.rv_base.specs.declared.memory.NoMemory.{NoMemory}
 use Rattle.rv_monitor.specs.State.{IsInTime, after}
 use Rattle.rv_monitor.specs.Stops.{steps_between}
 use Rattle.rv_recording.specs.Recording.{RecordingState}
-use Rattle.rv_recording.specs.Until.{HasRun, IsRefusedIn}
+use Rattle.rv_recording.specs.Until.{HasRun}
+use Rattle.rv_recording.specs.Refused.{IsRefusedIn}
 use Rattle.rv_recording.specs.Out.{open_at, open_of_step, out_at}
 use Rattle.rv_recording.specs.Steps.{StepsOut, TakesOne, end_after}
 use Rattle.rv_recording.specs.declared.until.End.{End}

@@ -8,7 +8,8 @@ use Rattle.rv_monitor.specs.State.{IsInTime, after, with_due}
 use Rattle.rv_monitor.specs.Stops.{may_step, steps_between}
 use Rattle.rv_monitor.proofs.Steps.{after_none, after_more}
 use Rattle.rv_recording.specs.Recording.{RecordingState, with_timed}
-use Rattle.rv_recording.specs.Until.{GoesOn, EndsAs, HasRun, IsRefusedIn, until_at}
+use Rattle.rv_recording.specs.Until.{NoneEnds, EndsAs, HasRun, until_at}
+use Rattle.rv_recording.specs.Refused.{IsRefusedIn}
 use Rattle.rv_recording.specs.Steps.{TakesOne, end_of_step}
 use Rattle.rv_recording.specs.declared.until.Condition.{Condition}
 use Rattle.rv_recording.specs.declared.until.End.{End}
@@ -22,7 +23,7 @@ stands old n = with_timed old (after old.session.timed n)
 pub record Going (ends : ℕ → Option End) (old now : RecordingState) (n : ℕ) : Type 0 where
   pub in_time : IsInTime old.session.timed
   pub state : now ≡ stands old n
-  pub going : GoesOn ends n
+  pub going : NoneEnds ends n
 
 pub begins : (ends : ℕ → Option End) (old : RecordingState) → IsInTime old.session.timed → Going ends old old 0
 begins ends old in_time = record {
@@ -65,7 +66,7 @@ allowed old now n e may =
     )
 
 module _ (ends : ℕ → Option End) (old : RecordingState) where
-  pub more_goes : (n : ℕ) → GoesOn ends n → ends n ≡ None → GoesOn ends (n + 1)
+  pub more_goes : (n : ℕ) → NoneEnds ends n → ends n ≡ None → NoneEnds ends (n + 1)
   more_goes n going now i l = ⊎_elim
       (λ earlier. going i earlier)
       (λ later.
@@ -104,7 +105,7 @@ module _ (ends : ℕ → Option End) (old : RecordingState) where
   ended now new most n end told is k g (inl t) =
       let before : (n + 1) - 1 ≡ n = omega arith in
       ran most (n + 1) new told (omega arith) (one_more now new n g t.0)
-      (inl (omega arith, subst (GoesOn ends) (sym before) g.going, ap ends before ∙ sym (t.1 ∙ is)))
+      (inl (omega arith, subst (NoneEnds ends) (sym before) g.going, ap ends before ∙ sym (t.1 ∙ is)))
   ended now new most n end told is k g (inr t) =
       ran most n new told (omega arith) (t.1 ∙ g.state)
       (inr (inr (is_stuck told t.2, ap (λ (r : RecordingState). may_step r.session) t.1 ∙ t.0, g.going)))
@@ -125,7 +126,7 @@ module _ (ends : ℕ → Option End) (old : RecordingState) where
       let same = due_is old new n is in
       record {
         within = omega (arith, same, allowed old now n g.state t.0);
-        going = subst (GoesOn ends) same g.going;
+        going = subst (NoneEnds ends) same g.going;
         state = subst (λ m. new ≡ with_timed old (with_due (after old.session.timed m))) same is;
         next_writes = t.2;
       }

@@ -9,7 +9,6 @@ use Rattle.rv_hart.specs.declared.trap.Outcome.{Outcome}
 use Rattle.rv_board.specs.Boot.{boot_fault, reset}
 use Rattle.rv_board.specs.Move.{run}
 use Rattle.rv_board.specs.State.{BoardState, halted_of}
-use Rattle.rv_board.proofs.Runs.{run_append}
 use Rattle.rv_lists.specs.Text.{HasSteps}
 use Rattle.rv_lists.specs.Timed.{never_falls, inserted}
 use Rattle.rv_lists.specs.declared.input.Input.{Input}
@@ -27,12 +26,12 @@ use Rattle.rv_monitor.specs.State as monitor
 use Rattle.rv_monitor.specs.Stops.{Took, WasRefused, stop_of, TakesStep}
 use Rattle.rv_monitor.specs.TimedCalls.{HasStopped, IsRefused}
 use Rattle.rv_monitor.specs.declared.stop.Stop.{Stop}
-use Rattle.rv_monitor.proofs.Given.{after_begun, due_begun, given_stands, reached_steps}
+use Rattle.rv_monitor.proofs.Given.{given_stands, reached_steps}
 use Rattle.rv_monitor.proofs.Resumed.{resumed_back}
 use Rattle.rv_monitor.proofs.SessionCalls.{took_was, took_others, refused_was, refused_others, on_was, on_others}
 use Rattle.rv_monitor.proofs.Reached.{begun_stands, stopped_stands, refused_stands, step_stands, due_is_reached}
 use Rattle.rv_opening.specs.Opening.{IsOpened}
-use Rattle.rv_recording.specs.Recording.{RecordingState, IsRun, gone_back}
+use Rattle.rv_recording.specs.Recording.{RecordingState, gone_back}
 use Rattle.rv_recording.specs.Recorded.{IsRecorded}
 use Rattle.rv_recording.specs.Kept.{KeptBoard, AreKept, AreWithin}
 use Rattle.rv_recording.proofs.Keeping.{kept_with}
@@ -54,19 +53,6 @@ and_right false b h = absurd cc
 none_is : {A : Type 0} (x : Option A) → is_none x ≡ true → x ≡ None
 none_is None h = refl
 none_is (Some a) h = absurd cc
-
--- ---- the run of the recorded events
-
-run_by : (first : BoardState) (s : TimedState) → never_falls s.inputs ≡ true
-    → (s ≡ after (begun first s.inputs) s.taken) ⊎ (s ≡ with_due (after (begun first s.inputs) s.taken))
-    → IsRun first s
-run_by first s h (inl e) = inl (ap (λ u. u.board) (e ∙ after_begun first s.inputs s.taken))
-run_by first s h (inr e) =
-    inr (ap (λ u. u.board) (e ∙ due_begun first s.inputs h s.taken)
-    ∙ sym (run_append first (events_of s.inputs 0 s.taken) (inputs_at s.inputs s.taken)))
-
-pub is_run : (first : BoardState) (s : TimedState) → IsReached first s → IsRun first s
-is_run first s r = run_by first s r.rising r.state
 
 -- ---- the recording before its first step
 

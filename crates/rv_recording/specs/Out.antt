@@ -15,21 +15,21 @@ use Rattle.rv_recording.specs.Until.{end_at}
 use Rattle.rv_recording.specs.declared.until.End.{End}
 
 -- one call more, of which 2 ^ 64 - 1 are counted at most
-abbrev pub entered : ℕ → ℕ
-entered calls = min (calls + 1) (2 ^ 64 - 1)
+abbrev pub after_call : ℕ → ℕ
+after_call calls = min (calls + 1) (2 ^ 64 - 1)
 
 -- the number of open calls after an instruction: a jump that writes ra (x1) is a call; a jump to ra that
 -- writes no register is a return (RISC-V Unprivileged ISA 20191213, section 2.5), and so is MRET
 unfoldable pub open_by : ℕ → Option Kind → ℕ
-open_by calls (Some (Jal rd offset)) = if rd == 1 then entered calls else calls
+open_by calls (Some (Jal rd offset)) = if rd == 1 then after_call calls else calls
 open_by calls (Some (Jalr rd base offset)) =
-    if rd == 1 then entered calls else (if rd == 0 && base == 1 then calls - 1 else calls)
+    if rd == 1 then after_call calls else (if rd == 0 && base == 1 then calls - 1 else calls)
 open_by calls (Some Mret) = calls - 1
 open_by calls kind = calls
 
 -- the number after a step that did that: a trap calls its handler
 unfoldable pub open_after : ℕ → Option Kind → Outcome → ℕ
-open_after calls kind (Trapped cause epc tval) = entered calls
+open_after calls kind (Trapped cause epc tval) = after_call calls
 open_after calls kind outcome = open_by calls kind
 
 -- the number after the next step of a state, and after n steps

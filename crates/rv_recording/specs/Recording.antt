@@ -1,11 +1,10 @@
 -- To audit: public contracts cite this.
--- A session that can be run again: its board is the run of the recorded events from reset on.
-use Rattle.std.specs.Prelude.{◌≡◌, ◌⊎◌, ℕ, ◌*◌, ◌++◌}
+-- A session that can be run again from reset on.
+use Rattle.std.specs.Prelude.{ℕ, ◌*◌}
 use Rattle.rv_board.specs.Boot.{reset}
-use Rattle.rv_board.specs.Move.{run}
 use Rattle.rv_board.specs.BoardState.{BoardState}
-use Rattle.rv_monitor.specs.Events.{events_of, inputs_at}
 use Rattle.rv_monitor.specs.State.{SessionState, TimedState, begun, after}
+use Rattle.rv_monitor.specs.Stops.{steps_between}
 
 -- a session, and the pages and slots of its board
 pub record RecordingState : Type 0 where
@@ -29,9 +28,6 @@ with_timed r timed = record r { session = record r.session { timed = timed } }
 abbrev pub gone_back : RecordingState → ℕ → RecordingState
 gone_back r n = with_timed r (after (begun (first_board r) r.session.timed.inputs) n)
 
--- the board is the run of the recorded events: those of the steps taken, each after the inputs of its time,
--- and then the inputs of the next step, or none of them
-abbrev pub IsRun : BoardState → TimedState → Type 0
-IsRun first s =
-    (s.board ≡ run first (events_of s.inputs 0 s.taken))
-    ⊎ (s.board ≡ run first (events_of s.inputs 0 s.taken ++ inputs_at s.inputs s.taken))
+-- the number of steps from one recording to a later one
+abbrev pub run_length : RecordingState → RecordingState → ℕ
+run_length old new = steps_between old.session.timed new.session.timed

@@ -10,12 +10,10 @@ use Rattle.rv_hart.specs.declared.trap.Outcome.{Outcome}
 use Rattle.rv_hart.specs.declared.trap.Outcome.TheVariants.{Trapped}
 use Rattle.rv_hart.specs.Step.{step}
 use Rattle.rv_board.specs.BoardState.{BoardState}
-use Rattle.rv_board.specs.Move.{writes}
-use Rattle.rv_board.specs.declared.event.Event.TheVariants.{Step}
-use Rattle.rv_monitor.specs.State.{SessionState, TimedState, most_of, after, with_due}
-use Rattle.rv_monitor.specs.Stops.{may_step, steps_between}
+use Rattle.rv_monitor.specs.State.{SessionState, TimedState, after, with_due}
+use Rattle.rv_monitor.specs.Stops.{may_step}
 use Rattle.rv_monitor.specs.Views.{word_of}
-use Rattle.rv_recording.specs.Recording.{RecordingState, with_timed}
+use Rattle.rv_recording.specs.Recording.{RecordingState, run_length, with_timed}
 use Rattle.rv_recording.specs.declared.until.Watched.{Watched}
 use Rattle.rv_recording.specs.declared.until.Watched.TheVariants.{Register, Word}
 use Rattle.rv_recording.specs.declared.until.Relation.{Relation}
@@ -28,9 +26,9 @@ use Rattle.rv_recording.specs.declared.until.End.TheVariants.{Halted, Reached, B
 -- ---- conditions
 
 -- the value of what is watched, if it has one
-abbrev pub value_of : BoardState → Watched → Option ℕ
-value_of b (Register r) = Some (slice_index b.machine.registers r)
-value_of b (Word addr) = word_of b addr
+abbrev pub watched_value : BoardState → Watched → Option ℕ
+watched_value b (Register r) = Some (slice_index b.machine.registers r)
+watched_value b (Word addr) = word_of b addr
 
 -- whether two words compare so, as signed numbers
 abbrev pub relates : Relation → ℕ → ℕ → Bool
@@ -47,9 +45,9 @@ holds Trap (Trapped cause epc tval) b = true
 holds Trap did b = false
 holds (Console sent) did b = nat_lt sent (length b.machine.bus.serial.sent)
 holds (At addr size) did b = nat_le addr b.machine.pc && nat_lt (b.machine.pc - addr) size
-holds (Changed watched old) did b = not (option_eq nat_eq (value_of b watched) old)
+holds (Changed watched old) did b = not (option_eq nat_eq (watched_value b watched) old)
 holds (Compares watched relation word) did b =
-    option_map_or (λ value. relates relation value word) (value_of b watched) false
+    option_map_or (λ value. relates relation value word) (watched_value b watched) false
 
 -- whether it holds after the next step of a state
 unfoldable pub comes : Condition → TimedState → Bool
@@ -71,27 +69,19 @@ abbrev pub until_at : Condition → SessionState → ℕ → Option End
 until_at condition s = end_at (λ i. comes condition (after s.timed i)) s
 
 -- the first n steps don't end a run, by why it ends after each step
-abbrev pub GoesOn : (ℕ → Option End) → ℕ → Type 0
-GoesOn ends n = (i : ℕ) → i < n → ends i ≡ None
+abbrev pub NoneEnds : (ℕ → Option End) → ℕ → Type 0
+NoneEnds ends n = (i : ℕ) → i < n → ends i ≡ None
 
 -- a run of n steps ended so: its last step was the first that ends it; or it took all that it may take; or
 -- there was none to be taken
 abbrev pub EndsAs : (ℕ → Option End) → SessionState → (most n : ℕ) → End → Type 0
 EndsAs ends new most n end =
-    ((0 < n) × GoesOn ends (n - 1) × (ends (n - 1) ≡ Some end))
-    ⊎ (((end ≡ Limit) × (n ≡ most) × GoesOn ends n)
-    ⊎ ((end ≡ Stuck) × (may_step new ≡ false) × GoesOn ends n))
+    ((0 < n) × NoneEnds ends (n - 1) × (ends (n - 1) ≡ Some end))
+    ⊎ (((end ≡ Limit) × (n ≡ most) × NoneEnds ends n)
+    ⊎ ((end ≡ Stuck) × (may_step new ≡ false) × NoneEnds ends n))
 
 -- a run of at most `most` steps, and why it ended
 pub record HasRun (ends : ℕ → Option End) (most : ℕ) (old new : RecordingState) (end : End) : Type 0 where
-  pub within : steps_between old.session.timed new.session.timed ≤ most
-  pub state : new ≡ with_timed old (after old.session.timed (steps_between old.session.timed new.session.timed))
-  pub ended : EndsAs ends new.session most (steps_between old.session.timed new.session.timed) end
-
--- memory ran out at a step of a run: those before it were taken, and the inputs before it were given
-pub record IsRefusedIn (ends : ℕ → Option End) (most : ℕ) (old new : RecordingState) : Type 0 where
-  pub within : steps_between old.session.timed new.session.timed < most_of old.session most
-  pub going : GoesOn ends (steps_between old.session.timed new.session.timed)
-  pub state : new ≡ with_timed old
-      (with_due (after old.session.timed (steps_between old.session.timed new.session.timed)))
-  pub next_writes : writes new.session.timed.board Step ≡ true
+  pub within : run_length old new ≤ most
+  pub state : new ≡ with_timed old (after old.session.timed (run_length old new))
+  pub ended : EndsAs ends new.session most (run_length old new) end

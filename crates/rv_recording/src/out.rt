@@ -3,10 +3,11 @@ ghost use Rattle.std.specs.Prelude.{◌≡◌, ◌-◌, IfOk, OnErr};
 ghost use Rattle.std.specs.Option.{option_and_then};
 ghost use Rattle.rv_isa.specs.Meaning.{means};
 ghost use Rattle.rv_board.specs.State.{pc_of};
-ghost use Rattle.rv_monitor.specs.Stops.{steps_between};
 ghost use Rattle.rv_monitor.specs.Views.{word_of};
-ghost use Rattle.rv_recording.specs.Out.{entered, open_after, open_at, open_by, open_of_step, out_at};
-ghost use Rattle.rv_recording.specs.Until.{HasRun, IsRefusedIn};
+ghost use Rattle.rv_recording.specs.Out.{after_call, open_after, open_at, open_by, open_of_step, out_at};
+ghost use Rattle.rv_recording.specs.Recording.{run_length};
+ghost use Rattle.rv_recording.specs.Until.{HasRun};
+ghost use Rattle.rv_recording.specs.Refused.{IsRefusedIn};
 ghost use Rattle.rv_recording.specs.Steps.{StepsOut, end_after};
 
 use crate::Recording;
@@ -18,8 +19,8 @@ use rv_isa::{Instr, Kind, decode};
 use rv_monitor::word_at;
 
 /// Returns the number of open calls with one more.
-fn entered(calls: u64) -> u64
-    ensures { result ≡ entered calls }
+fn after_call(calls: u64) -> u64
+    ensures { result ≡ after_call calls }
 {
     calls.saturating_add(1)
 }
@@ -42,13 +43,13 @@ fn open_by(calls: u64, instr: Option<Instr>) -> u64
     match instr.kind() {
         Kind::Jal { rd, .. } => {
             if rd.number() == 1 {
-                return entered(calls);
+                return after_call(calls);
             }
             calls
         }
         Kind::Jalr { rd, base, .. } => {
             if rd.number() == 1 {
-                return entered(calls);
+                return after_call(calls);
             }
             if rd.number() == 0 && base.number() == 1 {
                 return calls.saturating_sub(1);
@@ -66,7 +67,7 @@ fn open_after(calls: u64, instr: Option<Instr>, outcome: Outcome) -> u64
     ensures { result ≡ open_after calls instr outcome }
 {
     match outcome {
-        Outcome::Trapped { .. } => entered(calls),
+        Outcome::Trapped { .. } => after_call(calls),
         _ => open_by(calls, instr),
     }
 }
@@ -98,8 +99,7 @@ impl Recording {
     pub fn run_out(&mut self, calls: &mut u64, most: u64) -> Result<End, NoMemory>
         ensures ok { IfOk result (HasRun (out_at calls.old self.old.session) most self.old self.new) }
         ensures err { OnErr result (IsRefusedIn (out_at calls.old self.old.session) most self.old self.new) }
-        ensures calls { calls.new ≡ open_at calls.old self.old.session.timed
-            (steps_between self.old.session.timed self.new.session.timed) }
+        ensures calls { calls.new ≡ open_at calls.old self.old.session.timed (run_length self.old self.new) }
     {
         // It tells that the inputs of all steps so far were given.
         let _board = self.session().board();

@@ -10,7 +10,7 @@ ghost use Rattle.rv_monitor.specs.Laws.{IsReached};
 ghost use Rattle.rv_monitor.specs.Room.{LacksRoom, NextWantsRoom};
 ghost use Rattle.rv_monitor.specs.State.{given, with_break, without_break};
 ghost use Rattle.rv_monitor.specs.Stops.{Took, WasRefused, stop_of, TakesStep};
-ghost use Rattle.rv_recording.specs.Recording.{IsRun, first_board, gone_back, last_step, with_timed};
+ghost use Rattle.rv_recording.specs.Recording.{first_board, gone_back, last_step, with_timed};
 ghost use Rattle.rv_opening.specs.Opening.{Opens};
 
 use crate::kept::KeptStates;
@@ -109,7 +109,6 @@ impl Recording {
     /// Returns the session. Whatever was done, its board is the run of the recorded events from reset on.
     pub fn session(&self) -> &Session<PagedRam, DecodeCache>
         ensures value { result.now ≡ self.now.session }
-        ensures run { IsRun (first_board self.now) self.now.session.timed }
         ensures reached { IsReached (first_board self.now) self.now.session.timed }
     {
         &self.session

@@ -1,6 +1,7 @@
 //! Runs until a condition holds.
 ghost use Rattle.std.specs.Prelude.{◌≡◌, IfOk, OnErr};
-ghost use Rattle.rv_recording.specs.Until.{HasRun, IsRefusedIn, holds, relates, until_at, value_of};
+ghost use Rattle.rv_recording.specs.Until.{HasRun, holds, relates, until_at, watched_value};
+ghost use Rattle.rv_recording.specs.Refused.{IsRefusedIn};
 ghost use Rattle.rv_recording.specs.Steps.{TakesOne, end_after, end_of_step};
 
 use crate::Recording;
@@ -104,7 +105,7 @@ impl Relation {
 impl Watched {
     /// Returns the value on a board: None for a word that isn't in memory.
     pub fn value(self, board: &BootedBoard) -> Option<u32>
-        ensures { result ≡ value_of board.now self }
+        ensures { result ≡ watched_value board.now self }
     {
         match self {
             Watched::Register(register) => Some(board.reg(register)),
