@@ -4,7 +4,7 @@ use Rattle.std.specs.Prelude.{ℕ, List, [], ◌∷◌, length, nat_lt, codes, i
 use Rattle.rv_base.specs.Limits.{line_limit}
 use Rattle.rv_base.specs.Tables.{lookup}
 use Rattle.rv_base.specs.Words.{words, begins_comment}
-use Rattle.rv_operands.specs.Operands.{operands}
+use Rattle.rv_operands.specs.Operands.{operand_text}
 use Rattle.rv_lab.specs.declared.command.Command.{Command}
 use Rattle.rv_lab.specs.declared.command.Command.TheVariants.{Step, Go, Over, Finish, Until, Trace, Back, Where, Break, Clear, Registers, ControlRegister, Memory, Instruction, Traps, Edges, Why, Devices, Receive, Line, Save, Monitor, Help, Quit, Again, StepOnce, Nothing}
 use Rattle.rv_lab.specs.declared.command.Command.TheVariants as command
@@ -46,7 +46,7 @@ said line = if nat_lt line_limit (length line) then Nothing else of_words (words
 
 -- the command of a line with its operands
 unfoldable pub read : List ℕ → Command × List ℕ
-read line = (said line, operands line)
+read line = (said line, operand_text line)
 
 -- what an empty line repeats after a command: a step or list command, a single step after another that moves
 -- the board, and else what it repeated before

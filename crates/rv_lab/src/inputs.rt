@@ -12,9 +12,9 @@ ghost use Rattle.rv_lists.specs.Text.{list_text};
 use crate::lab::{Lab, Next};
 use rv_answers::Answer;
 use rv_base::{NoMemory, first_word, has_word};
-use rv_lists::Input;
+use rv_lists::{Input, line_input};
 use rv_monitor::Next as Monitored;
-use rv_operands::{only_word, read_bytes_inputs, read_line_input};
+use rv_operands::{only_word, read_bytes_inputs};
 
 /// The most steps of a command of the monitor.
 const MOST_STEPS: u64 = 1_000_000_000;
@@ -104,7 +104,7 @@ impl Lab {
         ensures leaves { OnOk result (Changes command.Line operands.now self.old self.new) }
         ensures err { OnErr result (RunsOut (Changes command.Line operands.now) self.old self.new) }
     {
-        let Some(input) = read_line_input(operands) else {
+        let Some(input) = line_input(operands) else {
             answer.say(
                 "line: a source from 1 to 31 and 0 or 1 are wanted; `help line` has an example\n",
             );

@@ -1,8 +1,8 @@
 -- To audit: public contracts cite this.
 -- What the operands of the lab's commands mean (this project's own: docs/LAB.md), by the lines and the
 -- symbols of the source, and the board as it stands before the command.
-use Rattle.std.specs.Prelude.{ℕ, ◌+◌, ◌-◌, ◌%◌, ◌^◌, ◌==◌, ◌&&◌, ◌||◌, Bool, List, [], ◌∷◌, length, map, take, drop, find, codes, if◌then◌else◌, nat_eq, nat_lt, slice_index, Option, Some, None, option_and_then, unwrap_or}
-use Rattle.std.specs.List.{before_first, ends_with, position_or_len, prefix_len, range_with_len, suffix_len}
+use Rattle.std.specs.Prelude.{ℕ, ◌+◌, ◌-◌, ◌%◌, ◌^◌, ◌==◌, ◌&&◌, ◌||◌, Bool, List, [], ◌∷◌, length, map, take, drop, find, codes, if◌then◌else◌, nat_eq, nat_lt, slice_index, Option, Some, None, option_and_then}
+use Rattle.std.specs.List.{before_first, ends_with, position_or_len, prefix_len, range_with_len, starts_with, suffix_len}
 use Rattle.std.specs.Option.{option_map, option_map_or, option_or}
 use Rattle.rv_base.specs.Numbers.{number_in}
 use Rattle.rv_base.specs.Tables.{lookup}
@@ -11,8 +11,9 @@ use Rattle.rv_isa.specs.Names.{register_names}
 use Rattle.rv_program.specs.Program.{value_of}
 use Rattle.rv_asm.specs.Lines.{Listed, bytes_of}
 use Rattle.rv_asm.specs.Lines as listing
+use Rattle.rv_answers.specs.Memory.{escapes}
 use Rattle.rv_board.specs.State.{BoardState, pc_of}
-use Rattle.rv_lists.specs.Timed.{all_of, byte_input, driven}
+use Rattle.rv_lists.specs.Timed.{all_of, byte_input}
 use Rattle.rv_lists.specs.declared.input.Input.{Input}
 use Rattle.rv_lists.specs.declared.input.Input.TheVariants.{Rx}
 use Rattle.rv_commands.specs.Addresses.{address_of}
@@ -25,23 +26,21 @@ use Rattle.rv_recording.specs.declared.until.Condition.{Condition}
 use Rattle.rv_recording.specs.declared.until.Condition.TheVariants.{Trap, Console, At, Changed, Compares}
 
 -- the operands of a line: what follows its first word
-unfoldable pub operands : List ℕ → List ℕ
-operands line =
-    let text = drop (prefix_len is_blank line) line in
-    drop (position_or_len is_blank text) text
+unfoldable pub operand_text : List ℕ → List ℕ
+operand_text line =
+    let text = drop (prefix_len is_blank line) line in drop (position_or_len is_blank text) text
 
--- what stands between two signs, the first and the last byte of a text
-unfoldable pub between : ℕ → ℕ → List ℕ → Option (List ℕ)
-between left right text =
-    if nat_lt 1 (length text) && ((slice_index text 0 == left) && (slice_index text (length text - 1) == right))
-    then Some (drop 1 (take (length text - 1) text))
-    else None
+-- what stands between two signs, with which a text begins and ends
+unfoldable pub enclosed : (left right text : List ℕ) → Option (List ℕ)
+enclosed left right text =
+    if nat_lt 1 (length text) && (starts_with nat_eq text left && ends_with nat_eq text right)
+    then Some (take (length text - 2) (drop 1 text)) else None
 
 -- ---- WHERE and V
 
 -- a number: decimal, or hexadecimal after `0x`
-unfoldable pub number : List ℕ → Option ℕ
-number word = option_or (number_in 10 4294967295 word) (address_of (λ name. None) word)
+unfoldable pub plain_number : List ℕ → Option ℕ
+plain_number word = option_or (number_in 10 4294967295 word) (address_of (λ name. None) word)
 
 -- the number of a line, as `12` or `12:`
 unfoldable pub line_number : List ℕ → Option ℕ
@@ -49,8 +48,8 @@ line_number word =
     number_in 10 4294967295 (if ends_with nat_eq word (codes ":") then take (length word - 1) word else word)
 
 -- a name of the source or `0x` and a number, as the monitor reads them, `pc`, or a register
-unfoldable pub base : Listed → BoardState → List ℕ → Option ℕ
-base l b word =
+unfoldable pub base_value : Listed → BoardState → List ℕ → Option ℕ
+base_value l b word =
     option_or (address_of (value_of l.assembly.symbols) word)
     (option_or (lookup word ((codes "pc", pc_of b) ∷ []))
     (option_map (λ r. slice_index b.machine.registers r) (lookup word register_names)))
@@ -58,7 +57,7 @@ base l b word =
 -- what is added: `+N`, `-N`, or nothing
 unfoldable pub added : List ℕ → Option ℕ
 added [] = Some 0
-added (sign ∷ digits) = option_map (λ n. if sign == 45 then 2 ^ 32 - n else n) (number digits)
+added (sign ∷ digits) = option_map (λ n. if sign == 45 then 2 ^ 32 - n else n) (plain_number digits)
 
 -- a base with what is added, modulo 2 ^ 32
 abbrev pub is_sign : ℕ → Bool
@@ -66,17 +65,17 @@ is_sign c = (c == 43) || (c == 45)
 
 unfoldable pub sum : (List ℕ → Option ℕ) → List ℕ → Option ℕ
 sum based word =
-    option_and_then (λ value. option_map (λ n. (value + n) % 2 ^ 32) (added (drop (position_or_len is_sign word) word)))
+    option_and_then (λ a. option_map (λ n. (a + n) % 2 ^ 32) (added (drop (position_or_len is_sign word) word)))
     (based (before_first is_sign word))
 
 -- WHERE: the address of a line, or a base with what is added
 unfoldable pub address : Listed → BoardState → List ℕ → Option ℕ
-address l b word = option_map_or (listing.address_of l) (line_number word) (sum (base l b) word)
+address l b word = option_map_or (listing.address_of l) (line_number word) (sum (base_value l b) word)
 
 -- V: a number, or a base with what is added; a sign alone is of 0
-unfoldable pub value : Listed → BoardState → List ℕ → Option ℕ
-value l b word =
-    option_or (number word) (sum (λ name. if length name == 0 then Some 0 else base l b name) word)
+unfoldable pub word_value : Listed → BoardState → List ℕ → Option ℕ
+word_value l b word =
+    option_or (plain_number word) (sum (λ name. if length name == 0 then Some 0 else base_value l b name) word)
 
 -- ---- breakpoints
 
@@ -88,7 +87,7 @@ line_with_bytes l n = find (λ k. nat_lt 0 (length (bytes_of l k))) (range_with_
 unfoldable pub break_address : Listed → BoardState → List (List ℕ) → Option ℕ
 break_address l b (word ∷ []) =
     option_map_or (λ n. option_and_then (listing.address_of l) (line_with_bytes l n)) (line_number word)
-    (sum (base l b) word)
+    (sum (base_value l b) word)
 break_address l b _ = None
 
 -- ---- conditions
@@ -97,7 +96,7 @@ break_address l b _ = None
 unfoldable pub watched : Listed → BoardState → List ℕ → Option Watched
 watched l b word =
     option_or (option_map (λ r. Register r) (lookup word register_names))
-    (option_map (λ a. Word a) (option_and_then (address l b) (between 91 93 word)))
+    (option_map (λ a. Word a) (option_and_then (address l b) (enclosed (codes "[") (codes "]") word)))
 
 -- the signs of relations
 unfoldable pub relations : List (List ℕ × Relation)
@@ -106,41 +105,34 @@ relations =
     ∷ (codes "<=", AtMost) ∷ (codes ">", Greater) ∷ (codes ">=", AtLeast) ∷ []
 
 -- pc is at one of the bytes of a line, or of the next that has some; or it is at another WHERE
-unfoldable pub at : Listed → BoardState → List ℕ → Option Condition
-at l b word =
-    option_map_or (λ n. option_map (λ a.
-    At a (option_map_or (λ k. length (bytes_of l k)) (line_with_bytes l n) 1)) (listing.address_of l n))
-    (line_number word)
-    (option_map (λ a. At a 1) (sum (base l b) word))
+unfoldable pub at_place : Listed → BoardState → List ℕ → Option Condition
+at_place l b word =
+    let line = option_and_then (line_with_bytes l) (line_number word) in
+    option_map (λ a. At a (option_map_or (λ k. length (bytes_of l k)) line 1)) (address l b word)
 
--- `until`
-unfoldable pub condition : Listed → BoardState → List (List ℕ) → Option Condition
-condition l b (word ∷ []) =
+-- one word of `until`: that what it watches changes, an event, or a place
+unfoldable pub word_condition : Listed → BoardState → List ℕ → Option Condition
+word_condition l b word =
     option_or (option_map (λ w. Changed w (recording.watched_value b w)) (watched l b word))
     (option_or (lookup word
     ((codes "trap", Trap) ∷ (codes "console", Console (length b.machine.bus.serial.sent)) ∷ []))
-    (at l b word))
+    (at_place l b word))
+
+-- `until`: one word, or a comparison of what is watched
+unfoldable pub condition : Listed → BoardState → List (List ℕ) → Option Condition
+condition l b (word ∷ []) = word_condition l b word
 condition l b (word ∷ sign ∷ v ∷ []) =
-    option_and_then (λ w. option_and_then (λ relation. option_map (λ n. Compares w relation n) (value l b v))
+    option_and_then (λ w. option_and_then (λ relation. option_map (λ n. Compares w relation n) (word_value l b v))
     (lookup sign relations)) (watched l b word)
 condition l b _ = None
 
 -- ---- inputs
-
--- `line`: the inputs of a timed list
-abbrev pub line_inputs : List (List ℕ) → List Input
-line_inputs words = unwrap_or (driven words) []
 
 -- a text without the blanks at its ends
 unfoldable pub trimmed : List ℕ → List ℕ
 trimmed text =
     let front = take (length text - suffix_len is_blank text) text in
     drop (prefix_len is_blank front) front
-
--- what stands for a byte after a backslash
-unfoldable pub escapes : List (List ℕ × ℕ)
-escapes =
-    (codes "n", 10) ∷ (codes "r", 13) ∷ (codes "t", 9) ∷ (codes "0", 0) ∷ (codes "\"", 34) ∷ (codes "\\", 92) ∷ []
 
 -- the bytes of a text between quotes, if each can be read
 unfoldable pub unescaped : List ℕ → Option (List ℕ)
@@ -153,5 +145,5 @@ unescaped (c ∷ d ∷ rest) =
 -- `rx`: the bytes of a text between quotes, or those of words as in a timed list; none if they can't be read
 unfoldable pub bytes_inputs : List ℕ → Option (List Input)
 bytes_inputs text =
-    option_map_or (λ quoted. option_map (map (λ b. Rx b)) (unescaped quoted)) (between 34 34 (trimmed text))
-    (all_of byte_input (words text))
+    option_map_or (λ quoted. option_map (map (λ b. Rx b)) (unescaped quoted))
+    (enclosed (codes "\"") (codes "\"") (trimmed text)) (all_of byte_input (words text))

@@ -5,7 +5,8 @@ use Rattle.std.specs.Option.{option_map, option_map_or}
 use Rattle.rv_base.specs.Tables.{lookup}
 use Rattle.rv_lists.specs.declared.input.Input.{Input}
 use Rattle.rv_lists.specs.declared.input.Input.TheVariants.{Rx}
-use Rattle.rv_operands.specs.Operands.{base, escapes, line_with_bytes}
+use Rattle.rv_answers.specs.Memory.{escapes}
+use Rattle.rv_operands.specs.Operands.{base_value, line_with_bytes}
 use Rattle.rv_asm.specs.Lines.{Listed, address_of, bytes_of}
 use Rattle.rv_recording.specs.declared.until.Condition.{Condition}
 use Rattle.rv_recording.specs.declared.until.Condition.TheVariants.{Trap, Console}
@@ -30,7 +31,7 @@ Reads old new inputs false = inputs ≡ None
 
 -- the value of a base, which is 0 where there is only a sign
 abbrev pub base_or_zero : Listed → BoardState → List ℕ → Option ℕ
-base_or_zero l b name = if length name == 0 then Some 0 else base l b name
+base_or_zero l b name = if length name == 0 then Some 0 else base_value l b name
 
 -- the address of the first line from one on that has bytes
 abbrev pub next_address : Listed → ℕ → Option ℕ
@@ -41,6 +42,6 @@ abbrev pub size_from : Listed → ℕ → ℕ
 size_from l n = option_map_or (λ k. length (bytes_of l k)) (line_with_bytes l n) 1
 
 -- the conditions that words name
-abbrev pub event_of : BoardState → List ℕ → Option Condition
-event_of b word =
+abbrev pub named_event : BoardState → List ℕ → Option Condition
+named_event b word =
     lookup word ((codes "trap", Trap) ∷ (codes "console", Console (length b.machine.bus.serial.sent)) ∷ [])

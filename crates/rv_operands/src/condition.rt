@@ -1,12 +1,12 @@
 //! What a run goes on for.
-ghost use Rattle.std.specs.Prelude.{◌≡◌, [], ◌∷◌};
+ghost use Rattle.std.specs.Prelude.{◌≡◌};
 ghost use Rattle.rv_base.specs.Tables.{lookup};
 ghost use Rattle.rv_base.specs.Words.{words};
-ghost use Rattle.rv_operands.specs.Operands.{at, condition, relations, watched};
-ghost use Rattle.rv_operands.specs.Words.{event_of, size_from};
+ghost use Rattle.rv_operands.specs.Operands.{at_place, condition, word_condition, relations, watched};
+ghost use Rattle.rv_operands.specs.Words.{named_event, size_from};
 
 use crate::place::{Scope, line_with_bytes};
-use crate::word::{between, line_number, only_word};
+use crate::word::{enclosed, line_number, only_word};
 use rv_base::{first_word, has_word, look_up};
 use rv_isa::reg_named;
 use rv_recording::{Condition, Relation, Watched};
@@ -39,7 +39,7 @@ impl<'a> Scope<'a> {
         if let Some(register) = reg_named(word) {
             return Some(Watched::Register(register));
         }
-        let address = self.address(between(b'[', b']', word)?)?;
+        let address = self.address(enclosed(b"[", b"]", word)?)?;
         Some(Watched::Word(address))
     }
 
@@ -55,27 +55,21 @@ impl<'a> Scope<'a> {
     }
 
     /// Returns the condition of a place in the source or in memory: pc is there.
-    #[tactic(auto, unfolding(crate::specs::Operands::at))]
+    #[tactic(auto, unfolding(crate::specs::Operands::at_place))]
     fn at(&self, word: &[u8]) -> Option<Condition>
-        ensures { result ≡ at self.now.listing.now self.now.board.now word.now }
+        ensures { result ≡ at_place self.now.listing.now self.now.board.now word.now }
     {
-        match line_number(word) {
-            Some(line) => {
-                let listing = self.listing;
-                let address = listing.address(line as usize)?;
-                let size = self.size(line as usize);
-                Some(Condition::At { address, size })
-            }
-            None => {
-                let address = self.sum(word)?;
-                Some(Condition::At { address, size: 1 })
-            }
-        }
+        let address = self.address(word)?;
+        let size = match line_number(word) {
+            Some(line) => self.size(line as usize),
+            None => 1,
+        };
+        Some(Condition::At { address, size })
     }
 
-    /// Returns the condition of a word alone.
-    fn event(&self, word: &[u8]) -> Option<Condition>
-        ensures { result ≡ event_of self.now.board.now word.now }
+    /// Returns the condition of a name: of traps, or of the console.
+    fn named(&self, word: &[u8]) -> Option<Condition>
+        ensures { result ≡ named_event self.now.board.now word.now }
     {
         if b"trap".as_slice() == word {
             return Some(Condition::Trap);
@@ -88,9 +82,9 @@ impl<'a> Scope<'a> {
     }
 
     /// Returns the condition of one word: that what it watches changes, what it names, or that pc is there.
-    #[tactic(auto, unfolding(crate::specs::Operands::condition))]
-    fn alone(&self, word: &[u8]) -> Option<Condition>
-        ensures { result ≡ condition self.now.listing.now self.now.board.now (word.now ∷ []) }
+    #[tactic(auto, unfolding(crate::specs::Operands::word_condition))]
+    fn word_condition(&self, word: &[u8]) -> Option<Condition>
+        ensures { result ≡ word_condition self.now.listing.now self.now.board.now word.now }
     {
         if let Some(watched) = self.watched(word) {
             // A copy: for the borrow checker the call moves its argument.
@@ -98,7 +92,7 @@ impl<'a> Scope<'a> {
             let old = asked.value(self.board);
             return Some(Condition::Changed { watched, old });
         }
-        match self.event(word) {
+        match self.named(word) {
             Some(condition) => Some(condition),
             None => self.at(word),
         }
@@ -111,7 +105,7 @@ impl<'a> Scope<'a> {
     {
         let (word, rest) = first_word(operands)?;
         let Some((sign, rest)) = first_word(rest) else {
-            return self.alone(word);
+            return self.word_condition(word);
         };
         let value = only_word(rest)?;
         let watched = self.watched(word)?;

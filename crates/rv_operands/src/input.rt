@@ -2,46 +2,16 @@
 ghost use Rattle.std.specs.Prelude.{◌≡◌, ◌++◌, [], ◌∷◌, IfOk, OnOk};
 ghost use Rattle.std.specs.Option.{option_map};
 ghost use Rattle.rv_base.specs.Words.{words};
-ghost use Rattle.rv_lists.specs.Timed.{all_of, byte_input, driven, level_of, source_of};
+ghost use Rattle.rv_lists.specs.Timed.{all_of, byte_input};
 ghost use Rattle.rv_operands.specs.Operands.{bytes_inputs, unescaped};
 ghost use Rattle.rv_lists.specs.declared.input.Input.TheVariants.{Rx};
 ghost use Rattle.rv_operands.specs.Words.{Reads, escape_of, text_inputs};
 
-use crate::word::{between, only_word, trimmed};
-use rv_base::{NoMemory, decimal, first_word, hex_byte, look_up};
+use crate::word::{enclosed, trimmed};
+use rv_answers::escapes;
+use rv_base::{NoMemory, first_word, hex_byte, look_up};
 use rv_lists::Input;
-use rv_plic::Source;
 use std::alloc::Global;
-
-/// Reads an interrupt source.
-#[tactic(auto, unfolding(rv_lists::specs::Timed::source_of))]
-fn source(word: &[u8]) -> Option<Source>
-    ensures { result ≡ source_of word.now }
-{
-    let number = decimal(31, word)?;
-    Source::new(number as u8)
-}
-
-/// The levels of an interrupt line: low and high.
-static LEVELS: [(&str, bool); 2] = [("0", false), ("1", true)];
-
-/// Reads a level.
-#[tactic(auto, unfolding(rv_lists::specs::Timed::level_of))]
-fn level(word: &[u8]) -> Option<bool>
-    ensures { result ≡ level_of word.now }
-{
-    look_up(&LEVELS, word)
-}
-
-/// Reads the operands of `line`: a source and its level.
-pub fn read_line_input(operands: &[u8]) -> Option<Input>
-    ensures { option_map (λ input. input ∷ []) result ≡ driven (words operands.now) }
-{
-    let (number, rest) = first_word(operands)?;
-    let source = source(number)?;
-    let high = level(only_word(rest)?)?;
-    Some(Input::Line { source, high })
-}
 
 /// Appends the byte that the serial port receives.
 fn append(out: &mut Vec<Input>, byte: u8) -> Result<(), NoMemory>
@@ -67,22 +37,11 @@ fn read_words(text: &[u8], out: &mut Vec<Input>) -> Result<bool, NoMemory>
     read_words(rest, out)
 }
 
-/// The bytes that stand for others after a backslash.
-static ESCAPES: [(&str, u8); 6] = [
-    ("n", b'\n'),
-    ("r", b'\r'),
-    ("t", b'\t'),
-    ("0", 0),
-    ("\"", b'"'),
-    ("\\", b'\\'),
-];
-
 /// Returns the byte that an escape stands for, by what follows its backslash.
-#[tactic(auto, unfolding(crate::specs::Operands::escapes))]
 fn escaped(byte: u8) -> Option<u8>
     ensures { result ≡ escape_of byte }
 {
-    look_up(&ESCAPES, &[byte])
+    look_up(escapes(), &[byte])
 }
 
 /// Reads a text with escapes, and appends an input for each byte. Returns whether all can be read.
@@ -116,7 +75,7 @@ pub fn read_bytes_inputs(alloc: Global, operands: &[u8]) -> Result<Option<Vec<In
     ensures { IfOk result (λ read. option_map (λ inputs. inputs.items) read ≡ bytes_inputs operands.now) }
 {
     let mut inputs = Vec::new(alloc);
-    let can_read = match between(b'"', b'"', trimmed(operands)) {
+    let can_read = match enclosed(b"\"", b"\"", trimmed(operands)) {
         Some(text) => read_text(text, &mut inputs)?,
         None => read_words(operands, &mut inputs)?,
     };

@@ -8,6 +8,6 @@ mod input;
 mod place;
 mod word;
 
-pub use input::{read_bytes_inputs, read_line_input};
+pub use input::read_bytes_inputs;
 pub use place::{Scope, line_with_bytes};
 pub use word::{line_number, number, only_word, operands_of};

@@ -7,13 +7,14 @@ ghost use Rattle.rv_base.specs.Words.{words};
 ghost use Rattle.rv_commands.specs.Addresses.{address_of};
 ghost use Rattle.rv_isa.specs.Names.{register_names};
 ghost use Rattle.rv_program.specs.Program.{value_of};
-ghost use Rattle.rv_operands.specs.Operands.{added, address, base, break_address, is_sign, line_with_bytes, sum, value};
+ghost use Rattle.rv_operands.specs.Operands.{added, address, base_value, break_address, is_sign, line_with_bytes, sum, word_value};
 ghost use Rattle.rv_operands.specs.Words.{base_or_zero, next_address};
 
-use crate::word::{hexadecimal, line_number, number, only_word};
+use crate::word::{line_number, number, only_word};
 use rv_asm::Listing;
 use rv_base::low_word;
 use rv_board::BootedBoard;
+use rv_commands::hexadecimal;
 use rv_isa::reg_named;
 
 /// What operands speak of: the lines and the symbols of a source, and a board.
@@ -121,9 +122,9 @@ impl<'a> Scope<'a> {
     }
 
     /// Returns the value of a name, a number after `0x`, `pc` or a register.
-    #[tactic(auto, unfolding(crate::specs::Operands::base))]
+    #[tactic(auto, unfolding(crate::specs::Operands::base_value))]
     fn base(&self, word: &[u8]) -> Option<u32>
-        ensures { result ≡ base self.now.listing.now self.now.board.now word.now }
+        ensures { result ≡ base_value self.now.listing.now self.now.board.now word.now }
     {
         if let Some(value) = self.symbol(word) {
             return Some(value);
@@ -138,7 +139,7 @@ impl<'a> Scope<'a> {
     /// Returns the value of a base with what is added.
     #[tactic(auto, unfolding(crate::specs::Operands::sum))]
     pub(crate) fn sum(&self, word: &[u8]) -> Option<u32>
-        ensures { result ≡ sum (base self.now.listing.now self.now.board.now) word.now }
+        ensures { result ≡ sum (base_value self.now.listing.now self.now.board.now) word.now }
     {
         let Sum { base, added } = split_sum(word);
         let value = self.base(base)?;
@@ -171,9 +172,9 @@ impl<'a> Scope<'a> {
     }
 
     /// Returns the value that a word stands for: a number, or a base with what is added.
-    #[tactic(auto, unfolding(crate::specs::Operands::value, crate::specs::Operands::sum))]
+    #[tactic(auto, unfolding(crate::specs::Operands::word_value, crate::specs::Operands::sum))]
     pub fn value(&self, word: &[u8]) -> Option<u32>
-        ensures { result ≡ value self.now.listing.now self.now.board.now word.now }
+        ensures { result ≡ word_value self.now.listing.now self.now.board.now word.now }
     {
         if let Some(value) = number(word) {
             return Some(value);

@@ -1,13 +1,14 @@
 //! Texts, words and numbers.
-ghost use Rattle.std.specs.Prelude.{◌≡◌, ◌-◌, ◌&&◌, None, drop, length, nat_le, take};
+ghost use Rattle.std.specs.Prelude.{◌≡◌, ◌-◌, None, drop, length, take};
 ghost use Rattle.std.specs.Option.{option_map};
 ghost use Rattle.std.specs.List.{position_or_len, prefix_len, suffix_len};
 ghost use Rattle.rv_base.specs.Words.{is_blank, words};
-ghost use Rattle.rv_commands.specs.Addresses.{address_of, hexadecimal};
-ghost use Rattle.rv_operands.specs.Operands.{between, line_number, number, operands, trimmed};
+ghost use Rattle.rv_commands.specs.Addresses.{address_of};
+ghost use Rattle.rv_operands.specs.Operands.{enclosed, line_number, plain_number, operand_text, trimmed};
 ghost use Rattle.rv_operands.specs.Words.{only_of};
 
-use rv_base::{decimal, first_word, has_word, hex_digit, is_blank, low_word};
+use rv_base::{decimal, first_word, has_word, is_blank, low_word};
+use rv_commands::hexadecimal;
 
 /// Returns the only word of a text.
 pub fn only_word<'a>(text: &'a [u8]) -> Option<&'a [u8]>
@@ -18,9 +19,9 @@ pub fn only_word<'a>(text: &'a [u8]) -> Option<&'a [u8]>
 }
 
 /// Returns the operands of a line: the text that follows its first word.
-#[tactic(auto, unfolding(crate::specs::Operands::operands))]
+#[tactic(auto, unfolding(crate::specs::Operands::operand_text))]
 pub fn operands_of(line: &[u8]) -> &[u8]
-    ensures { result.now ≡ operands line.now }
+    ensures { result.now ≡ operand_text line.now }
 {
     from_blank(without_blanks(line))
 }
@@ -45,37 +46,15 @@ fn without_blanks(text: &[u8]) -> &[u8]
     }
 }
 
-/// Returns what stands between two signs, the first and the last byte of a text.
-#[tactic(auto, unfolding(crate::specs::Operands::between))]
-pub(crate) fn between(left: u8, right: u8, text: &[u8]) -> Option<&[u8]>
-    ensures { option_map (λ t. t.now) result ≡ between left right text.now }
+/// Returns what stands between two signs, with which a text begins and ends.
+#[tactic(auto, unfolding(crate::specs::Operands::enclosed))]
+pub(crate) fn enclosed<'a>(left: &[u8], right: &[u8], text: &'a [u8]) -> Option<&'a [u8]>
+    ensures { option_map (λ t. t.now) result ≡ enclosed left.now right.now text.now }
 {
-    if text.len() > 1 && text[0] == left && text[text.len() - 1] == right {
+    if text.len() > 1 && text.starts_with(left) && text.ends_with(right) {
         return Some(&text[1..text.len() - 1]);
     }
     None
-}
-
-/// Returns whether an address may have this number of hexadecimal digits.
-fn is_digit_count(count: usize) -> bool
-    ensures { result ≡ (nat_le 1 count && nat_le count 8) }
-{
-    1 <= count && count <= 8
-}
-
-/// Reads one to eight hexadecimal digits of either case.
-pub(crate) fn hexadecimal(digits: &[u8]) -> Option<u32>
-    ensures { result ≡ hexadecimal digits.now }
-{
-    if !is_digit_count(digits.len()) {
-        return None;
-    }
-    let mut sum: u32 = 0;
-    for digit in digits {
-        let value = hex_digit(*digit)?;
-        sum = 16 * sum + u32::from(value);
-    }
-    Some(sum)
 }
 
 /// Reads `0x` and a hexadecimal number.
@@ -90,9 +69,9 @@ fn prefixed(word: &[u8]) -> Option<u32>
 }
 
 /// Reads a number without a sign: decimal, or hexadecimal after `0x`.
-#[tactic(auto, unfolding(crate::specs::Operands::number))]
+#[tactic(auto, unfolding(crate::specs::Operands::plain_number))]
 pub fn number(word: &[u8]) -> Option<u32>
-    ensures { result ≡ number word.now }
+    ensures { result ≡ plain_number word.now }
 {
     match decimal(0xffff_ffff, word) {
         Some(value) => Some(low_word(value)),
