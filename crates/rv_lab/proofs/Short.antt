@@ -6,7 +6,7 @@ use Rattle.std.specs.Prelude.{◌⊎◌, ◌==◌, min, fold, Bool, false, if◌
 use Rattle.std.specs.FinSet as set
 use Rattle.rv_base.specs.declared.memory.NoMemory.{NoMemory}
 use Rattle.rv_commands.specs.declared.command.Command as commands
-use Rattle.rv_commands.specs.declared.command.Command.TheVariants as asked
+use Rattle.rv_commands.specs.declared.command.Command.TheVariants as monitored_by
 use Rattle.rv_lists.specs.Timed.{never_falls}
 use Rattle.rv_lists.specs.declared.input.Input.{Input}
 use Rattle.rv_monitor.specs.Commands as monitor
@@ -28,7 +28,7 @@ use Rattle.rv_lab.specs.Commands.{Begins, Monitors, Reads, Repeats, RunsFor, Ste
 use Rattle.rv_lab.specs.Refusals.{Leads, Refuses, RunsOut, StopsShort, by_hand, due, nowhere, steps, timed}
 use Rattle.rv_lab.specs.Short.{Gives, IsObeyedShort, IsOnWay, RunsShort}
 use Rattle.rv_lab.specs.State.{LabState}
-use Rattle.rv_lab.specs.Words.{read}
+use Rattle.rv_lab.specs.Words.{asked}
 use Rattle.rv_operands.specs.Operands.{bytes_inputs}
 use Rattle.rv_lab.specs.declared.command.Command.{Command}
 use Rattle.rv_lab.specs.declared.command.Command.TheVariants.{Again, Back, Finish, Go, Monitor, Over, Receive, Step, Trace, Until}
@@ -291,14 +291,14 @@ left_over r Again operands old new a b c d e f g h s = absurd (h refl)
 left_over r _ operands old new a b c d e f g h s = s
 
 -- a line, by its command and its operands
-refuses : (line : List ℕ) (asked : Command × List ℕ) (old mid new : LabState) → asked ≡ read line
-    → mid ≡ ready asked.0 old → RunsOut (lab.Leaves asked.0 asked.1) mid new → Refuses line old new
-refuses line asked old mid new e is s =
+refuses : (line : List ℕ) (said : Command × List ℕ) (old mid new : LabState) → said ≡ asked line
+    → mid ≡ ready said.0 old → RunsOut (lab.Leaves said.0 said.1) mid new → Refuses line old new
+refuses line said old mid new e is s =
     subst (λ (p : Command × List ℕ). RunsOut (lab.Leaves p.0 p.1) (ready p.0 old) new) e
-    (subst (λ (l : LabState). RunsOut (lab.Leaves asked.0 asked.1) l new) is s)
+    (subst (λ (l : LabState). RunsOut (lab.Leaves said.0 said.1) l new) is s)
 
 pub line_refused : {A : Type 0} (r : Result A NoMemory) (line : List ℕ) (command : Command) (operands : List ℕ)
-    (old mid new : LabState) → (command, operands) ≡ read line → mid ≡ ready command old
+    (old mid new : LabState) → (command, operands) ≡ asked line → mid ≡ ready command old
     → RunsOut (lab.Leaves command operands) mid new → OnErr r (Refuses line old new)
 line_refused r line command operands old mid new e is s =
     on_err r (Refuses line old new) (refuses line (command, operands) old mid new e is s)
@@ -498,20 +498,20 @@ module _ (s new : SessionState) (rising : never_falls s.timed.inputs ≡ true) w
 
   would : (c : Option commands.Command) → LeavesRefused c s new → Would c
   would None e = unchanged None s refl nowhere e
-  would (Some (asked.Step n)) r = taken set.empty n s new rising r
-  would (Some (asked.Go n)) r = taken s.breakpoints.addresses (unwrap_or n s.limit) s new rising r
-  would (Some (asked.SetBreak addr)) e = unchanged (Some (asked.SetBreak addr)) (with_break s addr) refl nowhere e
-  would (Some (asked.ClearBreak addr)) e =
-      unchanged (Some (asked.ClearBreak addr)) (without_break s addr) refl nowhere e
-  would (Some asked.Registers) e = unchanged (Some asked.Registers) s refl nowhere e
-  would (Some (asked.ControlRegister name csr)) e =
-      unchanged (Some (asked.ControlRegister name csr)) s refl nowhere e
-  would (Some (asked.Memory addr count)) e = unchanged (Some (asked.Memory addr count)) s refl nowhere e
-  would (Some (asked.Instruction addr)) e = unchanged (Some (asked.Instruction addr)) s refl nowhere e
-  would (Some asked.Traps) e = unchanged (Some asked.Traps) s refl nowhere e
-  would (Some (asked.Edges source)) e = unchanged (Some (asked.Edges source)) s refl nowhere e
-  would (Some asked.Quit) f = absurd f
-  would (Some asked.Nothing) f = absurd f
+  would (Some (monitored_by.Step n)) r = taken set.empty n s new rising r
+  would (Some (monitored_by.Go n)) r = taken s.breakpoints.addresses (unwrap_or n s.limit) s new rising r
+  would (Some (monitored_by.SetBreak addr)) e = unchanged (Some (monitored_by.SetBreak addr)) (with_break s addr) refl nowhere e
+  would (Some (monitored_by.ClearBreak addr)) e =
+      unchanged (Some (monitored_by.ClearBreak addr)) (without_break s addr) refl nowhere e
+  would (Some monitored_by.Registers) e = unchanged (Some monitored_by.Registers) s refl nowhere e
+  would (Some (monitored_by.ControlRegister name csr)) e =
+      unchanged (Some (monitored_by.ControlRegister name csr)) s refl nowhere e
+  would (Some (monitored_by.Memory addr count)) e = unchanged (Some (monitored_by.Memory addr count)) s refl nowhere e
+  would (Some (monitored_by.Instruction addr)) e = unchanged (Some (monitored_by.Instruction addr)) s refl nowhere e
+  would (Some monitored_by.Traps) e = unchanged (Some monitored_by.Traps) s refl nowhere e
+  would (Some (monitored_by.Edges source)) e = unchanged (Some (monitored_by.Edges source)) s refl nowhere e
+  would (Some monitored_by.Quit) f = absurd f
+  would (Some monitored_by.Nothing) f = absurd f
 
 pub obeyed_short : {A : Type 0} (r : Result A NoMemory) (line : List ℕ) (inside old new : SessionState)
     → inside ≡ old → never_falls inside.timed.inputs ≡ true

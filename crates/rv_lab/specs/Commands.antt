@@ -23,7 +23,7 @@ use Rattle.rv_lab.specs.declared.plan.Goal.{Goal}
 use Rattle.rv_lab.specs.declared.plan.Goal.TheVariants as goal
 use Rattle.rv_lab.specs.declared.command.Command.{Command}
 use Rattle.rv_lab.specs.declared.command.Command.TheVariants.{Step, Go, Over, Finish, Until, Trace, Back, Break, Clear, Receive, Line, Monitor, Again, StepOnce}
-use Rattle.rv_lab.specs.Words.{read, repeated}
+use Rattle.rv_lab.specs.Words.{asked, repeated}
 
 -- the board
 abbrev pub board : LabState → BoardState
@@ -166,4 +166,4 @@ ready command l = record l { plan = None; again = repeated command l.again }
 
 -- the lab that a line leaves
 abbrev pub Obeys : List ℕ → LabState → LabState → Type 0
-Obeys line old new = Leaves (read line).0 (read line).1 (ready (read line).0 old) new
+Obeys line old new = Leaves (asked line).0 (asked line).1 (ready (asked line).0 old) new

@@ -5,7 +5,7 @@ use Rattle.rv_lists.specs.declared.input.Input.{Input}
 use Rattle.rv_monitor.specs.State.{TimedState, after, with_due, given}
 use Rattle.rv_recording.specs.Recording.{with_timed}
 use Rattle.rv_lab.specs.State.{LabState}
-use Rattle.rv_lab.specs.Words.{read}
+use Rattle.rv_lab.specs.Words.{asked}
 use Rattle.rv_lab.specs.Commands.{Leaves, ready}
 
 -- a state leads to another by steps that are taken, the inputs before the next step, and inputs by hand
@@ -31,4 +31,4 @@ RunsOut Does old new = (new ≡ old) ⊎ (Does old new ⊎ StopsShort Does old n
 
 -- the same of a command line
 abbrev pub Refuses : List ℕ → LabState → LabState → Type 0
-Refuses line old new = RunsOut (Leaves (read line).0 (read line).1) (ready (read line).0 old) new
+Refuses line old new = RunsOut (Leaves (asked line).0 (asked line).1) (ready (asked line).0 old) new

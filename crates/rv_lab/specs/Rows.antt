@@ -1,6 +1,9 @@
 -- Not to audit: private contracts alone cite this.
 -- The tables of the program, as the definitions have them, and the lab after going back.
-use Rattle.std.specs.Prelude.{◌≡◌, ℕ, ◌-◌, List, [], ◌++◌, get_or, map, Option, option_and_then}
+use Rattle.std.specs.Prelude.{◌≡◌, ℕ, ◌-◌, List, [], ◌++◌, find, get_or, map, Option, option_and_then}
+use Rattle.std.specs.List.{list_any}
+use Rattle.std.specs.Str.{bytes_eq}
+use Rattle.rv_base.specs.Words.{words}
 use Rattle.std.specs.Option.{option_map, option_map_or}
 use Rattle.std.specs.Borrow.{Bor}
 use Rattle.rv_base.specs.Lines.{lines}
@@ -22,9 +25,9 @@ use Rattle.rv_lab.specs.declared.command.Row.{Row}
 abbrev pub named : List (Bor (List ℕ) × Row) → List (List ℕ × Command)
 named rows = map (λ r. (r.0.now, r.1.command)) rows
 
--- the other words for commands
-abbrev pub canonical : List (Bor (List ℕ) × Bor (List ℕ)) → List (List ℕ × List ℕ)
-canonical rows = map (λ r. (r.0.now, r.1.now)) rows
+-- the command of a word in a table
+abbrev pub row_of : List ℕ → List (List ℕ × Command) → Option Command
+row_of word table = option_map (λ row. row.1) (find (λ row. list_any (bytes_eq word) (words row.0)) table)
 
 -- a command was read: what is no command was answered
 abbrev pub IsQuiet : Command → Written → Written → Type 0
@@ -33,7 +36,7 @@ IsQuiet _ old new = new ≡ old
 
 -- the number of the register that words name
 abbrev pub register_of : List (List ℕ) → Option ℕ
-register_of words = option_and_then (λ name. lookup name register_names) (only_of words)
+register_of names = option_and_then (λ name. lookup name register_names) (only_of names)
 
 -- what stands of a line in a place: its number and its text, or the instruction at an address
 abbrev pub line_or_instruction : LabState → ℕ → List ℕ

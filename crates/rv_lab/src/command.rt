@@ -1,13 +1,15 @@
 //! The commands: their table, and the reading of a command line.
-ghost use Rattle.std.specs.Prelude.{◌≡◌, unwrap_or};
+ghost use Rattle.std.specs.Prelude.{◌≡◌};
+ghost use Rattle.std.specs.List.{list_any};
 ghost use Rattle.std.specs.Option.{option_map};
-ghost use Rattle.rv_base.specs.Tables.{lookup};
-ghost use Rattle.rv_lab.specs.Rows.{IsQuiet, canonical, named};
-ghost use Rattle.rv_lab.specs.Words.{command_of, commands, other_words, read, repeated, said};
+ghost use Rattle.std.specs.Str.{bytes_eq};
+ghost use Rattle.rv_base.specs.Words.{words};
+ghost use Rattle.rv_lab.specs.Rows.{IsQuiet, named, row_of};
+ghost use Rattle.rv_lab.specs.Words.{word_command, commands, asked, repeated, line_command};
 
 use crate::nearest::Nearest;
 use rv_answers::Answer;
-use rv_base::{LINE_LIMIT, begins_comment, first_word, look_up};
+use rv_base::{LINE_LIMIT, begins_comment, first_word};
 use rv_operands::operands_of;
 use std::alloc::Global;
 
@@ -76,10 +78,11 @@ pub(crate) struct Row {
     pub(crate) example: &'static str,
 }
 
-/// The commands by their words, in the order of the help.
+/// The commands by their words, in the order of the help: the first word is that of the help, and the others are
+/// as other tools have them.
 static COMMANDS: [(&str, Row); 25] = [
     (
-        "s",
+        "s step si",
         Row {
             command: Command::Step,
             form: "s [N]",
@@ -88,7 +91,7 @@ static COMMANDS: [(&str, Row); 25] = [
         },
     ),
     (
-        "c",
+        "c continue run go",
         Row {
             command: Command::Go,
             form: "c [N]",
@@ -97,7 +100,7 @@ static COMMANDS: [(&str, Row); 25] = [
         },
     ),
     (
-        "next",
+        "next n ni",
         Row {
             command: Command::Over,
             form: "next",
@@ -106,7 +109,7 @@ static COMMANDS: [(&str, Row); 25] = [
         },
     ),
     (
-        "finish",
+        "finish fin",
         Row {
             command: Command::Finish,
             form: "finish",
@@ -133,7 +136,7 @@ static COMMANDS: [(&str, Row); 25] = [
         },
     ),
     (
-        "u",
+        "u undo back",
         Row {
             command: Command::Back,
             form: "u [N]",
@@ -142,7 +145,7 @@ static COMMANDS: [(&str, Row); 25] = [
         },
     ),
     (
-        "w",
+        "w where",
         Row {
             command: Command::Where,
             form: "w",
@@ -151,7 +154,7 @@ static COMMANDS: [(&str, Row); 25] = [
         },
     ),
     (
-        "l",
+        "l list",
         Row {
             command: Command::List,
             form: "l [WHERE] [N]",
@@ -160,7 +163,7 @@ static COMMANDS: [(&str, Row); 25] = [
         },
     ),
     (
-        "b",
+        "b break",
         Row {
             command: Command::Break,
             form: "b [WHERE]",
@@ -169,7 +172,7 @@ static COMMANDS: [(&str, Row); 25] = [
         },
     ),
     (
-        "d",
+        "d delete clear",
         Row {
             command: Command::Clear,
             form: "d WHERE",
@@ -178,7 +181,7 @@ static COMMANDS: [(&str, Row); 25] = [
         },
     ),
     (
-        "r",
+        "r reg regs registers",
         Row {
             command: Command::Registers,
             form: "r [REG]",
@@ -196,7 +199,7 @@ static COMMANDS: [(&str, Row); 25] = [
         },
     ),
     (
-        "m",
+        "m mem x",
         Row {
             command: Command::Memory,
             form: "m WHERE [N] [w|t]",
@@ -214,7 +217,7 @@ static COMMANDS: [(&str, Row); 25] = [
         },
     ),
     (
-        "t",
+        "t traps",
         Row {
             command: Command::Traps,
             form: "t",
@@ -286,7 +289,7 @@ static COMMANDS: [(&str, Row); 25] = [
         },
     ),
     (
-        "help",
+        "help h",
         Row {
             command: Command::Help,
             form: "help [COMMAND]",
@@ -295,7 +298,7 @@ static COMMANDS: [(&str, Row); 25] = [
         },
     ),
     (
-        "q",
+        "q exit quit",
         Row {
             command: Command::Quit,
             form: "q",
@@ -303,34 +306,6 @@ static COMMANDS: [(&str, Row); 25] = [
             example: "q",
         },
     ),
-];
-
-/// Other words for commands, as other tools have them.
-static OTHERS: [(&str, &str); 24] = [
-    ("step", "s"),
-    ("si", "s"),
-    ("continue", "c"),
-    ("run", "c"),
-    ("go", "c"),
-    ("n", "next"),
-    ("ni", "next"),
-    ("fin", "finish"),
-    ("undo", "u"),
-    ("back", "u"),
-    ("where", "w"),
-    ("list", "l"),
-    ("break", "b"),
-    ("delete", "d"),
-    ("clear", "d"),
-    ("reg", "r"),
-    ("regs", "r"),
-    ("registers", "r"),
-    ("mem", "m"),
-    ("x", "m"),
-    ("traps", "t"),
-    ("h", "help"),
-    ("exit", "q"),
-    ("quit", "q"),
 ];
 
 /// Returns the commands by their words. A long table is read in one place, since each costs its whole proof.
@@ -341,23 +316,34 @@ pub(crate) fn commands() -> &'static [(&'static str, Row)]
     &COMMANDS
 }
 
-/// Returns the other words for commands.
-#[tactic(auto, unfolding(crate::specs::Words::other_words))]
-fn other_words() -> &'static [(&'static str, &'static str)]
-    ensures { canonical result.now ≡ other_words }
+/// Returns whether a word is among those of a text.
+fn has(text: &[u8], word: &[u8]) -> bool
+    ensures { result ≡ list_any (bytes_eq word.now) (words text.now) }
 {
-    &OTHERS
+    let Some((first, rest)) = first_word(text) else {
+        return false;
+    };
+    word == first || has(rest, word)
+}
+
+/// Returns the row of a word in a table.
+fn row_in(table: &'static [(&'static str, Row)], word: &[u8]) -> Option<Row>
+    ensures { option_map (λ r. r.command) result ≡ row_of word.now (named table.now) }
+{
+    let [row, rest @ ..] = table else {
+        return None;
+    };
+    if has(row.0.as_bytes(), word) {
+        return Some(row.1);
+    }
+    row_in(rest, word)
 }
 
 /// Returns the row of a command's word.
-#[tactic(auto, using(crate::proofs::Tables::row_is, crate::proofs::Tables::no_other))]
 pub(crate) fn row_of(word: &[u8]) -> Option<Row>
-    ensures { option_map (λ r. r.command) result ≡ lookup (unwrap_or (lookup word.now other_words) word.now) commands }
+    ensures { option_map (λ r. r.command) result ≡ row_of word.now commands }
 {
-    match look_up(other_words(), word) {
-        Some(other) => look_up(commands(), other.as_bytes()),
-        None => look_up(commands(), word),
-    }
+    row_in(commands(), word)
 }
 
 /// A command line: its command, and the text of its operands.
@@ -367,29 +353,39 @@ pub(crate) struct CommandLine<'a> {
     pub(crate) operands: &'a [u8],
 }
 
+/// Offers the words of a text.
+fn offer_words(text: &'static [u8], nearest: &mut Nearest<'_>) {
+    if let Some((word, rest)) = first_word(text) {
+        nearest.offer(word);
+        offer_words(rest, nearest);
+    }
+}
+
 /// Says that a word is no command, and which is the nearest.
 fn refuse_word(word: &[u8], nearest: &mut Nearest<'_>, answer: &mut Answer) {
     answer.say("`");
     answer.put(word);
     answer.say("` is no command");
-    for (name, _) in other_words() {
-        nearest.offer(name.as_bytes());
+    for (words, _) in commands() {
+        offer_words(operands_of(words.as_bytes()), nearest);
     }
-    for (name, _) in commands() {
-        nearest.offer(name.as_bytes());
+    for (words, _) in commands() {
+        if let Some((word, _)) = first_word(words.as_bytes()) {
+            nearest.offer(word);
+        }
     }
     nearest.append(answer);
     answer.say("; `help` shows them all\n");
 }
 
 /// Reads a command line. One that is no command is answered, and reads as `Nothing`.
-#[tactic(auto, unfolding(crate::specs::Words::read))]
+#[tactic(auto, unfolding(crate::specs::Words::asked))]
 pub(crate) fn read_command<'a>(
     line: &'a [u8],
     alloc: Global,
     answer: &mut Answer,
 ) -> CommandLine<'a>
-    ensures read { (result.command, result.operands.now) ≡ read line.now }
+    ensures read { (result.command, result.operands.now) ≡ asked line.now }
     ensures quiet { IsQuiet result.command answer.old answer.new }
 {
     let command = said(line, alloc, answer);
@@ -398,8 +394,9 @@ pub(crate) fn read_command<'a>(
 }
 
 /// Returns the command of a line.
+#[tactic(auto, using(crate::proofs::Tables::comment_is_nothing))]
 fn said(line: &[u8], alloc: Global, answer: &mut Answer) -> Command
-    ensures said { result ≡ said line.now }
+    ensures said { result ≡ line_command line.now }
     ensures quiet { IsQuiet result answer.old answer.new }
 {
     if line.len() > LINE_LIMIT {
@@ -416,9 +413,9 @@ fn said(line: &[u8], alloc: Global, answer: &mut Answer) -> Command
 }
 
 /// Returns the command of a word, or `Nothing` where it is no command, which is answered.
-#[tactic(auto, using(crate::proofs::Told::quiet_still))]
+#[tactic(auto, unfolding(crate::specs::Words::word_command), using(crate::proofs::Told::quiet_still))]
 fn command_of(word: &[u8], alloc: Global, answer: &mut Answer) -> Command
-    ensures command { result ≡ command_of word.now }
+    ensures command { result ≡ word_command word.now }
     ensures quiet { IsQuiet result answer.old answer.new }
 {
     match row_of(word) {

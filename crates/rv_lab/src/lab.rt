@@ -8,7 +8,7 @@ ghost use Rattle.rv_lab.specs.State.{setup, registers_of};
 ghost use Rattle.rv_lab.specs.Commands.{Obeys, ready};
 ghost use Rattle.rv_lab.specs.Refusals.{Refuses};
 ghost use Rattle.rv_lab.specs.Looks.{told};
-ghost use Rattle.rv_lab.specs.Words.{read};
+ghost use Rattle.rv_lab.specs.Words.{asked};
 
 use crate::command::{Command, CommandLine, read_command};
 use crate::plan::Plan;
@@ -213,7 +213,7 @@ impl Lab {
     pub fn command(&mut self, line: &[u8], answer: &mut Answer) -> Result<Next, NoMemory>
         ensures setup { setup self.new ≡ setup self.old }
         ensures obeys { OnOk result (Obeys line.now self.old self.new) }
-        ensures tells { OnOk result (IfSome (told (read line.now).0 (read line.now).1 self.old)
+        ensures tells { OnOk result (IfSome (told (asked line.now).0 (asked line.now).1 self.old)
             (λ text. answer.new.bytes ≡ answer.old.bytes ++ text)) }
         ensures err { OnErr result (Refuses line.now self.old self.new) }
     {
