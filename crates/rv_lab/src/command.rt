@@ -78,8 +78,8 @@ pub(crate) struct Row {
     pub(crate) example: &'static str,
 }
 
-/// The commands by their words, in the order of the help: the first word is that of the help, and the others are
-/// as other tools have them.
+/// The commands by their words, in the order of the help: the first word is that of the help, and the others
+/// are as other tools have them.
 static COMMANDS: [(&str, Row); 25] = [
     (
         "s step si",
