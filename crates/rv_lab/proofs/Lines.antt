@@ -5,7 +5,7 @@ use Rattle.std.specs.List.{range_with_len}
 use Rattle.std.proofs.lemmas.Bool.Decides.{nat_tests}
 use Rattle.std.proofs.lemmas.List.{get_or_past}
 use Rattle.rv_asm.specs.Lines.{Listed, HasByteAt}
-use Rattle.rv_lab.specs.Looks.{line_at}
+use Rattle.rv_lab.specs.Lines.{line_at}
 
 -- ---- the only number of a range that passes a test
 

@@ -27,22 +27,12 @@ use Rattle.rv_answers.specs.declared.extent.Format.TheVariants.{Bytes, Words, Te
 use Rattle.rv_lab.specs.State.{LabState, registers_of}
 use Rattle.rv_lab.specs.Commands.{board}
 use Rattle.rv_lab.specs.Devices.{csr_told, edges_told}
+use Rattle.rv_lab.specs.Lines.{instruction_told, label_at, line_at, list_told}
 use Rattle.rv_lab.specs.declared.command.Command.{Command}
-use Rattle.rv_lab.specs.declared.command.Command.TheVariants.{Where, Break, Registers, ControlRegister, Memory, Traps, Edges}
+use Rattle.rv_lab.specs.declared.command.Command.TheVariants.{Where, Break, Registers, ControlRegister, Memory, Instruction, Traps, Edges}
+use Rattle.rv_lab.specs.declared.command.Command.TheVariants as command
 
 -- ---- places
-
--- the line that has a byte at an address
-unfoldable pub line_at : Listed → ℕ → Option ℕ
-line_at l a =
-    find (λ n. nat_le (get_or l.addresses (n - 1) 0) a && nat_lt a (get_or l.addresses n 0))
-    (range_with_len 1 (length l.addresses - 1))
-
--- the last label at an address of the image or before it, with the distance from it
-unfoldable pub label_at : Listed → ℕ → Option (List ℕ × ℕ)
-label_at l a =
-    option_and_then (λ line. option_map (λ label. (label.0, a - label.1))
-    (last_or None (filter (λ label. nat_le label.1 a) l.labels))) (line_at l a)
 
 -- an address, with its label and its line
 unfoldable pub place : LabState → ℕ → List ℕ
@@ -161,6 +151,8 @@ told Break operands l = alone (words operands) (breaks_told l)
 told Registers operands l = registers_told l (words operands)
 told ControlRegister operands l = csr_told l (words operands)
 told Memory operands l = memory_told l (words operands)
+told Instruction operands l = instruction_told l (words operands)
+told command.List operands l = list_told l (words operands)
 told Traps operands l = Some (traps_told l)
 told Edges operands l = edges_told l (words operands)
 told _ operands l = None

@@ -14,7 +14,7 @@ use Rattle.rv_operands.specs.Words.{only_of}
 use Rattle.rv_answers.specs.Answer.{Written}
 use Rattle.rv_answers.specs.Places.{instruction_text, number_text}
 use Rattle.rv_lab.specs.Commands.{board}
-use Rattle.rv_lab.specs.Looks.{line_at}
+use Rattle.rv_lab.specs.Lines.{line_at}
 use Rattle.rv_recording.specs.Recording.{gone_back}
 use Rattle.rv_lab.specs.State.{LabState, registers_of}
 use Rattle.rv_lab.specs.declared.command.Command.{Command}

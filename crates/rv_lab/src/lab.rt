@@ -15,7 +15,7 @@ use crate::plan::Plan;
 use crate::registers::registers_of;
 use rv_answers::{Answer, Registers};
 use rv_asm::{Listing, Program, list};
-use rv_base::{NoMemory, low_word};
+use rv_base::NoMemory;
 use rv_board::BootedBoard;
 use rv_opening::OpenFault;
 use rv_recording::Recording;
@@ -174,11 +174,6 @@ impl Lab {
     /// Returns the program of the source.
     pub(crate) fn program(&self) -> &Program {
         self.listing.program()
-    }
-
-    /// Returns the number of bytes of a line, counted from 1.
-    pub(crate) fn size(&self, line: usize) -> u32 {
-        low_word(self.listing.bytes(line).len() as u64)
     }
 
     /// Appends the source's name and size, and where the board stands.

@@ -3,7 +3,7 @@ ghost use Rattle.std.specs.Prelude.{◌≡◌, ℕ, List};
 ghost use Rattle.std.specs.Option.{option_map};
 ghost use Rattle.rv_answers.specs.Answer.{Appended};
 ghost use Rattle.rv_answers.specs.Places.{near_text};
-ghost use Rattle.rv_lab.specs.Looks.{label_at, line_at};
+ghost use Rattle.rv_lab.specs.Lines.{label_at, line_at};
 
 use rv_answers::{Answer, append_label};
 use rv_asm::{Listing, NearLabel};
@@ -17,7 +17,7 @@ pub(crate) fn line_at(listing: &Listing, address: u32) -> Option<usize>
 }
 
 /// Returns the nearest label before an address of the image, with the distance from it.
-#[tactic(auto, unfolding(crate::specs::Looks::label_at))]
+#[tactic(auto, unfolding(crate::specs::Lines::label_at))]
 fn near_label<'a>(listing: &'a Listing, address: u32) -> Option<NearLabel<'a>>
     ensures { option_map {U = List ℕ × ℕ} (λ n. (n.name, n.distance)) result ≡ label_at listing.now address }
 {

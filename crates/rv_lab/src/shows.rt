@@ -7,7 +7,8 @@ ghost use Rattle.rv_answers.specs.Standing.{pc_text};
 ghost use Rattle.rv_lab.specs.Commands.{board};
 ghost use Rattle.rv_answers.specs.Registers.{register_text};
 ghost use Rattle.rv_answers.specs.Traps.{trap_text};
-ghost use Rattle.rv_lab.specs.Looks.{all_registers, comes_again, label_at, memory_told, registers_told, short_place, trap_rows, traps_told};
+ghost use Rattle.rv_lab.specs.Looks.{all_registers, comes_again, memory_told, registers_told, short_place, trap_rows, traps_told};
+ghost use Rattle.rv_lab.specs.Lines.{instruction_at, instruction_told, label_at};
 ghost use Rattle.rv_lab.specs.Rows.{register_of};
 
 use crate::lab::Lab;
@@ -106,20 +107,29 @@ impl Lab {
         append_memory(self.board(), address, extent, answer);
     }
 
-    /// Executes `i`.
-    pub(crate) fn instruction_command(&self, operands: &[u8], answer: &mut Answer) {
-        let address = match first_word(operands) {
-            Some((word, _)) => self.address_of("i", word, answer),
-            None => Some(self.board().pc()),
-        };
-        let Some(address) = address else {
-            return;
-        };
+    /// Appends the line of an address: its label and its instruction.
+    #[tactic(auto, using(rv_answers::proofs::Pieces::then), unfolding(crate::specs::Lines::instruction_at, rv_answers::specs::Places::place_text))]
+    fn append_instruction_line(&self, address: u32, answer: &mut Answer)
+        ensures { Appended answer.old answer.new (instruction_at self.now address) }
+    {
         answer.word(address);
         self.append_label(address, answer);
         answer.say("  ");
         append_instruction_at(self.board(), address, answer);
         answer.end();
+    }
+
+    /// Executes `i`.
+    #[tactic(auto, unfolding(crate::specs::Lines::instruction_told))]
+    pub(crate) fn instruction_command(&self, operands: &[u8], answer: &mut Answer)
+        ensures { IfSome (instruction_told self.now (words operands.now)) (Appended answer.old answer.new) }
+    {
+        let Some((word, _)) = first_word(operands) else {
+            return self.append_instruction_line(self.board().pc(), answer);
+        };
+        if let Some(address) = self.address_of("i", word, answer) {
+            self.append_instruction_line(address, answer);
+        }
     }
 
     /// Executes `t`.

@@ -1,0 +1,97 @@
+-- To audit: public contracts cite this.
+-- The lines of a lab's source by their addresses, and the texts that `i` and `l` answer (this project's own:
+-- docs/LAB.md).
+use Rattle.std.specs.Prelude.{ℕ, ◌+◌, ◌-◌, ◌/◌, ◌==◌, ◌&&◌, Bool, false, List, [], ◌∷◌, ◌++◌, codes, filter, find, get_or, if◌then◌else◌, length, max, min, nat_le, nat_lt, Option, Some, None, option_and_then, unwrap_or}
+use Rattle.std.specs.FinSet as set
+use Rattle.std.specs.List.{flat_map, last_or, range_with_len}
+use Rattle.std.specs.Option.{option_map, option_map_or, option_or}
+use Rattle.rv_base.specs.Lines.{lines}
+use Rattle.rv_asm.specs.Lines.{Listed, address_of, bytes_of}
+use Rattle.rv_monitor.specs.Views.{word_of}
+use Rattle.rv_operands.specs.Operands.{address, line_number}
+use Rattle.rv_answers.specs.Places.{length_text, place_text, row_text}
+use Rattle.rv_answers.specs.declared.rows.Row.{Row}
+use Rattle.rv_lab.specs.State.{LabState}
+use Rattle.rv_lab.specs.Commands.{board, count_of}
+
+-- ---- addresses
+
+-- the line that has a byte at an address
+unfoldable pub line_at : Listed → ℕ → Option ℕ
+line_at l a =
+    find (λ n. nat_le (get_or l.addresses (n - 1) 0) a && nat_lt a (get_or l.addresses n 0))
+    (range_with_len 1 (length l.addresses - 1))
+
+-- the last label at an address of the image or before it, with the distance from it
+unfoldable pub label_at : Listed → ℕ → Option (List ℕ × ℕ)
+label_at l a =
+    option_and_then (λ line. option_map (λ label. (label.0, a - label.1))
+    (last_or None (filter (λ label. nat_le label.1 a) l.labels))) (line_at l a)
+
+-- the address of line n, if it has bytes
+abbrev pub bytes_at : Listed → ℕ → Option ℕ
+bytes_at l n = if length (bytes_of l n) == 0 then None else address_of l n
+
+-- ---- `i`
+
+-- an address with its label, and the instruction there
+unfoldable pub instruction_at : LabState → ℕ → List ℕ
+instruction_at l a = place_text a (label_at l.listing a) None (word_of (board l) a) ++ codes "\n"
+
+-- of pc, or of the address of a word
+unfoldable pub instruction_told : LabState → List (List ℕ) → Option (List ℕ)
+instruction_told l [] = Some (instruction_at l (board l).machine.pc)
+instruction_told l (word ∷ more) = option_map (instruction_at l) (address l.listing (board l) word)
+
+-- ---- `l`
+
+-- pc is at one of the bytes of line n
+abbrev pub is_here : LabState → ℕ → Bool
+is_here l n = option_map_or (λ here. here == n) (line_at l.listing (board l).machine.pc) false
+
+-- a breakpoint is at its address
+abbrev pub is_marked : LabState → ℕ → Bool
+is_marked l n =
+    option_map_or (set.contains l.recording.session.breakpoints.addresses) (bytes_at l.listing n) false
+
+-- its first word, if it has four bytes
+abbrev pub line_word : LabState → ℕ → Option ℕ
+line_word l n =
+    if nat_lt (length (bytes_of l.listing n)) 4 then None
+    else option_and_then (word_of (board l)) (bytes_at l.listing n)
+
+-- the row of line n
+unfoldable pub row_of : LabState → ℕ → Row
+row_of l n = record {
+  is_here = is_here l n;
+  is_marked = is_marked l n;
+  address = bytes_at l.listing n;
+  word = line_word l n;
+  has_more = nat_lt 4 (length (bytes_of l.listing n));
+}
+
+unfoldable pub line_row : LabState → ℕ → List ℕ
+line_row l n = row_text (row_of l n) n (get_or (lines l.source) (n - 1) [])
+
+-- the rows of some lines from one on: of those that the source has
+unfoldable pub line_rows : LabState → (first count : ℕ) → List ℕ
+line_rows l first count =
+    flat_map (line_row l) (range_with_len first (min count (length (lines l.source) + 1 - first)))
+
+-- the rows of some lines round one, or how many lines there are where they would begin behind the last
+unfoldable pub rows_round : LabState → (line count : ℕ) → List ℕ
+rows_round l line count =
+    let first = max 1 (line - count / 2) in
+    let last = length l.listing.addresses - 1 in
+    if nat_lt last first then length_text last else line_rows l first count
+
+-- the line that a word stands for: its number, or the line at an address
+unfoldable pub line_of : LabState → List ℕ → Option ℕ
+line_of l word =
+    option_or (line_number word) (option_and_then (line_at l.listing) (address l.listing (board l) word))
+
+-- round pc's line, or the line of a word; 11 lines, or as many as the next word says
+unfoldable pub list_told : LabState → List (List ℕ) → Option (List ℕ)
+list_told l [] = Some (rows_round l (unwrap_or (line_at l.listing (board l).machine.pc) 1) 11)
+list_told l (word ∷ more) =
+    option_and_then (λ line. option_map (rows_round l line) (count_of 11 1000 more)) (line_of l word)
