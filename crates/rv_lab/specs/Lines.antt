@@ -7,7 +7,7 @@ use Rattle.std.specs.List.{flat_map, last_or, range_with_len}
 use Rattle.std.specs.Option.{option_map, option_map_or, option_or}
 use Rattle.rv_base.specs.Lines.{lines}
 use Rattle.rv_asm.specs.Lines.{Listed, address_of, bytes_of}
-use Rattle.rv_monitor.specs.Views.{word_of}
+use Rattle.rv_monitor.specs.Views.{word_at}
 use Rattle.rv_operands.specs.Operands.{address, line_number}
 use Rattle.rv_answers.specs.Places.{length_text, place_text, row_text}
 use Rattle.rv_answers.specs.declared.rows.Row.{Row}
@@ -36,7 +36,7 @@ bytes_at l n = if length (bytes_of l n) == 0 then None else address_of l n
 
 -- an address with its label, and the instruction there
 unfoldable pub instruction_at : LabState → ℕ → List ℕ
-instruction_at l a = place_text a (label_at l.listing a) None (word_of (board l) a) ++ codes "\n"
+instruction_at l a = place_text a (label_at l.listing a) None (word_at (board l) a) ++ codes "\n"
 
 -- of pc, or of the address of a word
 unfoldable pub instruction_told : LabState → List (List ℕ) → Option (List ℕ)
@@ -58,7 +58,7 @@ is_marked l n =
 abbrev pub line_word : LabState → ℕ → Option ℕ
 line_word l n =
     if nat_lt (length (bytes_of l.listing n)) 4 then None
-    else option_and_then (word_of (board l)) (bytes_at l.listing n)
+    else option_and_then (word_at (board l)) (bytes_at l.listing n)
 
 -- the row of line n
 unfoldable pub row_of : LabState → ℕ → Row

@@ -14,7 +14,7 @@ use Rattle.rv_isa.specs.Names.{register_names}
 use Rattle.rv_asm.specs.Lines.{Listed}
 use Rattle.rv_board.specs.BoardState.{BoardState}
 use Rattle.rv_board.specs.declared.event.TrapRecord.{TrapRecord}
-use Rattle.rv_monitor.specs.Views.{byte_at_offset, word_of}
+use Rattle.rv_monitor.specs.Views.{byte_at_offset, word_at}
 use Rattle.rv_operands.specs.Operands.{address}
 use Rattle.rv_answers.specs.Answer.{Written, Appended}
 use Rattle.rv_answers.specs.Places.{instruction_text, near_text, place_text, short_place_text}
@@ -38,7 +38,7 @@ use Rattle.rv_lab.specs.declared.command.Command.TheVariants as command
 unfoldable pub place : LabState → ℕ → List ℕ
 place l a =
     place_text a (label_at l.listing a)
-    (option_map (λ n. (n, get_or (lines l.source) (n - 1) [])) (line_at l.listing a)) (word_of (board l) a)
+    (option_map (λ n. (n, get_or (lines l.source) (n - 1) [])) (line_at l.listing a)) (word_at (board l) a)
 
 -- the number of its line, its label, and the address
 unfoldable pub short_place : LabState → ℕ → List ℕ
@@ -51,7 +51,7 @@ where_told l =
     let b = board l in
     step_text l.recording.session.timed.taken b.machine.mode
     ++ option_map_or (λ code. halted_text code l.recording.session.timed.taken) b.machine.bus.halt []
-    ++ (place l b.machine.pc ++ codes "\n") ++ codes "  " ++ instruction_text (word_of b b.machine.pc)
+    ++ (place l b.machine.pc ++ codes "\n") ++ codes "  " ++ instruction_text (word_at b b.machine.pc)
     ++ codes "\n"
 
 -- ---- `b` alone
@@ -94,7 +94,7 @@ dump row cell wide a n = flat_map (dump_row row cell wide a n) (range_with_len 0
 
 -- word i from an address on
 abbrev pub word_cell : BoardState → ℕ → ℕ → Option ℕ
-word_cell b a i = word_of b ((a + 4 * i) % 2 ^ 32)
+word_cell b a i = word_at b ((a + 4 * i) % 2 ^ 32)
 
 -- the bytes, of n, before a zero or the end of memory
 abbrev pub char_at : BoardState → ℕ → ℕ → ℕ

@@ -7,7 +7,7 @@ use Rattle.rv_base.specs.Words.{words}
 use Rattle.std.specs.Option.{option_map, option_map_or}
 use Rattle.std.specs.Borrow.{Bor}
 use Rattle.rv_base.specs.Lines.{lines}
-use Rattle.rv_monitor.specs.Views.{word_of}
+use Rattle.rv_monitor.specs.Views.{word_at}
 use Rattle.rv_base.specs.Tables.{lookup}
 use Rattle.rv_isa.specs.Names.{register_names}
 use Rattle.rv_operands.specs.Words.{only_of}
@@ -43,7 +43,7 @@ abbrev pub line_or_instruction : LabState → ℕ → List ℕ
 line_or_instruction l a =
     option_map_or (λ (line : ℕ × List ℕ). number_text line.0 ++ line.1)
     (option_map (λ n. (n, get_or (lines l.source) (n - 1) [])) (line_at l.listing a))
-    (instruction_text (word_of (board l) a))
+    (instruction_text (word_at (board l) a))
 
 -- a lab after its first n steps
 abbrev pub backed : LabState → ℕ → LabState

@@ -5,7 +5,7 @@ ghost use Rattle.rv_answers.specs.Answer.{Appended};
 ghost use Rattle.rv_answers.specs.Memory.{bytes_row, escaped, words_row};
 ghost use Rattle.rv_lab.specs.Looks.{char_at, dump, dump_row, shown, text_length, text_row, word_cell};
 ghost use Rattle.rv_answers.specs.Places.{instruction_text};
-ghost use Rattle.rv_monitor.specs.Views.{byte_at_offset, word_of};
+ghost use Rattle.rv_monitor.specs.Views.{byte_at_offset, word_at};
 
 use rv_answers::{
     Answer, Extent, Format, append_bytes_row, append_escaped, append_instruction, append_words_row,
@@ -22,7 +22,7 @@ pub(crate) fn instruction_at(board: &BootedBoard, address: u32) -> Option<Instr>
 
 /// Appends the word at an address and the text of its instruction.
 pub(crate) fn append_instruction_at(board: &BootedBoard, address: u32, answer: &mut Answer)
-    ensures { Appended answer.old answer.new (instruction_text (word_of board.now address)) }
+    ensures { Appended answer.old answer.new (instruction_text (word_at board.now address)) }
 {
     append_instruction(word_at(board, address), answer);
 }

@@ -76,8 +76,8 @@ word_from (Some b0) (Some b1) (Some b2) (Some b3) = Some (b0 + 256 * b1 + 65536 
 word_from _ _ _ _ = None
 
 -- the word at an address, if there is memory for it
-unfoldable pub word_of : BoardState → ℕ → Option ℕ
-word_of b addr =
+unfoldable pub word_at : BoardState → ℕ → Option ℕ
+word_at b addr =
     word_from (byte_at_offset b addr 0) (byte_at_offset b addr 1) (byte_at_offset b addr 2) (byte_at_offset b addr 3)
 
 -- a word and its instruction, or `illegal` where no instruction has the word; `--------` where there is no
@@ -88,7 +88,7 @@ word_text (Some word) = hex 8 word ++ codes " " ++ option_map_or text (means wor
 
 -- `i`: the instruction at an address
 unfoldable pub instruction_text : BoardState → ℕ → List ℕ
-instruction_text b addr = line (hex 8 addr ++ codes ": " ++ word_text (word_of b addr))
+instruction_text b addr = line (hex 8 addr ++ codes ": " ++ word_text (word_at b addr))
 
 -- ---- traps
 

@@ -10,7 +10,7 @@ use Rattle.rv_hart.specs.declared.trap.Outcome.{Outcome}
 use Rattle.rv_hart.specs.declared.trap.Outcome.TheVariants.{Trapped}
 use Rattle.rv_hart.specs.Step.{step}
 use Rattle.rv_monitor.specs.State.{SessionState, TimedState, after, with_due}
-use Rattle.rv_monitor.specs.Views.{word_of}
+use Rattle.rv_monitor.specs.Views.{word_at}
 use Rattle.rv_recording.specs.Until.{end_at}
 use Rattle.rv_recording.specs.declared.until.End.{End}
 
@@ -35,7 +35,7 @@ open_after calls kind outcome = open_by calls kind
 -- the number after the next step of a state, and after n steps
 unfoldable pub open_of_step : ℕ → TimedState → ℕ
 open_of_step calls s =
-    open_after calls (option_and_then means (word_of s.board s.board.machine.pc)) (step (with_due s).board.machine).1
+    open_after calls (option_and_then means (word_at s.board s.board.machine.pc)) (step (with_due s).board.machine).1
 
 unfoldable pub open_at : ℕ → TimedState → ℕ → ℕ
 open_at calls s zero = calls

@@ -12,7 +12,7 @@ use Rattle.rv_hart.specs.Step.{step}
 use Rattle.rv_board.specs.BoardState.{BoardState}
 use Rattle.rv_monitor.specs.State.{SessionState, TimedState, after, with_due}
 use Rattle.rv_monitor.specs.Stops.{may_step}
-use Rattle.rv_monitor.specs.Views.{word_of}
+use Rattle.rv_monitor.specs.Views.{word_at}
 use Rattle.rv_recording.specs.Recording.{RecordingState, run_length, with_timed}
 use Rattle.rv_recording.specs.declared.until.Watched.{Watched}
 use Rattle.rv_recording.specs.declared.until.Watched.TheVariants.{Register, Word}
@@ -28,7 +28,7 @@ use Rattle.rv_recording.specs.declared.until.End.TheVariants.{Halted, Reached, B
 -- the value of what is watched, if it has one
 abbrev pub watched_value : BoardState → Watched → Option ℕ
 watched_value b (Register r) = Some (slice_index b.machine.registers r)
-watched_value b (Word addr) = word_of b addr
+watched_value b (Word addr) = word_at b addr
 
 -- whether two words compare so, as signed numbers
 abbrev pub relates : Relation → ℕ → ℕ → Bool

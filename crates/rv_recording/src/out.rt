@@ -3,7 +3,7 @@ ghost use Rattle.std.specs.Prelude.{◌≡◌, ◌-◌, IfOk, OnErr};
 ghost use Rattle.std.specs.Option.{option_and_then};
 ghost use Rattle.rv_isa.specs.Meaning.{means};
 ghost use Rattle.rv_board.specs.State.{pc_of};
-ghost use Rattle.rv_monitor.specs.Views.{word_of};
+ghost use Rattle.rv_monitor.specs.Views.{word_at};
 ghost use Rattle.rv_recording.specs.Out.{after_call, open_after, open_at, open_by, open_of_step, out_at};
 ghost use Rattle.rv_recording.specs.Recording.{run_length};
 ghost use Rattle.rv_recording.specs.Until.{HasRun};
@@ -27,7 +27,7 @@ fn after_call(calls: u64) -> u64
 
 /// Returns the instruction at the pc, if there is one.
 fn next_instr(board: &BootedBoard) -> Option<Instr>
-    ensures { result ≡ option_and_then means (word_of board.now (pc_of board.now)) }
+    ensures { result ≡ option_and_then means (word_at board.now (pc_of board.now)) }
 {
     decode(word_at(board, board.pc())?)
 }

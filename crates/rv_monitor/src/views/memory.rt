@@ -3,7 +3,7 @@ ghost use Rattle.std.specs.Prelude.{◌≡◌, ◌++◌, ◌+◌, ◌-◌, ◌*�
 ghost use Rattle.rv_monitor.specs.Growth.{GrewBy};
 ghost use Rattle.rv_monitor.specs.Room.{memory_room, instruction_room};
 ghost use Rattle.rv_monitor.specs.Labels.{byte_text, memory_line};
-ghost use Rattle.rv_monitor.specs.Views.{pieces, byte_at_offset, byte_in_line, memory_text, word_of, word_text, instruction_text};
+ghost use Rattle.rv_monitor.specs.Views.{pieces, byte_at_offset, byte_in_line, memory_text, word_at, word_text, instruction_text};
 
 use rv_base::{NoMemory, append_within, byte_digits, word_digits};
 use rv_board::Board;
@@ -94,9 +94,9 @@ pub fn write_memory<M: ByteMemory, C: Decoded>(
 }
 
 /// Returns the word at an address, low byte first, if there is memory for all its bytes.
-#[tactic(auto, unfolding(crate::specs::Views::word_of))]
+#[tactic(auto, unfolding(crate::specs::Views::word_at))]
 pub fn word_at<M: ByteMemory, C: Decoded>(board: &Board<M, C>, addr: u32) -> Option<u32>
-    ensures { result ≡ word_of board.now addr }
+    ensures { result ≡ word_at board.now addr }
 {
     let bytes = (
         byte_at(board, addr, 0),
