@@ -4,7 +4,7 @@ ghost use Rattle.rv_lab.specs.Commands.{Changes, Leaves, Repeats};
 ghost use Rattle.rv_lab.specs.Refusals.{RunsOut, StopsShort};
 ghost use Rattle.rv_lab.specs.State.{setup};
 ghost use Rattle.rv_lab.specs.Looks.{Tells};
-ghost use Rattle.rv_lab.specs.declared.command.Command.TheVariants.{Break};
+ghost use Rattle.rv_lab.specs.declared.command.Command.TheVariants.{Break, List};
 
 use crate::command::Command;
 use crate::lab::{Lab, Next};
@@ -92,9 +92,10 @@ impl Lab {
         }
     }
 
-    /// Executes a command that only looks; `b` does not.
+    /// Executes a command that only looks; `b` and `l` do not.
     fn look(&self, command: Command, operands: &[u8], answer: &mut Answer)
-        requires { command ≢ Break }
+        requires no_break { command ≢ Break }
+        requires no_list { command ≢ List }
         ensures { Tells command operands.now self.now answer.old answer.new }
     {
         match command {
