@@ -12,7 +12,7 @@ use Rattle.rv_lists.specs.declared.input.Input.{Input}
 use Rattle.rv_monitor.specs.Commands as monitor
 use Rattle.rv_monitor.specs.Commands.{LeavesRefused, command_in}
 use Rattle.rv_monitor.specs.State.{Addresses, SessionState, TimedState, after, given, most_of, with_due, with_break, without_break}
-use Rattle.rv_monitor.specs.Stops.{TakesStep, WasRefused, may_step, stop_after, steps_between}
+use Rattle.rv_monitor.specs.Stops.{TakesStep, WasRefused, may_step, steps_between}
 use Rattle.rv_monitor.specs.Stops as stops
 use Rattle.rv_monitor.proofs.Steps.{after_due, after_more, after_rises}
 use Rattle.rv_recording.specs.Recording.{RecordingState, with_timed}
@@ -24,7 +24,7 @@ use Rattle.rv_recording.specs.declared.until.End.{End}
 use Rattle.rv_recording.proofs.Ahead.{runs_from, takes_from}
 use Rattle.rv_recording.proofs.Running.{stands}
 use Rattle.rv_lab.specs.Commands as lab
-use Rattle.rv_lab.specs.Commands.{Begins, Monitors, Reads, Repeats, RunsFor, Steps, Took, Traced, begun, ready, stepped, stepped_by, with_inputs, with_session}
+use Rattle.rv_lab.specs.Commands.{Begins, Monitors, Reads, Repeats, Steps, Took, Traced, begun, ready, stepped, stepped_by, with_inputs, with_session}
 use Rattle.rv_lab.specs.Refusals.{Leads, Refuses, RunsOut, StopsShort, by_hand, due, nowhere, steps, timed}
 use Rattle.rv_lab.specs.Short.{Gives, IsObeyedShort, IsOnWay, RunsShort}
 use Rattle.rv_lab.specs.State.{LabState}

@@ -1,5 +1,5 @@
 -- Rows of the source, one after another.
-use Rattle.std.proofs.Common.{◌≡◌, ◌∙◌, ℕ, zero, suc, ◌+◌, ◌-◌, ◌<◌, ◌≤◌, List, [], ◌∷◌, drop, get_or, length, min, refl, sym, ap, subst, arith, length-drop}
+use Rattle.std.proofs.Common.{◌≡◌, ◌∙◌, ℕ, zero, suc, ◌+◌, ◌-◌, ◌<◌, ◌≤◌, List, [], ◌∷◌, drop, get_or, length, min, sym, subst, arith}
 use Rattle.std.specs.List.{flat_map, range_with_len}
 use Rattle.rv_base.specs.Lines.{lines}
 use Rattle.rv_base.proofs.LineSplitting.{lines_length}
@@ -56,8 +56,8 @@ module _ (l : LabState) (first passed : ℕ) (left rest : List (List ℕ)) (text
       (subst (λ t. Appended b c (row_text (row_of l number) number t))
       (is_first (lines l.source) rest text [] (number - 1) (rw (index number n) (sym e ∙ g)))
       (subst (λ r. Appended b c (row_text r number text)) is p)) where
-    index : (number : ℕ) → number ≡ first + passed → number - 1 ≡ first - 1 + passed
-    index number n = omega (arith, n, h)
+        index : (number : ℕ) → number ≡ first + passed → number - 1 ≡ first - 1 + passed
+        index number n = omega (arith, n, h)
 
   -- the lines ended
   pub no_more_lines : (count : ℕ) (a b : Written) → passed ≤ count → passed ≤ length (lines l.source) + 1 - first

@@ -1,9 +1,9 @@
 -- To audit: public contracts cite this.
 -- The texts that commands which look answer: what each reads of a lab (this project's own: docs/LAB.md).
-use Rattle.std.specs.Prelude.{ℕ, ◌+◌, ◌-◌, ◌*◌, ◌%◌, ◌^◌, ◌==◌, ◌&&◌, Bool, false, List, [], ◌∷◌, ◌++◌, codes, filter, find, get_or, if◌then◌else◌, length, map, min, nat_le, nat_lt, slice_get, slice_index, Option, Some, None, IfSome, option_and_then, unwrap_or}
+use Rattle.std.specs.Prelude.{ℕ, ◌+◌, ◌-◌, ◌*◌, ◌%◌, ◌^◌, ◌==◌, ◌&&◌, Bool, false, List, [], ◌∷◌, ◌++◌, codes, get_or, if◌then◌else◌, length, map, min, slice_get, slice_index, Option, Some, None, IfSome, option_and_then, unwrap_or}
 use Rattle.std.specs.FinSet as set
 use Rattle.std.specs.Int.{div_ceil}
-use Rattle.std.specs.List.{flat_map, last_or, position_or_len, range_with_len}
+use Rattle.std.specs.List.{flat_map, position_or_len, range_with_len}
 use Rattle.std.specs.Option.{option_map, option_map_or}
 use Rattle.rv_base.specs.Digits.{hex}
 use Rattle.rv_base.specs.Limits.{ram_base}
@@ -11,7 +11,6 @@ use Rattle.rv_base.specs.Lines.{lines}
 use Rattle.rv_base.specs.Tables.{lookup}
 use Rattle.rv_base.specs.Words.{words}
 use Rattle.rv_isa.specs.Names.{register_names}
-use Rattle.rv_asm.specs.Lines.{Listed}
 use Rattle.rv_board.specs.BoardState.{BoardState}
 use Rattle.rv_board.specs.declared.event.TrapRecord.{TrapRecord}
 use Rattle.rv_monitor.specs.Views.{byte_at_offset, word_at}

@@ -1,6 +1,6 @@
 -- To audit: public contracts cite this.
 -- What a call of the page leaves, and what it copies.
-use Rattle.std.specs.Prelude.{◌≡◌, ◌≢◌, ℕ, false, None, IfSome, Ok, Err, List, [], length, max, take, drop}
+use Rattle.std.specs.Prelude.{◌≡◌, ◌≢◌, ℕ, false, None, IfSome, Ok, Err, List, [], max, take, drop}
 use Rattle.std.specs.Option.{option_map_or}
 use Rattle.rv_asm.specs.Lines.{listed}
 use Rattle.rv_opening.specs.Opening.{Opens}

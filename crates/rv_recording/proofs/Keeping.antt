@@ -1,7 +1,7 @@
 -- The states that a recording keeps on the way.
 use Rattle.std.proofs.Common.{◌≡◌, ◌∙◌, ℕ, zero, suc, Bool, true, false, cond, List, [], ◌∷◌, refl, sym, ap, subst}
 use Rattle.std.specs.Option.{option_map}
-use Rattle.std.specs.Prelude.{find, nat_le, not, ◌&&◌, is_ok, remove, insert, Some, None, Result, Ok, Err}
+use Rattle.std.specs.Prelude.{find, nat_le, not, ◌&&◌, is_ok, remove, insert, None, Result, Ok, Err}
 use Rattle.rv_cache.specs.SlotCount.{is_slot_count}
 use Rattle.rv_board.specs.Boot.{boot_fault}
 use Rattle.rv_board.specs.declared.event.BootFault.{BootFault}

@@ -17,8 +17,8 @@ use Rattle.rv_program.specs.Program.{Assembly}
 use Rattle.rv_commands.specs.declared.command.Command.{Command}
 use Rattle.rv_commands.specs.declared.command.Command.TheVariants.{Step, Go, SetBreak, ClearBreak, Registers, ControlRegister, Memory, Instruction, Traps, Edges, Quit, Nothing}
 use Rattle.rv_monitor.specs.Commands.{Leaves, LeavesRefused}
-use Rattle.rv_monitor.specs.TimedCalls.{begun_again, going_for}
-use Rattle.rv_monitor.specs.Events.{events_of, inputs_at}
+use Rattle.rv_monitor.specs.TimedCalls.{going_for}
+use Rattle.rv_monitor.specs.Events.{events_of}
 use Rattle.rv_monitor.specs.Laws.{IsReached}
 use Rattle.rv_monitor.specs.Resumed.{resumed, resumed_at}
 use Rattle.rv_monitor.specs.State.{Addresses, SessionState, TimedState, begun, after, with_due, given, most_of, with_break, without_break}

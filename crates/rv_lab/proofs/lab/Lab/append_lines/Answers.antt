@@ -1,4 +1,4 @@
-use Rattle.std.proofs.Common.{◌≡◌, ◌∙◌, ◌-◌, ◌+◌, ◌≤◌, List, [], length, ap, sym, arith}
+use Rattle.std.proofs.Common.{◌≡◌, ◌∙◌, ◌-◌, ◌+◌, ◌≤◌, [], length, ap, arith}
 use Rattle.rv_base.specs.Lines.{lines}
 use Rattle.rv_answers.proofs.Taken.{taken}
 use Rattle.rv_lab.specs.State.{LabState}
