@@ -1,5 +1,5 @@
 //! The bus over a memory.
-ghost use Rattle.std.specs.Prelude.{◌≡◌, ◌≢◌, ◌+◌, ◌*◌, ◌/◌, ◌%◌, ◌^◌, ◌<◌, ◌≤◌, ℕ, true, false, length, Some, None, IfOk, IfErr, OnOk, OnErr};
+ghost use Rattle.std.specs.Prelude.{◌≡◌, ◌≢◌, ◌+◌, ◌*◌, ◌/◌, ◌%◌, ◌^◌, ◌<◌, ◌≤◌, ℕ, true, false, length, All, Some, None, IfOk, IfErr, OnOk, OnErr};
 ghost use Rattle.std.specs.Result.{result_ok};
 ghost use Rattle.rv_isa.specs.Width.{bytes_of};
 ghost use Rattle.rv_base.specs.Limits.{ram_base};
@@ -340,9 +340,10 @@ impl<M: ByteMemory> Bus<M> {
     }
 
     /// Returns the part that the next tick changes. It is smaller than a snapshot, and one can be made of it
-    /// afterwards.
+    /// afterwards, since each count of pending edges has 32 bits.
     pub fn next_tick(&self) -> Tick
-        ensures { result ≡ next_tick self.now }
+        ensures tick { result ≡ next_tick self.now }
+        ensures words { All (λ n. n < 2 ^ 32) self.now.plic.edges }
     {
         Tick {
             time: self.timer.time(),
@@ -352,8 +353,8 @@ impl<M: ByteMemory> Bus<M> {
 
     /// Returns the snapshot before the last tick, where `tick` was `next_tick` before it.
     pub fn snapshot_before(&self, tick: Tick) -> Snapshot
-        ensures { (old : BusState) → self.now ≡ ticked old → tick ≡ next_tick old
-            → result ≡ record { timer = old.timer; plic = old.plic } }
+        ensures { (old : BusState) → All (λ n. n < 2 ^ 32) old.plic.edges → self.now ≡ ticked old
+            → tick ≡ next_tick old → result ≡ record { timer = old.timer; plic = old.plic } }
     {
         let mut plic = self.plic;
         plic.withdraw(tick.requests);

@@ -1,13 +1,13 @@
 -- Counts of edges, where those of a set of sources are changed.
-use Rattle.std.proofs.Common.{◌≡◌, ℕ, zero, suc, ◌+◌, ◌-◌, ◌<◌, ◌≤◌, Bool, true, false, List, [], ◌∷◌, inl, inr, refl, sym, ◌∙◌, ap, arith, add-zero}
-use Rattle.std.specs.Prelude.{nat_lt, length, slice_index, slice_set, get_or, map, if◌then◌else◌}
+use Rattle.std.proofs.Common.{◌≡◌, ℕ, zero, suc, ◌+◌, ◌-◌, ◌^◌, ◌<◌, ◌≤◌, Bool, true, false, List, [], ◌∷◌, inl, inr, refl, sym, ◌∙◌, ap, arith, add-zero}
+use Rattle.std.specs.Prelude.{length, slice_index, slice_set, get_or, map, if◌then◌else◌}
 use Rattle.std.specs.List.{range_with_len}
 use Rattle.std.specs.FinSet.{contains}
-use Rattle.std.proofs.lemmas.Bool.{cases_eq, and_parts, ltb-true, leb-true, lt-ltb, le-leb}
+use Rattle.std.proofs.lemmas.Bool.{cases_eq, lt-ltb, le-leb}
 use Rattle.std.proofs.lemmas.List.{get_or-set_same, get_or-set_other, length-set, same_lists}
 use Rattle.rv_plic.specs.Sources.{Sources}
-use Rattle.rv_plic.specs.Gateways.{edges_of, some_wait, one_more, taken}
-use Rattle.rv_plic.specs.GatewayState.{Edges, most}
+use Rattle.rv_plic.specs.Gateways.{edges_of, one_more, taken}
+use Rattle.rv_plic.specs.GatewayState.{Edges}
 use Rattle.rv_plic.specs.Changes.{one_less, changed}
 
 pub nothing_changed : (f : ℕ → ℕ) (s : Sources) (a : ℕ) (edges : Edges)
@@ -37,12 +37,10 @@ get_or-changed f s a (n ∷ ns) (suc k) d in_list =
     ∙ ap (λ q. if contains s q then f (get_or ns k d) else get_or ns k d) same
 
 -- a pending edge that is taken and given back leaves the count as it was
-again_same : (n : ℕ) → some_wait n ≡ true → one_more (one_less n) ≡ n
+again_same : (n : ℕ) → (0 < n) × (n < 2 ^ 32) → one_more (one_less n) ≡ n
 again_same n is =
-    let low : 0 < n = ltb-true 0 n (and_parts (nat_lt 0 n) _ is).0 in
-    let high : n ≤ most = leb-true n most (and_parts (nat_lt 0 n) _ is).1 in
-    let again : n - 1 + 1 ≡ n = omega (arith, low) in
-    ap (λ b. if b then n - 1 + 1 else n - 1) (lt-ltb (n - 1) most (omega (arith, low, high))) ∙ again
+    let again : n - 1 + 1 ≡ n = omega (arith, is.0) in
+    ap (λ b. if b then n - 1 + 1 else n - 1) (lt-ltb (n - 1) 4294967295 (omega (arith, is.0, is.1))) ∙ again
 
 -- ---- taking an edge of each source of a set, as the definition says it
 less : (b : Bool) (m n : ℕ) → m ≡ n → m - (if b then 1 else 0) ≡ (if b then one_less n else n)
@@ -68,7 +66,8 @@ taken-changed s edges =
     ∙ ap (slice_index edges) (omega arith))
 
 pub taken_and_given : (s : Sources) (a : ℕ) (edges : Edges)
-    → ((k : ℕ) → k < length edges → contains s (a + k) ≡ true → some_wait (slice_index edges k) ≡ true)
+    → ((k : ℕ) → k < length edges → contains s (a + k) ≡ true
+    → (0 < slice_index edges k) × (slice_index edges k < 2 ^ 32))
     → changed one_more s a (changed one_less s a edges) ≡ edges
 unfolding changed
 taken_and_given s a [] each = refl

@@ -42,10 +42,6 @@ is_by_edge source = nat_le 24 source
 abbrev pub edges_of : List ℕ → ℕ → ℕ
 edges_of edges source = if is_by_edge source then slice_index edges (source - 24) else 0
 
--- whether edges are pending, of a count of 32 bits
-abbrev pub some_wait : ℕ → Bool
-some_wait count = nat_lt 0 count && nat_le count 4294967295
-
 -- a count with one edge more, unless it is full
 abbrev pub one_more : ℕ → ℕ
 one_more count = if nat_lt count 4294967295 then count + 1 else count
@@ -69,7 +65,7 @@ with_line plic source level =
 -- its line is high
 unfoldable pub asking_sources : Sources → List ℕ → Sources
 asking_sources high edges =
-    from_list (filter (λ s. if is_by_edge s then some_wait (edges_of edges s) else contains high s) sources)
+    from_list (filter (λ s. if is_by_edge s then nat_lt 0 (edges_of edges s) else contains high s) sources)
 
 -- the sources with a request to forward: those that ask, and have no request that is outstanding or pending
 abbrev pub requests : PlicState → Sources

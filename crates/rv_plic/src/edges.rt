@@ -1,5 +1,5 @@
 //! Pending edges: rises of lines that have not been forwarded as requests yet.
-ghost use Rattle.std.specs.Prelude.{◌≡◌, ◌-◌, ◌≤◌, ℕ, false, IsFalse, slice_set};
+ghost use Rattle.std.specs.Prelude.{◌≡◌, ◌-◌, ◌^◌, ◌<◌, ◌≤◌, ℕ, false, IsFalse, All, slice_set};
 ghost use Rattle.std.specs.FinSet as set;
 ghost use Rattle.rv_plic.specs.Gateways.{is_by_edge, edges_of};
 ghost use Rattle.rv_plic.specs.GatewayState.{none_waits};
@@ -56,6 +56,13 @@ impl Edges {
         }
     }
 
+    /// Says that each count has 32 bits, and does nothing.
+    pub fn are_words(&self)
+        ensures { All (λ n. n < 2 ^ 32) self.now }
+    {
+        are_words(&self.counts);
+    }
+
     /// Returns whether the edges of any of these sources are counted: whether any is triggered by edges.
     pub fn counts_any(&self, sources: SourceSet) -> bool
         ensures { IsFalse result → (q : ℕ) → 24 ≤ q → set.contains sources q ≡ false }
@@ -71,3 +78,8 @@ impl Edges {
         self.counts[(source.number() - FIRST) as usize] = count;
     }
 }
+
+/// Says that each number of a slice has 32 bits, and does nothing.
+fn are_words(numbers: &[u32])
+    ensures { All (λ n. n < 2 ^ 32) numbers.now }
+{}

@@ -1,5 +1,5 @@
 //! Interrupt gateways, which turn the lines of sources into requests.
-ghost use Rattle.std.specs.Prelude.{◌≡◌, ◌-◌, ◌≤◌, true, false, slice_set};
+ghost use Rattle.std.specs.Prelude.{◌≡◌, ◌-◌, ◌^◌, ◌<◌, ◌≤◌, true, false, All, slice_set};
 ghost use Rattle.std.specs.FinSet as set;
 ghost use Rattle.rv_plic.specs.Gateways.{edges_of};
 ghost use Rattle.rv_plic.specs.Changes.{changed, count_after};
@@ -71,6 +71,13 @@ impl Gateways {
         ensures { result ≡ edges_of self.now.edges source }
     {
         self.edges.count(source)
+    }
+
+    /// Says that each count of pending edges has 32 bits, and does nothing.
+    pub fn counts_are_words(&self)
+        ensures { All (λ n. n < 2 ^ 32) self.now.edges }
+    {
+        self.edges.are_words();
     }
 
     /// Returns whether the line of a source is high.

@@ -1,5 +1,5 @@
 //! The interrupt controller.
-ghost use Rattle.std.specs.Prelude.{◌≡◌, ◌%◌, ◌<◌, ◌&&◌, nat_lt, slice_index, slice_set, unwrap_or};
+ghost use Rattle.std.specs.Prelude.{◌≡◌, ◌%◌, ◌^◌, ◌<◌, ◌&&◌, nat_lt, All, slice_index, slice_set, unwrap_or};
 ghost use Rattle.std.specs.FinSet as set;
 ghost use Rattle.rv_plic.specs.AboveThreshold.{sources_above};
 ghost use Rattle.rv_plic.specs.Best.{IsBest, IsBestBelow};
@@ -123,10 +123,12 @@ impl Plic {
         self.gateways.is_outstanding(source)
     }
 
-    /// Returns the sources whose gateways have a request to forward.
+    /// Returns the sources whose gateways have a request to forward. Each count of pending edges has 32 bits.
     pub fn ready(&self) -> SourceSet
-        ensures { result ≡ spec.requests self.now }
+        ensures requests { result ≡ spec.requests self.now }
+        ensures words { All (λ n. n < 2 ^ 32) self.now.edges }
     {
+        self.gateways.counts_are_words();
         self.ready
     }
 
@@ -152,10 +154,11 @@ impl Plic {
         self.ready = self.gateways.requests(self.pending);
     }
 
-    /// Undoes the forwarding of these sources' requests.
+    /// Undoes the forwarding of these sources' requests. Each count of pending edges before it had 32 bits,
+    /// which `ready` says of a state.
     #[tactic(auto, using(crate::proofs::Forwarding::withdrawn_forwarded))]
     pub fn withdraw(&mut self, requests: SourceSet)
-        ensures { (before : PlicState) → self.old ≡ forwarded before
+        ensures { (before : PlicState) → All (λ n. n < 2 ^ 32) before.edges → self.old ≡ forwarded before
             → requests ≡ spec.requests before → self.new ≡ before }
     {
         self.gateways.withdraw(requests);
