@@ -173,6 +173,58 @@ region-between : (lower : ℕ) (e : Entry) (byte : ℕ)
 unfolding region span_of
 region-between lower e byte = matched-between e.matching lower e.address byte
 
+-- ---- the bytes that an entry matches, and the first entry that matches a byte
+
+pub lower_before : (pmp : PmpState) (n : ℕ) → 0 < n → lower_of pmp n ≡ (entry_at pmp (n - 1)).address
+lower_before pmp zero h = absurd (omega arith)
+lower_before pmp (suc n) h = let same : suc n - 1 ≡ n = omega arith in ap (λ k. (entry_at pmp k).address) (sym same)
+
+pub matched_span : (pmp : PmpState) (n lower byte : ℕ) (s : Span) → lower ≡ lower_of pmp n
+    → s ≡ span_of lower (entry_at pmp n)
+    → matches pmp n byte ≡ (nat_le s.first byte && nat_lt byte s.«end»)
+unfolding span_of
+matched_span pmp n lower byte s e f =
+    rw (f, e) (matched-between (entry_at pmp n).matching (lower_of pmp n) (entry_at pmp n).address byte)
+
+found_first : (p : ℕ → Bool) (a n i : ℕ) → i < n → ((k : ℕ) → a ≤ k → k < a + i → p k ≡ false) → p (a + i) ≡ true
+    → find p (range_with_len a n) ≡ Some (a + i)
+found_first p a zero i below none is = absurd (omega (arith, below))
+found_first p a (suc n) zero below none is =
+    let here : a + 0 ≡ a = omega arith in
+    let passes : p a ≡ true = ap p (sym here) ∙ is in rw passes (ap Some (sym here))
+found_first p a (suc n) (suc i) below none is =
+    let here : p a ≡ false = none a (omega arith) (omega arith) in
+    let on : a + 1 + i ≡ a + suc i = omega arith in
+    rw here (found_first p (a + 1) n i (omega (arith, below))
+    (λ k h g. none k (omega (arith, h)) (omega (arith, g))) (ap p on ∙ is) ∙ ap Some on)
+
+found_none : (p : ℕ → Bool) (a n : ℕ) → ((k : ℕ) → a ≤ k → k < a + n → p k ≡ false)
+    → find p (range_with_len a n) ≡ None
+found_none p a zero none = refl
+found_none p a (suc n) none =
+    let here : p a ≡ false = none a (omega arith) (omega arith) in
+    rw here (found_none p (a + 1) n (λ k h g. none k (omega (arith, h)) (omega (arith, g))))
+
+pub none_up_to : (pmp : PmpState) (addr n : ℕ) → ((k : ℕ) → k < n → matches pmp k addr ≡ false)
+    → matches pmp n addr ≡ false → (k : ℕ) → k < n + 1 → matches pmp k addr ≡ false
+none_up_to pmp addr n none is k h = go (nat_lt k n) refl where
+  go : (b : Bool) → nat_lt k n ≡ b → matches pmp k addr ≡ false
+  go true less = none k (grind (arith, nat_tests))
+  go false not_less =
+      let same : k ≡ n = grind (arith, nat_tests) in ap (λ i. matches pmp i addr) same ∙ is
+
+pub first_match : (pmp : PmpState) (addr i : ℕ) → i < 16 → ((k : ℕ) → k < i → matches pmp k addr ≡ false)
+    → matches pmp i addr ≡ true → Some i ≡ find (λ n. matches pmp n addr) (range_with_len 0 16)
+first_match pmp addr i below none is =
+    let start : 0 + i ≡ i = omega arith in
+    sym (found_first (λ n. matches pmp n addr) 0 16 i below (λ k h g. none k (omega (arith, g))) (rw start is)
+    ∙ ap Some start)
+
+pub no_match : (pmp : PmpState) (addr n : ℕ) → 16 ≤ n → ((k : ℕ) → k < n → matches pmp k addr ≡ false)
+    → None ≡ find (λ n. matches pmp n addr) (range_with_len 0 16)
+no_match pmp addr n all none =
+    sym (found_none (λ n. matches pmp n addr) 0 16 (λ k h g. none k (omega (arith, g, all))))
+
 -- ---- tests of the bytes of an access
 
 list_any-same : (p q : ℕ → Bool) → ((x : ℕ) → p x ≡ q x) → (xs : List ℕ) → list_any p xs ≡ list_any q xs

@@ -23,6 +23,10 @@ by_number f [] n = refl
 by_number f (e ∷ es) zero = refl
 by_number f (e ∷ es) (suc n) = by_number f es n
 
+pub found_entry : (pmp : PmpState) (n : ℕ)
+    → option_map_or (λ e. e) (slice_get pmp.entries n) off_entry ≡ entry_at pmp n
+found_entry pmp n = by_number (λ e. e) pmp.entries n
+
 config : (pmp : PmpState) (n : ℕ) → config_at pmp n ≡ config_byte (entry_at pmp n)
 unfolding config_byte
 config pmp n = by_number config_byte pmp.entries n

@@ -136,7 +136,7 @@ impl Entry {
     }
 
     /// Whether the entry grants a mode an access whose bytes are all in its region.
-    pub(crate) fn grants(&self, mode: Mode, access: Access) -> bool
+    pub fn grants(&self, mode: Mode, access: Access) -> bool
         ensures { result ≡ entry_grants self.now mode access }
     {
         mode.is_machine() && !self.locked || self.permits(access)

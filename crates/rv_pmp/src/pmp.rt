@@ -1,10 +1,10 @@
 //! The registers of protection, and what they grant.
-ghost use Rattle.std.specs.Prelude.{◌≡◌, All, IsTrue, ℕ, ◌+◌, ◌-◌, ◌^◌, ◌<◌, ◌≤◌, true};
-ghost use Rattle.std.specs.List.{list_any};
+ghost use Rattle.std.specs.Prelude.{◌≡◌, All, IsTrue, ℕ, ◌+◌, ◌-◌, ◌^◌, ◌<◌, ◌≤◌, ◌&&◌, find, nat_le, nat_lt, true};
+ghost use Rattle.std.specs.List.{list_any, range_with_len};
 ghost use Rattle.rv_isa.specs.Width.{bytes_of};
 ghost use Rattle.rv_isa.specs.declared.op.Width.{Width};
 ghost use Rattle.rv_pmp.specs.ActiveEntries.{AllReadable, some_on, some_locked, actives_from, decision};
-ghost use Rattle.rv_pmp.specs.Pmp.{PmpState, reset, grants, read_register, write_register, WritesOrRefuses};
+ghost use Rattle.rv_pmp.specs.Pmp.{PmpState, reset, entry_at, grants, lower_of, matches, read_register, write_register, WritesOrRefuses};
 ghost use Rattle.rv_pmp.specs.Registers.{config_at, with_config, with_address, with_word, starts_locked};
 ghost use Rattle.rv_pmp.specs.Registers as spec;
 ghost use Rattle.rv_pmp.specs.WidestSpan.{AreForward, IsWidestSpan};
@@ -127,6 +127,55 @@ impl Pmp {
         ensures { result ≡ config_at self.now place }
     {
         self.entries.get(place).map_or(0, |entry| entry.config())
+    }
+
+    /// Returns the entry with a number. There are 16, from 0 on; each further one is off.
+    #[tactic(auto, using(crate::proofs::Registers::found_entry))]
+    pub fn entry(&self, number: usize) -> Entry
+        ensures { result ≡ entry_at self.now number }
+    {
+        self.entries.get(number).map_or(Entry::OFF, |entry| *entry)
+    }
+
+    /// Returns the address register of the entry before the one with a number, or 0 before the first.
+    #[tactic(auto, using(crate::proofs::Decision::lower_before))]
+    fn lower(&self, number: usize) -> u32
+        ensures { result ≡ lower_of self.now number }
+    {
+        match number {
+            0 => 0,
+            _ => self.entry(number - 1).address,
+        }
+    }
+
+    /// Returns the bytes that the entry with a number matches. They may go past the last address.
+    #[tactic(auto, using(crate::proofs::Decision::matched_span))]
+    pub fn span(&self, number: usize) -> Span
+        ensures { (byte : ℕ) → matches self.now number byte
+            ≡ (nat_le result.first byte && nat_lt byte result.end) }
+    {
+        Span::of(self.lower(number), self.entry(number))
+    }
+
+    /// Whether the entry with a number matches the byte at an address.
+    fn matches(&self, number: usize, addr: u32) -> bool
+        ensures { result ≡ matches self.now number addr }
+    {
+        self.span(number).has(addr as u64)
+    }
+
+    /// Returns the number of the entry that decides about the byte at an address, if there is one: the first
+    /// of the 16 that matches it.
+    #[tactic(auto, using(crate::proofs::Decision::none_up_to, crate::proofs::Decision::no_match))]
+    pub fn decider(&self, addr: u32) -> Option<usize>
+        ensures { result ≡ find (λ n. matches self.now n addr) (range_with_len 0 16) }
+    {
+        for number in 0..ENTRIES {
+            if self.matches(number, addr) {
+                return Some(number);
+            }
+        }
+        None
     }
 
     /// Whether any entry is locked. If none is, machine mode is granted every access at a multiple of its
