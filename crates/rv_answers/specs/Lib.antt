@@ -7,3 +7,5 @@ pub mod Standing
 pub mod Traps
 pub mod Control
 pub mod Devices
+pub mod Interrupts
+pub mod Protection

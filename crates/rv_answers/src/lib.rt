@@ -7,8 +7,10 @@ mod control;
 mod devices;
 mod extent;
 mod forms;
+mod interrupts;
 mod memory;
 mod places;
+mod protection;
 mod registers;
 mod rows;
 mod standing;
@@ -18,8 +20,10 @@ pub use answer::Answer;
 pub use control::{append_bits, has_bit};
 pub use devices::{append_controller, append_serial, append_timer};
 pub use extent::{Extent, Format, read_extent};
+pub use interrupts::{Interrupts, append_interrupts};
 pub use memory::{append_bytes_row, append_escaped, append_words_row, escapes};
 pub use places::{append_instruction, append_label, append_line_number, line_text, lines_from};
+pub use protection::{append_entry, append_protection};
 pub use registers::{
     Registers, append_changes, append_register, append_registers, append_value, register_name,
 };
