@@ -12,7 +12,7 @@ use Rattle.rv_answers.specs.Registers.{register_text}
 use Rattle.rv_answers.proofs.Pieces.{then}
 use Rattle.rv_lab.specs.State.{LabState}
 use Rattle.rv_lab.specs.Commands.{board, ready}
-use Rattle.rv_lab.specs.Devices.{csr_told, edges_told, pending_text}
+use Rattle.rv_lab.specs.Devices.{csr_told, devices_told, edges_told, pending_text}
 use Rattle.rv_lab.specs.Lines.{instruction_at, instruction_told, line_of, line_row, line_rows, list_told, row_of, rows_round}
 use Rattle.rv_lab.specs.Looks.{Tells, alone, all_registers, break_row, breaks_told, memory_told, place, registers_told, short_place, told, trap_rows, traps_told, where_told}
 use Rattle.rv_lab.specs.Rows.{IsQuiet, register_of}
@@ -28,7 +28,7 @@ quiet_still _ a = refl
 
 -- what is told of a lab that is ready is told of the lab
 told_ready : (c : Command) (operands : List ℕ) (l : LabState) → told c operands (ready c l) ≡ told c operands l
-unfolding where_told place break_row breaks_told all_registers registers_told csr_told memory_told trap_rows traps_told short_place edges_told pending_text instruction_at instruction_told row_of line_row line_rows rows_round line_of list_told
+unfolding where_told place break_row breaks_told all_registers registers_told csr_told devices_told memory_told trap_rows traps_told short_place edges_told pending_text instruction_at instruction_told row_of line_row line_rows rows_round line_of list_told
 told_ready Where operands l = refl
 told_ready Break operands l = refl
 told_ready Registers operands l = refl
@@ -37,6 +37,7 @@ told_ready Memory operands l = refl
 told_ready Instruction operands l = refl
 told_ready command.List operands l = refl
 told_ready Traps operands l = refl
+told_ready command.Devices operands l = refl
 told_ready Edges operands l = refl
 told_ready _ operands l = refl
 

@@ -1,6 +1,6 @@
 -- To audit: public contracts cite this.
--- What `p` and `e` read of a lab (this project's own: docs/LAB.md).
-use Rattle.std.specs.Prelude.{ℕ, List, [], ◌∷◌, ◌++◌, codes, if◌then◌else◌, length, Option, Some, None, option_and_then}
+-- What `p`, `dev` and `e` read of a lab (this project's own: docs/LAB.md).
+use Rattle.std.specs.Prelude.{ℕ, List, [], ◌∷◌, ◌++◌, codes, if◌then◌else◌, length, Option, Some, None, option_and_then, unwrap_or}
 use Rattle.std.specs.Int.{is_in_range}
 use Rattle.std.specs.Option.{option_map, option_map_or}
 use Rattle.rv_base.specs.Digits.{hex}
@@ -9,7 +9,10 @@ use Rattle.rv_isa.specs.Names.{csr_names}
 use Rattle.rv_plic.specs.Gateways.{edges_of}
 use Rattle.rv_board.specs.BoardState.{BoardState, csr_of}
 use Rattle.rv_answers.specs.Control.{bits_told}
+use Rattle.rv_answers.specs.Devices.{controller_text, serial_text, timer_text}
 use Rattle.rv_answers.specs.Forms.{filled}
+use Rattle.rv_answers.specs.Interrupts.{interrupts_text}
+use Rattle.rv_answers.specs.Protection.{protection_text}
 use Rattle.rv_lab.specs.State.{LabState}
 use Rattle.rv_lab.specs.Commands.{board, count_of}
 
@@ -25,6 +28,17 @@ csr_told l (name ∷ []) =
     option_map (λ csr. name ++ codes " = " ++ csr_text (board l) name csr ++ codes "\n")
     (lookup name csr_names)
 csr_told l _ = None
+
+-- ---- `dev`
+
+-- the devices, the interrupts by mstatus, mie and mip, and protection
+unfoldable pub devices_told : LabState → List ℕ
+devices_told l =
+    let b = board l in
+    let csr : ℕ → ℕ = λ n. unwrap_or (csr_of b n) 0 in
+    timer_text b.machine.bus.timer ++ serial_text b.machine.bus.serial
+    ++ interrupts_text (record { mode = b.machine.mode; mstatus = csr 0x300; mie = csr 0x304; mip = csr 0x344 })
+    ++ controller_text b.machine.bus.plic ++ protection_text b.machine.csrs.pmp
 
 -- ---- `e`
 

@@ -25,7 +25,7 @@ use Rattle.rv_answers.specs.declared.extent.Format.{Format}
 use Rattle.rv_answers.specs.declared.extent.Format.TheVariants.{Bytes, Words, Text}
 use Rattle.rv_lab.specs.State.{LabState, registers_of}
 use Rattle.rv_lab.specs.Commands.{board}
-use Rattle.rv_lab.specs.Devices.{csr_told, edges_told}
+use Rattle.rv_lab.specs.Devices.{csr_told, devices_told, edges_told}
 use Rattle.rv_lab.specs.Lines.{instruction_told, label_at, line_at, list_told}
 use Rattle.rv_lab.specs.declared.command.Command.{Command}
 use Rattle.rv_lab.specs.declared.command.Command.TheVariants.{Where, Break, Registers, ControlRegister, Memory, Instruction, Traps, Edges}
@@ -153,6 +153,7 @@ told Memory operands l = memory_told l (words operands)
 told Instruction operands l = instruction_told l (words operands)
 told command.List operands l = list_told l (words operands)
 told Traps operands l = Some (traps_told l)
+told command.Devices operands l = Some (devices_told l)
 told Edges operands l = edges_told l (words operands)
 told _ operands l = None
 

@@ -2,6 +2,7 @@
 ghost use Rattle.std.specs.Prelude.{◌≡◌, ◌++◌, [], IfSome, codes, unwrap_or};
 ghost use Rattle.rv_base.specs.Words.{words};
 ghost use Rattle.rv_answers.specs.Answer.{Appended};
+ghost use Rattle.rv_board.specs.BoardState.{csr_of};
 ghost use Rattle.rv_operands.specs.Words.{only_of};
 ghost use Rattle.rv_lab.specs.Commands.{board};
 ghost use Rattle.rv_lab.specs.Devices.{csr_text, csr_told};
@@ -46,6 +47,14 @@ pub(crate) const MIE: u16 = 0x304;
 pub(crate) const MTVEC: u16 = 0x305;
 
 pub(crate) const MIP: u16 = 0x344;
+
+/// Returns the value of the control register with a number, as machine mode reads it, or 0 where there is
+/// none.
+pub(crate) fn csr_word(board: &BootedBoard, number: u16) -> u32
+    ensures { result ≡ unwrap_or (csr_of board.now number) 0 }
+{
+    board.csr(number).unwrap_or(0)
+}
 
 /// Returns the name of a control register that some operands may be: their only word, or else nothing.
 #[tactic(auto, using(crate::proofs::ControlTold::named))]

@@ -1,79 +1,36 @@
 //! The state of the devices.
-ghost use Rattle.std.specs.Prelude.{◌≡◌, ◌<◌, IfSome};
+ghost use Rattle.std.specs.Prelude.{◌≡◌, IfSome, unwrap_or};
 ghost use Rattle.rv_base.specs.Words.{words};
+ghost use Rattle.rv_board.specs.BoardState.{csr_of};
 ghost use Rattle.rv_answers.specs.Answer.{Appended};
-ghost use Rattle.rv_lab.specs.Devices.{edge_source, edges_told, pending_text};
+ghost use Rattle.rv_lab.specs.Devices.{devices_told, edge_source, edges_told, pending_text};
 
-use crate::control::{MIE, MIP, MSTATUS};
+use crate::control::{MIE, MIP, MSTATUS, csr_word};
 use crate::lab::Lab;
 use crate::operands::count_or;
-use crate::protection::append_protection;
-use rv_answers::{Answer, append_controller, append_serial, append_timer, has_bit};
+use rv_answers::{
+    Answer, Interrupts, append_controller, append_interrupts, append_protection, append_serial,
+    append_timer,
+};
 use rv_board::BootedBoard;
 use rv_plic::Source;
-use rv_pmp::Mode;
 
-/// How a hart stands to its interrupts.
-#[derive(Clone, Copy)]
-struct Interrupts {
-    /// The value of mip.
-    pending: u32,
-    /// The value of mie.
-    enabled: u32,
-    /// Whether they are let in: mstatus.MIE is 1, or the mode is user mode.
-    are_let_in: bool,
-}
-
-/// Returns what comes of an interrupt, counted from 0: nothing, it is never taken as it stands, it waits, or
-/// it is taken.
-fn outcome(is_high: bool, is_enabled: bool, is_let_in: bool) -> u64 {
-    if !is_high {
-        return 0;
-    }
-    if !is_enabled {
-        return 1;
-    }
-    if is_let_in { 3 } else { 2 }
-}
-
-/// Appends an interrupt of the hart: its line, its bit of mie, and whether it is taken at the next step.
-fn append_interrupt(form: &str, bit: u32, interrupts: Interrupts, answer: &mut Answer)
-    requires { bit < 32 }
+/// Returns the mode of a board's hart, and what says which interrupts it takes.
+fn interrupts_of(board: &BootedBoard) -> Interrupts
+    ensures { result ≡ record {
+        mode = board.now.machine.mode;
+        mstatus = unwrap_or (csr_of board.now 0x300) 0;
+        mie = unwrap_or (csr_of board.now 0x304) 0;
+        mip = unwrap_or (csr_of board.now 0x344) 0;
+    } }
 {
-    let is_high = has_bit(interrupts.pending, bit);
-    let is_enabled = has_bit(interrupts.enabled, bit);
-    let outcome = outcome(is_high, is_enabled, interrupts.are_let_in);
-    answer.fill(form, &[is_high as u64, is_enabled as u64]);
-    answer.fill(OUTCOMES, &[outcome]);
+    Interrupts {
+        mode: board.mode(),
+        mstatus: csr_word(board, MSTATUS),
+        mie: csr_word(board, MIE),
+        mip: csr_word(board, MIP),
+    }
 }
-
-/// What comes of an interrupt.
-const OUTCOMES: &str =
-    "%{|: never taken as it stands|: waits, since mstatus.MIE is 0 in machine mode|: taken at the next step}\n";
-
-/// Appends the interrupts of the hart.
-fn append_interrupts(board: &BootedBoard, answer: &mut Answer) {
-    let is_on = has_bit(board.csr(MSTATUS).unwrap_or(0), 3);
-    let is_user = matches!(board.mode(), Mode::User);
-    let form =
-        "interrupts: mstatus.MIE %d, %{machine mode|user mode, where they are always let in}\n";
-    answer.fill(form, &[is_on as u64, is_user as u64]);
-    let interrupts = Interrupts {
-        pending: board.csr(MIP).unwrap_or(0),
-        enabled: board.csr(MIE).unwrap_or(0),
-        are_let_in: is_on || is_user,
-    };
-    append_interrupt(EXTERNAL, 11, interrupts, answer);
-    append_interrupt(SOFTWARE, 3, interrupts, answer);
-    append_interrupt(TIMER, 7, interrupts, answer);
-}
-
-/// How each interrupt of the hart is told.
-const EXTERNAL: &str = "  external line %{low|high}, %{not enabled in mie (bit 11)|enabled in mie}";
-
-const SOFTWARE: &str = "  software line %{low|high}, %{not enabled in mie (bit 3)|enabled in mie}";
-
-const TIMER: &str = "  timer    line %{low|high}, %{not enabled in mie (bit 7)|enabled in mie}";
 
 /// Reads the number of an edge source, 24 to 31.
 #[tactic(auto, unfolding(crate::specs::Devices::edge_source))]
@@ -109,13 +66,15 @@ impl Lab {
     }
 
     /// Executes `dev`.
-    pub(crate) fn devices_command(&self, answer: &mut Answer) {
+    #[tactic(auto, using(rv_answers::proofs::Pieces::then), unfolding(crate::specs::Devices::devices_told))]
+    pub(crate) fn devices_command(&self, answer: &mut Answer)
+        ensures { Appended answer.old answer.new (devices_told self.now) }
+    {
         let board = self.board();
         append_timer(board.timer(), answer);
         append_serial(board.serial(), answer);
-        append_interrupts(board, answer);
+        append_interrupts(interrupts_of(board), answer);
         append_controller(board.plic(), answer);
-        answer.say("protection:\n");
-        append_protection(board, answer);
+        append_protection(board.pmp(), answer);
     }
 }

@@ -16,7 +16,6 @@ mod nearest;
 mod operands;
 mod places;
 mod plan;
-mod protection;
 mod registers;
 mod run;
 mod shows;

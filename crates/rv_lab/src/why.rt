@@ -1,9 +1,8 @@
 //! Why the first trap that met no handler came.
-use crate::control::{MSTATUS, MTVEC};
+use crate::control::{MSTATUS, MTVEC, csr_word};
 use crate::lab::Lab;
 use crate::memory::{append_instruction_at, instruction_at};
-use crate::protection::{append_region, entry_at, read_region};
-use rv_answers::{Answer, append_cause, has_bit, register_name};
+use rv_answers::{Answer, append_cause, append_entry, has_bit, register_name};
 use rv_base::NoMemory;
 use rv_board::{BootedBoard, TrapRecord};
 use rv_hart::Outcome;
@@ -84,10 +83,10 @@ fn append_base(board: &BootedBoard, epc: u32, answer: &mut Answer) {
 
 /// Appends which entry of protection refused an access to memory.
 fn append_refusal(board: &BootedBoard, address: u32, answer: &mut Answer) {
-    match entry_at(board, address) {
+    match board.pmp().decider(address) {
         Some(entry) => {
             answer.say("  protection refused it: ");
-            append_region(entry, &read_region(board, entry), answer);
+            append_entry(entry, board.pmp(), answer);
             answer.end();
         }
         None => answer.say(
@@ -104,7 +103,7 @@ fn append_access(board: &BootedBoard, address: u32, answer: &mut Answer) {
     answer.fill("  at %x is ", &[address as u64]);
     answer.say(place_name(address));
     answer.end();
-    let was_user = !has_bit(board.csr(MSTATUS).unwrap_or(0), 11);
+    let was_user = !has_bit(csr_word(board, MSTATUS), 11);
     if was_user {
         append_refusal(board, address, answer);
     }
@@ -117,7 +116,7 @@ fn append_illegal(board: &BootedBoard, word: u32, answer: &mut Answer) {
         Some(instr) => {
             answer.say(" is ");
             answer.instruction(instr);
-            let was_user = !has_bit(board.csr(MSTATUS).unwrap_or(0), 11);
+            let was_user = !has_bit(csr_word(board, MSTATUS), 11);
             answer.say(if was_user {
                 ", which user mode may not do\n"
             } else {
@@ -174,7 +173,7 @@ impl Lab {
     /// Appends that a trap met no handler.
     fn append_no_handler(&self, board: &BootedBoard, answer: &mut Answer) {
         let has_memory = board.ram(board.pc()).is_some() as u64;
-        let values = [board.csr(MTVEC).unwrap_or(0) as u64, has_memory];
+        let values = [csr_word(board, MTVEC) as u64, has_memory];
         let form =
             "  it met no handler: mtvec is %x, where no %{memory|instruction} is, so each further step trapped as well\n";
         answer.fill(form, &values);
