@@ -1,16 +1,29 @@
 //! A console that grows to a size that a long run may have.
+use rv_base::NoMemory;
 use rv_mmio::{Serial, SerialReg};
+use std::process::Abort;
 use std::test::Fail;
+
+/// Sends the low bytes of two million numbers.
+fn send(serial: &mut Serial) -> Result<(), NoMemory> {
+    for word in 0..2_000_000u32 {
+        serial.store(SerialReg::Tx, word)?;
+    }
+    Ok(())
+}
+
+/// Checks the bytes that were sent.
+fn check(rt: &impl Abort, sent: &[u8]) {
+    assert!(rt; sent.len() == 2_000_000);
+    for (index, &byte) in sent.iter().enumerate() {
+        assert!(rt; byte as usize == index % 256);
+    }
+}
 
 #[test]
 fn console_of_two_million_bytes(rt: HostRuntime) -> Result<(), Fail> {
     let mut serial = Serial::new(rt.alloc())?;
-    for word in 0..2_000_000u32 {
-        assert_eq!(rt; serial.store(SerialReg::Tx, word), Ok(()));
-    }
-    assert_eq!(rt; serial.console().len(), 2_000_000);
-    for (index, &byte) in serial.console().iter().enumerate() {
-        assert_eq!(rt; byte as usize, index % 256);
-    }
+    send(&mut serial)?;
+    check(&rt, serial.console());
     Ok(())
 }

@@ -8,26 +8,17 @@ use std::alloc::Global;
 use std::process::Abort;
 use std::test::Fail;
 
-/// Writes a value, after a check that the offset is in range and aligned.
-fn put<M: ByteMemory>(
-    rt: &impl Abort,
-    memory: &mut M,
-    off: u32,
-    width: Width,
-    value: u32,
-) -> Result<(), NoMemory> {
-    assert!(rt; off < memory.size());
-    match width {
-        Width::One => memory.write(off, Width::One, value),
-        Width::Two => {
-            assert_eq!(rt; off % 2, 0);
-            memory.write(off, Width::Two, value)
-        }
-        Width::Four => {
-            assert_eq!(rt; off % 4, 0);
-            memory.write(off, Width::Four, value)
-        }
-    }
+/// A write: its offset, its width and its value.
+type Write = (u32, Width, u32);
+
+/// Does a write, after a check that it is in range and aligned.
+fn put<M: ByteMemory>(rt: &impl Abort, memory: &mut M, write: Write) -> Result<(), NoMemory> {
+    let (off, width, value) = write;
+    let size = memory.size();
+    assert!(rt; off < size);
+    assert!(rt; width.bytes() <= size - off);
+    assert!(rt; width.is_aligned(off));
+    memory.write(off, width, value)
 }
 
 /// Returns a byte, after a check that the offset is in range.
@@ -36,87 +27,156 @@ fn byte<M: ByteMemory>(rt: &impl Abort, memory: &M, off: u32) -> u8 {
     memory.read(off)
 }
 
-/// Returns a word, after a check that the offset is in range and aligned.
+/// Returns a word, after a check that it is in range and aligned.
 fn word<M: ByteMemory>(rt: &impl Abort, memory: &M, off: u32) -> u32 {
-    assert!(rt; off < memory.size());
-    assert_eq!(rt; off % 4, 0);
+    assert!(rt; off <= memory.size() - 4);
+    assert!(rt; off % 4 == 0);
     memory.read_word(off)
 }
 
-/// Checks that a new memory of 4096 pages has 16 MiB, and that its last byte is 0.
-fn check_last_byte<M: ByteMemory>(rt: &impl Abort, memory: &M) {
-    assert_eq!(rt; memory.size(), 16_777_216);
-    assert_eq!(rt; byte(rt, memory, 16_777_215), 0);
-    assert_eq!(rt; word(rt, memory, 16_777_212), 0);
+/// Writes to new memories, with bytes and words that these hold afterwards.
+#[derive(Drop)]
+struct Case<'a> {
+    pages: u32,
+    writes: &'a [Write],
+    bytes: &'a [(u32, u8)],
+    words: &'a [(u32, u32)],
 }
 
-#[test]
-fn the_last_of_4096_pages(rt: HostRuntime) -> Result<(), Fail> {
-    check_last_byte(&rt, &FlatMemory::new(rt.alloc(), 4096)?);
-    let mut paged = PagedRam::new(rt.alloc(), 4096)?;
-    check_last_byte(&rt, &paged);
-    put(&rt, &mut paged, 16_777_215, Width::One, 0x7f)?;
-    assert_eq!(rt; word(&rt, &paged, 16_777_212), 0x7f00_0000);
-    Ok(())
-}
+/// The last bytes of 4096 pages, before and after a write; a byte on each side of the end of a page, and
+/// bytes near it that don't change; values of each width at the ends and in the middle of pages, some of them
+/// zeros.
+static CASES: [Case<'static>; 4] = [
+    Case {
+        pages: 4096,
+        writes: &[],
+        bytes: &[(16_777_215, 0)],
+        words: &[(16_777_212, 0)],
+    },
+    Case {
+        pages: 4096,
+        writes: &[(16_777_215, Width::One, 0x7f)],
+        bytes: &[],
+        words: &[(16_777_212, 0x7f00_0000)],
+    },
+    Case {
+        pages: 2,
+        writes: &[(4095, Width::One, 0xab), (4096, Width::One, 0xcd)],
+        bytes: &[
+            (4094, 0),
+            (4095, 0xab),
+            (4096, 0xcd),
+            (4097, 0),
+            (0, 0),
+            (8191, 0),
+        ],
+        words: &[],
+    },
+    Case {
+        pages: 4,
+        writes: &[
+            (4092, Width::Four, 0x0403_0201),
+            (4090, Width::Two, 0xffff_6655),
+            (4089, Width::One, 0x1234_5677),
+            (8192, Width::Two, 0xabcd_0000),
+            (8194, Width::Two, 0x8000_00ff),
+            (4093, Width::One, 0),
+            (12_284, Width::Four, 0),
+            (12_287, Width::One, 0xff00),
+            (16_380, Width::Four, 0x8000_0000),
+        ],
+        bytes: &[(16_383, 0x80)],
+        words: &[
+            (4088, 0x6655_7700),
+            (4092, 0x0403_0001),
+            (8192, 0x00ff_0000),
+        ],
+    },
+];
 
-/// Writes a byte on each side of the end of a page, and checks that no byte near it changes.
-fn check_page_end<M: ByteMemory>(rt: &impl Abort, memory: &mut M) -> Result<(), NoMemory> {
-    put(rt, memory, 4095, Width::One, 0xab)?;
-    put(rt, memory, 4096, Width::One, 0xcd)?;
-    assert_eq!(rt; byte(rt, memory, 4094), 0);
-    assert_eq!(rt; byte(rt, memory, 4095), 0xab);
-    assert_eq!(rt; byte(rt, memory, 4096), 0xcd);
-    assert_eq!(rt; byte(rt, memory, 4097), 0);
-    assert_eq!(rt; byte(rt, memory, 0), 0);
-    assert_eq!(rt; byte(rt, memory, 8191), 0);
-    Ok(())
-}
-
-#[test]
-fn both_sides_of_a_page_end(rt: HostRuntime) -> Result<(), Fail> {
-    check_page_end(&rt, &mut FlatMemory::new(rt.alloc(), 2)?)?;
-    check_page_end(&rt, &mut PagedRam::new(rt.alloc(), 2)?)?;
-    Ok(())
-}
-
-/// Writes values of each width at the ends and in the middle of pages, some of them zeros.
-fn write_each_width<M: ByteMemory>(rt: &impl Abort, memory: &mut M) -> Result<(), NoMemory> {
-    put(rt, memory, 4092, Width::Four, 0x0403_0201)?;
-    put(rt, memory, 4090, Width::Two, 0xffff_6655)?;
-    put(rt, memory, 4089, Width::One, 0x1234_5677)?;
-    put(rt, memory, 8192, Width::Two, 0xabcd_0000)?;
-    put(rt, memory, 8194, Width::Two, 0x8000_00ff)?;
-    put(rt, memory, 4093, Width::One, 0)?;
-    put(rt, memory, 12_284, Width::Four, 0)?;
-    put(rt, memory, 12_287, Width::One, 0xff00)?;
-    put(rt, memory, 16_380, Width::Four, 0x8000_0000)?;
-    assert_eq!(rt; word(rt, memory, 4088), 0x6655_7700);
-    assert_eq!(rt; word(rt, memory, 4092), 0x0403_0001);
-    assert_eq!(rt; word(rt, memory, 8192), 0x00ff_0000);
-    assert_eq!(rt; byte(rt, memory, 16_383), 0x80);
-    Ok(())
-}
-
-#[test]
-fn paged_memory_is_flat_memory(rt: HostRuntime) -> Result<(), Fail> {
-    let mut flat = FlatMemory::new(rt.alloc(), 4)?;
-    let mut paged = PagedRam::new(rt.alloc(), 4)?;
-    write_each_width(&rt, &mut flat)?;
-    write_each_width(&rt, &mut paged)?;
-    for off in 0..16_384 {
-        assert_eq!(rt; byte(&rt, &paged, off), byte(&rt, &flat, off), "at {off}");
+/// Does the writes, in order.
+fn put_all<M: ByteMemory>(
+    rt: &impl Abort,
+    memory: &mut M,
+    writes: &[Write],
+) -> Result<(), NoMemory> {
+    for &write in writes {
+        put(rt, memory, write)?;
     }
     Ok(())
+}
+
+fn check_bytes<M: ByteMemory>(rt: &impl Abort, memory: &M, bytes: &[(u32, u8)]) {
+    for &(off, value) in bytes {
+        assert!(rt; byte(rt, memory, off) == value, "at {off}");
+    }
+}
+
+fn check_words<M: ByteMemory>(rt: &impl Abort, memory: &M, words: &[(u32, u32)]) {
+    for &(off, value) in words {
+        assert!(rt; word(rt, memory, off) == value, "at {off}");
+    }
+}
+
+/// Checks the size of a new memory, and what it holds after the writes.
+fn check<M: ByteMemory>(rt: &impl Abort, memory: &mut M, case: &Case<'_>) -> Result<(), NoMemory> {
+    assert!(rt; case.pages.checked_mul(4096) == Some(memory.size()));
+    put_all(rt, memory, case.writes)?;
+    check_bytes(rt, memory, case.bytes);
+    check_words(rt, memory, case.words);
+    Ok(())
+}
+
+/// Checks that two memories hold the same in their first four pages.
+fn check_same<M: ByteMemory, N: ByteMemory>(rt: &impl Abort, one: &M, other: &N) {
+    for off in 0..one.size().min(16_384) {
+        assert!(rt; byte(rt, one, off) == byte(rt, other, off), "at {off}");
+    }
+}
+
+/// Checks a case with each memory, and that both hold the same.
+fn check_both(rt: &impl Abort, alloc: Global, case: &Case<'_>) -> Result<(), NoMemory> {
+    assert!(rt; 1 <= case.pages);
+    assert!(rt; case.pages <= 4096);
+    let mut flat = FlatMemory::new(alloc, case.pages)?;
+    let mut paged = PagedRam::new(alloc, case.pages)?;
+    check(rt, &mut flat, case)?;
+    check(rt, &mut paged, case)?;
+    check_same(rt, &flat, &paged);
+    Ok(())
+}
+
+#[test]
+fn writes_are_read(rt: HostRuntime) -> Result<(), Fail> {
+    for case in CASES.iter() {
+        check_both(&rt, rt.alloc(), case)?;
+    }
+    for k in 0..1024u32 {
+        check_first(&rt, rt.alloc(), 4 * k)?;
+    }
+    Ok(())
+}
+
+/// Checks a word that is written first in new memories of one page.
+fn check_first(rt: &impl Abort, alloc: Global, off: u32) -> Result<(), NoMemory> {
+    let writes = [(off, Width::Four, 0x8765_4321)];
+    let words = [(off, 0x8765_4321)];
+    let case = Case {
+        pages: 1,
+        writes: &writes,
+        bytes: &[],
+        words: &words,
+    };
+    check_both(rt, alloc, &case)
 }
 
 /// Writes each word, and checks what the memory holds afterwards.
 fn fill<M: ByteMemory>(rt: &impl Abort, memory: &mut M) -> Result<(), NoMemory> {
     for k in 0..65_536u32 {
-        put(rt, memory, 4 * k, Width::Four, 0xffff_ffff - k)?;
+        put(rt, memory, (4 * k, Width::Four, 0xffff_ffff - k))?;
     }
     for k in 0..65_536u32 {
-        assert_eq!(rt; word(rt, memory, 4 * k), 0xffff_ffff - k);
+        assert!(rt; word(rt, memory, 4 * k) == 0xffff_ffff - k);
     }
     Ok(())
 }
@@ -125,22 +185,6 @@ fn fill<M: ByteMemory>(rt: &impl Abort, memory: &mut M) -> Result<(), NoMemory> 
 fn each_word_of_64_pages_is_stored(rt: HostRuntime) -> Result<(), Fail> {
     fill(&rt, &mut FlatMemory::new(rt.alloc(), 64)?)?;
     fill(&rt, &mut PagedRam::new(rt.alloc(), 64)?)?;
-    Ok(())
-}
-
-/// Writes a word of a new memory of one page, and checks it.
-fn check_first_store(rt: &impl Abort, alloc: Global, off: u32) -> Result<(), NoMemory> {
-    let mut memory = PagedRam::new(alloc, 1)?;
-    put(rt, &mut memory, off, Width::Four, 0x8765_4321)?;
-    assert_eq!(rt; word(rt, &memory, off), 0x8765_4321);
-    Ok(())
-}
-
-#[test]
-fn each_word_of_a_page_may_be_the_first(rt: HostRuntime) -> Result<(), Fail> {
-    for k in 0..1024u32 {
-        check_first_store(&rt, rt.alloc(), 4 * k)?;
-    }
     Ok(())
 }
 
@@ -160,6 +204,6 @@ fn put_zero(memory: &mut PagedRam, off: u32)
 fn zeros_make_no_page(rt: HostRuntime) -> Result<(), Fail> {
     let mut memory = PagedRam::new(rt.alloc(), 2)?;
     put_zero(&mut memory, 4096);
-    assert_eq!(rt; word(&rt, &memory, 4096), 0);
+    assert!(rt; word(&rt, &memory, 4096) == 0);
     Ok(())
 }

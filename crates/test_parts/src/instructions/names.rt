@@ -1,44 +1,52 @@
 //! Names of registers and control registers.
 use rv_isa::{Reg, csr_named, reg_named};
 
-#[test]
-fn registers(rt: HostRuntime) {
-    for (name, number) in [
-        ("zero", 0),
-        ("fp", 8),
-        ("s0", 8),
-        ("s11", 27),
-        ("a0", 10),
-        ("x31", 31),
-        ("t6", 31),
-    ] {
-        let found = reg_named(name.as_bytes()).map(|reg| reg.number());
-        assert_eq!(rt; found, Some(number), "{name}");
-    }
+/// Names, each with the numbers of its register and of its control register.
+static NAMES: [(&str, Option<u8>, Option<u16>); 17] = [
+    ("zero", Some(0), None),
+    ("fp", Some(8), None),
+    ("s0", Some(8), None),
+    ("s11", Some(27), None),
+    ("a0", Some(10), None),
+    ("x31", Some(31), None),
+    ("t6", Some(31), None),
+    ("mstatus", None, Some(0x300)),
+    ("pmpaddr15", None, Some(0x3bf)),
+    ("mhpmcounter31h", None, Some(0xb9f)),
+    ("mconfigptr", None, Some(0xf15)),
+    ("", None, None),
+    ("x32", None, None),
+    ("x01", None, None),
+    ("A0", None, None),
+    ("mhpmcounter2", None, None),
+    ("cycle", None, None),
+];
+
+/// Returns the number of the register with a name.
+fn register(name: &str) -> Option<u8> {
+    Some(reg_named(name.as_bytes())?.number())
+}
+
+/// Returns the number of the control register with a name.
+fn control_register(name: &str) -> Option<u16> {
+    csr_named(name.as_bytes())
 }
 
 #[test]
-fn control_registers(rt: HostRuntime) {
-    for (name, number) in [
-        ("mstatus", 0x300),
-        ("pmpaddr15", 0x3bf),
-        ("mhpmcounter31h", 0xb9f),
-        ("mconfigptr", 0xf15),
-    ] {
-        assert_eq!(rt; csr_named(name.as_bytes()), Some(number), "{name}");
+fn names(rt: HostRuntime) {
+    for &(name, register_number, control_number) in NAMES.iter() {
+        assert!(rt; register(name) == register_number, "{name}");
+        assert!(rt; control_register(name) == control_number, "{name}");
     }
 }
 
-#[test]
-fn no_names(rt: HostRuntime) {
-    for name in ["", "x32", "x01", "A0", "mhpmcounter2", "cycle"] {
-        assert!(rt; reg_named(name.as_bytes()).is_none(), "{name}");
-        assert!(rt; csr_named(name.as_bytes()).is_none(), "{name}");
-    }
+/// Returns the index of the register with a number.
+fn index(number: u8) -> Option<usize> {
+    Some(Reg::new(number)?.index())
 }
 
 #[test]
 fn numbers(rt: HostRuntime) {
-    assert!(rt; Reg::new(32).is_none());
-    assert_eq!(rt; Reg::new(31).map(|reg| reg.index()), Some(31));
+    assert!(rt; index(32) == None);
+    assert!(rt; index(31) == Some(31));
 }

@@ -60,46 +60,33 @@ fn written(alloc: Global, inputs: &[TimedInput]) -> Result<Vec<u8>, &'static str
     list_text(alloc, inputs).ok().ok_or("there is no memory")
 }
 
-/// Checks the list that is written of the inputs of a text.
-fn check(rt: &impl Abort, alloc: Global, text: &[u8], list: &[u8]) -> Result<(), Fail> {
-    let timeline = read(alloc, text)?;
-    let seen = written(alloc, timeline.inputs())?;
-    assert_eq!(rt; seen.as_slice(), list);
-    Ok(())
+/// Reads a text, and inserts an input.
+fn inserted(alloc: Global, text: &[u8], timed: TimedInput) -> Result<Timeline, &'static str> {
+    let mut timeline = read(alloc, text)?;
+    timeline.insert(timed).ok().ok_or("there is no memory")?;
+    Ok(timeline)
 }
 
-#[test]
-fn lists_are_read(rt: HostRuntime) -> Result<(), Fail> {
-    for &(text, list) in LISTS.iter() {
-        check(&rt, rt.alloc(), text, list)?;
-    }
-    Ok(())
-}
-
-/// Checks how many inputs a text has, its first one, and its last one.
-fn check_ends(
+/// Checks the list that is written of inputs.
+fn check_written(
     rt: &impl Abort,
     alloc: Global,
-    text: &[u8],
-    count: usize,
-    first: TimedInput,
-    last: TimedInput,
-) -> Result<(), Fail> {
-    let timeline = read(alloc, text)?;
-    assert_eq!(rt; timeline.inputs().len(), count);
-    assert_eq!(rt; timeline.inputs().first().copied(), Some(first));
-    assert_eq!(rt; timeline.inputs().last().copied(), Some(last));
+    inputs: &[TimedInput],
+    list: &[u8],
+) -> Result<(), &'static str> {
+    let seen = written(alloc, inputs)?;
+    assert!(rt; seen.as_slice() == list);
     Ok(())
 }
 
-#[test]
-fn seventeen_bytes(rt: HostRuntime) -> Result<(), Fail> {
-    let text = b"2 rx 00 01 02 03 04 05 06 07 08 09 0a 0b 0c 0d 0e 0f 10";
-    check_ends(&rt, rt.alloc(), text, 17, rx(2, 0), rx(2, 0x10))
+/// Checks the list that is written of the inputs of a text.
+fn check(rt: &impl Abort, alloc: Global, text: &[u8], list: &[u8]) -> Result<(), &'static str> {
+    let timeline = read(alloc, text)?;
+    check_written(rt, alloc, timeline.inputs(), list)
 }
 
-#[test]
-fn a_line_has_up_to_1024_bytes(rt: HostRuntime) -> Result<(), Fail> {
+/// Returns a line of 1024 bytes with its end.
+fn longest() -> [u8; 1026] {
     let mut text = [b' '; 1026];
     text[0] = b'1';
     text[2] = b'r';
@@ -108,8 +95,30 @@ fn a_line_has_up_to_1024_bytes(rt: HostRuntime) -> Result<(), Fail> {
     text[1023] = b'f';
     text[1024] = b'\r';
     text[1025] = b'\n';
-    check(&rt, rt.alloc(), &text, b"1 rx 7f\n")?;
-    check(&rt, rt.alloc(), &[b'#'; 1024], b"")
+    text
+}
+
+#[test]
+fn lists_are_read(rt: HostRuntime) -> Result<(), Fail> {
+    for &(text, list) in LISTS.iter() {
+        check(&rt, rt.alloc(), text, list)?;
+    }
+    check(&rt, rt.alloc(), &longest(), b"1 rx 7f\n")?;
+    check(&rt, rt.alloc(), &[b'#'; 1024], b"")?;
+    Ok(())
+}
+
+/// Checks how many inputs there are, the first one, and the last one.
+fn check_ends(
+    rt: &impl Abort,
+    inputs: &[TimedInput],
+    count: usize,
+    first: TimedInput,
+    last: TimedInput,
+) {
+    assert_eq!(rt; inputs.len(), count);
+    assert!(rt; inputs.first().copied() == Some(first));
+    assert!(rt; inputs.last().copied() == Some(last));
 }
 
 /// Returns a timed list of `count` received bytes, one for each step from 0 on.
@@ -121,29 +130,45 @@ fn list_of_bytes(alloc: Global, count: u32) -> Result<String, Fail> {
     Ok(text)
 }
 
+/// Reads the list of a hundred thousand bytes.
+fn read_bytes(alloc: Global) -> Result<Timeline, Fail> {
+    let text = list_of_bytes(alloc, 100_000)?;
+    Ok(read(alloc, text.as_bytes())?)
+}
+
+#[test]
+fn seventeen_bytes(rt: HostRuntime) -> Result<(), Fail> {
+    let text = b"2 rx 00 01 02 03 04 05 06 07 08 09 0a 0b 0c 0d 0e 0f 10";
+    let timeline = read(rt.alloc(), text)?;
+    check_ends(&rt, timeline.inputs(), 17, rx(2, 0), rx(2, 0x10));
+    Ok(())
+}
+
 #[test]
 fn a_hundred_thousand_inputs(rt: HostRuntime) -> Result<(), Fail> {
-    let text = list_of_bytes(rt.alloc(), 100_000)?;
-    let (first, last) = (rx(0, 0x5A), rx(99_999, 0x5A));
-    check_ends(&rt, rt.alloc(), text.as_bytes(), 100_000, first, last)
+    let timeline = read_bytes(rt.alloc())?;
+    check_ends(
+        &rt,
+        timeline.inputs(),
+        100_000,
+        rx(0, 0x5A),
+        rx(99_999, 0x5A),
+    );
+    Ok(())
 }
 
 #[test]
 fn an_input_is_inserted_after_those_of_its_step(rt: HostRuntime) -> Result<(), Fail> {
-    let mut timeline = read(rt.alloc(), b"3 rx 01 02\n5 rx 03")?;
-    timeline.insert(rx(3, 4)).ok().ok_or("there is no memory")?;
+    let timeline = inserted(rt.alloc(), b"3 rx 01 02\n5 rx 03", rx(3, 4))?;
     let inputs = [rx(3, 1), rx(3, 2), rx(3, 4), rx(5, 3)];
-    assert_eq!(&rt; timeline.inputs(), inputs.as_slice());
+    assert!(&rt; timeline.inputs() == inputs.as_slice());
     Ok(())
 }
 
 #[test]
 fn a_line_is_written_for_each_input(rt: HostRuntime) -> Result<(), Fail> {
     let inputs = [rx(0, 0x0A), line(7, 31, true)?, line(9999999999, 5, false)?];
-    let text = written(rt.alloc(), &inputs)?;
-    assert_eq!(&rt;
-        text.as_slice(),
-        b"0 rx 0a\n7 line 31 1\n9999999999 line 5 0\n".as_slice()
-    );
+    let list = b"0 rx 0a\n7 line 31 1\n9999999999 line 5 0\n";
+    check_written(&rt, rt.alloc(), &inputs, list)?;
     Ok(())
 }
