@@ -3,8 +3,7 @@
 use crate::memory::RefusingMemory;
 use crate::programs::program;
 use rv_asm::Program;
-use rv_base::NoMemory;
-use rv_board::{Board, BootFault, BootedBoard, Event, Stopped};
+use rv_board::{Board, BootFault, BootedBoard, Event};
 use rv_cache::{Decoded, NoCache};
 use rv_ram::{ByteMemory, FlatMemory};
 use std::alloc::Global;
@@ -32,37 +31,45 @@ fn boot_flat(
     Ok(Board::with_parts(alloc, program, memory, NoCache))
 }
 
-/// Checks the answer to an event.
-fn check_apply<M: ByteMemory, C: Decoded>(
-    rt: &impl Abort,
-    board: &mut Board<M, C>,
-    event: Event,
-    answer: Result<(), NoMemory>,
-) {
-    assert_eq!(rt; board.apply(event), answer);
+/// Whether a step is done, and not refused for lack of memory.
+pub fn is_done<M: ByteMemory, C: Decoded>(board: &mut Board<M, C>) -> bool {
+    board.apply(Event::Step).is_ok()
 }
 
-/// Checks the answer to a run of events.
-fn check_run<M: ByteMemory, C: Decoded>(
-    rt: &impl Abort,
-    board: &mut Board<M, C>,
-    events: &[Event],
-    answer: Result<(), Stopped>,
-) {
-    assert_eq!(rt; board.run(events), answer);
+/// Returns the number of steps, the time, and the pc.
+fn place<M: ByteMemory, C: Decoded>(board: &Board<M, C>) -> (u64, u64, u32) {
+    (board.steps(), board.timer().time(), board.pc())
 }
 
-/// Checks that an image is too large for flat memory of a page.
-fn check_too_large(rt: &impl Abort, alloc: Global, program: &Program) -> Result<(), Fail> {
-    let fault = boot_flat(alloc, program)?.err();
-    assert_eq!(rt; fault, Some(BootFault::ImageTooLarge));
-    Ok(())
+/// Returns the word at 0x80001000.
+fn stored<M: ByteMemory, C: Decoded>(board: &Board<M, C>) -> Option<u32> {
+    Some(u32::from_le_bytes([
+        board.ram(0x8000_1000)?,
+        board.ram(0x8000_1001)?,
+        board.ram(0x8000_1002)?,
+        board.ram(0x8000_1003)?,
+    ]))
+}
+
+/// Returns how many events of a run are done before one is refused.
+fn done_of<M: ByteMemory, C: Decoded>(board: &mut Board<M, C>, events: &[Event]) -> Option<usize> {
+    match board.run(events) {
+        Ok(()) => None,
+        Err(stopped) => Some(stopped.done),
+    }
+}
+
+/// Returns the boot fault of a source on flat memory of a page.
+fn boot_fault(alloc: Global, source: &[u8]) -> Result<Option<BootFault>, Fail> {
+    let program = program(alloc, source)?;
+    Ok(boot_flat(alloc, &program)?.err())
 }
 
 #[test]
 fn an_image_may_be_too_large_for_its_memory(rt: HostRuntime) -> Result<(), Fail> {
-    let program = program(rt.alloc(), b".space 4097")?;
-    check_too_large(&rt, rt.alloc(), &program)
+    let fault = boot_fault(rt.alloc(), b".space 4097")?;
+    assert!(rt; fault == Some(BootFault::ImageTooLarge));
+    Ok(())
 }
 
 /// Returns a board of `STORES`, whose memory refuses `refusals` writes after those of the image.
@@ -80,15 +87,6 @@ fn boot_refusing(alloc: Global, refusals: u32) -> Result<Board<RefusingMemory, N
 /// A source that stores to the second page.
 const STORES: &[u8] = b"lui t0,0x80001\nsw t0,0(t0)";
 
-/// Checks that two boards are the same in all that they can be read by.
-fn check_same<M: ByteMemory, C: Decoded, N: ByteMemory, D: Decoded>(
-    rt: &impl Abort,
-    one: &Board<M, C>,
-    other: &Board<N, D>,
-) {
-    assert!(rt; same_everywhere(one, other));
-}
-
 /// Checks that a step which stores is refused, and that the board is then as another that did the steps
 /// before it.
 fn check_refused_store<M: ByteMemory, C: Decoded, N: ByteMemory, D: Decoded>(
@@ -96,20 +94,16 @@ fn check_refused_store<M: ByteMemory, C: Decoded, N: ByteMemory, D: Decoded>(
     board: &mut Board<M, C>,
     other: &Board<N, D>,
 ) {
-    check_apply(rt, board, Event::Step, Err(NoMemory));
-    check_same(rt, board, other);
-    assert_eq!(rt; board.steps(), 1);
-    assert_eq!(rt; board.timer().time(), 1);
-    assert_eq!(rt; board.pc(), 0x8000_0004);
-    assert_eq!(rt; board.ram(0x8000_1003), Some(0));
+    assert!(rt; !is_done(board));
+    assert!(rt; same_everywhere(board, other));
+    assert!(rt; place(board) == (1, 1, 0x8000_0004));
+    assert!(rt; stored(board) == Some(0));
 }
 
-/// Checks that the word 0x80001000 was stored at its own address.
-fn check_stored<M: ByteMemory, C: Decoded>(rt: &impl Abort, board: &Board<M, C>) {
-    assert_eq!(rt; board.ram(0x8000_1000), Some(0));
-    assert_eq!(rt; board.ram(0x8000_1001), Some(0x10));
-    assert_eq!(rt; board.ram(0x8000_1002), Some(0));
-    assert_eq!(rt; board.ram(0x8000_1003), Some(0x80));
+/// Checks that the word 0x80001000 is stored at its own address by the next step.
+fn check_store<M: ByteMemory, C: Decoded>(rt: &impl Abort, board: &mut Board<M, C>) {
+    assert!(rt; is_done(board));
+    assert!(rt; stored(board) == Some(0x8000_1000));
 }
 
 /// Checks that a board whose store is refused once ends as another whose store is not refused.
@@ -118,15 +112,13 @@ fn check_beside<M: ByteMemory, C: Decoded, N: ByteMemory, D: Decoded>(
     board: &mut Board<M, C>,
     other: &mut Board<N, D>,
 ) {
-    check_apply(rt, board, Event::Step, Ok(()));
-    check_apply(rt, other, Event::Step, Ok(()));
+    assert!(rt; is_done(board));
+    assert!(rt; is_done(other));
     check_refused_store(rt, board, other);
     // The same event succeeds when it is asked again.
-    check_apply(rt, board, Event::Step, Ok(()));
-    check_apply(rt, other, Event::Step, Ok(()));
-    check_same(rt, board, other);
-    check_stored(rt, board);
-    check_stored(rt, other);
+    check_store(rt, board);
+    check_store(rt, other);
+    assert!(rt; same_everywhere(board, other));
 }
 
 /// Checks that a board whose store is refused once ends as one over pages.
@@ -149,12 +141,11 @@ fn a_refused_step_can_be_asked_again(rt: HostRuntime) -> Result<(), Fail> {
 /// Checks that a run stops at a refused store, which is done when it is asked again.
 fn check_stop_at_store<M: ByteMemory, C: Decoded>(rt: &impl Abort, board: &mut Board<M, C>) {
     let events = [Event::Step, Event::Rx(1), Event::Step];
-    check_run(rt, board, &events, Err(Stopped { done: 2 }));
-    assert_eq!(rt; board.steps(), 1);
-    assert_eq!(rt; board.serial().waiting(), 1);
-    check_apply(rt, board, Event::Step, Ok(()));
-    assert_eq!(rt; board.steps(), 2);
-    assert_eq!(rt; board.ram(0x8000_1003), Some(0x80));
+    assert!(rt; done_of(board, &events) == Some(2));
+    assert!(rt; board.steps() == 1);
+    assert!(rt; board.serial().waiting() == 1);
+    check_store(rt, board);
+    assert!(rt; board.steps() == 2);
 }
 
 #[test]

@@ -2,7 +2,6 @@
 use crate::memory::RefusingMemory;
 use crate::programs::program;
 use rv_asm::Program;
-use rv_base::NoMemory;
 use rv_board::Board;
 use rv_cache::{Decoded, NoCache};
 use rv_hart::Outcome;
@@ -71,197 +70,156 @@ fn go_back(
     Ok(())
 }
 
-/// Checks how many steps were taken, how many bytes wait in the board, and how many inputs there are.
-fn check_inputs<M: ByteMemory, C: Decoded>(
-    rt: &impl Abort,
-    session: &Session<M, C>,
-    taken: u64,
-    waiting: usize,
-    inputs: usize,
-) {
-    assert_eq!(rt; session.taken(), taken);
-    assert_eq!(rt; session.board().serial().waiting(), waiting);
-    assert_eq!(rt; session.inputs().len(), inputs);
+// The helpers have no contracts, so that the proof of a test carries no state from call to call.
+
+/// Does `n` steps. Returns why they stopped, or `None` where they were refused.
+fn go<M: ByteMemory, C: Decoded>(session: &mut Session<M, C>, n: u64) -> Option<Stop> {
+    session.go(n).ok()
 }
 
-/// Checks whether one step retires.
-fn check_retires<M: ByteMemory, C: Decoded>(
-    rt: &impl Abort,
-    session: &mut Session<M, C>,
-    retires: bool,
-) {
-    let outcome = session.take_step();
-    assert_eq!(rt; matches!(outcome, Ok(Some(Outcome::Retired))), retires);
+/// Does `n` steps, and stops at no breakpoint. Returns why they stopped, or `None` where they were refused.
+fn step<M: ByteMemory, C: Decoded>(session: &mut Session<M, C>, n: u64) -> Option<Stop> {
+    session.step(n).ok()
 }
 
-/// Checks the highest byte of the word that is stored.
-fn check_stored<M: ByteMemory, C: Decoded>(rt: &impl Abort, session: &Session<M, C>, byte: u8) {
-    assert_eq!(rt; session.board().ram(0x8000_1003), Some(byte));
+/// Whether one step retires.
+fn retires<M: ByteMemory, C: Decoded>(session: &mut Session<M, C>) -> bool {
+    matches!(session.take_step(), Ok(Some(Outcome::Retired)))
 }
 
-/// Checks the answer to a call of `go`, and how many steps were taken in all.
-fn check_go<M: ByteMemory, C: Decoded>(
-    rt: &impl Abort,
-    session: &mut Session<M, C>,
-    n: u64,
-    stop: Stop,
-    taken: u64,
-) {
-    let answer = session.go(n);
-    assert_eq!(rt; answer, Ok(stop));
-    assert_eq!(rt; session.taken(), taken);
+/// Sets a breakpoint. Whether it is set then.
+fn set<M: ByteMemory, C: Decoded>(session: &mut Session<M, C>, address: u32) -> bool {
+    session.set_break(address).is_ok() && session.has_break(address)
 }
 
-/// Checks the answer to a call of `step`, and how many steps were taken in all.
-fn check_step<M: ByteMemory, C: Decoded>(
-    rt: &impl Abort,
-    session: &mut Session<M, C>,
-    n: u64,
-    stop: Stop,
-    taken: u64,
-) {
-    let answer = session.step(n);
-    assert_eq!(rt; answer, Ok(stop));
-    assert_eq!(rt; session.taken(), taken);
-}
+/// What a session shows of its board: how many steps were taken, and how many its board did; the pc; how many
+/// received bytes wait; the highest byte of the word that is stored.
+type Seen = (u64, u64, u32, usize, Option<u8>);
 
-/// Checks that a call of `go` is refused, and how many steps were taken in all.
-fn check_go_refused<M: ByteMemory, C: Decoded>(
-    rt: &impl Abort,
-    session: &mut Session<M, C>,
-    n: u64,
-    taken: u64,
-) {
-    let answer = session.go(n);
-    assert_eq!(rt; answer, Err(NoMemory));
-    assert_eq!(rt; session.taken(), taken);
-}
-
-/// Sets a breakpoint, and checks that it is set.
-fn check_set<M: ByteMemory, C: Decoded>(
-    rt: &impl Abort,
-    session: &mut Session<M, C>,
-    address: u32,
-) {
-    let answer = session.set_break(address);
-    assert_eq!(rt; answer, Ok(()));
-    assert!(rt; session.has_break(address));
-}
-
-/// Checks the pc of the board, how many received bytes are in the queue, and how many steps were done.
-fn check_board<M: ByteMemory, C: Decoded>(
-    rt: &impl Abort,
-    session: &Session<M, C>,
-    pc: u32,
-    waiting: usize,
-    steps: u64,
-) {
+fn seen<M: ByteMemory, C: Decoded>(session: &Session<M, C>) -> Seen {
     let board = session.board();
-    assert_eq!(rt; board.pc(), pc);
-    assert_eq!(rt; board.serial().waiting(), waiting);
-    assert_eq!(rt; board.steps(), steps);
+    let (waiting, byte) = (board.serial().waiting(), board.ram(0x8000_1003));
+    (session.taken(), board.steps(), board.pc(), waiting, byte)
 }
 
-/// Checks the answer to a command, after which more may follow.
-fn check_command<M: ByteMemory, C: Decoded>(
+/// What a session shows after the refused store, and after the store.
+const REFUSED: Seen = (1, 1, 0x8000_0004, 3, Some(0));
+
+const STORED: Seen = (2, 2, 0x8000_0008, 3, Some(0x80));
+
+/// A call of `go`: its steps, its answer, and what is seen after it.
+type Call = (u64, Option<Stop>, Seen);
+
+fn check_calls<M: ByteMemory, C: Decoded>(
     rt: &impl Abort,
     session: &mut Session<M, C>,
-    line: &[u8],
-    answer: &[u8],
-    alloc: Global,
+    calls: &[Call],
 ) {
-    let mut text = Vec::new(alloc);
-    let next = session.command(line, &mut text);
-    assert_eq!(rt; text.as_slice(), answer);
-    assert_eq!(rt; next, Ok(Next::More));
+    for &(n, stop, after) in calls {
+        assert!(rt; go(session, n) == stop);
+        assert!(rt; seen(session) == after);
+    }
 }
 
-/// Checks that a command is refused, and that nothing is answered.
-fn check_command_refused<M: ByteMemory, C: Decoded>(
-    rt: &impl Abort,
+/// Whether a command gives an answer and what follows it, or `None` where it is refused.
+fn answers<M: ByteMemory, C: Decoded>(
+    alloc: Global,
     session: &mut Session<M, C>,
     line: &[u8],
-    alloc: Global,
-) {
+    (answer, next): (&[u8], Option<Next>),
+) -> bool {
     let mut text = Vec::new(alloc);
-    let next = session.command(line, &mut text);
-    assert_eq!(rt; text.as_slice(), b"".as_slice());
-    assert_eq!(rt; next, Err(NoMemory));
+    let found = session.command(line, &mut text).ok();
+    found == next && text.as_slice() == answer
 }
 
+// The inputs before the refused step are given once, and none after it.
 #[test]
 fn the_next_call_goes_on_with_the_refused_step(rt: HostRuntime) -> Result<(), Fail> {
     let mut session = session(rt.alloc(), TIMED, 1)?;
-    check_go_refused(&rt, &mut session, 9, 1);
-    // The inputs before the refused step were given, and none after it.
-    check_board(&rt, &session, 0x8000_0004, 3, 1);
-    check_stored(&rt, &session, 0);
-    check_step(&rt, &mut session, 1, Stop::Limit, 2);
-    // No input was given again.
-    check_board(&rt, &session, 0x8000_0008, 3, 2);
-    check_stored(&rt, &session, 0x80);
-    check_go(&rt, &mut session, 9, Stop::Limit, 3);
-    check_board(&rt, &session, 0x8000_0008, 4, 3);
+    check_calls(&rt, &mut session, &[(9, None, REFUSED)]);
+    assert!(rt; step(&mut session, 1) == Some(Stop::Limit));
+    assert!(rt; seen(&session) == STORED);
+    let after = (3, 3, 0x8000_0008, 4, Some(0x80));
+    check_calls(&rt, &mut session, &[(9, Some(Stop::Limit), after)]);
     Ok(())
 }
+
+/// Two refused calls, and one that isn't.
+static BURSTS: [Call; 3] = [
+    (3, None, (1, 1, 0x8000_0004, 0, Some(0))),
+    (2, None, (1, 1, 0x8000_0004, 0, Some(0))),
+    (9, Some(Stop::Limit), (3, 3, 0x8000_0008, 0, Some(0x80))),
+];
 
 // Without inputs the steps of a call are one burst, which comes to the store in its second step, and then
 // begins with it.
 #[test]
 fn a_page_refused_in_a_burst_can_be_asked_for_again(rt: HostRuntime) -> Result<(), Fail> {
     let mut session = session(rt.alloc(), b"", 2)?;
-    check_go_refused(&rt, &mut session, 3, 1);
-    check_board(&rt, &session, 0x8000_0004, 0, 1);
-    check_go_refused(&rt, &mut session, 2, 1);
-    check_stored(&rt, &session, 0);
-    check_go(&rt, &mut session, 9, Stop::Limit, 3);
-    check_board(&rt, &session, 0x8000_0008, 0, 3);
-    check_stored(&rt, &session, 0x80);
+    check_calls(&rt, &mut session, &BURSTS);
     Ok(())
 }
+
+/// Calls from before a breakpoint at the store, which is refused twice.
+static AGAIN: [Call; 5] = [
+    (9, Some(Stop::Breakpoint), (1, 1, 0x8000_0004, 1, Some(0))),
+    (9, None, REFUSED),
+    (0, Some(Stop::Limit), REFUSED),
+    (1, None, REFUSED),
+    (1, Some(Stop::Limit), STORED),
+];
 
 #[test]
 fn a_step_may_be_refused_again(rt: HostRuntime) -> Result<(), Fail> {
     let mut session = session(rt.alloc(), TIMED, 2)?;
-    check_set(&rt, &mut session, 0x8000_0004);
-    check_go(&rt, &mut session, 9, Stop::Breakpoint, 1);
-    check_board(&rt, &session, 0x8000_0004, 1, 1);
-    check_go_refused(&rt, &mut session, 9, 1);
-    check_go(&rt, &mut session, 0, Stop::Limit, 1);
-    check_go_refused(&rt, &mut session, 1, 1);
-    check_board(&rt, &session, 0x8000_0004, 3, 1);
-    check_go(&rt, &mut session, 1, Stop::Limit, 2);
-    check_board(&rt, &session, 0x8000_0008, 3, 2);
+    assert!(rt; set(&mut session, 0x8000_0004));
+    check_calls(&rt, &mut session, &AGAIN);
     Ok(())
 }
 
 #[test]
 fn a_refused_command_answers_nothing(rt: HostRuntime) -> Result<(), Fail> {
     let mut session = session(rt.alloc(), TIMED, 1)?;
-    check_command_refused(&rt, &mut session, b"s 3", rt.alloc());
-    check_board(&rt, &session, 0x8000_0004, 3, 1);
-    check_command(
-        &rt,
-        &mut session,
-        b"s 3",
-        b"stop limit pc=80000008 mode=M steps=3\n",
-        rt.alloc(),
-    );
+    assert!(rt; answers(rt.alloc(), &mut session, b"s 3", (b"", None)));
+    assert!(rt; seen(&session) == REFUSED);
+    let answer = b"stop limit pc=80000008 mode=M steps=3\n";
+    assert!(rt; answers(rt.alloc(), &mut session, b"s 3", (answer, Some(Next::More))));
     Ok(())
+}
+
+/// Returns how many steps were taken, how many bytes wait in the board, and how many inputs there are.
+fn inputs_of<M: ByteMemory, C: Decoded>(session: &Session<M, C>) -> (u64, usize, usize) {
+    let waiting = session.board().serial().waiting();
+    (session.taken(), waiting, session.inputs().len())
+}
+
+/// Gives inputs by hand before and after the first step.
+fn check_given<M: ByteMemory, C: Decoded>(
+    rt: &impl Abort,
+    session: &mut Session<M, C>,
+) -> Result<(), &'static str> {
+    give(session, 0x40)?;
+    assert!(rt; inputs_of(session) == (0, 1, 2));
+    assert!(rt; retires(session));
+    give(session, 0x42)?;
+    assert!(rt; inputs_of(session) == (1, 3, 3));
+    Ok(())
+}
+
+/// Checks that a session which went back to after the first step has its inputs.
+fn check_gone_back<M: ByteMemory, C: Decoded>(rt: &impl Abort, session: &mut Session<M, C>) {
+    assert!(rt; inputs_of(session) == (1, 1, 3));
+    assert!(rt; step(session, 9) == Some(Stop::Limit));
+    assert!(rt; inputs_of(session) == (3, 3, 3));
+    assert!(rt; !retires(session));
 }
 
 #[test]
 fn inputs_by_hand_stay_when_a_session_goes_back(rt: HostRuntime) -> Result<(), Fail> {
     let mut session = session(rt.alloc(), b"1 rx 41", 0)?;
-    give(&mut session, 0x40)?;
-    check_inputs(&rt, &session, 0, 1, 2);
-    check_retires(&rt, &mut session, true);
-    give(&mut session, 0x42)?;
-    check_inputs(&rt, &session, 1, 3, 3);
+    check_given(&rt, &mut session)?;
     go_back(rt.alloc(), &mut session, 1)?;
-    check_inputs(&rt, &session, 1, 1, 3);
-    check_step(&rt, &mut session, 9, Stop::Limit, 3);
-    check_inputs(&rt, &session, 3, 3, 3);
-    check_retires(&rt, &mut session, false);
+    check_gone_back(&rt, &mut session);
     Ok(())
 }

@@ -5,84 +5,103 @@ use std::alloc::Global;
 use std::io;
 use std::test::Fail;
 
-/// Returns the line of a fault.
-fn line_of(alloc: Global, fault: &CliFault) -> Result<Vec<u8>, Fail> {
-    let mut line = Vec::new(alloc);
-    fault_line(fault, &mut line)?;
-    Ok(line)
+/// Whether a fault is shown by this name.
+fn has_name(alloc: Global, fault: &CliFault, name: &str) -> Result<bool, Fail> {
+    let shown = format!(in alloc; "{fault}")?;
+    Ok(shown.as_str() == name)
 }
 
-/// Returns the fault of a board that does not boot.
-fn unbooted(fault: BootFault) -> CliFault {
-    CliFault::Open(OpenFault::Board(fault))
+/// Whether a fault has this line.
+fn has_line(alloc: Global, fault: &CliFault, line: &str) -> Result<bool, Fail> {
+    let mut found = Vec::new(alloc);
+    fault_line(fault, &mut found)?;
+    Ok(found.as_slice() == line.as_bytes())
 }
+
+/// A fault with its name, its line, and its exit status.
+type Row = (CliFault, &'static str, &'static str, u8);
+
+const SOURCE: AsmFault = AsmFault {
+    line: 3,
+    kind: FaultKind::DuplicateSymbol,
+};
+
+static ROWS: [Row; 10] = [
+    (
+        CliFault::Read(TextName::Source),
+        "Read",
+        "cannot read source\n",
+        4,
+    ),
+    (
+        CliFault::Read(TextName::Input),
+        "Read",
+        "cannot read input\n",
+        4,
+    ),
+    (
+        CliFault::Read(TextName::Commands),
+        "Read",
+        "cannot read commands\n",
+        4,
+    ),
+    (
+        CliFault::Open(OpenFault::Input(3)),
+        "Open",
+        "input line 3: refused\n",
+        3,
+    ),
+    (
+        CliFault::Open(OpenFault::Source(SOURCE)),
+        "Open",
+        "source line 3: E6 DuplicateSymbol\n",
+        3,
+    ),
+    (
+        CliFault::Open(OpenFault::Board(BootFault::BadPages)),
+        "Open",
+        "bad pages\n",
+        3,
+    ),
+    (
+        CliFault::Open(OpenFault::Board(BootFault::BadSlots)),
+        "Open",
+        "bad slots\n",
+        3,
+    ),
+    (
+        CliFault::Open(OpenFault::Board(BootFault::ImageTooLarge)),
+        "Open",
+        "image too large\n",
+        3,
+    ),
+    (CliFault::OutOfMemory, "OutOfMemory", "out of memory\n", 4),
+    (CliFault::Write, "Write", "cannot write\n", 4),
+];
 
 #[test]
 fn names_each_fault(rt: HostRuntime) -> Result<(), Fail> {
-    let source = OpenFault::Source(AsmFault {
-        line: 3,
-        kind: FaultKind::DuplicateSymbol,
-    });
-    let rows = [
-        (
-            CliFault::Read(TextName::Source),
-            "Read",
-            "cannot read source\n",
-            4,
-        ),
-        (
-            CliFault::Read(TextName::Input),
-            "Read",
-            "cannot read input\n",
-            4,
-        ),
-        (
-            CliFault::Read(TextName::Commands),
-            "Read",
-            "cannot read commands\n",
-            4,
-        ),
-        (
-            CliFault::Open(OpenFault::Input(3)),
-            "Open",
-            "input line 3: refused\n",
-            3,
-        ),
-        (
-            CliFault::Open(source),
-            "Open",
-            "source line 3: E6 DuplicateSymbol\n",
-            3,
-        ),
-        (unbooted(BootFault::BadPages), "Open", "bad pages\n", 3),
-        (unbooted(BootFault::BadSlots), "Open", "bad slots\n", 3),
-        (
-            unbooted(BootFault::ImageTooLarge),
-            "Open",
-            "image too large\n",
-            3,
-        ),
-        (CliFault::OutOfMemory, "OutOfMemory", "out of memory\n", 4),
-        (CliFault::Write, "Write", "cannot write\n", 4),
-    ];
-    for (fault, name, line, status) in rows {
-        let shown = format!(in rt.alloc(); "{fault}")?;
-        assert!(rt; shown.as_str() == name);
-        assert!(rt; line_of(rt.alloc(), &fault)?.as_slice() == line.as_bytes());
-        assert_eq!(rt; exit_status(&Err(fault)), status);
+    for &(fault, name, line, status) in ROWS.iter() {
+        assert!(rt; has_name(rt.alloc(), &fault, name)?, "{name}");
+        assert!(rt; has_line(rt.alloc(), &fault, line)?, "{line}");
+        assert!(rt; exit_status(&Err(fault)) == status, "{line}");
     }
     Ok(())
 }
 
+/// Returns the fault of a text whose file can't be opened.
+fn fault_of(text: TextName, kind: io::ErrorKind) -> Option<CliFault> {
+    let refused: io::Result<u8> = Err(io::Error::from(kind));
+    file_or_fault(text, refused).err()
+}
+
 #[test]
 fn an_unopened_file_is_its_reader_s_fault(rt: HostRuntime) {
-    let refused: io::Result<u8> = Err(io::Error::from(io::ErrorKind::PermissionDenied));
-    assert!(rt; file_or_fault(TextName::Source, refused) == Err(CliFault::Read(TextName::Source)));
-    let refused: io::Result<u8> = Err(io::Error::from(io::ErrorKind::NotFound));
-    assert!(rt; file_or_fault(TextName::Input, refused) == Err(CliFault::Read(TextName::Input)));
-    let refused: io::Result<u8> = Err(io::Error::from(io::ErrorKind::NotFound));
-    assert!(rt;
-        file_or_fault(TextName::Commands, refused) == Err(CliFault::Read(TextName::Commands))
-    );
+    let found = fault_of(TextName::Source, io::ErrorKind::PermissionDenied);
+    assert!(rt; found == Some(CliFault::Read(TextName::Source)));
+    let found = fault_of(TextName::Input, io::ErrorKind::NotFound);
+    assert!(rt; found == Some(CliFault::Read(TextName::Input)));
+    let found = fault_of(TextName::Commands, io::ErrorKind::NotFound);
+    assert!(rt; found == Some(CliFault::Read(TextName::Commands)));
     assert!(rt; file_or_fault(TextName::Source, Ok(7u8)) == Ok(7));
 }

@@ -17,12 +17,12 @@ fn reader(text: &[u8], fails: bool) -> MemoryIn<'_>
 }
 
 /// Does a run in which the readers of the source, the timed list and the commands fail as `fails` says, in
-/// this order.
+/// this order. Returns how it ended, and whether nothing was written.
 fn run(
     alloc: Global,
     source: &[u8],
     fails: (bool, bool, bool),
-) -> (Result<Ending, CliFault>, MemoryOut) {
+) -> (Result<Ending, CliFault>, bool) {
     let mut source = reader(source, fails.0);
     let mut inputs = reader(b"x", fails.1);
     let mut commands = Some(reader(b"s", fails.2));
@@ -35,34 +35,38 @@ fn run(
         DEFAULTS,
         &mut out,
     );
-    (outcome, out)
+    (outcome, out.bytes().is_empty())
 }
+
+/// A source, which readers fail, and the fault of the run.
+type Row = (&'static [u8], (bool, bool, bool), CliFault);
+
+static ROWS: [Row; 5] = [
+    (HELLO, (true, true, true), CliFault::Read(TextName::Source)),
+    (HELLO, (false, true, true), CliFault::Read(TextName::Input)),
+    (
+        b"foo",
+        (false, true, false),
+        CliFault::Read(TextName::Input),
+    ),
+    (
+        b"foo",
+        (false, false, true),
+        CliFault::Read(TextName::Commands),
+    ),
+    (
+        HELLO,
+        (false, false, false),
+        CliFault::Open(OpenFault::Input(1)),
+    ),
+];
 
 // The texts are read in order, and all of them before the first one is judged.
 #[test]
 fn stops_at_the_first_reader_that_fails(rt: HostRuntime) {
-    let rows: [(&[u8], (bool, bool, bool), CliFault); 5] = [
-        (HELLO, (true, true, true), CliFault::Read(TextName::Source)),
-        (HELLO, (false, true, true), CliFault::Read(TextName::Input)),
-        (
-            b"foo",
-            (false, true, false),
-            CliFault::Read(TextName::Input),
-        ),
-        (
-            b"foo",
-            (false, false, true),
-            CliFault::Read(TextName::Commands),
-        ),
-        (
-            HELLO,
-            (false, false, false),
-            CliFault::Open(OpenFault::Input(1)),
-        ),
-    ];
-    for (source, fails, fault) in rows {
-        let (outcome, out) = run(rt.alloc(), source, fails);
+    for &(source, fails, fault) in ROWS.iter() {
+        let (outcome, is_silent) = run(rt.alloc(), source, fails);
         assert!(rt; outcome == Err(fault));
-        assert!(rt; out.bytes().is_empty());
+        assert!(rt; is_silent);
     }
 }

@@ -8,7 +8,6 @@ use rv_cli::{
 };
 use std::alloc::Global;
 use std::io::{self, ErrorKind, Read, Write};
-use std::process::Abort;
 
 /// Runs a source without a timed list and commands.
 fn run_without_commands<S: TextIn, W: TextOut>(
@@ -30,34 +29,53 @@ fn reads_and_writes_a_byte_a_call(rt: HostRuntime) {
     let mut source = MemoryIn::new(HELLO).with_most(1);
     let mut out = MemoryOut::new(rt.alloc()).with_most(1);
     let outcome = run_without_commands(rt.alloc(), &mut source, DEFAULTS, &mut out);
-    assert!(rt; outcome == Ok(Ending::Halted(0)));
+    assert!(rt; outcome == HALTED);
     assert!(rt; out.bytes() == b"H\nhalted 0 after 7 steps\n".as_slice());
     assert!(rt; !source.failed() && !out.failed());
 }
 
-/// Checks that a run stops at a writer that fails, after it has written `written`.
-fn check_write_fault(rt: &impl Abort, alloc: Global, out: &mut MemoryOut, written: &str)
+/// How runs of `HELLO` end, and runs whose source can't be read, or whose text can't be written.
+const HALTED: Result<Ending, CliFault> = Ok(Ending::Halted(0));
+
+const UNREAD: Result<Ending, CliFault> = Err(CliFault::Read(TextName::Source));
+
+const UNWRITTEN: Result<Ending, CliFault> = Err(CliFault::Write);
+
+/// Whether a run stops at a writer that fails, after it has written `written`.
+fn stops_after(alloc: Global, out: &mut MemoryOut, written: &[u8]) -> bool
     requires { out.old.has_failed ≡ false }
 {
     let outcome = run_without_commands(alloc, &mut MemoryIn::new(HELLO), DEFAULTS, out);
-    assert!(rt; outcome == Err(CliFault::Write));
-    assert!(rt; out.bytes() == written.as_bytes());
-    assert!(rt; out.failed());
-    assert_eq!(rt; exit_status(&outcome), 4);
+    outcome == UNWRITTEN && out.failed() && out.bytes() == written
 }
 
 #[test]
 fn stops_at_a_failed_write(rt: HostRuntime) {
-    let alloc = rt.alloc();
-    let mut failing = MemoryOut::new(alloc).with_most(3).with_failure_after(1);
-    check_write_fault(&rt, alloc, &mut failing, "H\nh");
+    let mut failing = MemoryOut::new(rt.alloc())
+        .with_most(3)
+        .with_failure_after(1);
+    assert!(rt; stops_after(rt.alloc(), &mut failing, b"H\nh"));
+    assert!(rt; exit_status(&UNWRITTEN) == 4);
 }
 
 #[test]
 fn stops_at_a_write_that_takes_nothing(rt: HostRuntime) {
-    let alloc = rt.alloc();
-    let mut full = MemoryOut::new(alloc).with_most(0);
-    check_write_fault(&rt, alloc, &mut full, "");
+    let mut full = MemoryOut::new(rt.alloc()).with_most(0);
+    assert!(rt; stops_after(rt.alloc(), &mut full, b""));
+}
+
+/// Whether a run of a source into memory ends so, and has written `written`.
+fn ends_so<S: TextIn>(
+    alloc: Global,
+    source: &mut S,
+    end: Result<Ending, CliFault>,
+    written: &[u8],
+) -> bool
+    requires { S.has_failed source.old ≡ false }
+{
+    let mut out = MemoryOut::new(alloc);
+    let outcome = run_without_commands(alloc, source, DEFAULTS, &mut out);
+    outcome == end && out.bytes() == written
 }
 
 /// A reader without an end.
@@ -84,20 +102,14 @@ impl TextIn for Endless {
 #[test]
 fn stops_at_a_failed_read(rt: HostRuntime) {
     let mut failing = MemoryIn::new(HELLO).with_most(4).with_failure_after(1);
-    let mut out = MemoryOut::new(rt.alloc());
-    let outcome = run_without_commands(rt.alloc(), &mut failing, DEFAULTS, &mut out);
-    assert!(rt; outcome == Err(CliFault::Read(TextName::Source)));
+    assert!(rt; ends_so(rt.alloc(), &mut failing, UNREAD, b""));
     assert!(rt; failing.failed());
-    assert_eq!(rt; exit_status(&outcome), 4);
-    assert!(rt; out.bytes().is_empty());
+    assert!(rt; exit_status(&UNREAD) == 4);
 }
 
 #[test]
 fn stops_at_a_source_without_an_end(rt: HostRuntime) {
-    let mut out = MemoryOut::new(rt.alloc());
-    let outcome = run_without_commands(rt.alloc(), &mut Endless, DEFAULTS, &mut out);
-    assert!(rt; outcome == Err(CliFault::Read(TextName::Source)));
-    assert!(rt; out.bytes().is_empty());
+    assert!(rt; ends_so(rt.alloc(), &mut Endless, UNREAD, b""));
 }
 
 #[test]
@@ -191,10 +203,7 @@ const WRITTEN: &[u8] = b"H\nhalted 0 after 7 steps\n";
 #[test]
 fn goes_on_after_an_interrupted_read(rt: HostRuntime) {
     let mut source = FileIn::new(Interrupted::new(HELLO, None));
-    let mut out = MemoryOut::new(rt.alloc());
-    let outcome = run_without_commands(rt.alloc(), &mut source, DEFAULTS, &mut out);
-    assert!(rt; outcome == Ok(Ending::Halted(0)));
-    assert!(rt; out.bytes() == WRITTEN);
+    assert!(rt; ends_so(rt.alloc(), &mut source, HALTED, WRITTEN));
     assert!(rt; !source.failed());
 }
 
@@ -205,33 +214,36 @@ fn run_into(alloc: Global, writer: &mut Interrupted<'_>) -> (Result<Ending, CliF
     (outcome, out.failed())
 }
 
+/// Whether a run into a writer of std, one call of which may fail, ends so, and has written `written`.
+fn ends_after(
+    alloc: Global,
+    failing: Option<u32>,
+    end: (Result<Ending, CliFault>, bool),
+    written: &[u8],
+) -> bool {
+    let mut writer = Interrupted::new(b"", failing);
+    let (outcome, has_failed) = run_into(alloc, &mut writer);
+    outcome == end.0
+        && has_failed == end.1
+        && writer.count == written.len()
+        && writer.written.starts_with(written)
+}
+
 #[test]
 fn goes_on_after_an_interrupted_write(rt: HostRuntime) {
-    let mut writer = Interrupted::new(b"", None);
-    let (outcome, has_failed) = run_into(rt.alloc(), &mut writer);
-    assert!(rt; outcome == Ok(Ending::Halted(0)));
-    assert!(rt; !has_failed);
-    assert!(rt; writer.written.starts_with(WRITTEN));
-    assert_eq!(rt; writer.count, WRITTEN.len());
+    assert!(rt; ends_after(rt.alloc(), None, (HALTED, false), WRITTEN));
 }
 
 #[test]
 fn stops_at_a_failed_read_of_std(rt: HostRuntime) {
     let mut source = FileIn::new(Interrupted::new(HELLO, Some(5)));
-    let mut out = MemoryOut::new(rt.alloc());
-    let outcome = run_without_commands(rt.alloc(), &mut source, DEFAULTS, &mut out);
-    assert!(rt; outcome == Err(CliFault::Read(TextName::Source)));
+    assert!(rt; ends_so(rt.alloc(), &mut source, UNREAD, b""));
     assert!(rt; source.failed());
-    assert!(rt; out.bytes().is_empty());
 }
 
 #[test]
 fn stops_at_a_failed_write_of_std(rt: HostRuntime) {
-    let mut writer = Interrupted::new(b"", Some(5));
-    let (outcome, has_failed) = run_into(rt.alloc(), &mut writer);
-    assert!(rt; outcome == Err(CliFault::Write));
-    assert!(rt; has_failed);
-    assert_eq!(rt; writer.count, 2);
+    assert!(rt; ends_after(rt.alloc(), Some(5), (UNWRITTEN, true), b"H\n"));
 }
 
 #[test]
@@ -295,22 +307,23 @@ impl Write for FailsOnce {
 /// The number of the system's error that is an interruption.
 const EINTR: i32 = 4;
 
-/// Checks that a read and a write that fail with an error of the system are tried again just if it is an
-/// interruption.
-fn check_error(rt: &impl Abort, code: i32) {
+/// Whether a read whose first call fails with an error of the system succeeds.
+fn reads(code: i32) -> bool {
     let mut text = FileIn::new(FailsOnce::new(code));
-    assert_eq!(rt;
-        text.read(&mut [0; 8]).is_ok(),
-        code == EINTR,
-        "read, at {code}"
-    );
-    let mut out = FileOut::new(FailsOnce::new(code));
-    assert_eq!(rt; out.write(b"x").is_ok(), code == EINTR, "write, at {code}");
+    text.read(&mut [0; 8]).is_ok()
 }
 
+/// Whether a write whose first call fails with an error of the system succeeds.
+fn writes(code: i32) -> bool {
+    let mut out = FileOut::new(FailsOnce::new(code));
+    out.write(b"x").is_ok()
+}
+
+// What fails with an error of the system is tried again just if that is an interruption.
 #[test]
 fn an_interruption_alone_is_tried_again(rt: HostRuntime) {
     for code in 1..134 {
-        check_error(&rt, code);
+        assert!(rt; reads(code) == (code == EINTR), "read, at {code}");
+        assert!(rt; writes(code) == (code == EINTR), "write, at {code}");
     }
 }

@@ -3,7 +3,6 @@ use crate::runs::DEFAULTS;
 use clap::error::ErrorKind;
 use rv_cli::{Options, Origin, Words, read_words, refusal_status};
 use std::alloc::{AllocError, Global};
-use std::process::Abort;
 use std::test::Fail;
 
 /// Returns the words of a line, in which a blank separates two.
@@ -11,166 +10,167 @@ fn words_of<'a>(alloc: Global, line: &'a str) -> Result<Vec<&'a str>, AllocError
     line.split(' ').collect(alloc)
 }
 
-/// What is read where no word follows the name of the program.
-const NO_WORDS: Words<'static> = Words {
-    source: "-",
-    input: None,
-    commands: None,
-    options: DEFAULTS,
-};
+/// A line, and what is read of its words: the source, the timed list, the commands, and the options.
+type Row = (
+    &'static str,
+    &'static str,
+    Option<&'static str>,
+    Option<&'static str>,
+    Options,
+);
 
-/// Checks what is read of the words of a line.
-fn check_words(rt: &impl Abort, alloc: Global, line: &str, wanted: Words<'_>) -> Result<(), Fail> {
-    let words = words_of(alloc, line)?;
-    let read = read_words(alloc, words.as_slice())?;
-    assert!(rt; read.source == wanted.source);
-    assert!(rt; read.input == wanted.input);
-    assert!(rt; read.commands == wanted.commands);
-    assert!(rt; read.options == wanted.options);
-    Ok(())
+static ROWS: [Row; 11] = [
+    ("rvboard", "-", None, None, DEFAULTS),
+    (
+        "rvboard a.s --steps 2 --pages=1 --slots 64",
+        "a.s",
+        None,
+        None,
+        Options {
+            steps: 2,
+            pages: 1,
+            slots: 64,
+        },
+    ),
+    (
+        "rvboard --steps +0005 -- --x",
+        "--x",
+        None,
+        None,
+        Options {
+            steps: 5,
+            pages: 256,
+            slots: 1024,
+        },
+    ),
+    (
+        "rvboard --slots=4096 --pages=4096 --steps=1000000000 -",
+        "-",
+        None,
+        None,
+        Options {
+            steps: 1_000_000_000,
+            pages: 4096,
+            slots: 4096,
+        },
+    ),
+    (
+        "rvboard --commands=c.txt a.s --input i.txt",
+        "a.s",
+        Some("i.txt"),
+        Some("c.txt"),
+        DEFAULTS,
+    ),
+    ("rvboard --input i.txt", "-", Some("i.txt"), None, DEFAULTS),
+    ("rvboard --commands -", "-", None, Some("-"), DEFAULTS),
+    ("rvboard --input=-x", "-", Some("-x"), None, DEFAULTS),
+    ("rvboard --input=", "-", Some(""), None, DEFAULTS),
+    // The last word is empty.
+    ("rvboard --commands ", "-", None, Some(""), DEFAULTS),
+    ("rvboard ./-", "./-", None, None, DEFAULTS),
+];
+
+/// Whether what is read is what is wanted.
+fn is_read(read: &Words<'_>, wanted: &Row) -> bool {
+    read.source == wanted.1
+        && read.input == wanted.2
+        && read.commands == wanted.3
+        && read.options == wanted.4
 }
 
-/// Checks the source and the options that the words of a line name.
-fn check_options(
-    rt: &impl Abort,
-    alloc: Global,
-    line: &str,
-    source: &str,
-    options: (u32, u16, u16),
-) -> Result<(), Fail> {
-    let (steps, pages, slots) = options;
-    let options = Options {
-        steps,
-        pages,
-        slots,
-    };
-    let wanted = Words {
-        source,
-        options,
-        ..NO_WORDS
-    };
-    check_words(rt, alloc, line, wanted)
+/// Whether the words of a row's line are read so.
+fn reads(alloc: Global, row: &Row) -> Result<bool, Fail> {
+    let words = words_of(alloc, row.0)?;
+    let read = read_words(alloc, words.as_slice())?;
+    Ok(is_read(&read, row))
 }
 
 #[test]
 fn reads_the_words(rt: HostRuntime) -> Result<(), Fail> {
-    let alloc = rt.alloc();
-    check_words(&rt, alloc, "rvboard", NO_WORDS)?;
-    let most = (1_000_000_000, 4096, 4096);
-    let line = "rvboard a.s --steps 2 --pages=1 --slots 64";
-    check_options(&rt, alloc, line, "a.s", (2, 1, 64))?;
-    let line = "rvboard --steps +0005 -- --x";
-    check_options(&rt, alloc, line, "--x", (5, 256, 1024))?;
-    let line = "rvboard --slots=4096 --pages=4096 --steps=1000000000 -";
-    check_options(&rt, alloc, line, "-", most)
-}
-
-/// Checks the files that the words of a line name.
-fn check_files<'a>(
-    rt: &impl Abort,
-    alloc: Global,
-    line: &str,
-    input: Option<&'a str>,
-    commands: Option<&'a str>,
-) -> Result<(), Fail> {
-    let wanted = Words {
-        input,
-        commands,
-        ..NO_WORDS
-    };
-    check_words(rt, alloc, line, wanted)
-}
-
-#[test]
-fn reads_the_files(rt: HostRuntime) -> Result<(), Fail> {
-    let alloc = rt.alloc();
-    let both = Words {
-        source: "a.s",
-        input: Some("i.txt"),
-        commands: Some("c.txt"),
-        ..NO_WORDS
-    };
-    check_words(
-        &rt,
-        alloc,
-        "rvboard --commands=c.txt a.s --input i.txt",
-        both,
-    )?;
-    check_files(&rt, alloc, "rvboard --input i.txt", Some("i.txt"), None)?;
-    check_files(&rt, alloc, "rvboard --commands -", None, Some("-"))?;
-    check_files(&rt, alloc, "rvboard --input=-x", Some("-x"), None)?;
-    check_files(&rt, alloc, "rvboard --input=", Some(""), None)?;
-    // The last word is empty.
-    check_files(&rt, alloc, "rvboard --commands ", None, Some(""))
-}
-
-/// Checks that the words of a line are refused with an error of this kind, and the exit status then.
-fn check_refusal(rt: &impl Abort, alloc: Global, line: &str, kind: ErrorKind) -> Result<(), Fail> {
-    let words = words_of(alloc, line)?;
-    let read = read_words(alloc, words.as_slice());
-    let status = if kind == ErrorKind::DisplayHelp { 0 } else { 3 };
-    assert!(rt; read.is_err_and(|e| e.kind() == kind && refusal_status(&e) == status));
-    Ok(())
-}
-
-#[test]
-fn refuses_files_by_kind(rt: HostRuntime) -> Result<(), Fail> {
-    let lines = [
-        ("rvboard --input=a --input=b", ErrorKind::ArgumentConflict),
-        (
-            "rvboard --commands a --commands a",
-            ErrorKind::ArgumentConflict,
-        ),
-        ("rvboard --input", ErrorKind::InvalidValue),
-        ("rvboard --commands", ErrorKind::InvalidValue),
-        ("rvboard --input --commands a", ErrorKind::InvalidValue),
-        ("rvboard --input -x", ErrorKind::UnknownArgument),
-        ("rvboard --commands -x", ErrorKind::UnknownArgument),
-    ];
-    for (line, kind) in lines {
-        check_refusal(&rt, rt.alloc(), line, kind)?;
+    for row in ROWS.iter() {
+        assert!(rt; reads(rt.alloc(), row)?, "{}", row.0);
     }
     Ok(())
 }
 
+/// Where the text of a source comes from.
+fn origin(source: &str) -> Origin<'_> {
+    let words = Words {
+        source,
+        input: None,
+        commands: None,
+        options: DEFAULTS,
+    };
+    words.source_origin()
+}
+
+#[test]
+fn a_dash_is_the_standard_input(rt: HostRuntime) {
+    assert!(rt; origin("-") == Origin::StandardInput);
+    assert!(rt; origin("./-") == Origin::File("./-"));
+}
+
+/// Returns the kind of the error with which words are refused, and the exit status then.
+fn refusal(alloc: Global, words: &[&str]) -> Option<(ErrorKind, u8)> {
+    match read_words(alloc, words) {
+        Ok(_) => None,
+        Err(e) => Some((e.kind(), refusal_status(&e))),
+    }
+}
+
+/// Lines that are refused, each with the kind of the error and the exit status.
+static REFUSALS: [(&str, ErrorKind, u8); 19] = [
+    (
+        "rvboard --input=a --input=b",
+        ErrorKind::ArgumentConflict,
+        3,
+    ),
+    (
+        "rvboard --commands a --commands a",
+        ErrorKind::ArgumentConflict,
+        3,
+    ),
+    ("rvboard --input", ErrorKind::InvalidValue, 3),
+    ("rvboard --commands", ErrorKind::InvalidValue, 3),
+    ("rvboard --input --commands a", ErrorKind::InvalidValue, 3),
+    ("rvboard --input -x", ErrorKind::UnknownArgument, 3),
+    ("rvboard --commands -x", ErrorKind::UnknownArgument, 3),
+    ("rvboard --pages 0", ErrorKind::ValueValidation, 3),
+    ("rvboard --pages 4097", ErrorKind::ValueValidation, 3),
+    ("rvboard --slots 63", ErrorKind::ValueValidation, 3),
+    ("rvboard --slots=4097", ErrorKind::ValueValidation, 3),
+    ("rvboard --steps 1000000001", ErrorKind::ValueValidation, 3),
+    ("rvboard --step 1", ErrorKind::UnknownArgument, 3),
+    ("rvboard a.s b.s", ErrorKind::UnknownArgument, 3),
+    (
+        "rvboard --steps 1 --steps 1",
+        ErrorKind::ArgumentConflict,
+        3,
+    ),
+    ("rvboard --help", ErrorKind::DisplayHelp, 0),
+    ("rvboard -h", ErrorKind::DisplayHelp, 0),
+    ("rvboard --pages x", ErrorKind::ValueValidation, 3),
+    ("rvboard -V", ErrorKind::UnknownArgument, 3),
+];
+
+/// Whether the words of a line are refused so.
+fn is_refused(alloc: Global, line: &str, kind: ErrorKind, status: u8) -> Result<bool, AllocError> {
+    let words = words_of(alloc, line)?;
+    Ok(refusal(alloc, words.as_slice()) == Some((kind, status)))
+}
+
 #[test]
 fn refuses_by_kind(rt: HostRuntime) -> Result<(), Fail> {
-    let lines = [
-        ("rvboard --pages 0", ErrorKind::ValueValidation),
-        ("rvboard --pages 4097", ErrorKind::ValueValidation),
-        ("rvboard --slots 63", ErrorKind::ValueValidation),
-        ("rvboard --slots=4097", ErrorKind::ValueValidation),
-        ("rvboard --steps 1000000001", ErrorKind::ValueValidation),
-        ("rvboard --step 1", ErrorKind::UnknownArgument),
-        ("rvboard a.s b.s", ErrorKind::UnknownArgument),
-        ("rvboard --steps 1 --steps 1", ErrorKind::ArgumentConflict),
-        ("rvboard --help", ErrorKind::DisplayHelp),
-        ("rvboard -h", ErrorKind::DisplayHelp),
-        ("rvboard --pages x", ErrorKind::ValueValidation),
-        ("rvboard -V", ErrorKind::UnknownArgument),
-    ];
-    for (line, kind) in lines {
-        check_refusal(&rt, rt.alloc(), line, kind)?;
+    for &(line, kind, status) in REFUSALS.iter() {
+        assert!(rt; is_refused(rt.alloc(), line, kind, status)?, "{line}");
     }
     Ok(())
 }
 
 #[test]
 fn refuses_many_words(rt: HostRuntime) {
-    let words = ["rvboard"; 100];
-    let read = read_words(rt.alloc(), &words);
-    assert!(rt; read.is_err_and(|e| e.kind() == ErrorKind::UnknownArgument));
-}
-
-#[test]
-fn a_dash_is_the_standard_input(rt: HostRuntime) -> Result<(), Fail> {
-    let file = Words {
-        source: "./-",
-        ..NO_WORDS
-    };
-    assert!(rt; NO_WORDS.source_origin() == Origin::StandardInput);
-    assert!(rt; file.source_origin() == Origin::File("./-"));
-    check_words(&rt, rt.alloc(), "rvboard ./-", file)
+    let found = refusal(rt.alloc(), &["rvboard"; 100]);
+    assert!(rt; found == Some((ErrorKind::UnknownArgument, 3)));
 }
 
 #[test]

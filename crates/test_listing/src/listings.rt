@@ -80,31 +80,53 @@ const TEXT: &[u8] = b"1 80000000
 #[test]
 fn lists_each_kind_of_line(rt: HostRuntime) -> Result<(), Fail> {
     let text = text_of(rt.alloc(), SOURCE)?;
-    assert_eq!(rt; text.as_slice(), TEXT);
+    assert!(rt; text.as_slice() == TEXT);
     Ok(())
 }
 
-/// Checks the lines of some addresses.
+/// Addresses, each with its line, or 0.
+static LINES: [(u32, usize); 7] = [
+    (0x7fff_ffff, 0),
+    (0x8000_0000, 2),
+    (0x8000_0007, 2),
+    (0x8000_000c, 7),
+    (0x8000_000f, 8),
+    (0x8000_001d, 13),
+    (0x8000_001e, 0),
+];
+
+/// Checks the lines of addresses.
 fn check_lines(rt: &impl Abort, listing: &Listing) {
-    assert_eq!(rt; line_at(listing, 0x7fff_ffff), 0);
-    assert_eq!(rt; line_at(listing, 0x8000_0000), 2);
-    assert_eq!(rt; line_at(listing, 0x8000_0007), 2);
-    assert_eq!(rt; line_at(listing, 0x8000_000c), 7);
-    assert_eq!(rt; line_at(listing, 0x8000_000f), 8);
-    assert_eq!(rt; line_at(listing, 0x8000_001d), 13);
-    assert_eq!(rt; line_at(listing, 0x8000_001e), 0);
+    for &(address, line) in LINES.iter() {
+        assert!(rt; line_at(listing, address) == line, "{address:x}");
+    }
 }
 
-/// Checks the nearest label of an address.
-fn check_label(
-    rt: &impl Abort,
+/// Addresses, each with the nearest label before it and its distance.
+static LABELS: [(u32, &[u8]); 5] = [
+    (0x7fff_ffff, b""),
+    (0x8000_0008, b"main+8"),
+    (0x8000_000c, b"end+0"),
+    (0x8000_000e, b"middle+1"),
+    (0x8000_001e, b"last+0"),
+];
+
+/// Whether this is the nearest label of an address.
+fn has_label(
     alloc: Global,
     listing: &Listing,
     address: u32,
     text: &[u8],
-) -> Result<(), Fail> {
+) -> Result<bool, AllocError> {
     let label = label_text(alloc, listing, address)?;
-    assert_eq!(rt; label.as_slice(), text);
+    Ok(label.as_slice() == text)
+}
+
+/// Checks the nearest labels of addresses.
+fn check_labels(rt: &impl Abort, alloc: Global, listing: &Listing) -> Result<(), Fail> {
+    for &(address, text) in LABELS.iter() {
+        assert!(rt; has_label(alloc, listing, address, text)?, "{address:x}");
+    }
     Ok(())
 }
 
@@ -114,9 +136,5 @@ fn finds_lines_and_labels(rt: HostRuntime) -> Result<(), Fail> {
         .ok()
         .ok_or("the source is refused")?;
     check_lines(&rt, &listing);
-    check_label(&rt, rt.alloc(), &listing, 0x7fff_ffff, b"")?;
-    check_label(&rt, rt.alloc(), &listing, 0x8000_0008, b"main+8")?;
-    check_label(&rt, rt.alloc(), &listing, 0x8000_000c, b"end+0")?;
-    check_label(&rt, rt.alloc(), &listing, 0x8000_000e, b"middle+1")?;
-    check_label(&rt, rt.alloc(), &listing, 0x8000_001e, b"last+0")
+    check_labels(&rt, rt.alloc(), &listing)
 }

@@ -20,11 +20,11 @@ fn count_lines(source: &[u8]) -> usize
 fn check(rt: &impl Abort, source: &[u8], lines: &[&[u8]]) {
     let mut left = cut_lines(source);
     for line in lines {
-        assert_eq!(rt; left.next(), Some(*line));
+        assert!(rt; left.next() == Some(*line));
     }
-    assert_eq!(rt; left.next(), None);
-    assert_eq!(rt; left.next(), None);
-    assert_eq!(rt; count_lines(source), lines.len());
+    assert!(rt; left.next() == None);
+    assert!(rt; left.next() == None);
+    assert!(rt; count_lines(source) == lines.len());
 }
 
 #[test]

@@ -26,7 +26,7 @@ fn fault_of(alloc: Global, text: &[u8]) -> Option<LineFault> {
 
 /// Checks the fault of a line.
 fn check_fault(rt: &impl Abort, alloc: Global, line: &[u8], fault: LineFault) {
-    assert_eq!(rt; fault_of(alloc, line), Some(fault));
+    assert!(rt; fault_of(alloc, line) == Some(fault));
 }
 
 /// Checks that each line of the text has this fault.
@@ -73,8 +73,8 @@ fn check_line(
     kind: &str,
 ) -> Result<(), Fail> {
     let seen = labels_of(alloc, line)?;
-    assert_eq!(rt; seen.as_slice(), labels);
-    assert_eq!(rt; statement_kind(line), kind);
+    assert!(rt; seen.as_slice() == labels);
+    assert!(rt; statement_kind(line) == kind);
     Ok(())
 }
 
@@ -198,7 +198,7 @@ fn place(alloc: Global, text: &[u8]) -> Option<(usize, usize)> {
 #[test]
 fn operands_keep_their_places(rt: HostRuntime) {
     let alloc = rt.alloc();
-    assert_eq!(rt; place(alloc, b"lw a0,(sp)"), Some((3, 3)));
-    assert_eq!(rt; place(alloc, b"x: 1: addi a0,a1,%lo(y + 4)"), Some((9, 6)));
-    assert_eq!(rt; place(alloc, b"sw a0 , - 4(sp)"), Some((3, 5)));
+    assert!(rt; place(alloc, b"lw a0,(sp)") == Some((3, 3)));
+    assert!(rt; place(alloc, b"x: 1: addi a0,a1,%lo(y + 4)") == Some((9, 6)));
+    assert!(rt; place(alloc, b"sw a0 , - 4(sp)") == Some((3, 5)));
 }

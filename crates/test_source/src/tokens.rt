@@ -5,21 +5,34 @@ use std::alloc::{AllocError, Global};
 use std::process::Abort;
 use std::test::Fail;
 
+/// Appends a number, with what stands before and after it.
+fn push_number(
+    alloc: Global,
+    out: &mut Vec<u8>,
+    (before, number, after): (&str, u32, &str),
+) -> Result<(), AllocError> {
+    out.extend_from_slice(format!(in alloc; "{before}{number}{after}")?.as_bytes())
+}
+
+/// Returns the letter of a direction.
+fn letter(direction: &Direction) -> &'static str {
+    match direction {
+        Direction::Backward => "b",
+        Direction::Forward => "f",
+    }
+}
+
 /// Appends a token in few letters: a name or a sign as it is spelled, `5` for decimal digits, `#16` for
 /// another number, `5b` for a local reference, `'65` for a character, and a quote with the bytes of a string.
 fn push_token(alloc: Global, out: &mut Vec<u8>, token: &Token) -> Result<(), AllocError> {
     match token {
         Token::Name(name) => out.extend_from_slice(name.bytes()),
-        Token::Digits(n) => out.extend_from_slice(format!(in alloc; "{n}")?.as_bytes()),
-        Token::Number(n) => out.extend_from_slice(format!(in alloc; "#{n}")?.as_bytes()),
+        Token::Digits(n) => push_number(alloc, out, ("", u32::from(*n), "")),
+        Token::Number(n) => push_number(alloc, out, ("#", *n, "")),
         Token::Local { number, direction } => {
-            let letter = match direction {
-                Direction::Backward => "b",
-                Direction::Forward => "f",
-            };
-            out.extend_from_slice(format!(in alloc; "{number}{letter}")?.as_bytes())
+            push_number(alloc, out, ("", u32::from(*number), letter(direction)))
         }
-        Token::Character(b) => out.extend_from_slice(format!(in alloc; "'{b}")?.as_bytes()),
+        Token::Character(b) => push_number(alloc, out, ("'", u32::from(*b), "")),
         Token::Text(text) => {
             out.extend_from_slice(b"\"")?;
             text.append_to(out)
@@ -42,21 +55,32 @@ fn tokens(alloc: Global, line: &[u8]) -> Result<Vec<Token>, LineFault> {
     cut_line(alloc, line)
 }
 
+/// Returns tokens as a text, each with a blank before it.
+fn text_of(alloc: Global, tokens: &[Token]) -> Result<Vec<u8>, AllocError> {
+    let mut out = Vec::new(alloc);
+    for token in tokens {
+        out.extend_from_slice(b" ")?;
+        push_token(alloc, &mut out, token)?;
+    }
+    Ok(out)
+}
+
+/// Whether tokens have this text.
+fn have_text(alloc: Global, tokens: &[Token], text: &[u8]) -> Result<bool, AllocError> {
+    let found = text_of(alloc, tokens)?;
+    Ok(found.as_slice() == text)
+}
+
 /// Checks the tokens of a line, each with a blank before it.
 fn check(rt: &impl Abort, alloc: Global, line: &[u8], expected: &[u8]) -> Result<(), Fail> {
     let tokens = tokens(alloc, line).ok().ok_or("a line is refused")?;
-    let mut seen = Vec::new(alloc);
-    for token in &tokens {
-        seen.extend_from_slice(b" ")?;
-        push_token(alloc, &mut seen, token)?;
-    }
-    assert_eq!(rt; seen.as_slice(), expected);
+    assert!(rt; have_text(alloc, tokens.as_slice(), expected)?);
     Ok(())
 }
 
 /// Checks the fault of a line.
 fn check_fault(rt: &impl Abort, alloc: Global, line: &[u8], fault: LineFault) {
-    assert_eq!(rt; tokens(alloc, line).err(), Some(fault));
+    assert!(rt; tokens(alloc, line).err() == Some(fault));
 }
 
 /// Checks each pair of lines of the text: the second has the tokens of the first.
@@ -95,11 +119,6 @@ a--b
  a - - b
 ";
 
-#[test]
-fn names_and_signs(rt: HostRuntime) -> Result<(), Fail> {
-    check_each(&rt, rt.alloc(), NAMES_AND_SIGNS)
-}
-
 const HALVES: &[u8] = b"\
 lui a0,%hi(x)
  lui a0 , %hi ( x )
@@ -118,12 +137,6 @@ const NO_HALVES: &[u8] = b"\
 % hi(x)
 .type x,%function
 ";
-
-#[test]
-fn halves(rt: HostRuntime) -> Result<(), Fail> {
-    check_each_fault(&rt, rt.alloc(), NO_HALVES, LineFault::Syntax);
-    check_each(&rt, rt.alloc(), HALVES)
-}
 
 const NUMBERS: &[u8] = b"\
 0 7 9999
@@ -156,12 +169,6 @@ const NO_NUMBERS: &[u8] = b"\
 99999999999999999999999999999999999999
 ";
 
-#[test]
-fn numbers(rt: HostRuntime) -> Result<(), Fail> {
-    check_each_fault(&rt, rt.alloc(), NO_NUMBERS, LineFault::Syntax);
-    check_each(&rt, rt.alloc(), NUMBERS)
-}
-
 const LOCAL_REFERENCES: &[u8] = b"\
 0b 0f 9999f 12b
  0b 0f 9999f 12b
@@ -179,12 +186,6 @@ const NO_LOCAL_REFERENCES: &[u8] = b"\
 1b.
 0b1f
 ";
-
-#[test]
-fn local_references(rt: HostRuntime) -> Result<(), Fail> {
-    check_each_fault(&rt, rt.alloc(), NO_LOCAL_REFERENCES, LineFault::Syntax);
-    check_each(&rt, rt.alloc(), LOCAL_REFERENCES)
-}
 
 const CHARACTERS: &[u8] = b"\
 'a' ' ' '~' '#' '\"'
@@ -214,12 +215,6 @@ const NO_CHARACTERS: &[u8] = b"\
 '\x7F'
 ";
 
-#[test]
-fn characters(rt: HostRuntime) -> Result<(), Fail> {
-    check_each_fault(&rt, rt.alloc(), NO_CHARACTERS, LineFault::Syntax);
-    check_each(&rt, rt.alloc(), CHARACTERS)
-}
-
 const STRINGS: &[u8] = b"\
 \"\" \"ab\"\"c\"
  \" \"ab \"c
@@ -248,14 +243,6 @@ const NO_STRINGS: &[u8] = b"\
 \"\r\"
 ";
 
-#[test]
-fn strings(rt: HostRuntime) -> Result<(), Fail> {
-    let alloc = rt.alloc();
-    check_each_fault(&rt, alloc, NO_STRINGS, LineFault::Syntax);
-    check(&rt, alloc, br#""\n\t\\\"\'""#, b" \"\n\t\\\"'")?;
-    check_each(&rt, alloc, STRINGS)
-}
-
 const COMMENTS: &[u8] = b"\
 nop//\xFF
  nop
@@ -269,14 +256,6 @@ const NO_COMMENTS: &[u8] = b"\
 a / b
 a /
 ";
-
-#[test]
-fn comments(rt: HostRuntime) -> Result<(), Fail> {
-    let alloc = rt.alloc();
-    check_each_fault(&rt, alloc, NO_COMMENTS, LineFault::Syntax);
-    check(&rt, alloc, b"# all \x80\x00\r", b"")?;
-    check_each(&rt, alloc, COMMENTS)
-}
 
 const BAD_BYTES: &[u8] = b"\
 \x80
@@ -294,11 +273,44 @@ foo ! \x80
 [
 ";
 
+/// Lines, each with its tokens on the next line.
+static TOKENS: [&[u8]; 7] = [
+    NAMES_AND_SIGNS,
+    HALVES,
+    NUMBERS,
+    LOCAL_REFERENCES,
+    CHARACTERS,
+    STRINGS,
+    COMMENTS,
+];
+
 #[test]
-fn bytes_that_no_token_has(rt: HostRuntime) {
-    check_each_fault(&rt, rt.alloc(), BAD_BYTES, LineFault::BadByte);
+fn lines_have_their_tokens(rt: HostRuntime) -> Result<(), Fail> {
+    for text in TOKENS.iter() {
+        check_each(&rt, rt.alloc(), text)?;
+    }
+    check(&rt, rt.alloc(), br#""\n\t\\\"\'""#, b" \"\n\t\\\"'")?;
+    check(&rt, rt.alloc(), b"# all \x80\x00\r", b"")
+}
+
+/// Lines that are refused, each text for one fault.
+static FAULTS: [(&[u8], LineFault); 8] = [
+    (NO_HALVES, LineFault::Syntax),
+    (NO_NUMBERS, LineFault::Syntax),
+    (NO_LOCAL_REFERENCES, LineFault::Syntax),
+    (NO_CHARACTERS, LineFault::Syntax),
+    (NO_STRINGS, LineFault::Syntax),
+    (NO_COMMENTS, LineFault::Syntax),
+    (BAD_BYTES, LineFault::BadByte),
+    (OTHER_BYTES, LineFault::Syntax),
+];
+
+#[test]
+fn lines_are_refused(rt: HostRuntime) {
+    for &(text, fault) in FAULTS.iter() {
+        check_each_fault(&rt, rt.alloc(), text, fault);
+    }
     check_fault(&rt, rt.alloc(), b"nop \r", LineFault::BadByte);
-    check_each_fault(&rt, rt.alloc(), OTHER_BYTES, LineFault::Syntax);
 }
 
 /// Returns a line that has the same byte `length` times.
@@ -331,7 +343,7 @@ fn a_line_has_up_to_1024_tokens(rt: HostRuntime) -> Result<(), Fail> {
     let line = long_line(rt.alloc(), b',', 1024)?;
     let commas = tokens(rt.alloc(), line.as_slice());
     let commas = commas.ok().ok_or("the line is refused")?;
-    assert_eq!(rt; commas.len(), 1024);
+    assert!(rt; commas.len() == 1024);
     Ok(())
 }
 
@@ -355,6 +367,6 @@ fn places(alloc: Global, line: &[u8]) -> Result<Vec<u8>, AllocError> {
 fn tokens_stand_in_their_columns(rt: HostRuntime) -> Result<(), Fail> {
     let seen = places(rt.alloc(), b"x:\taddi a0, a1,%lo(\"y z\") # c")?;
     let columns = b" 0+1 1+1 3+4 8+2 10+1 12+2 14+1 15+3 18+1 19+5 24+1";
-    assert_eq!(rt; seen.as_slice(), columns.as_slice());
+    assert!(rt; seen.as_slice() == columns.as_slice());
     Ok(())
 }
