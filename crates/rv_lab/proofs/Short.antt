@@ -1,8 +1,7 @@
 -- Calls that stopped short, for memory, of what they do.
 use Rattle.std.proofs.Common.{◌≡◌, ◌≢◌, ◌∙◌, ℕ, zero, suc, ◌+◌, ◌-◌, ◌<◌, ◌≤◌, true, List, [], ◌∷◌, length, take, drop, get_or, refl, sym, ap, subst, arith, inl, inr}
-use Rattle.std.proofs.lemmas.Bool.{eqb-true}
 use Rattle.std.proofs.lemmas.List.{take_all}
-use Rattle.std.specs.Prelude.{◌⊎◌, ◌==◌, min, fold, Bool, false, if◌then◌else◌, Option, Some, None, Result, Ok, Err, OnErr, unwrap_or}
+use Rattle.std.specs.Prelude.{◌⊎◌, ◌==◌, min, fold, Bool, false, if◌then◌else◌, Option, Some, None, Result, Ok, Err, OnErr, OnOk, max, unwrap_or}
 use Rattle.std.specs.FinSet as set
 use Rattle.rv_base.specs.declared.memory.NoMemory.{NoMemory}
 use Rattle.rv_commands.specs.declared.command.Command as commands
@@ -11,31 +10,31 @@ use Rattle.rv_lists.specs.Timed.{never_falls}
 use Rattle.rv_lists.specs.declared.input.Input.{Input}
 use Rattle.rv_monitor.specs.Commands as monitor
 use Rattle.rv_monitor.specs.Commands.{LeavesRefused, command_in}
-use Rattle.rv_monitor.specs.State.{Addresses, SessionState, TimedState, after, given, most_of, with_due, with_break, without_break}
+use Rattle.rv_monitor.specs.State.{Addresses, IsInTime, SessionState, TimedState, after, given, most_of, with_due, with_break, without_break}
 use Rattle.rv_monitor.specs.Stops.{TakesStep, WasRefused, may_step, steps_between}
 use Rattle.rv_monitor.specs.Stops as stops
 use Rattle.rv_monitor.proofs.Steps.{after_due, after_more, after_rises}
 use Rattle.rv_recording.specs.Recording.{RecordingState, with_timed}
-use Rattle.rv_recording.specs.Until.{HasRun, until_at}
+use Rattle.rv_recording.specs.Until.{HasRun, comes}
 use Rattle.rv_recording.specs.Refused.{IsRefusedIn}
-use Rattle.rv_recording.specs.Out.{out_at}
+use Rattle.rv_recording.specs.Out.{open_at}
 use Rattle.rv_recording.specs.declared.until.Condition.{Condition}
 use Rattle.rv_recording.specs.declared.until.End.{End}
 use Rattle.rv_recording.proofs.Ahead.{runs_from, takes_from}
-use Rattle.rv_recording.proofs.Running.{stands}
 use Rattle.rv_lab.specs.Commands as lab
-use Rattle.rv_lab.specs.Commands.{Begins, Monitors, Reads, Repeats, Steps, Took, Traced, begun, ready, stepped, stepped_by, with_inputs, with_session}
-use Rattle.rv_lab.specs.Refusals.{Leads, Refuses, RunsOut, StopsShort, by_hand, due, nowhere, steps, timed}
-use Rattle.rv_lab.specs.Short.{Gives, IsObeyedShort, IsOnWay, RunsShort}
+use Rattle.rv_lab.specs.Commands.{Begins, InSession, Repeats, RunsFor, Steps, With, begun, ready, timed, with_inputs, with_session}
+use Rattle.rv_lab.specs.Refusals.{Leads, RunsOut, StopsShort, by_hand, due, nowhere, steps}
+use Rattle.rv_lab.specs.Short.{Changes, Gives, IsObeyedShort, IsOnWay, IsShort, RunsShort, Traced, stepped, stepped_by}
 use Rattle.rv_lab.specs.State.{LabState}
-use Rattle.rv_lab.specs.Words.{asked}
-use Rattle.rv_operands.specs.Operands.{bytes_inputs}
+use Rattle.rv_lab.specs.Words.{line_command}
+use Rattle.rv_operands.specs.Operands.{bytes_inputs, operand_text}
 use Rattle.rv_lab.specs.declared.command.Command.{Command}
-use Rattle.rv_lab.specs.declared.command.Command.TheVariants.{Again, Back, Finish, Go, Monitor, Over, Receive, Step, Trace, Until}
+use Rattle.rv_lab.specs.declared.command.Command.TheVariants.{Again, Monitor, Moves, Over, Receive, Step}
+use Rattle.rv_lab.specs.declared.command.Move.{Move}
 use Rattle.rv_lab.specs.declared.plan.Plan.{Plan}
 use Rattle.rv_lab.specs.declared.plan.Goal.{Goal}
 use Rattle.rv_lab.specs.declared.plan.Goal.TheVariants as goal
-use Rattle.rv_lab.proofs.Runs.{traced_more, one_and_more}
+use Rattle.rv_lab.proofs.Runs.{one_and_more, single_step, traced_more, traced_runs}
 
 -- what holds in any case holds where memory ran out
 pub on_err : {A : Type 0} (r : Result A NoMemory) (P : Type 0) → P → OnErr r P
@@ -74,9 +73,7 @@ from_due s k m l rising =
 
 -- steps of a session stopped short
 abbrev TookShort : Addresses → ℕ → SessionState → SessionState → Type 0
-TookShort a n s new =
-    (d : SessionState) × stops.Took a n s d × Leads s.timed new.timed × Leads new.timed d.timed
-    × (new ≡ record s { timed = new.timed })
+TookShort a n s new = IsShort (stops.Took a n) s new
 
 module _ (a : Addresses) (n : ℕ) (s new : SessionState) (rising : never_falls s.timed.inputs ≡ true) where
   some_taken : WasRefused a n s new → TookShort a n s new
@@ -107,107 +104,90 @@ module _ (a : Addresses) (n : ℕ) (s new : SessionState) (rising : never_falls 
   taken (inl e) = none_taken e
   taken (inr w) = some_taken w
 
-module _ (n : ℕ) (old new : RecordingState) (rising : never_falls old.session.timed.inputs ≡ true) where
-  took_short : (a : Addresses) → WasRefused a n old.session new.session → new ≡ with_timed old new.session.timed
-      → (d : RecordingState) × Took a n old d × IsOnWay old new d
-  took_short a w others =
-      let t = some_taken a n old.session new.session rising w in
-      let is = ap (λ (u : SessionState). u.timed) t.1.state in (
-        record old { session = t.0 },
-        record {
-          took = t.1;
-          others = ap (λ (u : SessionState). record old { session = u })
-              (t.1.state ∙ ap (λ (u : TimedState). record old.session { timed = u }) (sym is));
-        },
-        (t.2, t.3, others),
-      )
+module _ (n : ℕ) (old new : SessionState) (rising : never_falls old.timed.inputs ≡ true) where
+  step_short : WasRefused set.empty n old new → RunsShort goal.Count n old new
+  step_short w = some_taken set.empty n old new rising w
 
-  pub step_short : WasRefused set.empty n old.session new.session → new ≡ with_timed old new.session.timed
-      → RunsShort goal.Count n old new
-  step_short w others = took_short set.empty w others
+  go_short : WasRefused old.breakpoints.addresses n old new → RunsShort goal.Break n old new
+  go_short w = some_taken old.breakpoints.addresses n old new rising w
 
-  pub go_short : WasRefused old.session.breakpoints.addresses n old.session new.session
-      → new ≡ with_timed old new.session.timed → RunsShort goal.Break n old new
-  go_short w others = took_short old.session.breakpoints.addresses w others
-
-  module _ (ends : ℕ → Option End) (w : IsRefusedIn ends n old new) where
+  module _ (reached : ℕ → Bool) (w : IsRefusedIn reached n old new) where
     abbrev count : ℕ
-    count = steps_between old.session.timed new.session.timed
+    count = steps_between old.timed new.timed
 
-    timed_due : new.session.timed ≡ with_due (after old.session.timed count)
-    timed_due = ap (λ (r : RecordingState). r.session.timed) w.state
+    timed_due : new.timed ≡ with_due (after old.timed count)
+    timed_due = ap (λ (s : SessionState). s.timed) w.state
 
-    run : (m : ℕ) × (count < m) × (end : End) × HasRun ends n old (stands old m) end
-    run = runs_from ends n old (most_of old.session n - count - 1) count (omega (arith, w.within)) w.going
+    run : (m : ℕ) × (count < m) × (end : End) × HasRun reached n old (record old { timed = after old.timed m }) end
+    run =
+        runs_from reached n (record { session = old; pages = 0; slots = 0 }) (most_of old n - count - 1) count
+        (omega (arith, w.within)) w.going
 
-    run_short : (d : RecordingState) × ((end : End) × HasRun ends n old d end) × IsOnWay old new d
+    run_short : (d : SessionState) × ((end : End) × HasRun reached n old d end) × Leads old.timed new.timed
+        × Leads new.timed d.timed × (new ≡ record old { timed = new.timed })
     run_short = (
-      stands old run.0,
+      record old { timed = after old.timed run.0 },
       (run.2, run.3),
-      (
-        subst (Leads old.session.timed) (sym timed_due) (to_due old.session.timed count),
-        subst (λ (s : TimedState). Leads s (after old.session.timed run.0)) (sym timed_due)
-            (from_due old.session.timed count run.0 run.1 rising),
-        w.state ∙ ap (with_timed old) (sym timed_due),
-      ),
+      subst (Leads old.timed) (sym timed_due) (to_due old.timed count),
+      subst (λ (s : TimedState). Leads s (after old.timed run.0)) (sym timed_due)
+          (from_due old.timed count run.0 run.1 rising),
+      w.state ∙ ap (λ (t : TimedState). record old { timed = t }) (sym timed_due),
     )
 
-  pub until_short : (condition : Condition) → IsRefusedIn (until_at condition old.session) n old new
+  until_short : (condition : Condition) → IsRefusedIn (comes condition old.timed) n old new
       → RunsShort (goal.Until condition) n old new
-  until_short condition w = run_short (until_at condition old.session) w
+  until_short condition w = run_short (comes condition old.timed) w
 
-  pub out_short : (calls : ℕ) → IsRefusedIn (out_at calls old.session) n old new
+  out_short : (calls : ℕ) → IsRefusedIn (λ i. open_at calls old.timed i == 0) n old new
       → RunsShort (goal.Out calls) n old new
-  out_short calls w = run_short (out_at calls old.session) w
+  out_short calls w = run_short (λ i. open_at calls old.timed i == 0) w
 
 -- ---- a call of a run
 
-module _ (g : Goal) (n : ℕ) (inside old new : RecordingState) (same : inside ≡ old)
-    (rising : never_falls inside.session.timed.inputs ≡ true) where
+module _ (g : Goal) (n : ℕ) (inside old new : SessionState) (same : inside ≡ old)
+    (rising : never_falls inside.timed.inputs ≡ true) where
   moved : (h : Goal) → g ≡ h → RunsShort h n inside new → RunsShort g n old new
   moved h is s =
-      subst (λ (r : RecordingState). RunsShort g n r new) same
+      subst (λ (r : SessionState). RunsShort g n r new) same
       (subst (λ (k : Goal). RunsShort k n inside new) (sym is) s)
 
-  pub counted : g ≡ goal.Count → WasRefused set.empty n inside.session new.session
-      → new ≡ with_timed inside new.session.timed → RunsShort g n old new
-  counted is w others = moved goal.Count is (step_short n inside new rising w others)
+  pub counted : g ≡ goal.Count → WasRefused set.empty n inside new → RunsShort g n old new
+  counted is w = moved goal.Count is (step_short n inside new rising w)
 
-  pub broken : g ≡ goal.Break → WasRefused inside.session.breakpoints.addresses n inside.session new.session
-      → new ≡ with_timed inside new.session.timed → RunsShort g n old new
-  broken is w others = moved goal.Break is (go_short n inside new rising w others)
+  pub broken : g ≡ goal.Break → WasRefused inside.breakpoints.addresses n inside new → RunsShort g n old new
+  broken is w = moved goal.Break is (go_short n inside new rising w)
 
-  pub gone_out : (calls : ℕ) → g ≡ goal.Out calls → IsRefusedIn (out_at calls inside.session) n inside new
+  pub gone_out : (calls : ℕ) → g ≡ goal.Out calls → IsRefusedIn (λ i. open_at calls inside.timed i == 0) n inside new
       → RunsShort g n old new
   gone_out calls is w = moved (goal.Out calls) is (out_short n inside new rising calls w)
 
   pub waited : (condition : Condition) (r : Result End NoMemory) → g ≡ goal.Until condition
-      → OnErr r (IsRefusedIn (until_at condition inside.session) n inside new) → OnErr r (RunsShort g n old new)
+      → OnErr r (IsRefusedIn (comes condition inside.timed) n inside new) → OnErr r (RunsShort g n old new)
   waited condition (Ok end) is w = tt
   waited condition (Err why) is w =
       moved (goal.Until condition) is (until_short n inside new rising condition w)
 
-pub piece_short : (p : Plan) (old new : LabState)
-    → RunsShort p.goal (min p.left old.piece) old.recording new.recording
-    → new ≡ record old { recording = new.recording; plan = None } → StopsShort (lab.GoesOn p) old new
+piece_short : (p : Plan) (old new : LabState)
+    → RunsShort p.goal (min p.left (max old.piece 1)) old.recording.session new.recording.session
+    → new ≡ with_session (record old { plan = None }) new.recording.session → StopsShort (lab.GoesOn p) old new
 piece_short p old new s others = (
-  record old { recording = s.0; plan = None },
-  record { runs = s.1; plan = tt; others = refl },
-  s.2.0,
-  s.2.1,
-  others ∙ ap (λ (r : RecordingState). record old { recording = r; plan = None }) s.2.2,
+  with_session (record old { plan = None }) s.0,
+  ((refl, s.1), tt),
+  s.2,
+  s.3,
+  others ∙ ap (λ (u : SessionState). with_session (record old { plan = None }) u) s.4,
 )
 
 pub piece_err : {A : Type 0} (r : Result A NoMemory) (p : Plan) (n : ℕ) (old mid new : LabState)
-    → n ≡ min p.left old.piece → mid ≡ record old { plan = None }
-    → RunsShort p.goal n mid.recording new.recording → new ≡ record mid { recording = new.recording }
-    → OnErr r (StopsShort (lab.GoesOn p) old new)
+    → n ≡ min p.left (max old.piece 1) → mid ≡ record old { plan = None }
+    → RunsShort p.goal n mid.recording.session new.recording.session
+    → new ≡ with_session mid new.recording.session → OnErr r (StopsShort (lab.GoesOn p) old new)
 piece_err r p n old mid new most is s others =
-    let runs : RunsShort p.goal (min p.left old.piece) old.recording new.recording =
-    subst (λ (m : ℕ). RunsShort p.goal m old.recording new.recording) most
-    (subst (λ (l : LabState). RunsShort p.goal n l.recording new.recording) is s) in
+    let runs : RunsShort p.goal (min p.left (max old.piece 1)) old.recording.session new.recording.session =
+    subst (λ (m : ℕ). RunsShort p.goal m old.recording.session new.recording.session) most
+    (subst (λ (l : LabState). RunsShort p.goal n l.recording.session new.recording.session) is s) in
     on_err r (StopsShort (lab.GoesOn p) old new)
-    (piece_short p old new runs (others ∙ ap (λ (l : LabState). record l { recording = new.recording }) is))
+    (piece_short p old new runs (others ∙ ap (λ (l : LabState). with_session l new.recording.session) is))
 
 pub begins_short : {A : Type 0} (r : Result A NoMemory) (g : Goal) (most : ℕ) (old mid new : LabState)
     → mid ≡ begun old → OnErr r (StopsShort (lab.GoesOn (record { goal = g; left = most })) mid new)
@@ -217,44 +197,44 @@ begins_short (Err why) g most old mid new is s =
     subst (λ (l : LabState). StopsShort (lab.GoesOn (record { goal = g; left = most })) l new) is s
 
 pub continued : {A : Type 0} (r : Result A NoMemory) (plan : Option Plan) (p : Plan) (old new : LabState)
-    → plan ≡ Some p → StopsShort (lab.GoesOn p) old new → OnErr r (RunsOut (lab.Continues plan) old new)
+    → plan ≡ Some p → StopsShort (lab.GoesOn p) old new → OnErr r (RunsOut (With plan lab.GoesOn) old new)
 continued r plan p old new e s =
-    on_err r (RunsOut (lab.Continues plan) old new)
-    (subst (λ (o : Option Plan). RunsOut (lab.Continues o) old new) (sym e) (inr (inr s)))
+    on_err r (RunsOut (With plan lab.GoesOn) old new)
+    (subst (λ (o : Option Plan). RunsOut (With o lab.GoesOn) old new) (sym e) (inr (inr s)))
 
 -- ---- what a call leaves, by its parts
 
 reads_short : {A : Type 0} (meaning : Option A) (x : A) (Does : A → LabState → LabState → Type 0)
-    (old new : LabState) → meaning ≡ Some x → StopsShort (Does x) old new → RunsOut (Reads meaning Does) old new
+    (old new : LabState) → meaning ≡ Some x → StopsShort (Does x) old new → RunsOut (With meaning Does) old new
 reads_short {A = A} meaning x Does old new e s =
-    subst (λ (o : Option A). RunsOut (Reads o Does) old new) (sym e) (inr (inr s))
+    subst (λ (o : Option A). RunsOut (With o Does) old new) (sym e) (inr (inr s))
 
 pub read_short : {A B : Type 0} (r : Result B NoMemory) (meaning : Option A) (x : A)
     (Does : A → LabState → LabState → Type 0) (old new : LabState) → meaning ≡ Some x
-    → OnErr r (StopsShort (Does x) old new) → OnErr r (RunsOut (Reads meaning Does) old new)
+    → OnErr r (StopsShort (Does x) old new) → OnErr r (RunsOut (With meaning Does) old new)
 read_short (Ok b) meaning x Does old new e s = tt
 read_short {A = A} (Err why) meaning x Does old new e s = reads_short meaning x Does old new e s
 
 -- a command that is known
 pub changed : {A : Type 0} (r : Result A NoMemory) (command known : Command) (operands : List ℕ)
-    (old new : LabState) → command ≡ known → OnErr r (RunsOut (lab.Changes known operands) old new)
-    → OnErr r (RunsOut (lab.Changes command operands) old new)
+    (old new : LabState) → command ≡ known → OnErr r (RunsOut (Changes known operands) old new)
+    → OnErr r (RunsOut (Changes command operands) old new)
 changed r command known operands old new e s =
-    subst (λ (c : Command). OnErr r (RunsOut (lab.Changes c operands) old new)) (sym e) s
+    subst (λ (c : Command). OnErr r (RunsOut (Changes c operands) old new)) (sym e) s
 
 pub monitored : {A : Type 0} (r : Result A NoMemory) (command : Command) (operands : List ℕ)
-    (old new : LabState) → command ≡ Monitor → OnErr r (StopsShort (Monitors operands) old new)
-    → OnErr r (RunsOut (lab.Changes command operands) old new)
+    (old new : LabState) → command ≡ Monitor → OnErr r (StopsShort (lab.Leaves Monitor operands) old new)
+    → OnErr r (RunsOut (Changes command operands) old new)
 monitored (Ok a) command operands old new e s = tt
 monitored (Err why) command operands old new e s =
-    subst (λ (c : Command). RunsOut (lab.Changes c operands) old new) (sym e) (inr (inr s))
+    subst (λ (c : Command). RunsOut (Changes c operands) old new) (sym e) (inr (inr s))
 
 -- where operands were read as inputs
 pub received : {A : Type 0} (r : Result A NoMemory) (inputs : List Input) (operands : List ℕ)
     (old new : LabState) → inputs ≡ unwrap_or (bytes_inputs operands) [] → StopsShort (Gives inputs) old new
-    → OnErr r (RunsOut (lab.Changes Receive operands) old new)
+    → OnErr r (RunsOut (lab.Leaves Receive operands) old new)
 received r inputs operands old new e s =
-    on_err r (RunsOut (lab.Changes Receive operands) old new)
+    on_err r (RunsOut (lab.Leaves Receive operands) old new)
     (inr (inr (subst (λ (is : List Input). StopsShort (Gives is) old new) e s)))
 
 pub again_short : {A : Type 0} (r : Result A NoMemory) (command known : Command) (old new : LabState)
@@ -269,6 +249,12 @@ pub obeyed : {A : Type 0} (r : Result A NoMemory) (command known : Command) (ope
 obeyed r command known operands old new e s =
     subst (λ (c : Command). OnErr r (RunsOut (lab.Leaves c operands) old new)) (sym e) s
 
+pub moved_as : {A : Type 0} (r : Result A NoMemory) (m known : Move) (operands : List ℕ) (old new : LabState)
+    → m ≡ known → OnErr r (RunsOut (lab.Leaves (Moves known) operands) old new)
+    → OnErr r (RunsOut (lab.Leaves (Moves m) operands) old new)
+moved_as r m known operands old new e s =
+    subst (λ (n : Move). OnErr r (RunsOut (lab.Leaves (Moves n) operands) old new)) (sym e) s
+
 pub step_again : {A : Type 0} (r : Result A NoMemory) (again : Command) (n : ℕ) (old new : LabState)
     → again ≡ Step → n ≡ old.count → OnErr r (StopsShort (Steps n) old new)
     → OnErr r (StopsShort (Repeats again) old new)
@@ -277,31 +263,40 @@ step_again r again n old new e is s =
 
 -- a command that takes no step
 pub left_over : {A : Type 0} (r : Result A NoMemory) (command : Command) (operands : List ℕ)
-    (old new : LabState) → command ≢ Step → command ≢ Go → command ≢ Over → command ≢ Finish → command ≢ Until
-    → command ≢ Trace → command ≢ Back → command ≢ Again → OnErr r (RunsOut (lab.Changes command operands) old new)
+    (old new : LabState) → command ≢ Step → command ≢ Over → ((m : Move) → command ≢ Moves m) → command ≢ Again
+    → OnErr r (RunsOut (Changes command operands) old new)
     → OnErr r (RunsOut (lab.Leaves command operands) old new)
-left_over r Step operands old new a b c d e f g h s = absurd (a refl)
-left_over r Go operands old new a b c d e f g h s = absurd (b refl)
-left_over r Over operands old new a b c d e f g h s = absurd (c refl)
-left_over r Finish operands old new a b c d e f g h s = absurd (d refl)
-left_over r Until operands old new a b c d e f g h s = absurd (e refl)
-left_over r Trace operands old new a b c d e f g h s = absurd (f refl)
-left_over r Back operands old new a b c d e f g h s = absurd (g refl)
-left_over r Again operands old new a b c d e f g h s = absurd (h refl)
-left_over r _ operands old new a b c d e f g h s = s
+left_over r Step operands old new a b c d s = absurd (a refl)
+left_over r Over operands old new a b c d s = absurd (b refl)
+left_over r (Moves m) operands old new a b c d s = absurd (c m refl)
+left_over r Again operands old new a b c d s = absurd (d refl)
+left_over r _ operands old new a b c d s = s
+
+pub left_done : {A : Type 0} (r : Result A NoMemory) (command : Command) (operands : List ℕ)
+    (old new : LabState) → command ≢ Step → command ≢ Over → ((m : Move) → command ≢ Moves m) → command ≢ Again
+    → OnOk r (Changes command operands old new) → OnOk r (lab.Leaves command operands old new)
+left_done r Step operands old new a b c d s = absurd (a refl)
+left_done r Over operands old new a b c d s = absurd (b refl)
+left_done r (Moves m) operands old new a b c d s = absurd (c m refl)
+left_done r Again operands old new a b c d s = absurd (d refl)
+left_done r _ operands old new a b c d s = s
 
 -- a line, by its command and its operands
-refuses : (line : List ℕ) (said : Command × List ℕ) (old mid new : LabState) → said ≡ asked line
-    → mid ≡ ready said.0 old → RunsOut (lab.Leaves said.0 said.1) mid new → Refuses line old new
-refuses line said old mid new e is s =
-    subst (λ (p : Command × List ℕ). RunsOut (lab.Leaves p.0 p.1) (ready p.0 old) new) e
-    (subst (λ (l : LabState). RunsOut (lab.Leaves said.0 said.1) l new) is s)
+refuses : (line : List ℕ) (command : Command) (operands : List ℕ) (old mid new : LabState)
+    → command ≡ line_command line → operands ≡ operand_text line → mid ≡ ready command old
+    → RunsOut (lab.Leaves command operands) mid new
+    → RunsOut (lab.Leaves (line_command line) (operand_text line)) (ready (line_command line) old) new
+refuses line command operands old mid new e f is s =
+    subst (λ (c : Command). RunsOut (lab.Leaves c (operand_text line)) (ready c old) new) e
+    (subst (λ (o : List ℕ). RunsOut (lab.Leaves command o) (ready command old) new) f
+    (subst (λ (l : LabState). RunsOut (lab.Leaves command operands) l new) is s))
 
 pub line_refused : {A : Type 0} (r : Result A NoMemory) (line : List ℕ) (command : Command) (operands : List ℕ)
-    (old mid new : LabState) → (command, operands) ≡ asked line → mid ≡ ready command old
-    → RunsOut (lab.Leaves command operands) mid new → OnErr r (Refuses line old new)
-line_refused r line command operands old mid new e is s =
-    on_err r (Refuses line old new) (refuses line (command, operands) old mid new e is s)
+    (old mid new : LabState) → command ≡ line_command line → operands ≡ operand_text line
+    → mid ≡ ready command old → RunsOut (lab.Leaves command operands) mid new
+    → OnErr r (RunsOut (lab.Leaves (line_command line) (operand_text line)) (ready (line_command line) old) new)
+line_refused r line command operands old mid new e f is s =
+    on_err r _ (refuses line command operands old mid new e f is s)
 
 pub short_is_out : {A : Type 0} (Does : LabState → LabState → Type 0) (r : Result A NoMemory)
     (old new : LabState) → OnErr r (StopsShort Does old new) → OnErr r (RunsOut Does old new)
@@ -342,39 +337,39 @@ step_refused inside old new same rising why t others =
     subst (λ (r : RecordingState). IsOnWay r new (stepped r)) same
     (step_on_way inside new rising t.0 t.1 others)
 
-once : (old mid new : LabState) → mid ≡ record old { count = 1 }
-    → IsOnWay mid.recording new.recording (stepped mid.recording)
-    → new ≡ record (begun mid) { recording = new.recording } → StopsShort (Steps 1) old new
-once old mid new is way others =
-    let to : IsOnWay old.recording new.recording (stepped old.recording) =
-    subst (λ (l : LabState). IsOnWay l.recording new.recording (stepped l.recording)) is way in (
-      record (begun old) { recording = stepped old.recording; count = 1 },
-      refl,
-      to.0,
-      to.1,
-      others ∙ (ap (λ (l : LabState). record (begun l) { recording = new.recording }) is
-          ∙ ap (λ (r : RecordingState). record (begun old) { recording = r; count = 1 }) to.2),
+once : (old new : LabState) → IsInTime (timed old)
+    → IsOnWay old.recording new.recording (stepped old.recording)
+    → new ≡ record (begun (record old { count = 1; plan = None })) { recording = new.recording }
+    → StopsShort (Steps 1) old new
+once old new h way others =
+    let base = begun (record old { count = 1; plan = None }) in (
+      record base { recording = stepped old.recording },
+      single_step 1 old (record old { count = 1; plan = None }) (record base { recording = stepped old.recording })
+          refl h refl refl,
+      way.0,
+      way.1,
+      others ∙ ap (λ (r : RecordingState). record base { recording = r }) way.2,
     )
 
 pub one_short : {A : Type 0} (r : Result A NoMemory) (n : ℕ) (old mid new : LabState) → n ≡ 1
-    → mid ≡ record old { count = n } → IsOnWay mid.recording new.recording (stepped mid.recording)
+    → IsInTime (timed old) → mid ≡ record old { count = n; plan = None }
+    → IsOnWay mid.recording new.recording (stepped mid.recording)
     → new ≡ record (begun mid) { recording = new.recording } → OnErr r (StopsShort (Steps n) old new)
-one_short r n old mid new e is way others =
+one_short r n old mid new e h is way others =
+    let at_one : mid ≡ record old { count = 1; plan = None } =
+    is ∙ ap (λ (m : ℕ). record old { count = m; plan = None }) e in
     on_err r (StopsShort (Steps n) old new)
     (subst (λ (m : ℕ). StopsShort (Steps m) old new) (sym e)
-    (once old mid new (is ∙ ap (λ (m : ℕ). record old { count = m }) e) way others))
+    (once old new h
+    (subst (λ (l : LabState). IsOnWay l.recording new.recording (stepped l.recording)) at_one way)
+    (others ∙ ap (λ (l : LabState). record (begun l) { recording = new.recording }) at_one)))
 
-is_not : (b : Bool) (n : ℕ) → (n == 1) ≡ b → (n ≡ 1 → ⊥) → b ≡ false
-is_not true n e h = absurd (h (eqb-true n 1 e))
-is_not false n e h = refl
-
-pub many_short : {A : Type 0} (r : Result A NoMemory) (n : ℕ) (old mid new : LabState) → (n ≡ 1 → ⊥)
+pub many_short : {A : Type 0} (r : Result A NoMemory) (n : ℕ) (old mid new : LabState)
     → mid ≡ record old { count = n } → OnErr r (StopsShort (Begins goal.Count n) mid new)
     → OnErr r (StopsShort (Steps n) old new)
-many_short (Ok a) n old mid new h is s = tt
-many_short (Err why) n old mid new h is s =
-    subst (λ (b : Bool). StopsShort (lab.StepsBy b n) old new) (sym (is_not (n == 1) n refl h))
-    (subst (λ (l : LabState). StopsShort (Begins goal.Count n) l new) is s)
+many_short (Ok a) n old mid new is s = tt
+many_short (Err why) n old mid new is s =
+    subst (λ (l : LabState). StopsShort (Begins goal.Count n) l new) is s
 
 -- ---- a trace
 
@@ -431,12 +426,17 @@ pub traced_further : {A : Type 0} (r : Result A NoMemory) (n : ℕ) (old mid new
 traced_further (Ok a) n old mid new h e s = tt
 traced_further (Err why) n old mid new h e s = further_short n old mid new h e s
 
-pub trace_short : (meaning : Option ℕ) (n : ℕ) (old mid new : LabState) → meaning ≡ Some n → mid ≡ begun old
-    → StopsShort (Traced n) mid new
-    → RunsOut (Reads meaning (λ n before after. Traced n (begun before) after)) old new
-trace_short meaning n old mid new e is s =
-    reads_short meaning n (λ n before after. Traced n (begun before) after) old new e
-    (subst (λ (l : LabState). StopsShort (Traced n) l new) is s)
+-- a trace is a call of a run
+run_of_steps : (n : ℕ) (old new : LabState) → IsInTime (timed old) → StopsShort (Traced n) old new
+    → StopsShort (InSession (RunsFor goal.Count n)) old new
+run_of_steps n old new h s = (s.0, traced_runs n old s.0 h s.1, s.2, s.3, s.4)
+
+pub trace_short : (meaning : Option ℕ) (n : ℕ) (old mid new : LabState) → meaning ≡ Some n
+    → IsInTime (timed old) → mid ≡ begun old → StopsShort (Traced n) mid new
+    → RunsOut (With meaning (λ m l. InSession (RunsFor goal.Count m) (begun l))) old new
+trace_short meaning n old mid new e h is s =
+    reads_short meaning n (λ m l. InSession (RunsFor goal.Count m) (begun l)) old new e
+    (run_of_steps n (begun old) new h (subst (λ (l : LabState). StopsShort (Traced n) l new) is s))
 
 -- ---- inputs by hand
 
@@ -481,9 +481,7 @@ gave_rest r old mid new (x ∷ more) input h is e s =
 module _ (s new : SessionState) (rising : never_falls s.timed.inputs ≡ true) where
   -- the session after the command, were there memory
   abbrev Would : Option commands.Command → Type 0
-  Would c =
-      (d : SessionState) × monitor.Leaves c s d × Leads s.timed new.timed × Leads new.timed d.timed
-      × (new ≡ record s { timed = new.timed })
+  Would c = IsShort (monitor.Leaves c) s new
 
   unchanged : (c : Option commands.Command) (d : SessionState) → monitor.Leaves c s d → Leads s.timed d.timed
       → new ≡ s → Would c
@@ -523,7 +521,7 @@ obeyed_short (Err why) line inside old new e rising refused =
 
 pub monitor_short : (line : List ℕ) (old new : LabState)
     → IsObeyedShort line old.recording.session new.recording.session
-    → new ≡ with_session (begun old) new.recording.session → StopsShort (Monitors line) old new
+    → new ≡ with_session (begun old) new.recording.session → StopsShort (lab.Leaves Monitor line) old new
 monitor_short line old new w others = (
   with_session (begun old) w.0,
   (refl, w.1),

@@ -1,12 +1,11 @@
 -- To audit: public contracts cite this.
 -- The lab where memory ran out in a call (this project's own: docs/LAB.md).
-use Rattle.std.specs.Prelude.{◌≡◌, ◌⊎◌, ℕ, List}
+use Rattle.std.specs.Prelude.{◌≡◌, ◌⊎◌, ℕ}
 use Rattle.rv_lists.specs.declared.input.Input.{Input}
 use Rattle.rv_monitor.specs.State.{TimedState, after, with_due, given}
 use Rattle.rv_recording.specs.Recording.{with_timed}
 use Rattle.rv_lab.specs.State.{LabState}
-use Rattle.rv_lab.specs.Words.{asked}
-use Rattle.rv_lab.specs.Commands.{Leaves, ready}
+use Rattle.rv_lab.specs.Commands.{timed}
 
 -- a state leads to another by steps that are taken, the inputs before the next step, and inputs by hand
 pub data Leads (old : TimedState) : TimedState → Type 0 where
@@ -15,20 +14,13 @@ pub data Leads (old : TimedState) : TimedState → Type 0 where
   due : (s : TimedState) → Leads old s → Leads old (with_due s)
   by_hand : (s : TimedState) (input : Input) → Leads old s → Leads old (given s input)
 
--- the board of a lab with its inputs
-abbrev pub timed : LabState → TimedState
-timed l = l.recording.session.timed
-
 -- a call stopped short: it took some of the steps, and gave some of the inputs, that lead to what it does
 abbrev pub StopsShort : (LabState → LabState → Type 0) → LabState → LabState → Type 0
 StopsShort Does old new =
     (done : LabState) × Does old done × Leads (timed old) (timed new) × Leads (timed new) (timed done)
     × (new ≡ record done { recording = with_timed old.recording (timed new) })
 
--- memory ran out in a call: it did nothing, or all that it does but for the end of its answer, or it stopped short
+-- memory ran out in a call: it did nothing, or all that it does but for the end of its answer, or it stopped
+-- short
 abbrev pub RunsOut : (LabState → LabState → Type 0) → LabState → LabState → Type 0
 RunsOut Does old new = (new ≡ old) ⊎ (Does old new ⊎ StopsShort Does old new)
-
--- the same of a command line
-abbrev pub Refuses : List ℕ → LabState → LabState → Type 0
-Refuses line old new = RunsOut (Leaves (asked line).0 (asked line).1) (ready (asked line).0 old) new

@@ -1,5 +1,5 @@
 -- Not to audit: private contracts alone cite this.
--- The tables of the program, as the definitions have them, and the lab after going back.
+-- The tables of the program, as the definitions have them.
 use Rattle.std.specs.Prelude.{◌≡◌, ℕ, ◌-◌, List, [], ◌++◌, find, get_or, map, Option, option_and_then}
 use Rattle.std.specs.List.{list_any}
 use Rattle.std.specs.Str.{bytes_eq}
@@ -15,8 +15,7 @@ use Rattle.rv_answers.specs.Answer.{Written}
 use Rattle.rv_answers.specs.Places.{instruction_text, number_text}
 use Rattle.rv_lab.specs.Commands.{board}
 use Rattle.rv_lab.specs.Lines.{line_at}
-use Rattle.rv_recording.specs.Recording.{gone_back}
-use Rattle.rv_lab.specs.State.{LabState, registers_of}
+use Rattle.rv_lab.specs.State.{LabState}
 use Rattle.rv_lab.specs.declared.command.Command.{Command}
 use Rattle.rv_lab.specs.declared.command.Command.TheVariants.{Nothing}
 use Rattle.rv_lab.specs.declared.command.Row.{Row}
@@ -44,11 +43,3 @@ line_or_instruction l a =
     option_map_or (λ (line : ℕ × List ℕ). number_text line.0 ++ line.1)
     (option_map (λ n. (n, get_or (lines l.source) (n - 1) [])) (line_at l.listing a))
     (instruction_text (word_at (board l) a))
-
--- a lab after its first n steps
-abbrev pub backed : LabState → ℕ → LabState
-backed l n = record l {
-  recording = gone_back l.recording n;
-  before = (gone_back l.recording n).session.timed.taken;
-  registers = registers_of (board l);
-}

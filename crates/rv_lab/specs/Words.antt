@@ -6,17 +6,17 @@ use Rattle.std.specs.Option.{option_map, option_map_or}
 use Rattle.std.specs.Str.{bytes_eq}
 use Rattle.rv_base.specs.Limits.{line_limit}
 use Rattle.rv_base.specs.Words.{words}
-use Rattle.rv_operands.specs.Operands.{operand_text}
 use Rattle.rv_lab.specs.declared.command.Command.{Command}
-use Rattle.rv_lab.specs.declared.command.Command.TheVariants.{Step, Go, Over, Finish, Until, Trace, Back, Where, Break, Clear, Registers, ControlRegister, Memory, Instruction, Traps, Edges, Why, Devices, Receive, Line, Save, Monitor, Help, Quit, Again, StepOnce, Nothing}
+use Rattle.rv_lab.specs.declared.command.Command.TheVariants.{Step, Over, Moves, Where, Break, Clear, Registers, ControlRegister, Memory, Instruction, Traps, Edges, Why, Devices, Receive, Line, Save, Monitor, Help, Quit, Again, StepOnce, Nothing}
 use Rattle.rv_lab.specs.declared.command.Command.TheVariants as command
+use Rattle.rv_lab.specs.declared.command.Move.TheVariants.{Go, Finish, Until, Trace, Back}
 
 -- the commands, each with its words: the first is that of the help, the others are as other tools have them
 unfoldable pub commands : List (List ℕ × Command)
 commands =
-    (codes "s step si", Step) ∷ (codes "c continue run go", Go) ∷ (codes "next n ni", Over) ∷
-    (codes "finish fin", Finish) ∷ (codes "until", Until) ∷ (codes "trace", Trace) ∷
-    (codes "u undo back", Back) ∷ (codes "w where", Where) ∷ (codes "l list", command.List) ∷
+    (codes "s step si", Step) ∷ (codes "c continue run go", Moves Go) ∷ (codes "next n ni", Over) ∷
+    (codes "finish fin", Moves Finish) ∷ (codes "until", Moves Until) ∷ (codes "trace", Moves Trace) ∷
+    (codes "u undo back", Moves Back) ∷ (codes "w where", Where) ∷ (codes "l list", command.List) ∷
     (codes "b break", Break) ∷ (codes "d delete clear", Clear) ∷ (codes "r reg regs registers", Registers) ∷
     (codes "p", ControlRegister) ∷ (codes "m mem x", Memory) ∷ (codes "i", Instruction) ∷
     (codes "t traps", Traps) ∷ (codes "e", Edges) ∷ (codes "why", Why) ∷ (codes "dev", Devices) ∷
@@ -29,14 +29,10 @@ word_command word =
     unwrap_or (option_map (λ r. r.1) (find (λ r. list_any (bytes_eq word) (words r.0)) commands)) Nothing
 
 -- the command of a line: an empty one repeats a command, and one of more than 1,024 bytes does nothing
-abbrev pub line_command : List ℕ → Command
+unfoldable pub line_command : List ℕ → Command
 line_command line =
     if nat_lt line_limit (length line) then Nothing
     else option_map_or word_command (slice_get (words line) 0) Again
-
--- the command of a line with its operands
-unfoldable pub asked : List ℕ → Command × List ℕ
-asked line = (line_command line, operand_text line)
 
 -- what an empty line repeats after a command: a step or list command, a single step after another that moves
 -- the board, and else what it repeated before
@@ -44,9 +40,5 @@ abbrev pub repeated : Command → Command → Command
 repeated Step before = Step
 repeated Over before = Over
 repeated command.List before = command.List
-repeated Go before = StepOnce
-repeated Finish before = StepOnce
-repeated Until before = StepOnce
-repeated Trace before = StepOnce
-repeated Back before = StepOnce
+repeated (Moves m) before = StepOnce
 repeated other before = before

@@ -4,7 +4,7 @@ ghost use Rattle.std.specs.List.{flat_map, range_with_len};
 ghost use Rattle.rv_base.specs.Words.{words};
 ghost use Rattle.rv_lab.specs.declared.command.Command.TheVariants as command;
 ghost use Rattle.rv_operands.specs.Operands.{break_address};
-ghost use Rattle.rv_lab.specs.Commands.{Changes, board};
+ghost use Rattle.rv_lab.specs.Commands.{Leaves, board};
 ghost use Rattle.rv_answers.specs.Answer.{Appended};
 ghost use Rattle.rv_lab.specs.State.{setup};
 ghost use Rattle.rv_lab.specs.Looks.{Tells, break_row, breaks_told};
@@ -44,7 +44,7 @@ impl Lab {
         answer: &mut Answer,
     ) -> Result<Next, NoMemory>
         ensures setup { setup self.new ≡ setup self.old }
-        ensures leaves { OnOk result (Changes command.Break operands.now self.old self.new) }
+        ensures leaves { OnOk result (Leaves command.Break operands.now self.old self.new) }
         ensures tells { Tells command.Break operands.now self.old answer.old answer.new }
         ensures err { OnErr result (self.new ≡ self.old) }
     {
@@ -69,7 +69,7 @@ impl Lab {
     /// Executes `d`.
     pub(crate) fn clear_command(&mut self, operands: &[u8], answer: &mut Answer)
         ensures setup { setup self.new ≡ setup self.old }
-        ensures leaves { Changes command.Clear operands.now self.old self.new }
+        ensures leaves { Leaves command.Clear operands.now self.old self.new }
     {
         let Some(address) = self.break_address(operands) else {
             return self.refuse_place("d", operands, answer);

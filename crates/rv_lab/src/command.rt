@@ -4,8 +4,9 @@ ghost use Rattle.std.specs.List.{list_any};
 ghost use Rattle.std.specs.Option.{option_map};
 ghost use Rattle.std.specs.Str.{bytes_eq};
 ghost use Rattle.rv_base.specs.Words.{words};
+ghost use Rattle.rv_operands.specs.Operands.{operand_text};
 ghost use Rattle.rv_lab.specs.Rows.{IsQuiet, named, row_of};
-ghost use Rattle.rv_lab.specs.Words.{word_command, commands, asked, repeated, line_command};
+ghost use Rattle.rv_lab.specs.Words.{word_command, commands, repeated, line_command};
 
 use crate::nearest::Nearest;
 use rv_answers::Answer;
@@ -13,16 +14,22 @@ use rv_base::{LINE_LIMIT, begins_comment, first_word};
 use rv_operands::operands_of;
 use std::alloc::Global;
 
-/// What a line asks for.
+/// A command that moves the board, after which an empty line takes a single step.
 #[derive(Clone, Copy)]
-pub(crate) enum Command {
-    Step,
+pub(crate) enum Move {
     Go,
-    Over,
     Finish,
     Until,
     Trace,
     Back,
+}
+
+/// What a line asks for.
+#[derive(Clone, Copy)]
+pub(crate) enum Command {
+    Step,
+    Over,
+    Moves(Move),
     Where,
     List,
     Break,
@@ -57,9 +64,7 @@ impl Command {
     {
         match self {
             Command::Step | Command::Over | Command::List => self,
-            Command::Go | Command::Finish | Command::Until | Command::Trace | Command::Back => {
-                Command::StepOnce
-            }
+            Command::Moves(_) => Command::StepOnce,
             _ => last,
         }
     }
@@ -93,7 +98,7 @@ static COMMANDS: [(&str, Row); 25] = [
     (
         "c continue run go",
         Row {
-            command: Command::Go,
+            command: Command::Moves(Move::Go),
             form: "c [N]",
             does: "goes on up to a breakpoint, for N steps at most (1000000 without N)",
             example: "c 500",
@@ -111,7 +116,7 @@ static COMMANDS: [(&str, Row); 25] = [
     (
         "finish fin",
         Row {
-            command: Command::Finish,
+            command: Command::Moves(Move::Finish),
             form: "finish",
             does: "goes on until the present function or handler has returned",
             example: "finish",
@@ -120,7 +125,7 @@ static COMMANDS: [(&str, Row); 25] = [
     (
         "until",
         Row {
-            command: Command::Until,
+            command: Command::Moves(Move::Until),
             form: "until WHAT",
             does: "goes on until `trap`, `console`, a line or an address, `REG` or `[ADDR]` changes, or `REG = V` (also != < <= > >=) holds",
             example: "until [0x80001000] != 0",
@@ -129,7 +134,7 @@ static COMMANDS: [(&str, Row); 25] = [
     (
         "trace",
         Row {
-            command: Command::Trace,
+            command: Command::Moves(Move::Trace),
             form: "trace [N]",
             does: "takes N steps (10 without N), and tells each: its line, and what it changed",
             example: "trace 20",
@@ -138,7 +143,7 @@ static COMMANDS: [(&str, Row); 25] = [
     (
         "u undo back",
         Row {
-            command: Command::Back,
+            command: Command::Moves(Move::Back),
             form: "u [N]",
             does: "goes N steps back, or back to before the last command",
             example: "u 3",
@@ -379,13 +384,13 @@ fn refuse_word(word: &[u8], nearest: &mut Nearest<'_>, answer: &mut Answer) {
 }
 
 /// Reads a command line. One that is no command is answered, and reads as `Nothing`.
-#[tactic(auto, unfolding(crate::specs::Words::asked))]
 pub(crate) fn read_command<'a>(
     line: &'a [u8],
     alloc: Global,
     answer: &mut Answer,
 ) -> CommandLine<'a>
-    ensures read { (result.command, result.operands.now) ≡ asked line.now }
+    ensures command { result.command ≡ line_command line.now }
+    ensures operands { result.operands.now ≡ operand_text line.now }
     ensures quiet { IsQuiet result.command answer.old answer.new }
 {
     let command = said(line, alloc, answer);
@@ -394,7 +399,7 @@ pub(crate) fn read_command<'a>(
 }
 
 /// Returns the command of a line.
-#[tactic(auto, using(crate::proofs::Tables::comment_is_nothing))]
+#[tactic(auto, using(crate::proofs::Tables::comment_is_nothing), unfolding(crate::specs::Words::line_command))]
 fn said(line: &[u8], alloc: Global, answer: &mut Answer) -> Command
     ensures said { result ≡ line_command line.now }
     ensures quiet { IsQuiet result answer.old answer.new }

@@ -1,12 +1,13 @@
 //! The execution of a command.
 ghost use Rattle.std.specs.Prelude.{◌≡◌, OnErr, OnOk, ◌≢◌};
-ghost use Rattle.rv_lab.specs.Commands.{Changes, Leaves, Repeats};
+ghost use Rattle.rv_lab.specs.Commands.{Leaves, Repeats};
 ghost use Rattle.rv_lab.specs.Refusals.{RunsOut, StopsShort};
+ghost use Rattle.rv_lab.specs.Short.{Changes};
 ghost use Rattle.rv_lab.specs.State.{setup};
 ghost use Rattle.rv_lab.specs.Looks.{Tells};
-ghost use Rattle.rv_lab.specs.declared.command.Command.TheVariants.{Break, List};
+ghost use Rattle.rv_lab.specs.declared.command.Command.TheVariants.{Break, List, Moves};
 
-use crate::command::Command;
+use crate::command::{Command, Move};
 use crate::lab::{Lab, Next};
 use rv_answers::Answer;
 use rv_base::NoMemory;
@@ -26,14 +27,30 @@ impl Lab {
     {
         match command {
             Command::Step => self.step_command(operands, answer),
-            Command::Go => self.go_command(operands, answer),
             Command::Over => self.over_command(answer),
-            Command::Finish => self.finish_command(answer),
-            Command::Until => self.until_command(operands, answer),
-            Command::Trace => self.trace_command(operands, answer),
-            Command::Back => self.back_command(operands, answer),
+            Command::Moves(moves) => self.move_board(moves, operands, answer),
             Command::Again => self.repeat(answer),
             _ => self.change(command, operands, answer),
+        }
+    }
+
+    /// Executes a command that moves the board, after which an empty line takes a single step.
+    fn move_board(
+        &mut self,
+        moves: Move,
+        operands: &[u8],
+        answer: &mut Answer,
+    ) -> Result<Next, NoMemory>
+        ensures setup { setup self.new ≡ setup self.old }
+        ensures leaves { OnOk result (Leaves (Moves moves) operands.now self.old self.new) }
+        ensures err { OnErr result (RunsOut (Leaves (Moves moves) operands.now) self.old self.new) }
+    {
+        match moves {
+            Move::Go => self.go_command(operands, answer),
+            Move::Finish => self.finish_command(answer),
+            Move::Until => self.until_command(operands, answer),
+            Move::Trace => self.trace_command(operands, answer),
+            Move::Back => self.back_command(operands, answer),
         }
     }
 

@@ -1,7 +1,7 @@
 //! Inputs by hand, and what was done as texts for rvboard.
 ghost use Rattle.std.specs.Prelude.{◌≡◌, [], ◌∷◌, OnErr, OnOk};
 ghost use Rattle.rv_lab.specs.declared.command.Command.TheVariants as command;
-ghost use Rattle.rv_lab.specs.Commands.{Changes, Monitors, begun, with_inputs, with_session};
+ghost use Rattle.rv_lab.specs.Commands.{Leaves, begun, with_inputs, with_session};
 ghost use Rattle.rv_lab.specs.Refusals.{RunsOut, StopsShort};
 ghost use Rattle.rv_lab.specs.Short.{Gives, IsObeyedShort};
 ghost use Rattle.rv_lab.specs.State.{setup};
@@ -79,8 +79,8 @@ impl Lab {
         answer: &mut Answer,
     ) -> Result<Next, NoMemory>
         ensures setup { setup self.new ≡ setup self.old }
-        ensures leaves { OnOk result (Changes command.Receive operands.now self.old self.new) }
-        ensures err { OnErr result (RunsOut (Changes command.Receive operands.now) self.old self.new) }
+        ensures leaves { OnOk result (Leaves command.Receive operands.now self.old self.new) }
+        ensures err { OnErr result (RunsOut (Leaves command.Receive operands.now) self.old self.new) }
     {
         let inputs = read_bytes_inputs(self.alloc, operands)?.unwrap_or(Vec::new(self.alloc));
         self.give_all(&inputs)?;
@@ -101,8 +101,8 @@ impl Lab {
         answer: &mut Answer,
     ) -> Result<Next, NoMemory>
         ensures setup { setup self.new ≡ setup self.old }
-        ensures leaves { OnOk result (Changes command.Line operands.now self.old self.new) }
-        ensures err { OnErr result (RunsOut (Changes command.Line operands.now) self.old self.new) }
+        ensures leaves { OnOk result (Leaves command.Line operands.now self.old self.new) }
+        ensures err { OnErr result (RunsOut (Leaves command.Line operands.now) self.old self.new) }
     {
         let Some(input) = line_input(operands) else {
             answer.say(
@@ -118,7 +118,7 @@ impl Lab {
     /// Executes a command of the monitor, and appends its answer to `text`.
     fn monitor(&mut self, line: &[u8], text: &mut Vec<u8>) -> Result<Monitored, NoMemory>
         ensures setup { setup self.new ≡ setup self.old }
-        ensures leaves { OnOk result (Monitors line.now self.old self.new) }
+        ensures leaves { OnOk result (Leaves command.Monitor line.now self.old self.new) }
         ensures err { OnErr result
             (IsObeyedShort line.now self.old.recording.session self.new.recording.session) }
         ensures others { self.new ≡ with_session (begun self.old) self.new.recording.session }
@@ -136,8 +136,8 @@ impl Lab {
         answer: &mut Answer,
     ) -> Result<Next, NoMemory>
         ensures setup { setup self.new ≡ setup self.old }
-        ensures leaves { OnOk result (Monitors operands.now self.old self.new) }
-        ensures err { OnErr result (StopsShort (Monitors operands.now) self.old self.new) }
+        ensures leaves { OnOk result (Leaves command.Monitor operands.now self.old self.new) }
+        ensures err { OnErr result (StopsShort (Leaves command.Monitor operands.now) self.old self.new) }
     {
         let mut text = Vec::new(self.alloc);
         let next = self.monitor(operands, &mut text)?;

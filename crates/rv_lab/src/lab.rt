@@ -5,10 +5,11 @@ ghost use Rattle.rv_monitor.specs.Laws.{IsReached};
 ghost use Rattle.rv_opening.specs.Opening.{Opens};
 ghost use Rattle.rv_recording.specs.Recording.{first_board, last_step};
 ghost use Rattle.rv_lab.specs.State.{setup, registers_of};
-ghost use Rattle.rv_lab.specs.Commands.{Obeys, ready};
-ghost use Rattle.rv_lab.specs.Refusals.{Refuses};
+ghost use Rattle.rv_operands.specs.Operands.{operand_text};
+ghost use Rattle.rv_lab.specs.Commands.{Leaves, Obeys, ready};
+ghost use Rattle.rv_lab.specs.Refusals.{RunsOut};
 ghost use Rattle.rv_lab.specs.Looks.{told};
-ghost use Rattle.rv_lab.specs.Words.{asked};
+ghost use Rattle.rv_lab.specs.Words.{line_command};
 
 use crate::command::{Command, CommandLine, read_command};
 use crate::plan::Plan;
@@ -208,9 +209,10 @@ impl Lab {
     pub fn command(&mut self, line: &[u8], answer: &mut Answer) -> Result<Next, NoMemory>
         ensures setup { setup self.new ≡ setup self.old }
         ensures obeys { OnOk result (Obeys line.now self.old self.new) }
-        ensures tells { OnOk result (IfSome (told (asked line.now).0 (asked line.now).1 self.old)
+        ensures tells { OnOk result (IfSome (told (line_command line.now) (operand_text line.now) self.old)
             (λ text. answer.new.bytes ≡ answer.old.bytes ++ text)) }
-        ensures err { OnErr result (Refuses line.now self.old self.new) }
+        ensures err { OnErr result (RunsOut (Leaves (line_command line.now) (operand_text line.now))
+            (ready (line_command line.now) self.old) self.new) }
     {
         let CommandLine { command, operands } = read_command(line, self.alloc, answer);
         self.make_ready(command);

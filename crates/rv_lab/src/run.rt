@@ -1,12 +1,12 @@
 //! Commands that move the board.
 ghost use Rattle.std.specs.Prelude.{◌≡◌, ◌≤◌, Ok, Some, None, true, false, IfOk, OnErr, OnOk, ℕ};
 ghost use Rattle.rv_lab.specs.declared.command.Command.TheVariants as command;
+ghost use Rattle.rv_lab.specs.declared.command.Move.TheVariants as moves;
 ghost use Rattle.rv_lab.specs.declared.plan.Goal.TheVariants as goal;
-ghost use Rattle.rv_lab.specs.Commands.{Begins, Continues, GoesOn, Leaves, Repeats, RunsFor, Steps, Traced, begun, goal_after, stepped};
+ghost use Rattle.rv_lab.specs.Commands.{Begins, GoesOn, Leaves, RunsFor, Steps, With, backed, begun, goal_after, timed, with_session};
 ghost use Rattle.rv_lab.specs.Refusals.{RunsOut, StopsShort};
-ghost use Rattle.rv_lab.specs.Short.{IsOnWay, RunsShort};
-ghost use Rattle.rv_monitor.specs.Stops.{may_step};
-ghost use Rattle.rv_lab.specs.Rows.{backed};
+ghost use Rattle.rv_lab.specs.Short.{IsOnWay, RunsShort, Traced, stepped};
+ghost use Rattle.rv_monitor.specs.Stops.{may_step, steps_between};
 ghost use Rattle.rv_lab.specs.State.{setup};
 
 use crate::lab::{Lab, Next, unless_cut};
@@ -48,12 +48,15 @@ impl Lab {
 
     /// Takes a piece of a run, of at most `most` steps, and returns why it ended. `goal` is what the run goes
     /// on for, before it and after it.
-    #[tactic(auto, using(crate::proofs::Runs::took, crate::proofs::Runs::ran_out, crate::proofs::Runs::ran_until))]
+    #[tactic(auto, using(crate::proofs::Runs::ran_until))]
     fn run_piece(&mut self, goal: &mut Goal, most: u64) -> Result<End, NoMemory>
-        ensures runs { OnOk result (RunsFor goal.old most self.old.recording self.new.recording) }
-        ensures goal { OnOk result (goal.new ≡ goal_after goal.old self.old.recording self.new.recording) }
-        ensures err { OnErr result (RunsShort goal.old most self.old.recording self.new.recording) }
-        ensures others { self.new ≡ record self.old { recording = self.new.recording } }
+        ensures runs { OnOk result
+            (RunsFor goal.old most self.old.recording.session self.new.recording.session) }
+        ensures goal { OnOk result (goal.new
+            ≡ goal_after goal.old (timed self.old) (steps_between (timed self.old) (timed self.new))) }
+        ensures err { OnErr result
+            (RunsShort goal.old most self.old.recording.session self.new.recording.session) }
+        ensures others { self.new ≡ with_session self.old self.new.recording.session }
         ensures setup { setup self.new ≡ setup self.old }
     {
         // It tells that the steps of the inputs never fall.
@@ -91,8 +94,8 @@ impl Lab {
     /// `NoMemory` if memory runs out. The lab is as after some of the run's steps then.
     pub fn go_on(&mut self, answer: &mut Answer) -> Result<Next, NoMemory>
         ensures setup { setup self.new ≡ setup self.old }
-        ensures continues { OnOk result (Continues self.old.plan self.old self.new) }
-        ensures err { OnErr result (RunsOut (Continues self.old.plan) self.old self.new) }
+        ensures continues { OnOk result (With self.old.plan GoesOn self.old self.new) }
+        ensures err { OnErr result (RunsOut (With self.old.plan GoesOn) self.old self.new) }
     {
         let Some(plan) = self.last.plan else {
             return Ok(Next::More);
@@ -108,7 +111,7 @@ impl Lab {
         ensures err { OnErr result (StopsShort (GoesOn plan) self.old self.new) }
     {
         let before = self.recording.steps();
-        let most = plan.left.min(self.piece);
+        let most = plan.left.min(self.piece.max(1));
         let mut goal = plan.goal;
         self.end_run();
         let end = self.run_piece(&mut goal, most)?;
@@ -146,8 +149,11 @@ impl Lab {
         ensures steps { OnOk result (Steps count self.old self.new) }
         ensures err { OnErr result (StopsShort (Steps count) self.old self.new) }
     {
+        // It tells that the board is the run of the recorded events.
+        let _board = self.board();
         self.keep_count(count);
         if count == 1 {
+            self.end_run();
             self.step_once(answer)?;
             return Ok(Next::More);
         }
@@ -196,8 +202,8 @@ impl Lab {
         answer: &mut Answer,
     ) -> Result<Next, NoMemory>
         ensures setup { setup self.new ≡ setup self.old }
-        ensures leaves { OnOk result (Leaves command.Go operands.now self.old self.new) }
-        ensures err { OnErr result (RunsOut (Leaves command.Go operands.now) self.old self.new) }
+        ensures leaves { OnOk result (Leaves (command.Moves moves.Go) operands.now self.old self.new) }
+        ensures err { OnErr result (RunsOut (Leaves (command.Moves moves.Go) operands.now) self.old self.new) }
     {
         match count_or(operands, USUAL_STEPS, MOST_STEPS) {
             Some(count) => self.run(Goal::Break, count, answer),
@@ -233,8 +239,8 @@ impl Lab {
         answer: &mut Answer,
     ) -> Result<Next, NoMemory>
         ensures setup { setup self.new ≡ setup self.old }
-        ensures leaves { OnOk result (Leaves command.Until operands.now self.old self.new) }
-        ensures err { OnErr result (RunsOut (Leaves command.Until operands.now) self.old self.new) }
+        ensures leaves { OnOk result (Leaves (command.Moves moves.Until) operands.now self.old self.new) }
+        ensures err { OnErr result (RunsOut (Leaves (command.Moves moves.Until) operands.now) self.old self.new) }
     {
         match self.read_condition(operands, answer) {
             Some(condition) => self.run(Goal::Until(condition), USUAL_STEPS, answer),
@@ -289,13 +295,15 @@ impl Lab {
         answer: &mut Answer,
     ) -> Result<Next, NoMemory>
         ensures setup { setup self.new ≡ setup self.old }
-        ensures leaves { OnOk result (Leaves command.Trace operands.now self.old self.new) }
-        ensures err { OnErr result (RunsOut (Leaves command.Trace operands.now) self.old self.new) }
+        ensures leaves { OnOk result (Leaves (command.Moves moves.Trace) operands.now self.old self.new) }
+        ensures err { OnErr result (RunsOut (Leaves (command.Moves moves.Trace) operands.now) self.old self.new) }
     {
         let Some(count) = count_or(operands, 10, MOST_TRACED) else {
             refuse_count("trace", operands, answer);
             return Ok(Next::More);
         };
+        // It tells that the board is the run of the recorded events.
+        let _board = self.board();
         self.begin();
         self.trace_steps(count, answer)?;
         self.tell_console(answer);
@@ -314,7 +322,7 @@ impl Lab {
         match self.recording.go_back(to) {
             Ok(()) => {
                 self.last.registers = before;
-                self.last.steps = self.recording.steps();
+                self.last.steps = to;
                 self.last.told = self.board().console().len();
                 Ok(())
             }
@@ -329,8 +337,8 @@ impl Lab {
         answer: &mut Answer,
     ) -> Result<Next, NoMemory>
         ensures setup { setup self.new ≡ setup self.old }
-        ensures leaves { OnOk result (Leaves command.Back operands.now self.old self.new) }
-        ensures err { OnErr result (RunsOut (Leaves command.Back operands.now) self.old self.new) }
+        ensures leaves { OnOk result (Leaves (command.Moves moves.Back) operands.now self.old self.new) }
+        ensures err { OnErr result (RunsOut (Leaves (command.Moves moves.Back) operands.now) self.old self.new) }
     {
         let now = self.recording.steps();
         let usual = now.saturating_sub(self.last.steps);

@@ -1,13 +1,16 @@
 -- To audit: public contracts cite this.
 -- What the operands of the lab's commands mean (this project's own: docs/LAB.md), by the lines and the
 -- symbols of the source, and the board as it stands before the command.
-use Rattle.std.specs.Prelude.{ℕ, ◌+◌, ◌-◌, ◌%◌, ◌^◌, ◌==◌, ◌&&◌, ◌||◌, Bool, List, [], ◌∷◌, length, map, take, drop, find, codes, if◌then◌else◌, nat_eq, nat_lt, slice_index, Option, Some, None, option_and_then}
-use Rattle.std.specs.List.{before_first, ends_with, position_or_len, prefix_len, range_with_len, starts_with, suffix_len}
+use Rattle.std.specs.Prelude.{ℕ, ◌+◌, ◌-◌, ◌%◌, ◌^◌, ◌==◌, ◌||◌, Bool, true, false, List, [], ◌∷◌, length, map, take, drop, find, codes, if◌then◌else◌, nat_eq, nat_lt, slice_index, Option, Some, None, option_and_then}
+use Rattle.std.specs.List.{ends_with, position_or_len, prefix_len, range_with_len, suffix_len}
 use Rattle.std.specs.Option.{option_map, option_map_or, option_or}
 use Rattle.rv_base.specs.Numbers.{number_in}
 use Rattle.rv_base.specs.Tables.{lookup}
 use Rattle.rv_base.specs.Words.{is_blank, words}
 use Rattle.rv_isa.specs.Names.{register_names}
+use Rattle.rv_isa.specs.declared.op.Cond.{Cond}
+use Rattle.rv_isa.specs.declared.op.Cond.TheVariants.{Eq, Ne, Lt, Ge}
+use Rattle.rv_tokens.specs.Literals.{between}
 use Rattle.rv_program.specs.Program.{value_of}
 use Rattle.rv_asm.specs.Lines.{Listed, bytes_of}
 use Rattle.rv_asm.specs.Lines as listing
@@ -17,11 +20,9 @@ use Rattle.rv_lists.specs.Timed.{all_of, byte_input}
 use Rattle.rv_lists.specs.declared.input.Input.{Input}
 use Rattle.rv_lists.specs.declared.input.Input.TheVariants.{Rx}
 use Rattle.rv_commands.specs.Addresses.{address_of}
-use Rattle.rv_recording.specs.Until as recording
+use Rattle.rv_recording.specs.Until.{watched_value}
 use Rattle.rv_recording.specs.declared.until.Watched.{Watched}
 use Rattle.rv_recording.specs.declared.until.Watched.TheVariants.{Register, Word}
-use Rattle.rv_recording.specs.declared.until.Relation.{Relation}
-use Rattle.rv_recording.specs.declared.until.Relation.TheVariants.{Equal, Different, Less, AtMost, Greater, AtLeast}
 use Rattle.rv_recording.specs.declared.until.Condition.{Condition}
 use Rattle.rv_recording.specs.declared.until.Condition.TheVariants.{Trap, Console, At, Changed, Compares}
 
@@ -29,12 +30,6 @@ use Rattle.rv_recording.specs.declared.until.Condition.TheVariants.{Trap, Consol
 unfoldable pub operand_text : List ℕ → List ℕ
 operand_text line =
     let text = drop (prefix_len is_blank line) line in drop (position_or_len is_blank text) text
-
--- what stands between two signs, with which a text begins and ends
-unfoldable pub enclosed : (left right text : List ℕ) → Option (List ℕ)
-enclosed left right text =
-    if nat_lt 1 (length text) && (starts_with nat_eq text left && ends_with nat_eq text right)
-    then Some (take (length text - 2) (drop 1 text)) else None
 
 -- ---- WHERE and V
 
@@ -59,14 +54,11 @@ unfoldable pub added : List ℕ → Option ℕ
 added [] = Some 0
 added (sign ∷ digits) = option_map (λ n. if sign == 45 then 2 ^ 32 - n else n) (plain_number digits)
 
--- a base with what is added, modulo 2 ^ 32
-abbrev pub is_sign : ℕ → Bool
-is_sign c = (c == 43) || (c == 45)
-
+-- a base with what is added from the first sign on, modulo 2 ^ 32
 unfoldable pub sum : (List ℕ → Option ℕ) → List ℕ → Option ℕ
 sum based word =
-    option_and_then (λ a. option_map (λ n. (a + n) % 2 ^ 32) (added (drop (position_or_len is_sign word) word)))
-    (based (before_first is_sign word))
+    let at = position_or_len (λ c. (c == 43) || (c == 45)) word in
+    option_and_then (λ a. option_map (λ n. (a + n) % 2 ^ 32) (added (drop at word))) (based (take at word))
 
 -- WHERE: the address of a line, or a base with what is added
 unfoldable pub address : Listed → BoardState → List ℕ → Option ℕ
@@ -96,13 +88,13 @@ break_address l b _ = None
 unfoldable pub watched : Listed → BoardState → List ℕ → Option Watched
 watched l b word =
     option_or (option_map (λ r. Register r) (lookup word register_names))
-    (option_map (λ a. Word a) (option_and_then (address l b) (enclosed (codes "[") (codes "]") word)))
+    (option_map (λ a. Word a) (option_and_then (address l b) (between 91 93 word)))
 
--- the signs of relations
-unfoldable pub relations : List (List ℕ × Relation)
+-- the signs of relations: how a branch compares the two, and whether it does so exchanged
+unfoldable pub relations : List (List ℕ × (Cond × Bool))
 relations =
-    (codes "=", Equal) ∷ (codes "==", Equal) ∷ (codes "!=", Different) ∷ (codes "<", Less)
-    ∷ (codes "<=", AtMost) ∷ (codes ">", Greater) ∷ (codes ">=", AtLeast) ∷ []
+    (codes "=", (Eq, false)) ∷ (codes "==", (Eq, false)) ∷ (codes "!=", (Ne, false)) ∷ (codes ">", (Lt, true))
+    ∷ (codes ">=", (Ge, false)) ∷ (codes "<", (Lt, false)) ∷ (codes "<=", (Ge, true)) ∷ []
 
 -- pc is at one of the bytes of a line, or of the next that has some; or it is at another WHERE
 unfoldable pub at_place : Listed → BoardState → List ℕ → Option Condition
@@ -113,8 +105,7 @@ at_place l b word =
 -- one word of `until`: that what it watches changes, an event, or a place
 unfoldable pub word_condition : Listed → BoardState → List ℕ → Option Condition
 word_condition l b word =
-    option_or (option_map (λ w. Changed w (recording.watched_value b w)) (watched l b word))
-    (option_or (lookup word
+    option_or (option_map (λ w. Changed w (watched_value b w)) (watched l b word)) (option_or (lookup word
     ((codes "trap", Trap) ∷ (codes "console", Console (length b.machine.bus.serial.sent)) ∷ []))
     (at_place l b word))
 
@@ -122,7 +113,7 @@ word_condition l b word =
 unfoldable pub condition : Listed → BoardState → List (List ℕ) → Option Condition
 condition l b (word ∷ []) = word_condition l b word
 condition l b (word ∷ sign ∷ v ∷ []) =
-    option_and_then (λ w. option_and_then (λ relation. option_map (λ n. Compares w relation n) (word_value l b v))
+    option_and_then (λ w. option_and_then (λ r. option_map (λ n. Compares w r.0 r.1 n) (word_value l b v))
     (lookup sign relations)) (watched l b word)
 condition l b _ = None
 
@@ -131,8 +122,7 @@ condition l b _ = None
 -- a text without the blanks at its ends
 unfoldable pub trimmed : List ℕ → List ℕ
 trimmed text =
-    let front = take (length text - suffix_len is_blank text) text in
-    drop (prefix_len is_blank front) front
+    let front = take (length text - suffix_len is_blank text) text in drop (prefix_len is_blank front) front
 
 -- the bytes of a text between quotes, if each can be read
 unfoldable pub unescaped : List ℕ → Option (List ℕ)
@@ -145,5 +135,5 @@ unescaped (c ∷ d ∷ rest) =
 -- `rx`: the bytes of a text between quotes, or those of words as in a timed list; none if they can't be read
 unfoldable pub bytes_inputs : List ℕ → Option (List Input)
 bytes_inputs text =
-    option_map_or (λ quoted. option_map (map (λ b. Rx b)) (unescaped quoted))
-    (enclosed (codes "\"") (codes "\"") (trimmed text)) (all_of byte_input (words text))
+    option_map_or (λ quoted. option_map (map (λ b. Rx b)) (unescaped quoted)) (between 34 34 (trimmed text))
+    (all_of byte_input (words text))

@@ -1,6 +1,6 @@
 -- Not to audit: private contracts alone cite this.
 -- The only one of some words, and inputs that are read one after the other.
-use Rattle.std.specs.Prelude.{◌≡◌, ℕ, Bool, true, false, List, [], ◌∷◌, ◌++◌, codes, map, length, ◌==◌, if◌then◌else◌, option_and_then, Option, Some, None}
+use Rattle.std.specs.Prelude.{◌≡◌, ℕ, Bool, true, false, List, [], ◌∷◌, ◌++◌, codes, map, length, ◌==◌, ◌||◌, if◌then◌else◌, option_and_then, Option, Some, None}
 use Rattle.std.specs.Option.{option_map, option_map_or}
 use Rattle.rv_base.specs.Tables.{lookup}
 use Rattle.rv_lists.specs.declared.input.Input.{Input}
@@ -15,6 +15,10 @@ use Rattle.rv_board.specs.State.{BoardState}
 abbrev pub only_of : List (List ℕ) → Option (List ℕ)
 only_of (word ∷ []) = Some word
 only_of _ = None
+
+-- the signs of a sum
+abbrev pub is_sign : ℕ → Bool
+is_sign c = (c == 43) || (c == 45)
 
 -- the byte of an escape
 abbrev pub escape_of : ℕ → Option ℕ

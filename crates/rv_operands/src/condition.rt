@@ -6,25 +6,26 @@ ghost use Rattle.rv_operands.specs.Operands.{at_place, condition, word_condition
 ghost use Rattle.rv_operands.specs.Words.{named_event, size_from};
 
 use crate::place::{Scope, line_with_bytes};
-use crate::word::{enclosed, line_number, only_word};
+use crate::word::{line_number, only_word};
 use rv_base::{first_word, has_word, look_up};
-use rv_isa::reg_named;
-use rv_recording::{Condition, Relation, Watched};
+use rv_isa::{Cond, reg_named};
+use rv_recording::{Condition, Watched};
+use rv_tokens::between;
 
-/// The signs of relations.
-static RELATIONS: [(&str, Relation); 7] = [
-    ("=", Relation::Equal),
-    ("==", Relation::Equal),
-    ("!=", Relation::Different),
-    ("<", Relation::Less),
-    ("<=", Relation::AtMost),
-    (">", Relation::Greater),
-    (">=", Relation::AtLeast),
+/// The signs of relations: how a branch compares the two words, and whether it does so exchanged.
+static RELATIONS: [(&str, (Cond, bool)); 7] = [
+    ("=", (Cond::Eq, false)),
+    ("==", (Cond::Eq, false)),
+    ("!=", (Cond::Ne, false)),
+    (">", (Cond::Lt, true)),
+    (">=", (Cond::Ge, false)),
+    ("<", (Cond::Lt, false)),
+    ("<=", (Cond::Ge, true)),
 ];
 
 /// Returns the relation of a sign.
 #[tactic(auto, unfolding(crate::specs::Operands::relations))]
-fn relation(sign: &[u8]) -> Option<Relation>
+fn relation(sign: &[u8]) -> Option<(Cond, bool)>
     ensures { result ≡ lookup sign.now relations }
 {
     look_up(&RELATIONS, sign)
@@ -39,7 +40,7 @@ impl<'a> Scope<'a> {
         if let Some(register) = reg_named(word) {
             return Some(Watched::Register(register));
         }
-        let address = self.address(enclosed(b"[", b"]", word)?)?;
+        let address = self.address(between(b'[', b']', word)?)?;
         Some(Watched::Word(address))
     }
 
@@ -109,11 +110,12 @@ impl<'a> Scope<'a> {
         };
         let value = only_word(rest)?;
         let watched = self.watched(word)?;
-        let relation = relation(sign)?;
+        let (cond, exchanged) = relation(sign)?;
         let value = self.value(value)?;
         Some(Condition::Compares {
             watched,
-            relation,
+            cond,
+            exchanged,
             value,
         })
     }

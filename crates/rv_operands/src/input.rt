@@ -7,10 +7,11 @@ ghost use Rattle.rv_operands.specs.Operands.{bytes_inputs, unescaped};
 ghost use Rattle.rv_lists.specs.declared.input.Input.TheVariants.{Rx};
 ghost use Rattle.rv_operands.specs.Words.{Reads, escape_of, text_inputs};
 
-use crate::word::{enclosed, trimmed};
+use crate::word::trimmed;
 use rv_answers::escapes;
 use rv_base::{NoMemory, first_word, hex_byte, look_up};
 use rv_lists::Input;
+use rv_tokens::between;
 use std::alloc::Global;
 
 /// Appends the byte that the serial port receives.
@@ -75,7 +76,7 @@ pub fn read_bytes_inputs(alloc: Global, operands: &[u8]) -> Result<Option<Vec<In
     ensures { IfOk result (λ read. option_map (λ inputs. inputs.items) read ≡ bytes_inputs operands.now) }
 {
     let mut inputs = Vec::new(alloc);
-    let can_read = match enclosed(b"\"", b"\"", trimmed(operands)) {
+    let can_read = match between(b'"', b'"', trimmed(operands)) {
         Some(text) => read_text(text, &mut inputs)?,
         None => read_words(operands, &mut inputs)?,
     };

@@ -4,7 +4,7 @@ ghost use Rattle.std.specs.Option.{option_map};
 ghost use Rattle.std.specs.List.{position_or_len, prefix_len, suffix_len};
 ghost use Rattle.rv_base.specs.Words.{is_blank, words};
 ghost use Rattle.rv_commands.specs.Addresses.{address_of};
-ghost use Rattle.rv_operands.specs.Operands.{enclosed, line_number, plain_number, operand_text, trimmed};
+ghost use Rattle.rv_operands.specs.Operands.{line_number, plain_number, operand_text, trimmed};
 ghost use Rattle.rv_operands.specs.Words.{only_of};
 
 use rv_base::{decimal, first_word, has_word, is_blank, low_word};
@@ -44,17 +44,6 @@ fn without_blanks(text: &[u8]) -> &[u8]
         [b, rest @ ..] if is_blank(*b) => without_blanks(rest),
         _ => text,
     }
-}
-
-/// Returns what stands between two signs, with which a text begins and ends.
-#[tactic(auto, unfolding(crate::specs::Operands::enclosed))]
-pub(crate) fn enclosed<'a>(left: &[u8], right: &[u8], text: &'a [u8]) -> Option<&'a [u8]>
-    ensures { option_map (λ t. t.now) result ≡ enclosed left.now right.now text.now }
-{
-    if text.len() > 1 && text.starts_with(left) && text.ends_with(right) {
-        return Some(&text[1..text.len() - 1]);
-    }
-    None
 }
 
 /// Reads `0x` and a hexadecimal number.

@@ -6,7 +6,7 @@
 
 ghost use Rattle.std.specs.Prelude.{◌≡◌, ◌≤◌, ◌==◌, ◌⊎◌, ◌++◌, true, false, not, drop, length, [], Some, IfSome, is_some};
 ghost use Rattle.rv_lab.specs.State.{setup};
-ghost use Rattle.rv_lab.specs.Commands.{Continues, Obeys};
+ghost use Rattle.rv_lab.specs.Commands.{GoesOn, Obeys, With};
 ghost use Rattle.rv_page.specs.Pages.{IsOpened, IsRefused, OfLabs, copied, empty, in_pieces, sent, taken};
 
 mod copying;
@@ -81,7 +81,7 @@ pub extern "C" fn page_go_on(handle: &mut Handle, most: u64) -> u32
     ensures lab { is_some handle.new.value.lab ≡ is_some handle.old.value.lab }
     ensures setup { OfLabs handle.old.value handle.new.value (λ l m. setup m ≡ setup (in_pieces most l)) }
     ensures continues { result ≤ 3 → OfLabs handle.old.value handle.new.value
-        (λ l. Continues l.plan (in_pieces most l)) }
+        (λ l. With l.plan GoesOn (in_pieces most l)) }
 {
     handle.state().go_on(most)
 }

@@ -1,7 +1,7 @@
 //! What the page keeps between two calls.
 ghost use Rattle.std.specs.Prelude.{◌≡◌, ◌≤◌, ◌==◌, ◌⊎◌, not, [], IfErr, IfSome, is_some};
 ghost use Rattle.rv_lab.specs.State.{setup};
-ghost use Rattle.rv_lab.specs.Commands.{Continues, Obeys};
+ghost use Rattle.rv_lab.specs.Commands.{GoesOn, Obeys, With};
 ghost use Rattle.rv_page.specs.Pages.{IsOpened, IsRefused, OfLabs, empty, in_pieces, sent, taken};
 
 use rv_base::NoMemory;
@@ -107,7 +107,7 @@ impl State {
         ensures lab { is_some self.new.lab ≡ is_some self.old.lab }
         ensures setup { OfLabs self.old self.new (λ l m. setup m ≡ setup (in_pieces most l)) }
         ensures continues { result ≤ 3 → OfLabs self.old self.new
-            (λ l. Continues l.plan (in_pieces most l)) }
+            (λ l. With l.plan GoesOn (in_pieces most l)) }
     {
         self.answer.clear();
         match &mut self.lab {

@@ -8,10 +8,11 @@ use Rattle.rv_monitor.specs.State.{Addresses, SessionState, most_of, after}
 use Rattle.rv_monitor.specs.Stops.{Took, may_step, stop_after}
 use Rattle.rv_monitor.specs.declared.stop.Stop.{Stop}
 use Rattle.rv_recording.specs.Recording.{RecordingState}
-use Rattle.rv_recording.specs.Until.{NoneEnds, HasRun}
+use Rattle.rv_recording.specs.Until.{HasRun}
+use Rattle.rv_recording.specs.Refused.{NoneEnds, end_with}
 use Rattle.rv_recording.specs.declared.until.End.{End}
 use Rattle.rv_recording.specs.declared.until.End.TheVariants.{Limit, Stuck}
-use Rattle.rv_recording.proofs.Running.{stands, more_goes, ran}
+use Rattle.rv_recording.proofs.Running.{stands, more_goes, ran_last, ran_on, at_limit, before_limit}
 
 -- ---- steps up to a breakpoint
 
@@ -75,10 +76,13 @@ stuck_by : (b : Bool) (m n : ℕ) → n ≤ m → (b && nat_lt m n) ≡ false
 stuck_by true m n h = grind (arith, nat_tests)
 stuck_by false m n h = refl
 
-module _ (ends : ℕ → Option End) (most : ℕ) (old : RecordingState) where
+module _ (reached : ℕ → Bool) (most : ℕ) (old : RecordingState) where
+  abbrev ends : ℕ → Option End
+  ends = end_with reached old.session
+
   -- the run goes more than k steps
   abbrev pub RunsFrom : ℕ → Type 0
-  RunsFrom k = (m : ℕ) × (k < m) × (end : End) × HasRun ends most old (stands old m) end
+  RunsFrom k = (m : ℕ) × (k < m) × (end : End) × HasRun reached most old.session (stands old m).session end
 
   stuck : (m : ℕ) → old.session.limit ≤ old.session.timed.taken + m → may_step (stands old m).session ≡ false
   unfolding after
@@ -87,30 +91,28 @@ module _ (ends : ℕ → Option End) (most : ℕ) (old : RecordingState) where
       old.session.limit h
 
   over : (m : ℕ) → m ≡ most_of old.session most → NoneEnds ends m
-      → (end : End) × HasRun ends most old (stands old m) end
+      → (end : End) × HasRun reached most old.session (stands old m).session end
   over m all going = ⊎_elim
       (λ less. (
         Stuck,
-        ran ends old most m (stands old m) Stuck (omega (arith, all)) refl
-            (inr (inr (refl, stuck m (omega (arith, all, less)), going))),
+        ran_on reached old most m (stands old m) Stuck (omega (arith, all)) refl going (before_limit m most less)
+            (λ l. stuck m (omega (arith, all, less))),
       ))
       (λ enough. (
         Limit,
-        ran ends old most m (stands old m) Limit (omega (arith, all)) refl
-            (inr (inl (refl, omega (arith, all, enough), going))),
+        ran_on reached old most m (stands old m) Limit (omega (arith, all)) refl going
+            (at_limit m most (omega (arith, all, enough))) (λ l. absurd (omega (arith, enough, l))),
       ))
       (cases_lt m most)
 
   runs_by : (end : Option End) (k : ℕ) → k < most_of old.session most → ends k ≡ end → NoneEnds ends k
       → (NoneEnds ends (k + 1) → RunsFrom k) → RunsFrom k
-  runs_by (Some end) k within is going rest =
-      let before : (k + 1) - 1 ≡ k = omega arith in (
-        k + 1,
-        omega arith,
-        end,
-        ran ends old most (k + 1) (stands old (k + 1)) end (omega (arith, within)) refl
-            (inl (omega arith, subst (NoneEnds ends) (sym before) going, ap ends before ∙ is)),
-      )
+  runs_by (Some end) k within is going rest = (
+    suc k,
+    omega arith,
+    end,
+    ran_last reached old most k (stands old (suc k)) end (omega (arith, within)) refl going is,
+  )
   runs_by None k within is going rest = rest (more_goes ends old k going is)
 
   pub runs_from : (left k : ℕ) → k + suc left ≡ most_of old.session most → NoneEnds ends k → RunsFrom k

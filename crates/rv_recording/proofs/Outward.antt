@@ -1,27 +1,35 @@
 -- Runs out of calls, step by step.
-use Rattle.std.proofs.Common.{◌≡◌, ◌∙◌, ℕ, suc, ◌+◌, ◌<◌, ◌==◌, refl, sym, ap, inl, inr}
+use Rattle.std.proofs.Common.{◌≡◌, ◌∙◌, ℕ, suc, ◌+◌, ◌<◌, ◌==◌, Bool, refl, sym, ap, inl, inr}
 use Rattle.std.proofs.Math.Numerals.{add-one}
 use Rattle.std.specs.Prelude.{Option, Some, None, Result, Ok, Err}
 use Rattle.rv_base.specs.declared.memory.NoMemory.{NoMemory}
-use Rattle.rv_monitor.specs.State.{IsInTime, after}
+use Rattle.rv_monitor.specs.State.{IsInTime, TimedState, after}
 use Rattle.rv_monitor.specs.Stops.{steps_between}
 use Rattle.rv_recording.specs.Recording.{RecordingState}
 use Rattle.rv_recording.specs.Until.{HasRun}
-use Rattle.rv_recording.specs.Refused.{IsRefusedIn}
-use Rattle.rv_recording.specs.Out.{open_at, open_of_step, out_at}
+use Rattle.rv_recording.specs.Refused.{IsRefusedIn, end_with}
+use Rattle.rv_recording.specs.Out.{open_at, open_of_step}
 use Rattle.rv_recording.specs.Steps.{StepsOut, TakesOne, end_after}
 use Rattle.rv_recording.specs.declared.until.End.{End}
 use Rattle.rv_recording.specs.declared.until.End.TheVariants.{Limit, Stuck}
-use Rattle.rv_recording.proofs.Running.{Going, begins, goes_on, ended, limit, refused, taken_is, due_is, due_at, one_more}
+use Rattle.rv_recording.proofs.Running.{Going, begins, goes_on, ended, limit, refused, taken_is, due_is, due_at, one_more, after_suc, others_at, others_next, others_due}
+
+-- no call is open after n steps
+abbrev pub is_out : ℕ → RecordingState → ℕ → Bool
+is_out first old n = open_at first old.session.timed n == 0
+
+-- why a run out of calls ends with its step number i
+abbrev pub out_with : ℕ → RecordingState → ℕ → Option End
+out_with first old = end_with (is_out first old) old.session
 
 -- n steps were taken, none of which ends the run, and `calls` is the number of open calls after them
 pub record GoingOut (first : ℕ) (old now : RecordingState) (calls n : ℕ) : Type 0 where
-  pub going : Going (out_at first old.session) old now n
+  pub going : Going (out_with first old) old now n
   pub number : calls ≡ open_at first old.session.timed n
 
 pub begins_out : (first : ℕ) (old : RecordingState) → IsInTime old.session.timed → GoingOut first old old first 0
 unfolding open_at
-begins_out first old in_time = record { going = begins (out_at first old.session) old in_time; number = refl }
+begins_out first old in_time = record { going = begins (out_with first old) old in_time; number = refl }
 
 none_is : (end : End) → None ≡ Some end → ⊥
 none_is end h = cc
@@ -36,7 +44,7 @@ takes calls left old new (Err why) t = (t.0, t.1, t.2)
 
 module _ (first : ℕ) (old : RecordingState) where
   abbrev ends : ℕ → Option End
-  ends = out_at first old.session
+  ends = out_with first old
 
   -- the number of open calls after one step more
   open_suc : (now : RecordingState) (calls left n : ℕ) → GoingOut first old now calls n
@@ -58,8 +66,10 @@ module _ (first : ℕ) (old : RecordingState) where
   out_is now calls left n g e =
       ap (λ (k : ℕ). end_after (k == 0) now.session.breakpoints.addresses (after now.session.timed 1).board)
       (open_suc now calls left n g e)
-      ∙ ap (λ (r : RecordingState). end_after (open_at first old.session.timed (suc n) == 0)
+      ∙ (ap (λ (r : RecordingState). end_after (open_at first old.session.timed (suc n) == 0)
       r.session.breakpoints.addresses (after r.session.timed 1).board) g.going.state
+      ∙ ap (λ (t : TimedState). end_after (open_at first old.session.timed (suc n) == 0)
+      old.session.breakpoints.addresses t.board) (after_suc old.session.timed n g.going.in_time))
 
   pub goes_out : (now new : RecordingState) (calls left n : ℕ) → GoingOut first old now calls n
       → StepsOut calls left now new (Ok None) → GoingOut first old new left (n + 1)
@@ -71,11 +81,11 @@ module _ (first : ℕ) (old : RecordingState) where
 
   pub ends_out : (now new : RecordingState) (calls left most n : ℕ) (end : End) → n < most
       → GoingOut first old now calls n → StepsOut calls left now new (Ok (Some end))
-      → HasRun ends most old new end
+      → HasRun (is_out first old) most old.session new.session end
   ends_out now new calls left most n end k g (inl t) =
-      ended ends old now new most n _ end (out_is now calls left n g t.1) k g.going (inl (t.0, t.2))
+      ended (is_out first old) old now new most n _ end (out_is now calls left n g t.1) k g.going (inl (t.0, t.2))
   ends_out now new calls left most n end k g (inr t) =
-      ended ends old now new most n (ends n) end refl k g.going (inr (t.0, t.1, t.3))
+      ended (is_out first old) old now new most n (ends n) end refl k g.going (inr (t.0, t.1, t.3))
 
   pub open_ended : (now new : RecordingState) (calls left n : ℕ) (end : Option End)
       → GoingOut first old now calls n → StepsOut calls left now new (Ok end)
@@ -88,9 +98,10 @@ module _ (first : ℕ) (old : RecordingState) where
       t.2 ∙ (g.number ∙ ap (open_at first old.session.timed) (taken_is old new n (t.1 ∙ g.going.state)))
 
   pub refused_out : (now new : RecordingState) (calls left most n : ℕ) (why : NoMemory) → n < most
-      → GoingOut first old now calls n → StepsOut calls left now new (Err why) → IsRefusedIn ends most old new
+      → GoingOut first old now calls n → StepsOut calls left now new (Err why)
+      → IsRefusedIn (is_out first old) most old.session new.session
   refused_out now new calls left most n why k g t =
-      refused ends old now new most n (ends n) why k g.going (t.0, t.1, t.2)
+      refused (is_out first old) old now new most n (ends n) why k g.going (t.0, t.1, t.2)
 
   pub open_refused : (now new : RecordingState) (calls left n : ℕ) (why : NoMemory) → GoingOut first old now calls n
       → StepsOut calls left now new (Err why)
@@ -100,10 +111,29 @@ module _ (first : ℕ) (old : RecordingState) where
       (due_is old new n (due_at ends old now new n g.going t.1)))
 
   pub limit_out : (now : RecordingState) (calls most : ℕ) → GoingOut first old now calls most
-      → HasRun ends most old now Limit
-  limit_out now calls most g = limit ends old now most g.going
+      → HasRun (is_out first old) most old.session now.session Limit
+  limit_out now calls most g = limit (is_out first old) old now most g.going
 
   pub open_limit : (now : RecordingState) (calls most : ℕ) → GoingOut first old now calls most
       → calls ≡ open_at first old.session.timed (steps_between old.session.timed now.session.timed)
   open_limit now calls most g =
       g.number ∙ ap (open_at first old.session.timed) (taken_is old now most g.going.state)
+
+  -- what the call leaves as it was
+  pub others_out : (now : RecordingState) (calls n : ℕ) → GoingOut first old now calls n
+      → now ≡ record old { session = now.session }
+  others_out now calls n g = others_at ends old now n g.going
+
+  pub others_ended : (now new : RecordingState) (calls left n : ℕ) (end : Option End)
+      → GoingOut first old now calls n → StepsOut calls left now new (Ok end)
+      → new ≡ record old { session = new.session }
+  others_ended now new calls left n end g (inl t) =
+      others_next ends old now new n end end g.going (inl (t.0, refl))
+  others_ended now new calls left n end g (inr t) =
+      others_next ends old now new n end end g.going (inr (t.0, t.1, t.3))
+
+  pub others_refused : (now new : RecordingState) (calls left n : ℕ) (why : NoMemory)
+      → GoingOut first old now calls n → StepsOut calls left now new (Err why)
+      → new ≡ record old { session = new.session }
+  others_refused now new calls left n why g t =
+      others_due ends old now new n (ends n) why g.going (t.0, t.1, t.2)

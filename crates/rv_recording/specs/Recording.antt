@@ -4,7 +4,6 @@ use Rattle.std.specs.Prelude.{ℕ, ◌*◌}
 use Rattle.rv_board.specs.Boot.{reset}
 use Rattle.rv_board.specs.BoardState.{BoardState}
 use Rattle.rv_monitor.specs.State.{SessionState, TimedState, begun, after}
-use Rattle.rv_monitor.specs.Stops.{steps_between}
 
 -- a session, and the pages and slots of its board
 pub record RecordingState : Type 0 where
@@ -27,7 +26,3 @@ with_timed r timed = record r { session = record r.session { timed = timed } }
 -- the recording after its first n steps
 abbrev pub gone_back : RecordingState → ℕ → RecordingState
 gone_back r n = with_timed r (after (begun (first_board r) r.session.timed.inputs) n)
-
--- the number of steps from one recording to a later one
-abbrev pub run_length : RecordingState → RecordingState → ℕ
-run_length old new = steps_between old.session.timed new.session.timed

@@ -3,13 +3,14 @@
 use Rattle.std.specs.Prelude.{◌≡◌, ◌⊎◌, ℕ, ◌==◌, Bool, true, false, if◌then◌else◌, Option, Some, None, is_some, Result, Ok, Err}
 use Rattle.std.specs.FinSet as set
 use Rattle.rv_base.specs.declared.memory.NoMemory.{NoMemory}
+use Rattle.rv_hart.specs.Step.{step}
 use Rattle.rv_board.specs.State.{BoardState, pc_of, halted_of}
 use Rattle.rv_board.specs.Move.{writes}
 use Rattle.rv_board.specs.declared.event.Event.TheVariants.{Step}
 use Rattle.rv_monitor.specs.State.{Addresses, TimedState, after, with_due}
 use Rattle.rv_monitor.specs.Stops.{may_step}
 use Rattle.rv_recording.specs.Recording.{RecordingState, with_timed}
-use Rattle.rv_recording.specs.Until.{comes}
+use Rattle.rv_recording.specs.Until.{holds}
 use Rattle.rv_recording.specs.Out.{open_of_step}
 use Rattle.rv_recording.specs.declared.until.End.{End}
 use Rattle.rv_recording.specs.declared.until.End.TheVariants.{Halted, Reached, Breakpoint, Stuck}
@@ -24,7 +25,8 @@ end_after reached breakpoints b =
 
 -- why a run until a condition holds ends after the next step of a state, if it does
 abbrev pub end_of_step : Condition → Addresses → TimedState → Option End
-end_of_step condition breakpoints s = end_after (comes condition s) breakpoints (after s 1).board
+end_of_step condition breakpoints s =
+    end_after (holds condition (step (with_due s).board.machine).1 (after s 1).board) breakpoints (after s 1).board
 
 -- a call for one step of a run took it, and tells why the run ends with it, if it does, which is `end`; or
 -- there was none to be taken; or memory ran out at it

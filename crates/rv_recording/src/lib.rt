@@ -8,4 +8,4 @@ mod recording;
 mod until;
 
 pub use recording::{LAST_STEP, Recording};
-pub use until::{Condition, End, Relation, Watched};
+pub use until::{Condition, End, Watched};

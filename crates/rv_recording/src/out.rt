@@ -1,11 +1,12 @@
 //! Runs out of calls.
-ghost use Rattle.std.specs.Prelude.{◌≡◌, ◌-◌, IfOk, OnErr};
+ghost use Rattle.std.specs.Prelude.{◌≡◌, ◌-◌, ◌==◌, IfOk, OnErr};
 ghost use Rattle.std.specs.Option.{option_and_then};
 ghost use Rattle.rv_isa.specs.Meaning.{means};
 ghost use Rattle.rv_board.specs.State.{pc_of};
+ghost use Rattle.rv_hart.specs.declared.trap.Outcome.TheVariants.{Retired};
+ghost use Rattle.rv_monitor.specs.Stops.{steps_between};
 ghost use Rattle.rv_monitor.specs.Views.{word_at};
-ghost use Rattle.rv_recording.specs.Out.{after_call, open_after, open_at, open_by, open_of_step, out_at};
-ghost use Rattle.rv_recording.specs.Recording.{run_length};
+ghost use Rattle.rv_recording.specs.Out.{after_call, open_after, open_at, open_of_step};
 ghost use Rattle.rv_recording.specs.Until.{HasRun};
 ghost use Rattle.rv_recording.specs.Refused.{IsRefusedIn};
 ghost use Rattle.rv_recording.specs.Steps.{StepsOut, end_after};
@@ -32,10 +33,10 @@ fn next_instr(board: &BootedBoard) -> Option<Instr>
     decode(word_at(board, board.pc())?)
 }
 
-/// Returns the number of open calls after an instruction, if there is one.
-#[tactic(auto, unfolding(crate::specs::Out::open_by))]
+/// Returns the number of open calls after a step that retired, by its instruction.
+#[tactic(auto, unfolding(crate::specs::Out::open_after))]
 fn open_by(calls: u64, instr: Option<Instr>) -> u64
-    ensures { result ≡ open_by calls instr }
+    ensures { result ≡ open_after calls Retired instr }
 {
     let Some(instr) = instr else {
         return calls;
@@ -63,12 +64,13 @@ fn open_by(calls: u64, instr: Option<Instr>) -> u64
 
 /// Returns the number of open calls after a step that did that.
 #[tactic(auto, unfolding(crate::specs::Out::open_after))]
-fn open_after(calls: u64, instr: Option<Instr>, outcome: Outcome) -> u64
-    ensures { result ≡ open_after calls instr outcome }
+fn open_after(calls: u64, outcome: Outcome, instr: Option<Instr>) -> u64
+    ensures { result ≡ open_after calls outcome instr }
 {
     match outcome {
         Outcome::Trapped { .. } => after_call(calls),
-        _ => open_by(calls, instr),
+        Outcome::Retired => open_by(calls, instr),
+        Outcome::Halted => open_by(calls, instr),
     }
 }
 
@@ -81,7 +83,7 @@ impl Recording {
         let instr = next_instr(self.session().board());
         match self.take_step() {
             Ok(Some(outcome)) => {
-                *calls = open_after(*calls, instr, outcome);
+                *calls = open_after(*calls, outcome, instr);
                 Ok(end_after(*calls == 0, self.session()))
             }
             Ok(None) => Ok(Some(End::Stuck)),
@@ -97,9 +99,13 @@ impl Recording {
     ///
     /// `NoMemory` if memory runs out at a step. The steps before it are taken.
     pub fn run_out(&mut self, calls: &mut u64, most: u64) -> Result<End, NoMemory>
-        ensures ok { IfOk result (HasRun (out_at calls.old self.old.session) most self.old self.new) }
-        ensures err { OnErr result (IsRefusedIn (out_at calls.old self.old.session) most self.old self.new) }
-        ensures calls { calls.new ≡ open_at calls.old self.old.session.timed (run_length self.old self.new) }
+        ensures ok { IfOk result (HasRun (λ n. open_at calls.old self.old.session.timed n == 0)
+            most self.old.session self.new.session) }
+        ensures err { OnErr result (IsRefusedIn (λ n. open_at calls.old self.old.session.timed n == 0)
+            most self.old.session self.new.session) }
+        ensures calls { calls.new ≡ open_at calls.old self.old.session.timed
+            (steps_between self.old.session.timed self.new.session.timed) }
+        ensures others { self.new ≡ record self.old { session = self.new.session } }
     {
         // It tells that the inputs of all steps so far were given.
         let _board = self.session().board();

@@ -167,7 +167,7 @@ impl Recording {
         ensures stop { IfOk result (λ stop. stop ≡ stop_of set.empty self.old.session self.new.session) }
         ensures err { OnErr result (WasRefused set.empty n self.old.session self.new.session) }
         ensures room { OnErr result (NextWantsRoom ⟦<PagedRam as ByteMemory>⟧.wants_room self.new.session) }
-        ensures others { self.new ≡ with_timed self.old self.new.session.timed }
+        ensures others { self.new ≡ record self.old { session = self.new.session } }
     {
         self.kept.keep(self.alloc, &self.session);
         self.session.step(n)
@@ -186,7 +186,7 @@ impl Recording {
         ensures err { OnErr result
             (WasRefused self.old.session.breakpoints.addresses n self.old.session self.new.session) }
         ensures room { OnErr result (NextWantsRoom ⟦<PagedRam as ByteMemory>⟧.wants_room self.new.session) }
-        ensures others { self.new ≡ with_timed self.old self.new.session.timed }
+        ensures others { self.new ≡ record self.old { session = self.new.session } }
     {
         self.kept.keep(self.alloc, &self.session);
         self.session.go(n)

@@ -1,6 +1,7 @@
 //! Runs until a condition holds.
-ghost use Rattle.std.specs.Prelude.{◌≡◌, IfOk, OnErr};
-ghost use Rattle.rv_recording.specs.Until.{HasRun, holds, relates, until_at, watched_value};
+ghost use Rattle.std.specs.Prelude.{◌≡◌, IfOk, OnErr, if◌then◌else◌};
+ghost use Rattle.rv_isa.specs.Alu.{is_taken};
+ghost use Rattle.rv_recording.specs.Until.{HasRun, comes, holds, watched_value};
 ghost use Rattle.rv_recording.specs.Refused.{IsRefusedIn};
 ghost use Rattle.rv_recording.specs.Steps.{TakesOne, end_after, end_of_step};
 
@@ -20,23 +21,6 @@ pub enum Watched {
     Register(Reg),
     /// The word of memory at an address.
     Word(u32),
-}
-
-/// How two words compare, as signed numbers.
-#[derive(Clone, Copy)]
-pub enum Relation {
-    /// They are equal.
-    Equal,
-    /// They aren't.
-    Different,
-    /// The first is less.
-    Less,
-    /// The first is no more.
-    AtMost,
-    /// The first is more.
-    Greater,
-    /// The first is no less.
-    AtLeast,
 }
 
 /// What a run goes on for.
@@ -64,8 +48,10 @@ pub enum Condition {
     Compares {
         /// What is watched.
         watched: Watched,
-        /// How it compares.
-        relation: Relation,
+        /// How a branch compares them.
+        cond: Cond,
+        /// Whether the value comes first.
+        exchanged: bool,
         /// The value.
         value: u32,
     },
@@ -86,20 +72,14 @@ pub enum End {
     Stuck,
 }
 
-impl Relation {
-    /// Returns whether the relation holds between two words.
-    pub fn holds(self, left: u32, right: u32) -> bool
-        ensures { result ≡ relates self left right }
-    {
-        match self {
-            Relation::Equal => branch_taken(Cond::Eq, left, right),
-            Relation::Different => branch_taken(Cond::Ne, left, right),
-            Relation::Less => branch_taken(Cond::Lt, left, right),
-            Relation::AtMost => branch_taken(Cond::Ge, right, left),
-            Relation::Greater => branch_taken(Cond::Lt, right, left),
-            Relation::AtLeast => branch_taken(Cond::Ge, left, right),
-        }
+/// Returns whether two words compare as a branch compares them, or as it compares them exchanged.
+fn compare(cond: Cond, exchanged: bool, left: u32, right: u32) -> bool
+    ensures { result ≡ (if exchanged then is_taken cond right left else is_taken cond left right) }
+{
+    if exchanged {
+        return branch_taken(cond, right, left);
     }
+    branch_taken(cond, left, right)
 }
 
 impl Watched {
@@ -130,10 +110,11 @@ impl Condition {
             Condition::Changed { watched, old } => watched.value(board) != old,
             Condition::Compares {
                 watched,
-                relation,
+                cond,
+                exchanged,
                 value,
             } => match watched.value(board) {
-                Some(word) => relation.holds(word, value),
+                Some(word) => compare(cond, exchanged, word, value),
                 None => false,
             },
         }
@@ -159,7 +140,6 @@ pub(crate) fn end_after(reached: bool, session: &Session<PagedRam, DecodeCache>)
 
 impl Recording {
     /// Takes a step, and returns why a run until a condition ends with it, if it does.
-    #[tactic(auto, unfolding(crate::specs::Until::comes))]
     fn step_until(&mut self, condition: Condition) -> Result<Option<End>, NoMemory>
         ensures { TakesOne (end_of_step condition self.old.session.breakpoints.addresses self.old.session.timed)
             self.old self.new result }
@@ -181,8 +161,11 @@ impl Recording {
     ///
     /// `NoMemory` if memory runs out at a step. The steps before it are taken.
     pub fn run_until(&mut self, condition: Condition, most: u64) -> Result<End, NoMemory>
-        ensures ok { IfOk result (HasRun (until_at condition self.old.session) most self.old self.new) }
-        ensures err { OnErr result (IsRefusedIn (until_at condition self.old.session) most self.old self.new) }
+        ensures ok { IfOk result
+            (HasRun (comes condition self.old.session.timed) most self.old.session self.new.session) }
+        ensures err { OnErr result
+            (IsRefusedIn (comes condition self.old.session.timed) most self.old.session self.new.session) }
+        ensures others { self.new ≡ record self.old { session = self.new.session } }
     {
         // It tells that the inputs of all steps so far were given.
         let _board = self.session().board();

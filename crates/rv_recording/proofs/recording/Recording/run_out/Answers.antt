@@ -1,6 +1,6 @@
 use Rattle.std.proofs.Common.{◌≡◌, subst, arith}
 use Rattle.rv_monitor.specs.State.{SessionState, IsInTime}
-use Rattle.rv_recording.proofs.Outward.{GoingOut, begins_out, goes_out, ends_out, open_ended, refused_out, open_refused, limit_out, open_limit}
+use Rattle.rv_recording.proofs.Outward.{GoingOut, begins_out, goes_out, ends_out, open_ended, refused_out, open_refused, limit_out, open_limit, others_out, others_ended, others_refused}
 use Rattle.rv_recording.proofs.recording.Recording.run_out.Goals as goal
 
 pub loop-done-init : goal.loop-done-init
@@ -45,4 +45,19 @@ returns-clause-ok c =
 pub returns-clause-calls : goal.returns-clause-calls
 returns-clause-calls c =
     open_limit c.args.calls.now c.args.self.now c.loop-done.self c.loop-done.calls c.loop-done.done
+    c.loop-done.invariant
+
+pub returns-in-Ok-Some-clause-others : goal.returns-in-Ok-Some-clause-others
+returns-in-Ok-Some-clause-others c =
+    others_ended c.args.calls.now c.args.self.now c.loop-done.self c.step_out.new.self c.loop-done.calls
+    c.step_out.new.calls c.loop-done.done _ c.loop-done.invariant c.in-Ok-Some.ensures
+
+pub returns-in-Err-clause-others : goal.returns-in-Err-clause-others
+returns-in-Err-clause-others c =
+    others_refused c.args.calls.now c.args.self.now c.loop-done.self c.step_out.new.self c.loop-done.calls
+    c.step_out.new.calls c.loop-done.done _ c.loop-done.invariant c.in-Err.ensures
+
+pub returns-clause-others : goal.returns-clause-others
+returns-clause-others c =
+    others_out c.args.calls.now c.args.self.now c.loop-done.self c.loop-done.calls c.loop-done.done
     c.loop-done.invariant
