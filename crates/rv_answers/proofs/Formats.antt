@@ -1,6 +1,6 @@
 -- How memory is shown.
 use Rattle.std.proofs.Common.{ℕ, ◌≤◌, List, arith}
-use Rattle.std.specs.Prelude.{Bool, true, false, if◌then◌else◌, Option, Some, None, IfSome, codes}
+use Rattle.std.specs.Prelude.{Bool, true, false, if◌then◌else◌, Some, None, IfSome, codes}
 use Rattle.std.specs.Str.{bytes_eq}
 use Rattle.rv_base.specs.Tables.{lookup}
 use Rattle.rv_answers.specs.Memory.{formats}

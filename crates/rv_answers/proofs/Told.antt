@@ -1,5 +1,5 @@
 -- The text of the interrupts of the hart.
-use Rattle.std.proofs.Common.{List, [], ◌∷◌, codes, append-nil, subst, sym}
+use Rattle.std.proofs.Common.{[], ◌∷◌, codes}
 use Rattle.rv_isa.specs.Number.{bit}
 use Rattle.rv_answers.specs.Answer.{Written, Appended}
 use Rattle.rv_answers.specs.Forms.{filled}

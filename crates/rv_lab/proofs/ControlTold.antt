@@ -7,8 +7,7 @@ use Rattle.rv_base.specs.Tables.{lookup}
 use Rattle.rv_isa.specs.Names.{csr_names}
 use Rattle.rv_operands.specs.Words.{only_of}
 use Rattle.rv_answers.specs.Answer.{Written, Appended}
-use Rattle.rv_lab.specs.State.{LabState}
-use Rattle.rv_lab.specs.Commands.{board}
+use Rattle.rv_lab.specs.State.{LabState, board}
 use Rattle.rv_lab.specs.Devices.{csr_text, csr_told, edge_source, edges_told, pending_text}
 
 -- ---- `p`

@@ -1,5 +1,5 @@
 -- Runs and what they leave.
-use Rattle.std.proofs.Common.{◌≡◌, ◌≢◌, ◌∙◌, ℕ, zero, suc, ◌+◌, ◌-◌, ◌<◌, Bool, true, false, List, [], ◌∷◌, refl, sym, ap, subst, arith}
+use Rattle.std.proofs.Common.{◌≡◌, ◌∙◌, ℕ, zero, suc, ◌+◌, ◌-◌, ◌<◌, Bool, true, false, List, [], ◌∷◌, refl, sym, ap, subst, arith}
 use Rattle.std.proofs.lemmas.Bool.{false≢true}
 use Rattle.std.proofs.lemmas.Bool.Decides.{nat_tests}
 use Rattle.std.specs.FinSet as set
@@ -8,7 +8,6 @@ use Rattle.rv_base.specs.declared.memory.NoMemory.{NoMemory}
 use Rattle.rv_board.specs.State.{BoardState, halted_of, pc_of}
 use Rattle.rv_monitor.specs.State.{IsInTime, SessionState, TimedState, after, most_of}
 use Rattle.rv_monitor.specs.Stops.{Took, may_step, stop_after}
-use Rattle.rv_monitor.specs.declared.stop.Stop.{Stop}
 use Rattle.rv_monitor.specs.declared.stop.Stop.TheVariants.{Halted, Breakpoint}
 use Rattle.rv_monitor.proofs.Sets.{no_member}
 use Rattle.rv_monitor.proofs.Steps.{after_more, after_none, in_time_after}
@@ -18,8 +17,8 @@ use Rattle.rv_recording.specs.Out.{open_at}
 use Rattle.rv_recording.specs.declared.until.Condition.{Condition}
 use Rattle.rv_recording.specs.declared.until.End.{End}
 use Rattle.rv_lists.specs.declared.input.Input.{Input}
-use Rattle.rv_lab.specs.State.{LabState}
-use Rattle.rv_lab.specs.Commands.{GoesOn, InSession, RunsFor, Steps, With, begun, timed, with_inputs, with_session}
+use Rattle.rv_lab.specs.State.{LabState, timed}
+use Rattle.rv_lab.specs.Commands.{GoesOn, InSession, RunsFor, Steps, With, begun, with_inputs, with_session}
 use Rattle.rv_lab.specs.Short.{Traced, stepped, stepped_by}
 use Rattle.rv_lab.specs.declared.plan.Plan.{Plan}
 use Rattle.rv_lab.specs.declared.plan.Goal.{Goal}

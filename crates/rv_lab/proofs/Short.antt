@@ -22,10 +22,10 @@ use Rattle.rv_recording.specs.declared.until.Condition.{Condition}
 use Rattle.rv_recording.specs.declared.until.End.{End}
 use Rattle.rv_recording.proofs.Ahead.{runs_from, takes_from}
 use Rattle.rv_lab.specs.Commands as lab
-use Rattle.rv_lab.specs.Commands.{Begins, InSession, Repeats, RunsFor, Steps, With, begun, ready, timed, with_inputs, with_session}
+use Rattle.rv_lab.specs.Commands.{Begins, InSession, Repeats, RunsFor, Steps, With, begun, ready, with_inputs, with_session}
 use Rattle.rv_lab.specs.Refusals.{Leads, RunsOut, StopsShort, by_hand, due, nowhere, steps}
 use Rattle.rv_lab.specs.Short.{Changes, Gives, IsObeyedShort, IsOnWay, IsShort, RunsShort, Traced, stepped, stepped_by}
-use Rattle.rv_lab.specs.State.{LabState}
+use Rattle.rv_lab.specs.State.{LabState, timed}
 use Rattle.rv_lab.specs.Words.{line_command}
 use Rattle.rv_operands.specs.Operands.{bytes_inputs, operand_text}
 use Rattle.rv_lab.specs.declared.command.Command.{Command}

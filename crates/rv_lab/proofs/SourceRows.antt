@@ -1,6 +1,7 @@
 -- Rows of the source, one after another.
-use Rattle.std.proofs.Common.{◌≡◌, ◌∙◌, ℕ, zero, suc, ◌+◌, ◌-◌, ◌<◌, ◌≤◌, List, [], ◌∷◌, drop, get_or, length, min, sym, subst, arith}
+use Rattle.std.proofs.Common.{◌≡◌, ◌∙◌, ℕ, zero, suc, ◌+◌, ◌-◌, ◌<◌, ◌≤◌, List, [], ◌∷◌, drop, get_or, length, min, sym, subst, arith, true, false, codes, nat_lt}
 use Rattle.std.specs.List.{flat_map, range_with_len}
+use Rattle.std.proofs.lemmas.Bool.Decides.{nat_tests}
 use Rattle.rv_base.specs.Lines.{lines}
 use Rattle.rv_base.proofs.LineSplitting.{lines_length}
 use Rattle.rv_answers.specs.Answer.{Written, Appended}
@@ -8,7 +9,7 @@ use Rattle.rv_answers.specs.Places.{row_text}
 use Rattle.rv_answers.specs.declared.rows.Row.{Row}
 use Rattle.rv_answers.proofs.Pieces.{next_from}
 use Rattle.rv_lab.specs.State.{LabState}
-use Rattle.rv_lab.specs.Lines.{line_row, line_rows, row_of}
+use Rattle.rv_lab.specs.Lines.{line_count, line_row, line_rows, more_told, row_of}
 
 -- ---- the first of what is left
 
@@ -77,3 +78,18 @@ unfolding line_rows
 all_rows l first count passed a b low high there o =
     let all : passed ≡ min count (length (lines l.source) + 1 - first) = omega (arith, low, high, there) in
     subst (λ n. Appended a b (flat_map (line_row l) (range_with_len first n))) all o
+
+-- ---- what follows the last list
+
+module _ (l : LabState) (a b : Written) where
+  pub nothing_more : line_count l.listing ≤ l.listed → Appended a b (codes "that was the last line\n")
+      → Appended a b (more_told l)
+  unfolding more_told
+  nothing_more h o =
+      let behind : nat_lt (line_count l.listing) (l.listed + 1) ≡ true = grind (arith, nat_tests) in rw behind o
+
+  pub more_there : l.listed < line_count l.listing → Appended a b (line_rows l (l.listed + 1) 11)
+      → Appended a b (more_told l)
+  unfolding more_told
+  more_there h o =
+      let there : nat_lt (line_count l.listing) (l.listed + 1) ≡ false = grind (arith, nat_tests) in rw there o

@@ -10,14 +10,14 @@ use Rattle.rv_operands.specs.Operands.{break_address}
 use Rattle.rv_answers.specs.Answer.{Written, Appended}
 use Rattle.rv_answers.specs.Registers.{register_text}
 use Rattle.rv_answers.proofs.Pieces.{then}
-use Rattle.rv_lab.specs.State.{LabState}
-use Rattle.rv_lab.specs.Commands.{board, ready}
+use Rattle.rv_lab.specs.State.{LabState, board}
+use Rattle.rv_lab.specs.Commands.{ready}
 use Rattle.rv_lab.specs.Devices.{csr_told, devices_told, edges_told, pending_text}
-use Rattle.rv_lab.specs.Lines.{instruction_at, instruction_told, line_of, line_row, line_rows, list_told, row_of, rows_round}
-use Rattle.rv_lab.specs.Looks.{Tells, alone, all_registers, break_row, breaks_told, memory_told, place, registers_told, short_place, told, trap_rows, traps_told, where_told}
+use Rattle.rv_lab.specs.Lines.{instruction_at, instruction_told, line_of, line_row, line_rows, excerpt, list_told, more_told, row_of}
+use Rattle.rv_lab.specs.Looks.{Tells, alone, all_registers, break_row, breaks_told, memory_told, place, registers_told, short_place, told, told_again, trap_rows, traps_told, where_told}
 use Rattle.rv_lab.specs.Rows.{IsQuiet, register_of}
 use Rattle.rv_lab.specs.declared.command.Command.{Command}
-use Rattle.rv_lab.specs.declared.command.Command.TheVariants.{Where, Break, Registers, ControlRegister, Memory, Instruction, Traps, Edges, Nothing}
+use Rattle.rv_lab.specs.declared.command.Command.TheVariants.{Where, Break, Registers, ControlRegister, Memory, Instruction, Traps, Edges, Again, Nothing}
 use Rattle.rv_lab.specs.declared.command.Command.TheVariants as command
 
 -- ---- a line
@@ -26,9 +26,15 @@ pub quiet_still : (c : Command) (a : Written) → IsQuiet c a a
 quiet_still Nothing a = tt
 quiet_still _ a = refl
 
+-- the same of an empty line
+again_ready : (c : Command) (l : LabState) → told_again c (ready Again l) ≡ told_again c l
+unfolding more_told row_of line_row line_rows
+again_ready command.List l = refl
+again_ready _ l = refl
+
 -- what is told of a lab that is ready is told of the lab
 told_ready : (c : Command) (operands : List ℕ) (l : LabState) → told c operands (ready c l) ≡ told c operands l
-unfolding where_told place break_row breaks_told all_registers registers_told csr_told devices_told memory_told trap_rows traps_told short_place edges_told pending_text instruction_at instruction_told row_of line_row line_rows rows_round line_of list_told
+unfolding where_told place break_row breaks_told all_registers registers_told csr_told devices_told memory_told trap_rows traps_told short_place edges_told pending_text instruction_at instruction_told row_of line_row line_rows line_of excerpt list_told
 told_ready Where operands l = refl
 told_ready Break operands l = refl
 told_ready Registers operands l = refl
@@ -39,6 +45,7 @@ told_ready command.List operands l = refl
 told_ready Traps operands l = refl
 told_ready command.Devices operands l = refl
 told_ready Edges operands l = refl
+told_ready Again operands l = again_ready l.again l
 told_ready _ operands l = refl
 
 whole : (o : Option (List ℕ)) (a b : Written) → IfSome o (Appended a b) → b.is_cut ≡ false

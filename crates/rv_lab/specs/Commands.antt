@@ -1,10 +1,8 @@
 -- To audit: public contracts cite this.
 -- What each command leaves of a lab (this project's own: docs/LAB.md).
-use Rattle.std.specs.Prelude.{◌≡◌, ℕ, ◌-◌, ◌<◌, ◌==◌, max, min, List, [], ◌∷◌, fold, Option, Some, None, IfSome, MatchOption, unwrap_or}
+use Rattle.std.specs.Prelude.{◌≡◌, ℕ, ◌-◌, ◌<◌, ◌==◌, max, min, List, [], fold, Option, None, IfSome, MatchOption, unwrap_or}
 use Rattle.std.specs.FinSet as set
-use Rattle.rv_base.specs.Numbers.{number_in}
 use Rattle.rv_base.specs.Words.{words}
-use Rattle.rv_board.specs.State.{BoardState}
 use Rattle.rv_lists.specs.Timed.{driven}
 use Rattle.rv_lists.specs.declared.input.Input.{Input}
 use Rattle.rv_monitor.specs.Commands.{command_in}
@@ -16,21 +14,16 @@ use Rattle.rv_recording.specs.Until.{HasRun, comes}
 use Rattle.rv_recording.specs.Out.{open_at}
 use Rattle.rv_recording.specs.declared.until.End.{End}
 use Rattle.rv_operands.specs.Operands.{break_address, bytes_inputs, condition, operand_text}
-use Rattle.rv_lab.specs.State.{LabState, registers_of}
+use Rattle.rv_lab.specs.State.{LabState, board, registers_of, timed}
 use Rattle.rv_lab.specs.declared.plan.Plan.{Plan}
 use Rattle.rv_lab.specs.declared.plan.Goal.{Goal}
 use Rattle.rv_lab.specs.declared.plan.Goal.TheVariants as goal
 use Rattle.rv_lab.specs.declared.command.Command.{Command}
 use Rattle.rv_lab.specs.declared.command.Command.TheVariants.{Step, Over, Moves, Break, Clear, Receive, Line, Monitor, Again, StepOnce}
+use Rattle.rv_lab.specs.declared.command.Command.TheVariants as command
 use Rattle.rv_lab.specs.declared.command.Move.TheVariants.{Go, Finish, Until, Trace, Back}
-use Rattle.rv_lab.specs.Words.{line_command, repeated}
-
--- the board with its inputs, and the board alone
-abbrev pub timed : LabState → TimedState
-timed l = l.recording.session.timed
-
-abbrev pub board : LabState → BoardState
-board l = (timed l).board
+use Rattle.rv_lab.specs.Lines.{excerpt, next_excerpt, with_listed}
+use Rattle.rv_lab.specs.Words.{count_of, line_command, repeated}
 
 -- ---- changes of a session
 
@@ -89,12 +82,6 @@ backed l n = record (begun l) { recording = gone_back l.recording n; before = n 
 abbrev pub with_inputs : LabState → List Input → LabState
 with_inputs l inputs = record l { recording = with_timed l.recording (fold given (timed l) inputs) }
 
--- the number of some words, or the usual one where there are none
-abbrev pub count_of : ℕ → ℕ → List (List ℕ) → Option ℕ
-count_of usual most [] = Some usual
-count_of usual most (word ∷ []) = number_in 10 most word
-count_of usual most _ = None
-
 -- this was done with what there may be, and nothing where there is none
 abbrev pub With : {A : Type 0} → Option A → (A → LabState → LabState → Type 0) → LabState → LabState → Type 0
 With meaning Does old new = MatchOption meaning (new ≡ old) (λ x. Does x old new)
@@ -109,6 +96,7 @@ abbrev pub Repeats : Command → LabState → LabState → Type 0
 Repeats Step old new = Steps old.count old new
 Repeats StepOnce old new = Steps 1 old new
 Repeats Over old new = Begins (goal.Out 0) 1000000 old new
+Repeats command.List old new = new ≡ with_listed old (next_excerpt old)
 Repeats _ old new = new ≡ old
 
 -- the lab that a command leaves, by the text of its operands; those without a row only look
@@ -124,6 +112,8 @@ Leaves (Moves Trace) text old new =
 Leaves (Moves Back) text old new =
     With (count_of ((timed old).taken - old.before) last_step (words text))
     (λ n before after. after ≡ backed before ((timed before).taken - n)) old new
+Leaves command.List text old new =
+    With (excerpt old (words text)) (λ e before after. after ≡ with_listed before e) old new
 Leaves Again text old new = Repeats old.again old new
 Leaves Break text old new = Breaks with_break text old new
 Leaves Clear text old new = Breaks without_break text old new

@@ -13,8 +13,8 @@ use Rattle.rv_answers.specs.Devices.{controller_text, serial_text, timer_text}
 use Rattle.rv_answers.specs.Forms.{filled}
 use Rattle.rv_answers.specs.Interrupts.{interrupts_text}
 use Rattle.rv_answers.specs.Protection.{protection_text}
-use Rattle.rv_lab.specs.State.{LabState}
-use Rattle.rv_lab.specs.Commands.{board, count_of}
+use Rattle.rv_lab.specs.State.{LabState, board}
+use Rattle.rv_lab.specs.Words.{count_of}
 
 -- ---- `p`
 

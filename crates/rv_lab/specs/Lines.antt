@@ -11,8 +11,9 @@ use Rattle.rv_monitor.specs.Views.{word_at}
 use Rattle.rv_operands.specs.Operands.{address, line_number}
 use Rattle.rv_answers.specs.Places.{length_text, place_text, row_text}
 use Rattle.rv_answers.specs.declared.rows.Row.{Row}
-use Rattle.rv_lab.specs.State.{LabState}
-use Rattle.rv_lab.specs.Commands.{board, count_of}
+use Rattle.rv_lab.specs.declared.source.Excerpt.{Excerpt}
+use Rattle.rv_lab.specs.State.{LabState, board}
+use Rattle.rv_lab.specs.Words.{count_of}
 
 -- ---- addresses
 
@@ -78,20 +79,43 @@ unfoldable pub line_rows : LabState → (first count : ℕ) → List ℕ
 line_rows l first count =
     flat_map (line_row l) (range_with_len first (min count (length (lines l.source) + 1 - first)))
 
--- the rows of some lines round one, or how many lines there are where they would begin behind the last
-unfoldable pub rows_round : LabState → (line count : ℕ) → List ℕ
-rows_round l line count =
-    let first = max 1 (line - count / 2) in
-    let last = length l.listing.addresses - 1 in
-    if nat_lt last first then length_text last else line_rows l first count
+-- the number of lines
+abbrev pub line_count : Listed → ℕ
+line_count l = length l.addresses - 1
+
+-- the rows of an excerpt, or a text where it would begin behind the last line
+abbrev pub rows_or : List ℕ → LabState → Excerpt → List ℕ
+rows_or text l e = if nat_lt (line_count l.listing) e.first then text else line_rows l e.first e.count
+
+-- ---- which lines are listed
+
+-- some lines round one
+abbrev pub excerpt_round : (line count : ℕ) → Excerpt
+excerpt_round line count = record { first = max 1 (line - count / 2); count = count }
 
 -- the line that a word stands for: its number, or the line at an address
 unfoldable pub line_of : LabState → List ℕ → Option ℕ
 line_of l word =
     option_or (line_number word) (option_and_then (line_at l.listing) (address l.listing (board l) word))
 
--- round pc's line, or the line of a word; 11 lines, or as many as the next word says
+-- `l`: round pc's line, or the line of a word; 11 lines, or as many as the next word says
+unfoldable pub excerpt : LabState → List (List ℕ) → Option Excerpt
+excerpt l [] = Some (excerpt_round (unwrap_or (line_at l.listing (board l).machine.pc) 1) 11)
+excerpt l (word ∷ more) =
+    option_and_then (λ line. option_map (excerpt_round line) (count_of 11 1000 more)) (line_of l word)
+
+-- an empty line after it: the 11 lines that follow
+abbrev pub next_excerpt : LabState → Excerpt
+next_excerpt l = record { first = l.listed + 1; count = 11 }
+
+-- the lab that listed an excerpt
+abbrev pub with_listed : LabState → Excerpt → LabState
+with_listed l e = record l { listed = min (e.first - 1 + e.count) (line_count l.listing) }
+
+-- ---- the texts
+
 unfoldable pub list_told : LabState → List (List ℕ) → Option (List ℕ)
-list_told l [] = Some (rows_round l (unwrap_or (line_at l.listing (board l).machine.pc) 1) 11)
-list_told l (word ∷ more) =
-    option_and_then (λ line. option_map (rows_round l line) (count_of 11 1000 more)) (line_of l word)
+list_told l words = option_map (rows_or (length_text (line_count l.listing)) l) (excerpt l words)
+
+unfoldable pub more_told : LabState → List ℕ
+more_told l = rows_or (codes "that was the last line\n") l (next_excerpt l)

@@ -23,12 +23,11 @@ use Rattle.rv_answers.specs.Memory.{bytes_row, escaped, extent, words_row}
 use Rattle.rv_answers.specs.Traps.{trap_text}
 use Rattle.rv_answers.specs.declared.extent.Format.{Format}
 use Rattle.rv_answers.specs.declared.extent.Format.TheVariants.{Bytes, Words, Text}
-use Rattle.rv_lab.specs.State.{LabState, registers_of}
-use Rattle.rv_lab.specs.Commands.{board}
+use Rattle.rv_lab.specs.State.{LabState, board, registers_of}
 use Rattle.rv_lab.specs.Devices.{csr_told, devices_told, edges_told}
-use Rattle.rv_lab.specs.Lines.{instruction_told, label_at, line_at, list_told}
+use Rattle.rv_lab.specs.Lines.{instruction_told, label_at, line_at, list_told, more_told}
 use Rattle.rv_lab.specs.declared.command.Command.{Command}
-use Rattle.rv_lab.specs.declared.command.Command.TheVariants.{Where, Break, Registers, ControlRegister, Memory, Instruction, Traps, Edges}
+use Rattle.rv_lab.specs.declared.command.Command.TheVariants.{Where, Break, Registers, ControlRegister, Memory, Instruction, Traps, Edges, Again}
 use Rattle.rv_lab.specs.declared.command.Command.TheVariants as command
 
 -- ---- places
@@ -143,6 +142,11 @@ abbrev pub alone : List (List ℕ) → List ℕ → Option (List ℕ)
 alone [] text = Some text
 alone _ text = None
 
+-- an empty line after `l`
+abbrev pub told_again : Command → LabState → Option (List ℕ)
+told_again command.List l = Some (more_told l)
+told_again _ l = None
+
 -- what a command answers, by its operands, where it is no prose
 abbrev pub told : Command → List ℕ → LabState → Option (List ℕ)
 told Where operands l = Some (where_told l)
@@ -155,6 +159,7 @@ told command.List operands l = list_told l (words operands)
 told Traps operands l = Some (traps_told l)
 told command.Devices operands l = Some (devices_told l)
 told Edges operands l = edges_told l (words operands)
+told Again operands l = told_again l.again l
 told _ operands l = None
 
 -- a command that looks appends its text

@@ -4,8 +4,7 @@ use Rattle.std.specs.Prelude.{◌≡◌, ◌⊎◌, ℕ}
 use Rattle.rv_lists.specs.declared.input.Input.{Input}
 use Rattle.rv_monitor.specs.State.{TimedState, after, with_due, given}
 use Rattle.rv_recording.specs.Recording.{with_timed}
-use Rattle.rv_lab.specs.State.{LabState}
-use Rattle.rv_lab.specs.Commands.{timed}
+use Rattle.rv_lab.specs.State.{LabState, timed}
 
 -- a state leads to another by steps that are taken, the inputs before the next step, and inputs by hand
 pub data Leads (old : TimedState) : TimedState → Type 0 where

@@ -13,9 +13,8 @@ use Rattle.rv_isa.specs.Names.{register_names}
 use Rattle.rv_operands.specs.Words.{only_of}
 use Rattle.rv_answers.specs.Answer.{Written}
 use Rattle.rv_answers.specs.Places.{instruction_text, number_text}
-use Rattle.rv_lab.specs.Commands.{board}
 use Rattle.rv_lab.specs.Lines.{line_at}
-use Rattle.rv_lab.specs.State.{LabState}
+use Rattle.rv_lab.specs.State.{LabState, board}
 use Rattle.rv_lab.specs.declared.command.Command.{Command}
 use Rattle.rv_lab.specs.declared.command.Command.TheVariants.{Nothing}
 use Rattle.rv_lab.specs.declared.command.Row.{Row}

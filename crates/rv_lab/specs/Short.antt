@@ -12,6 +12,7 @@ use Rattle.rv_lab.specs.Refusals.{Leads}
 use Rattle.rv_lab.specs.State.{LabState}
 use Rattle.rv_lab.specs.declared.command.Command.{Command}
 use Rattle.rv_lab.specs.declared.command.Command.TheVariants.{Break, Clear, Receive, Line, Monitor}
+use Rattle.rv_lab.specs.declared.command.Command.TheVariants as command
 use Rattle.rv_lab.specs.declared.plan.Goal.{Goal}
 
 -- ---- single steps
@@ -43,6 +44,7 @@ Changes Clear operands old new = Leaves Clear operands old new
 Changes Receive operands old new = Leaves Receive operands old new
 Changes Line operands old new = Leaves Line operands old new
 Changes Monitor operands old new = Leaves Monitor operands old new
+Changes command.List operands old new = Leaves command.List operands old new
 Changes _ operands old new = new ≡ old
 
 -- a lab was to be given inputs

@@ -5,6 +5,7 @@ use Rattle.rv_program.specs.Program.{Assembly}
 use Rattle.std.specs.List.{range_with_len}
 use Rattle.rv_board.specs.BoardState.{BoardState}
 use Rattle.rv_asm.specs.Lines.{Listed}
+use Rattle.rv_monitor.specs.State.{TimedState}
 use Rattle.rv_recording.specs.Recording.{RecordingState}
 use Rattle.rv_lab.specs.declared.command.Command.{Command}
 use Rattle.rv_lab.specs.declared.plan.Plan.{Plan}
@@ -14,8 +15,8 @@ abbrev pub registers_of : BoardState → List ℕ
 registers_of b = map (slice_index b.machine.registers) (range_with_len 0 32)
 
 -- a source with its listing and the recording of its image; the registers and the number of steps before the
--- last command that moved the board; what an empty line repeats, and the steps of the last `s`; the run that
--- isn't over; and the most steps of a call
+-- last command that moved the board; what an empty line repeats, the steps of the last `s`, and the last line
+-- of the last `l`; the run that isn't over; and the most steps of a call
 pub record LabState : Type 0 where
   pub source : List ℕ
   pub listing : Listed
@@ -24,6 +25,7 @@ pub record LabState : Type 0 where
   pub before : ℕ
   pub again : Command
   pub count : ℕ
+  pub listed : ℕ
   pub plan : Option Plan
   pub piece : ℕ
 
@@ -31,3 +33,10 @@ pub record LabState : Type 0 where
 -- call
 abbrev pub setup : LabState → List ℕ × Listed × Assembly × ℕ × ℕ × ℕ
 setup l = (l.source, l.listing, l.recording.session.program, l.recording.pages, l.recording.slots, l.piece)
+
+-- the board with its inputs, and the board alone
+abbrev pub timed : LabState → TimedState
+timed l = l.recording.session.timed
+
+abbrev pub board : LabState → BoardState
+board l = (timed l).board

@@ -1,10 +1,11 @@
 -- To audit: public contracts cite this.
 -- The commands by their words, and the command of a line (this project's own: docs/LAB.md).
-use Rattle.std.specs.Prelude.{ℕ, List, [], ◌∷◌, find, length, nat_lt, slice_get, codes, if◌then◌else◌, unwrap_or}
+use Rattle.std.specs.Prelude.{ℕ, List, [], ◌∷◌, find, length, nat_lt, slice_get, codes, if◌then◌else◌, unwrap_or, Option, Some, None}
 use Rattle.std.specs.List.{list_any}
 use Rattle.std.specs.Option.{option_map, option_map_or}
 use Rattle.std.specs.Str.{bytes_eq}
 use Rattle.rv_base.specs.Limits.{line_limit}
+use Rattle.rv_base.specs.Numbers.{number_in}
 use Rattle.rv_base.specs.Words.{words}
 use Rattle.rv_lab.specs.declared.command.Command.{Command}
 use Rattle.rv_lab.specs.declared.command.Command.TheVariants.{Step, Over, Moves, Where, Break, Clear, Registers, ControlRegister, Memory, Instruction, Traps, Edges, Why, Devices, Receive, Line, Save, Monitor, Help, Quit, Again, StepOnce, Nothing}
@@ -42,3 +43,9 @@ repeated Over before = Over
 repeated command.List before = command.List
 repeated (Moves m) before = StepOnce
 repeated other before = before
+
+-- the number of some words, or the usual one where there are none
+abbrev pub count_of : ℕ → ℕ → List (List ℕ) → Option ℕ
+count_of usual most [] = Some usual
+count_of usual most (word ∷ []) = number_in 10 most word
+count_of usual most _ = None

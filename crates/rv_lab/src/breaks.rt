@@ -4,9 +4,9 @@ ghost use Rattle.std.specs.List.{flat_map, range_with_len};
 ghost use Rattle.rv_base.specs.Words.{words};
 ghost use Rattle.rv_lab.specs.declared.command.Command.TheVariants as command;
 ghost use Rattle.rv_operands.specs.Operands.{break_address};
-ghost use Rattle.rv_lab.specs.Commands.{Leaves, board};
+ghost use Rattle.rv_lab.specs.Commands.{Leaves};
 ghost use Rattle.rv_answers.specs.Answer.{Appended};
-ghost use Rattle.rv_lab.specs.State.{setup};
+ghost use Rattle.rv_lab.specs.State.{board, setup};
 ghost use Rattle.rv_lab.specs.Looks.{Tells, break_row, breaks_told};
 
 use crate::lab::{Lab, Next};

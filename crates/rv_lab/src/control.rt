@@ -4,8 +4,8 @@ ghost use Rattle.rv_base.specs.Words.{words};
 ghost use Rattle.rv_answers.specs.Answer.{Appended};
 ghost use Rattle.rv_board.specs.BoardState.{csr_of};
 ghost use Rattle.rv_operands.specs.Words.{only_of};
-ghost use Rattle.rv_lab.specs.Commands.{board};
 ghost use Rattle.rv_lab.specs.Devices.{csr_text, csr_told};
+ghost use Rattle.rv_lab.specs.State.{board};
 
 use crate::lab::Lab;
 use crate::nearest::Nearest;

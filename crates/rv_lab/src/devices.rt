@@ -18,10 +18,10 @@ use rv_plic::Source;
 /// Returns the mode of a board's hart, and what says which interrupts it takes.
 fn interrupts_of(board: &BootedBoard) -> Interrupts
     ensures { result ≡ record {
-        mode = board.now.machine.mode;
-        mstatus = unwrap_or (csr_of board.now 0x300) 0;
-        mie = unwrap_or (csr_of board.now 0x304) 0;
-        mip = unwrap_or (csr_of board.now 0x344) 0;
+      mode = board.now.machine.mode;
+      mstatus = unwrap_or (csr_of board.now 0x300) 0;
+      mie = unwrap_or (csr_of board.now 0x304) 0;
+      mip = unwrap_or (csr_of board.now 0x344) 0;
     } }
 {
     Interrupts {

@@ -1,11 +1,12 @@
 //! The execution of a command.
-ghost use Rattle.std.specs.Prelude.{◌≡◌, OnErr, OnOk, ◌≢◌};
+ghost use Rattle.std.specs.Prelude.{◌≡◌, OnErr, OnOk, IfSome, ◌≢◌};
 ghost use Rattle.rv_lab.specs.Commands.{Leaves, Repeats};
 ghost use Rattle.rv_lab.specs.Refusals.{RunsOut, StopsShort};
 ghost use Rattle.rv_lab.specs.Short.{Changes};
 ghost use Rattle.rv_lab.specs.State.{setup};
-ghost use Rattle.rv_lab.specs.Looks.{Tells};
-ghost use Rattle.rv_lab.specs.declared.command.Command.TheVariants.{Break, List, Moves};
+ghost use Rattle.rv_answers.specs.Answer.{Appended};
+ghost use Rattle.rv_lab.specs.Looks.{Tells, told_again};
+ghost use Rattle.rv_lab.specs.declared.command.Command.TheVariants.{Again, Break, List, Moves};
 
 use crate::command::{Command, Move};
 use crate::lab::{Lab, Next};
@@ -58,6 +59,7 @@ impl Lab {
     fn repeat(&mut self, answer: &mut Answer) -> Result<Next, NoMemory>
         ensures setup { setup self.new ≡ setup self.old }
         ensures repeats { OnOk result (Repeats self.old.again self.old self.new) }
+        ensures tells { IfSome (told_again self.old.again self.old) (Appended answer.old answer.new) }
         ensures err { OnErr result (StopsShort (Repeats self.old.again) self.old self.new) }
     {
         match self.last.command {
@@ -82,6 +84,7 @@ impl Lab {
         operands: &[u8],
         answer: &mut Answer,
     ) -> Result<Next, NoMemory>
+        requires { command ≢ Again }
         ensures setup { setup self.new ≡ setup self.old }
         ensures changes { OnOk result (Changes command operands.now self.old self.new) }
         ensures tells { Tells command operands.now self.old answer.old answer.new }
@@ -109,10 +112,11 @@ impl Lab {
         }
     }
 
-    /// Executes a command that only looks; `b` and `l` do not.
+    /// Executes a command that only looks; `b`, `l` and an empty line do not.
     fn look(&self, command: Command, operands: &[u8], answer: &mut Answer)
         requires no_break { command ≢ Break }
         requires no_list { command ≢ List }
+        requires no_again { command ≢ Again }
         ensures { Tells command operands.now self.now answer.old answer.new }
     {
         match command {

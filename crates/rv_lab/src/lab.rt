@@ -6,6 +6,7 @@ ghost use Rattle.rv_opening.specs.Opening.{Opens};
 ghost use Rattle.rv_recording.specs.Recording.{first_board, last_step};
 ghost use Rattle.rv_lab.specs.State.{setup, registers_of};
 ghost use Rattle.rv_operands.specs.Operands.{operand_text};
+ghost use Rattle.rv_lab.specs.declared.command.Command.TheVariants.{StepOnce};
 ghost use Rattle.rv_lab.specs.Commands.{Leaves, Obeys, ready};
 ghost use Rattle.rv_lab.specs.Refusals.{RunsOut};
 ghost use Rattle.rv_lab.specs.Looks.{told};
@@ -58,7 +59,7 @@ pub(crate) struct Last {
     pub(crate) command: Command,
     /// The number of steps of the last `s`.
     pub(crate) count: u64,
-    /// The line that follows those of the last `l`.
+    /// The last line of the last `l`.
     pub(crate) listed: usize,
     /// The run that isn't over, if there is one.
     pub(crate) plan: Option<Plan>,
@@ -103,7 +104,7 @@ impl Model for Lab {
 
     ghost coded = { Prim.hlevel (codes, plic_code, set.code {R = nat_cmp} coded_ℕ) };
 
-    ghost view = { λ l. record { source = l.source.items; listing = l.listing; recording = l.recording; registers = l.last.registers; before = l.last.steps; again = l.last.command; count = l.last.count; plan = l.last.plan; piece = l.piece } };
+    ghost view = { λ l. record { source = l.source.items; listing = l.listing; recording = l.recording; registers = l.last.registers; before = l.last.steps; again = l.last.command; count = l.last.count; listed = l.last.listed; plan = l.last.plan; piece = l.piece } };
 }
 
 impl Lab {
@@ -122,7 +123,8 @@ impl Lab {
             (l.recording.pages ≡ sizes.pages) × (l.recording.slots ≡ sizes.slots)) }
         ensures listing { IfOk result (λ l. listed source.now ≡ Ok l.listing) }
         ensures begins { IfOk result (λ l. (l.source ≡ source.now) × (l.before ≡ 0)
-            × (l.registers ≡ registers_of l.recording.session.timed.board) × (l.plan ≡ None) × (l.piece ≡ 1000000)) }
+            × (l.registers ≡ registers_of l.recording.session.timed.board) × (l.again ≡ StepOnce) × (l.count ≡ 1)
+            × (l.listed ≡ 0) × (l.plan ≡ None) × (l.piece ≡ 1000000)) }
     {
         let listing = list(alloc, source)?;
         let (pages, slots) = (u32::from(sizes.pages), u32::from(sizes.slots));

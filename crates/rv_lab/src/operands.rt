@@ -2,7 +2,8 @@
 ghost use Rattle.std.specs.Prelude.{◌≡◌, ◌<◌, OnSome};
 ghost use Rattle.rv_base.specs.Words.{words};
 ghost use Rattle.rv_operands.specs.Operands.{address};
-ghost use Rattle.rv_lab.specs.Commands.{board, count_of};
+ghost use Rattle.rv_lab.specs.State.{board};
+ghost use Rattle.rv_lab.specs.Words.{count_of};
 
 use crate::lab::Lab;
 use crate::nearest::Nearest;

@@ -3,11 +3,11 @@ ghost use Rattle.std.specs.Prelude.{◌≡◌, ◌≤◌, Ok, Some, None, true, 
 ghost use Rattle.rv_lab.specs.declared.command.Command.TheVariants as command;
 ghost use Rattle.rv_lab.specs.declared.command.Move.TheVariants as moves;
 ghost use Rattle.rv_lab.specs.declared.plan.Goal.TheVariants as goal;
-ghost use Rattle.rv_lab.specs.Commands.{Begins, GoesOn, Leaves, RunsFor, Steps, With, backed, begun, goal_after, timed, with_session};
+ghost use Rattle.rv_lab.specs.Commands.{Begins, GoesOn, Leaves, RunsFor, Steps, With, backed, begun, goal_after, with_session};
 ghost use Rattle.rv_lab.specs.Refusals.{RunsOut, StopsShort};
 ghost use Rattle.rv_lab.specs.Short.{IsOnWay, RunsShort, Traced, stepped};
 ghost use Rattle.rv_monitor.specs.Stops.{may_step, steps_between};
-ghost use Rattle.rv_lab.specs.State.{setup};
+ghost use Rattle.rv_lab.specs.State.{setup, timed};
 
 use crate::lab::{Lab, Next, unless_cut};
 use crate::operands::count_or;

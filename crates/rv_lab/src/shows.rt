@@ -4,12 +4,12 @@ ghost use Rattle.rv_base.specs.Words.{words};
 ghost use Rattle.rv_answers.specs.Answer.{Appended};
 ghost use Rattle.rv_answers.specs.Places.{near_text};
 ghost use Rattle.rv_answers.specs.Standing.{pc_text};
-ghost use Rattle.rv_lab.specs.Commands.{board};
 ghost use Rattle.rv_answers.specs.Registers.{register_text};
 ghost use Rattle.rv_answers.specs.Traps.{trap_text};
 ghost use Rattle.rv_lab.specs.Looks.{all_registers, comes_again, memory_told, registers_told, short_place, trap_rows, traps_told};
 ghost use Rattle.rv_lab.specs.Lines.{instruction_at, instruction_told, label_at};
 ghost use Rattle.rv_lab.specs.Rows.{register_of};
+ghost use Rattle.rv_lab.specs.State.{board};
 
 use crate::lab::Lab;
 use crate::memory::{append_instruction_at, append_memory};

@@ -2,7 +2,10 @@
 ghost use Rattle.std.specs.Prelude.{◌≡◌, ◌-◌, ◌≤◌, OnSome, IfSome, length};
 ghost use Rattle.rv_base.specs.Words.{words};
 ghost use Rattle.rv_answers.specs.Answer.{Appended};
-ghost use Rattle.rv_lab.specs.Lines.{bytes_at, is_here, is_marked, line_of, line_rows, line_word, list_told, row_of, rows_round};
+ghost use Rattle.rv_answers.specs.Places.{length_text};
+ghost use Rattle.rv_lab.specs.declared.command.Command.TheVariants.{List};
+ghost use Rattle.rv_lab.specs.Commands.{Leaves};
+ghost use Rattle.rv_lab.specs.Lines.{bytes_at, excerpt, excerpt_round, is_here, is_marked, line_count, line_of, line_rows, line_word, list_told, more_told, next_excerpt, row_of, rows_or, with_listed};
 
 use crate::lab::Lab;
 use crate::operands::count_or;
@@ -19,6 +22,26 @@ const USUAL_LINES: u64 = 11;
 /// The most lines that `l` lists.
 const MOST_LINES: u64 = 1000;
 
+/// Some lines of the source: from which on, and how many.
+#[derive(Clone, Copy)]
+pub(crate) struct Excerpt {
+    first: usize,
+    count: usize,
+}
+
+impl Excerpt {
+    /// Returns some lines round one.
+    fn round(line: usize, count: u64) -> Excerpt
+        ensures { result ≡ excerpt_round line count }
+    {
+        let count = count as usize;
+        Excerpt {
+            first: line.saturating_sub(count / 2).max(1),
+            count,
+        }
+    }
+}
+
 /// Returns the address of a line, if it has bytes.
 fn bytes_at(listing: &Listing, line: usize) -> Option<u32>
     ensures { result ≡ bytes_at listing.now line }
@@ -31,7 +54,7 @@ fn bytes_at(listing: &Listing, line: usize) -> Option<u32>
 
 /// Returns the number of lines.
 fn line_count(listing: &Listing) -> usize
-    ensures { result ≡ length listing.now.addresses - 1 }
+    ensures { result ≡ line_count listing.now }
 {
     listing.len()
 }
@@ -97,31 +120,26 @@ impl Lab {
         }
     }
 
-    /// Lists `count` lines from one on, and keeps which line follows them.
-    fn list_from(&mut self, first: usize, count: usize, answer: &mut Answer)
-        requires { 1 ≤ first }
-        ensures looks { self.new ≡ self.old }
-        ensures tells { Appended answer.old answer.new (line_rows self.old first count) }
+    /// Appends the rows of an excerpt, or how many lines there are where it would begin behind the last.
+    fn append_excerpt(&self, excerpt: Excerpt, answer: &mut Answer)
+        requires { 1 ≤ excerpt.first }
+        ensures { Appended answer.old answer.new
+            (rows_or (length_text (line_count self.now.listing)) self.now excerpt) }
     {
-        self.append_lines(first, count, answer);
-        let end = first.saturating_add(count);
-        self.last.listed = end.min(self.listing.len().saturating_add(1));
-    }
-
-    /// Lists lines round one, or tells how many there are where they would begin behind the last.
-    #[tactic(auto, unfolding(crate::specs::Lines::rows_round))]
-    fn list_round(&mut self, line: usize, count: u64, answer: &mut Answer)
-        ensures looks { self.new ≡ self.old }
-        ensures tells { Appended answer.old answer.new (rows_round self.old line count) }
-    {
-        let count = count as usize;
-        let first = line.saturating_sub(count / 2).max(1);
         let last = line_count(&self.listing);
-        if last < first {
-            self.last.listed = first;
+        if last < excerpt.first {
             return append_length(last, answer);
         }
-        self.list_from(first, count, answer);
+        self.append_lines(excerpt.first, excerpt.count, answer);
+    }
+
+    /// Keeps which line an excerpt ended with.
+    fn keep_listed(&mut self, excerpt: Excerpt)
+        requires { 1 ≤ excerpt.first }
+        ensures { self.new ≡ with_listed self.old excerpt }
+    {
+        let end = (excerpt.first - 1).saturating_add(excerpt.count);
+        self.last.listed = end.min(line_count(&self.listing));
     }
 
     /// Returns the line that a word stands for: its number, or the line at an address. Where there is none,
@@ -144,33 +162,56 @@ impl Lab {
         line
     }
 
-    /// Executes `l`.
-    #[tactic(auto, unfolding(crate::specs::Lines::list_told))]
-    pub(crate) fn list_command(&mut self, operands: &[u8], answer: &mut Answer)
-        ensures looks { self.new ≡ self.old }
-        ensures tells { IfSome (list_told self.old (words operands.now)) (Appended answer.old answer.new) }
+    /// Returns the lines that the operands of `l` ask for. Where they can't be read, that is answered.
+    #[tactic(auto, unfolding(crate::specs::Lines::excerpt))]
+    fn excerpt(&self, operands: &[u8], answer: &mut Answer) -> Option<Excerpt>
+        ensures value { result ≡ excerpt self.now (words operands.now) }
+        ensures begins { IfSome result (λ e. 1 ≤ e.first) }
+        ensures quiet { OnSome result (answer.new ≡ answer.old) }
     {
         let Some((word, rest)) = first_word(operands) else {
             let here = line_at(&self.listing, self.board().pc());
-            return self.list_round(here.unwrap_or(1), USUAL_LINES, answer);
+            return Some(Excerpt::round(here.unwrap_or(1), USUAL_LINES));
         };
-        let Some(line) = self.line_of(word, answer) else {
-            return;
+        let line = self.line_of(word, answer)?;
+        let Some(count) = count_or(rest, USUAL_LINES, MOST_LINES) else {
+            answer.say("l: the number of lines is from 0 to 1000\n");
+            return None;
         };
-        match count_or(rest, USUAL_LINES, MOST_LINES) {
-            Some(count) => self.list_round(line, count, answer),
-            None => answer.say("l: the number of lines is from 0 to 1000\n"),
+        Some(Excerpt::round(line, count))
+    }
+
+    /// Executes `l`.
+    #[tactic(auto, unfolding(crate::specs::Lines::list_told))]
+    pub(crate) fn list_command(&mut self, operands: &[u8], answer: &mut Answer)
+        ensures leaves { Leaves List operands.now self.old self.new }
+        ensures tells { IfSome (list_told self.old (words operands.now)) (Appended answer.old answer.new) }
+    {
+        if let Some(excerpt) = self.excerpt(operands, answer) {
+            self.append_excerpt(excerpt, answer);
+            self.keep_listed(excerpt);
         }
     }
 
-    /// Lists the lines that follow those of the last list.
-    pub(crate) fn list_more(&mut self, answer: &mut Answer)
-        ensures { self.new ≡ self.old }
+    /// Appends the lines that follow the last list.
+    #[tactic(auto, using(crate::proofs::SourceRows::nothing_more, crate::proofs::SourceRows::more_there))]
+    fn append_more(&self, answer: &mut Answer)
+        ensures { Appended answer.old answer.new (more_told self.now) }
     {
-        let first = self.last.listed.max(1);
-        if first > self.listing.len() {
+        let listed = self.last.listed;
+        if line_count(&self.listing) <= listed {
             return answer.say("that was the last line\n");
         }
-        self.list_from(first, USUAL_LINES as usize, answer);
+        self.append_lines(listed + 1, USUAL_LINES as usize, answer);
+    }
+
+    /// Lists the lines that follow the last list.
+    pub(crate) fn list_more(&mut self, answer: &mut Answer)
+        ensures leaves { self.new ≡ with_listed self.old (next_excerpt self.old) }
+        ensures tells { Appended answer.old answer.new (more_told self.old) }
+    {
+        self.append_more(answer);
+        let end = self.last.listed.saturating_add(USUAL_LINES as usize);
+        self.last.listed = end.min(line_count(&self.listing));
     }
 }

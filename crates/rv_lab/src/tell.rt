@@ -4,10 +4,10 @@ ghost use Rattle.std.specs.Option.{option_map_or};
 ghost use Rattle.rv_answers.specs.Answer.{Appended};
 ghost use Rattle.rv_answers.specs.Places.{near_text};
 ghost use Rattle.rv_answers.specs.Standing.{halted_text};
-ghost use Rattle.rv_lab.specs.Commands.{board};
 ghost use Rattle.rv_lab.specs.Lines.{label_at};
 ghost use Rattle.rv_lab.specs.Looks.{place, short_place, where_told};
 ghost use Rattle.rv_lab.specs.Rows.{line_or_instruction};
+ghost use Rattle.rv_lab.specs.State.{board};
 
 use crate::lab::Lab;
 use crate::memory::append_instruction_at;

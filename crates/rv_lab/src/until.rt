@@ -2,7 +2,7 @@
 ghost use Rattle.std.specs.Prelude.{◌≡◌};
 ghost use Rattle.rv_base.specs.Words.{words};
 ghost use Rattle.rv_operands.specs.Operands.{condition};
-ghost use Rattle.rv_lab.specs.Commands.{board};
+ghost use Rattle.rv_lab.specs.State.{board};
 
 use crate::lab::Lab;
 use rv_answers::Answer;

@@ -43,8 +43,8 @@ comes condition s n = holds condition (step (with_due (after s (pred n))).board.
 
 -- ---- the steps of a run
 
--- why a run from a session on ends after n steps, if it does, by whether it has come to what it goes on for
--- after so many
+-- why a run from a session on ends after n steps, if it does, by whether it has come by then to what it goes
+-- on for
 abbrev pub end_at : (ℕ → Bool) → SessionState → ℕ → Option End
 end_at reached s zero = None
 end_at reached s (suc i) =

@@ -1,4 +1,4 @@
-use Rattle.std.proofs.Common.{arith, rules}
+use Rattle.std.proofs.Common.{rules}
 use Rattle.rv_answers.proofs.Regions.{has_region, no_region}
 use Rattle.rv_answers.proofs.protection.append_entry.Goals as goal
 

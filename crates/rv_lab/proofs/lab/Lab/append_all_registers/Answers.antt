@@ -2,8 +2,7 @@ use Rattle.std.proofs.Common.{◌≡◌, ◌∙◌, ap, subst}
 use Rattle.rv_answers.specs.Answer.{Appended}
 use Rattle.rv_answers.specs.Registers.{registers_text}
 use Rattle.rv_answers.proofs.Pieces.{then}
-use Rattle.rv_lab.specs.State.{LabState, registers_of}
-use Rattle.rv_lab.specs.Commands.{board}
+use Rattle.rv_lab.specs.State.{LabState, board, registers_of}
 use Rattle.rv_lab.specs.Looks.{all_registers}
 use Rattle.rv_lab.proofs.lab.Lab.append_all_registers.Goals as goal
 

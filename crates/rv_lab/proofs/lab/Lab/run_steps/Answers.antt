@@ -1,7 +1,6 @@
 use Rattle.std.proofs.Common.{◌∙◌, ap, arith}
 use Rattle.rv_monitor.proofs.Reached.{in_time}
 use Rattle.rv_lab.specs.State.{LabState}
-use Rattle.rv_lab.specs.declared.plan.Plan.{Plan}
 use Rattle.std.specs.Prelude.{None}
 use Rattle.rv_lab.proofs.Runs.{single_step}
 use Rattle.rv_lab.proofs.Short.{many_short, one_short}
