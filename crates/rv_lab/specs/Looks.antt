@@ -82,7 +82,7 @@ registers_told l _ = None
 
 -- ---- `m`
 
--- row k of n cells from an address on, so many in a row of 16 bytes
+-- row k of n cells from an address on, where a row of 16 bytes has `wide` of them
 unfoldable pub dump_row : (ℕ → List (Option ℕ) → List ℕ) → (ℕ → ℕ → Option ℕ) → (wide a n k : ℕ) → List ℕ
 dump_row row cell wide a n k =
     let at = (a + 16 * k) % 2 ^ 32 in row at (map (cell at) (range_with_len 0 (min wide (n - wide * k))))

@@ -27,7 +27,7 @@ named rows = map (λ r. (r.0.now, r.1.command)) rows
 abbrev pub row_of : List ℕ → List (List ℕ × Command) → Option Command
 row_of word table = option_map (λ row. row.1) (find (λ row. list_any (bytes_eq word) (words row.0)) table)
 
--- a command was read: what is no command was answered
+-- a command was read: a word that names none was answered
 abbrev pub IsQuiet : Command → Written → Written → Type 0
 IsQuiet Nothing old new = Unit
 IsQuiet _ old new = new ≡ old

@@ -48,6 +48,6 @@ IsRefused source inputs pages slots =
 
 -- ---- texts
 
--- the bytes of a text that are copied from a place on, with room for so many
+-- the bytes of a text that are copied from a place on: as many as there is room for
 abbrev pub copied : List ℕ → ℕ → ℕ → List ℕ
 copied text from room = take room (drop from text)
