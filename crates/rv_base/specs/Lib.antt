@@ -6,5 +6,7 @@ pub mod Lines
 pub mod Numbers
 pub mod Registers
 pub mod Room
+pub mod TableRows
 pub mod Tables
+pub mod Values
 pub mod Words

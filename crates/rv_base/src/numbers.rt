@@ -26,7 +26,7 @@ pub fn decimal(most: u64, word: &[u8]) -> Option<u64>
 }
 
 /// Returns the number that a hexadecimal digit of either case stands for, or None for any other byte.
-#[tactic(auto, unfolding(crate::specs::Numbers::hex_digit))]
+#[tactic(auto, unfolding(crate::specs::Digits::hex_digit))]
 pub fn hex_digit(b: u8) -> Option<u8>
     ensures value { result ≡ hex_digit b }
     ensures below { IfSome result (λ n. n < 16) }
@@ -40,7 +40,7 @@ pub fn hex_digit(b: u8) -> Option<u8>
 }
 
 /// Returns the byte that two hexadecimal digits stand for, or None for any other word.
-#[tactic(auto, unfolding(crate::specs::Numbers::hex_byte, crate::specs::Numbers::hex_digit, crate::specs::Numbers::number_in))]
+#[tactic(auto, unfolding(crate::specs::Numbers::hex_byte, crate::specs::Digits::hex_digit, crate::specs::Numbers::number_in))]
 pub fn hex_byte(word: &[u8]) -> Option<u8>
     ensures { result ≡ hex_byte word.now }
 {
