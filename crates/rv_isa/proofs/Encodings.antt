@@ -1,6 +1,6 @@
 -- The word and the ranges of a kind are those of its fields.
-use Rattle.std.proofs.Common.{◌≡◌, ℕ, ◌^◌, ◌%◌, ◌<◌, ◌∙◌, Option, Some, None, refl, sym, ap, subst, ℤ, pos, negsuc, arith}
-use Rattle.std.specs.Prelude.{◌↔◌}
+use Rattle.std.proofs.Common.{◌≡◌, ℕ, ◌+◌, ◌*◌, ◌^◌, ◌%◌, ◌<◌, ◌∙◌, List, Option, Some, None, refl, sym, ap, subst, ℤ, pos, negsuc, arith}
+use Rattle.std.specs.Prelude.{◌↔◌, fold}
 use Rattle.rv_isa.proofs.OneLayout.{kept}
 use Rattle.rv_isa.specs.Fields.{kind_of, unsigned}
 use Rattle.rv_isa.specs.Kinds.{branch_operation, load_operation, store_operation, imm_operation, shift_operation, alu_operation, csr_operation, csr_imm_operation, operation_of, funct3, funct7, format_of, word, word_in, FieldsFit, IsInRange, IsMeaning}
@@ -8,7 +8,7 @@ use Rattle.rv_isa.specs.Layout.{fields_of, laid}
 use Rattle.rv_isa.specs.Number.{modulo}
 use Rattle.rv_isa.specs.Table.{kind_in, Encoding, row}
 use Rattle.rv_isa.specs.Table as t
-use Rattle.rv_isa.specs.Word.{parts, packed, encoded, HasImmediate, AreInRange, Means}
+use Rattle.rv_isa.specs.Word.{parts, encoded, HasImmediate, AreInRange, Means}
 use Rattle.rv_isa.specs.declared.fields.Fields.{Fields}
 use Rattle.rv_isa.specs.declared.format.Format.{Format}
 use Rattle.rv_isa.specs.declared.format.Format.TheVariants.{R, Amount, I, Number, S, B, U, J, Whole}
@@ -47,6 +47,10 @@ bits_13 (negsuc n) = omega arith
 bits_21 : (z : ℤ) → modulo z (2 ^ 21) ≡ unsigned z % 2 ^ 21
 bits_21 (pos n) = omega arith
 bits_21 (negsuc n) = omega arith
+
+-- parts side by side, the first of them highest
+abbrev packed : List (ℕ × ℕ) → ℕ
+packed all = fold (λ above part. above * 2 ^ part.1 + part.0) 0 all
 
 same_word : (e : Encoding) (f : Fields) → HasImmediate e f.imm → word_in (as_format e f) ≡ packed (parts e f)
 same_word (t.R opcode code high _) f h = omega arith

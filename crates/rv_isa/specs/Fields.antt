@@ -13,8 +13,7 @@ kind_of f = kind_in (row f.operation).1 f
 
 -- an operation with these fields
 abbrev pub with_fields : Operation → ℕ → ℕ → ℕ → ℤ → Fields
-with_fields operation rd rs1 rs2 imm =
-    record { operation = operation; rd = rd; rs1 = rs1; rs2 = rs2; imm = imm }
+with_fields op rd rs1 rs2 imm = record { operation = op; rd = rd; rs1 = rs1; rs2 = rs2; imm = imm }
 
 -- the kind of an operation, with zeros in all fields
 unfoldable pub zeroed : Operation → Kind

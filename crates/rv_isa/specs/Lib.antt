@@ -4,6 +4,7 @@ pub mod Kinds
 pub mod Laws
 pub mod Layout
 pub mod Letters
+pub mod Loads
 pub mod Meaning
 pub mod Mnemonics
 pub mod Names

@@ -1,7 +1,7 @@
 -- To audit: public contracts cite this.
--- The widths of accesses, and the operations of loads and of instructions with an immediate.
+-- The widths of accesses, the loads, and the operations of instructions with an immediate.
 -- RISC-V Unprivileged ISA 20191213, sections 2.4 and 2.6.
-use Rattle.std.specs.Prelude.{ℕ}
+use Rattle.std.specs.Prelude.{ℕ, ◌+◌, ◌-◌, ◌%◌, ◌^◌, nat_lt, if◌then◌else◌}
 use Rattle.rv_isa.specs.declared.op.AluOp.{AluOp}
 use Rattle.rv_isa.specs.declared.op.AluOp.TheVariants as alu
 use Rattle.rv_isa.specs.declared.op.ImmOp.{ImmOp}
@@ -19,13 +19,17 @@ bytes_of One = 1
 bytes_of Two = 2
 bytes_of Four = 4
 
--- how many bytes a load reads (section 2.6)
-abbrev pub load_width : LoadOp → Width
-load_width Lb = One
-load_width Lh = Two
-load_width Lw = Four
-load_width Lbu = One
-load_width Lhu = Two
+-- a value of `bits` bits, sign-extended to 32 (section 2.6)
+abbrev pub sign_extended : ℕ → ℕ → ℕ
+sign_extended bits v = if nat_lt v (2 ^ (bits - 1)) then v else (v + (2 ^ 32 - 2 ^ bits)) % 2 ^ 32
+
+-- how many bytes a load reads, and the value that it leaves in its register by theirs (section 2.6)
+abbrev pub load_of : LoadOp → Width × (ℕ → ℕ)
+load_of Lb = (One, sign_extended 8)
+load_of Lh = (Two, sign_extended 16)
+load_of Lw = (Four, λ v. v)
+load_of Lbu = (One, λ v. v)
+load_of Lhu = (Two, λ v. v)
 
 -- the operation of a register-immediate instruction (section 2.4)
 abbrev pub imm_alu_op : ImmOp → AluOp

@@ -10,7 +10,7 @@ ghost use Rattle.rv_isa.specs.Layout as layout;
 ghost use Rattle.rv_isa.specs.Letters.{beginning_with};
 ghost use Rattle.rv_isa.specs.Kinds as table;
 ghost use Rattle.rv_isa.specs.Table.{mnemonic};
-ghost use Rattle.rv_isa.specs.Width.{bytes_of, load_width, imm_alu_op, shift_alu_op};
+ghost use Rattle.rv_isa.specs.Width.{bytes_of, load_of, imm_alu_op, shift_alu_op};
 ghost use Rattle.rv_isa.specs.Kinds.{IsInRange};
 ghost use Rattle.rv_isa.specs.declared.op.Cond.{Cond};
 ghost use Rattle.rv_isa.specs.declared.op.LoadOp.{LoadOp};
@@ -380,7 +380,7 @@ impl LoadOp {
 
     /// Returns how many bytes the load reads. Section 2.6.
     pub fn width(self) -> Width
-        ensures { result ≡ load_width self }
+        ensures { result ≡ (load_of self).0 }
     {
         match self {
             LoadOp::Lb | LoadOp::Lbu => Width::One,
