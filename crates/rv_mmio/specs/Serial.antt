@@ -21,18 +21,15 @@ reset = record { waiting = []; sent = []; overrun = false }
 abbrev pub status_word : SerialState → ℕ
 status_word s = (if nat_lt 0 (length s.waiting) then 1 else 0) + 2 + (if s.overrun then 4 else 0)
 
--- a register that a store leaves as it is
-abbrev pub read_only : (SerialState → ℕ) → (SerialState → SerialState) → Register SerialState
-read_only word loaded = record { word = word; loaded = loaded; stored = λ s w. s }
-
 -- the registers. A store to the transmit register sends the low byte of its word. A load of the receive
 -- register takes the oldest byte, and returns a word that no byte has where none is waiting; one of the
 -- status register clears the overrun
 abbrev pub at : SerialReg → Register SerialState
 at Tx = register (λ s. 0) (λ s w. record s { sent = s.sent ++ (w % 256) ∷ [] })
 at Rx =
-    read_only (λ s. unwrap_or (slice_get s.waiting 0) 0x80000000) (λ s. record s { waiting = drop 1 s.waiting })
-at Status = read_only status_word (λ s. record s { overrun = false })
+    record (register (λ s. unwrap_or (slice_get s.waiting 0) 0x80000000) (λ s w. s))
+    { loaded = λ s. record s { waiting = drop 1 s.waiting } }
+at Status = record (register status_word (λ s w. s)) { loaded = λ s. record s { overrun = false } }
 
 -- the port after it received a byte: the queue holds 16, and a byte beyond them is lost
 abbrev pub received : SerialState → ℕ → SerialState

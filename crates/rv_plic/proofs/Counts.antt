@@ -6,8 +6,8 @@ use Rattle.std.specs.FinSet.{contains}
 use Rattle.std.proofs.lemmas.Bool.{cases_eq, lt-ltb, le-leb}
 use Rattle.std.proofs.lemmas.List.{get_or-set_same, get_or-set_other, length-set, same_lists}
 use Rattle.rv_plic.specs.Sources.{Sources}
-use Rattle.rv_plic.specs.Gateways.{edges_of, one_more, taken}
-use Rattle.rv_plic.specs.GatewayState.{Edges}
+use Rattle.rv_plic.specs.Gateways.{edges_of, one_more}
+use Rattle.rv_plic.specs.GatewayState.{Edges, taken}
 use Rattle.rv_plic.specs.Changes.{one_less, changed}
 
 pub nothing_changed : (f : ℕ → ℕ) (s : Sources) (a : ℕ) (edges : Edges)

@@ -1,13 +1,19 @@
 -- Not to audit: private contracts alone cite this.
 -- The part of the controller that its gateways keep.
-use Rattle.std.specs.Prelude.{ℕ, Bool, ◌-◌, ◌&&◌, not, nat_lt, if◌then◌else◌, List, slice_set, replicate}
+use Rattle.std.specs.Prelude.{ℕ, Bool, ◌-◌, ◌&&◌, not, nat_lt, if◌then◌else◌, List, length, map, slice_set, replicate}
+use Rattle.std.specs.List.{range_with_len}
 use Rattle.std.specs.FinSet.{empty, insert, remove, union, difference, contains}
 use Rattle.rv_plic.specs.Sources.{Sources}
-use Rattle.rv_plic.specs.Gateways.{PlicState, is_by_edge, edges_of, one_more, taken, asking_sources}
+use Rattle.rv_plic.specs.Gateways.{PlicState, is_by_edge, edges_of, one_more, asking_sources}
 
 -- the number of pending edges of each source from 24 on
 abbrev pub Edges : Type 0
 Edges = List ℕ
+
+-- the counts after one edge of each source of a set is taken
+unfoldable pub taken : Sources → Edges → Edges
+taken sources edges =
+    map (λ s. edges_of edges s - (if contains sources s then 1 else 0)) (range_with_len 24 (length edges))
 
 -- no edge is pending
 abbrev pub none_waits : Edges

@@ -46,20 +46,14 @@ edges_of edges source = if is_by_edge source then slice_index edges (source - 24
 abbrev pub one_more : ℕ → ℕ
 one_more count = if nat_lt count 4294967295 then count + 1 else count
 
--- the counts after one edge of each source of a set is taken
-unfoldable pub taken : Sources → List ℕ → List ℕ
-taken sources edges =
-    map (λ s. edges_of edges s - (if contains sources s then 1 else 0)) (range_with_len 24 (length edges))
-
 -- ---- lines and requests
 -- the controller after the line of a source is set to a level: it rises where it was low and becomes high
 abbrev pub with_line : PlicState → ℕ → Bool → PlicState
-with_line plic source level =
-    record plic {
-      high = if level then insert plic.high source else remove plic.high source;
-      edges = if is_by_edge source && level && not (contains plic.high source)
-          then slice_set plic.edges (source - 24) (one_more (edges_of plic.edges source)) else plic.edges;
-    }
+with_line p source level =
+    let high = if level then insert p.high source else remove p.high source in
+    let rises = is_by_edge source && level && not (contains p.high source) in
+    let counts = slice_set p.edges (source - 24) (one_more (edges_of p.edges source)) in
+    record p { high = high; edges = if rises then counts else p.edges }
 
 -- the sources that ask for a request: those triggered by edges while an edge is pending, any other while
 -- its line is high
@@ -71,8 +65,10 @@ asking_sources high edges =
 abbrev pub requests : PlicState → Sources
 requests plic = difference (difference (asking_sources plic.high plic.edges) plic.outstanding) plic.pending
 
--- the controller after each gateway with a request has forwarded it
+-- the controller after each gateway with a request has forwarded it, which takes one of its pending edges
 abbrev pub forwarded : PlicState → PlicState
 forwarded p =
     let new = requests p in
-    record p { edges = taken new p.edges; outstanding = union p.outstanding new; pending = union p.pending new }
+    let less = λ (s : ℕ). edges_of p.edges s - (if contains new s then 1 else 0) in
+    let edges = map less (range_with_len 24 (length p.edges)) in
+    record p { edges = edges; outstanding = union p.outstanding new; pending = union p.pending new }

@@ -1,16 +1,11 @@
 -- Not to audit: private contracts alone cite this.
 -- The registers by cases, as the code has them. proofs/ proves that these are the rows of the table.
-use Rattle.std.specs.Prelude.{ℕ, ◌/◌, ◌%◌, ◌==◌, ◌&&◌, nat_lt, nat_le, if◌then◌else◌, slice_set, Option, Some, None, unwrap_or}
+use Rattle.std.specs.Prelude.{ℕ, ◌/◌, ◌%◌, ◌==◌, ◌&&◌, nat_lt, nat_le, if◌then◌else◌, Option, Some, None, unwrap_or}
 use Rattle.rv_plic.specs.Gateways.{PlicState}
-use Rattle.rv_plic.specs.Plic.{priority_of, best, claimed, completed}
+use Rattle.rv_plic.specs.Plic.{priority_of, best, claimed, completed, with_priority}
 use Rattle.rv_plic.specs.Sources.{sources_of, word_of}
 use Rattle.rv_plic.specs.declared.register.PlicReg.{PlicReg}
 use Rattle.rv_plic.specs.declared.register.PlicReg.TheVariants.{Priority, Pending, Enables, Threshold, Claim}
-
--- the controller with another priority of a source
-abbrev pub with_priority : PlicState → ℕ → ℕ → PlicState
-with_priority plic source priority =
-    record plic { priorities = slice_set plic.priorities source priority }
 
 -- the register at an offset
 unfoldable pub reg_at : ℕ → Option PlicReg

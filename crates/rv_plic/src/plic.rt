@@ -146,6 +146,7 @@ impl Plic {
     /// Forwards all requests. Out of line, since few ticks find one.
     #[cold]
     #[inline(never)]
+    #[tactic(auto, unfolding(crate::specs::GatewayState::taken))]
     fn forward_ready(&mut self)
         ensures { self.new ≡ forwarded self.old }
     {
