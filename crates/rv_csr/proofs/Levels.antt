@@ -6,10 +6,12 @@ use Rattle.std.proofs.lemmas.Bool.Decides.{nat_tests}
 use Rattle.rv_isa.specs.declared.InterruptLines.{InterruptLines}
 use Rattle.rv_pmp.specs.Pmp.{PmpState}
 use Rattle.rv_pmp.specs.Pmp as protection
+use Rattle.rv_pmp.specs.Registers.{WritesOrRefuses}
 use Rattle.rv_pmp.specs.declared.mode.Mode.{Mode}
 use Rattle.rv_pmp.specs.declared.mode.Mode.TheVariants.{User}
 use Rattle.rv_csr.specs.RegisterCases.{is_from_to, register_at, value_at}
-use Rattle.rv_csr.specs.Registers.{may_read, may_write, read}
+use Rattle.rv_csr.specs.MayAccess.{may_read, may_write}
+use Rattle.rv_csr.specs.Registers.{read}
 use Rattle.rv_csr.proofs.Table.{read_by_cases}
 use Rattle.rv_csr.specs.State.{CsrState}
 use Rattle.rv_csr.specs.declared.register.Register.{Register}
@@ -90,7 +92,7 @@ may_read-from_write addr mode h = both (may_read addr mode) (not (addr / 2 ^ 10 
   both false b e = cc
 
 pub no_store : (old : PmpState) (addr word : ℕ) (new : PmpState) (mode : Mode) (result : Option Unit)
-    → may_write addr mode ≡ true → mode ≡ User → protection.WritesOrRefuses (protection.write_register old addr word) old new result → result ≡ None
+    → may_write addr mode ≡ true → mode ≡ User → WritesOrRefuses (protection.write_register old addr word) old new result → result ≡ None
 no_store old addr word new mode (Some done) may user stores =
     let none = nothing_stored old addr word
     (level_0 addr (rw user at (may_read-from_write addr mode may))) in

@@ -1,6 +1,6 @@
 -- The table of the registers says what the cases by register say.
 use Rattle.std.proofs.Common.{◌≡◌, ℕ, zero, suc, ◌+◌, ◌-◌, ◌*◌, ◌==◌, Bool, true, false, cond, List, [], ◌∷◌, ◌++◌, map, length, Option, Some, None, refl, ap, sym, subst, ◌∙◌, arith, nat_lt, nat_le}
-use Rattle.std.specs.Prelude.{◌&&◌, ◌||◌, not, find, if◌then◌else◌, codes}
+use Rattle.std.specs.Prelude.{◌&&◌, ◌||◌, find, if◌then◌else◌, codes}
 use Rattle.std.specs.Fmt.{digits}
 use Rattle.std.specs.List.{list_all, list_any, range_with_len}
 use Rattle.std.specs.Option.{option_map, option_or}
@@ -13,8 +13,9 @@ use Rattle.rv_pmp.specs.Pmp.{PmpState, config_word, entry_at, written}
 use Rattle.rv_pmp.specs.Registers.{is_config, is_address}
 use Rattle.rv_pmp.specs.declared.mode.Mode.{Mode}
 use Rattle.rv_csr.specs.State.{CsrState}
-use Rattle.rv_csr.specs.Registers.{Row, table, row_at, number_of, read, write, may_read, may_write}
-use Rattle.rv_csr.specs.RegisterCases.{is_from_to, is_zero, register_at, value_of, with_value, with_value_at}
+use Rattle.rv_csr.specs.MayAccess.{may_read, may_write}
+use Rattle.rv_csr.specs.Registers.{table, row_at, number_of, read, write}
+use Rattle.rv_csr.specs.RegisterCases.{Row, is_from_to, is_zero, register_at, value_of, with_value, with_value_at}
 use Rattle.rv_csr.specs.RegisterCases as cases
 use Rattle.rv_csr.specs.declared.register.Register.{Register}
 use Rattle.rv_csr.specs.declared.register.Register.TheVariants.{Mstatus, Misa, Mie, Mtvec, Mscratch, Mepc, Mcause, Mtval, Mip, Mcycle, Mcycleh, Minstret, Minstreth, Zero}
@@ -379,22 +380,16 @@ writes state addr word =
 
 -- ---- a read and a write by the register at the address
 
-if_not : {A : Type 0} (b : Bool) (x y : A) → (if not b then x else y) ≡ (if b then y else x)
-if_not true x y = refl
-if_not false x y = refl
-
 pub read_by_cases : (state : CsrState) (addr : ℕ) (mode : Mode) (lines : InterruptLines)
     → read state addr mode lines
     ≡ (if may_read addr mode then cases.value_at state lines addr (register_at addr) else None)
 unfolding read row_at
 read_by_cases state addr mode lines =
-    if_not (may_read addr mode) _ _
-    ∙ ap (λ value. if may_read addr mode then value else None) (values state lines addr)
+    ap (λ value. if may_read addr mode then value else None) (values state lines addr)
 
 pub write_by_cases : (state : CsrState) (addr : ℕ) (mode : Mode) (word : ℕ)
     → write state addr mode word
     ≡ (if may_write addr mode then with_value_at state addr word (register_at addr) else None)
 unfolding write row_at
 write_by_cases state addr mode word =
-    if_not (may_write addr mode) _ _
-    ∙ ap (λ after. if may_write addr mode then after else None) (writes state addr word)
+    ap (λ after. if may_write addr mode then after else None) (writes state addr word)

@@ -1,5 +1,6 @@
 pub mod Interruptible
 pub mod Later
+pub mod MayAccess
 pub mod RegisterCases
 pub mod Registers
 pub mod State

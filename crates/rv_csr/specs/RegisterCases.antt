@@ -1,7 +1,7 @@
 -- The control registers by cases: the register at an address, its value, and the state after a write to it.
 -- Not to audit: private contracts alone cite this. proofs/ proves that it is what the table says.
-use Rattle.std.specs.Prelude.{ℕ, ◌+◌, ◌%◌, ◌/◌, ◌^◌, Bool, ◌==◌, ◌&&◌, ◌||◌, nat_le, if◌then◌else◌, [], ◌∷◌, find, unwrap_or, Option, Some, None}
-use Rattle.std.specs.Option.{option_map}
+use Rattle.std.specs.Prelude.{ℕ, ◌+◌, ◌%◌, ◌/◌, ◌^◌, Bool, ◌==◌, ◌&&◌, ◌||◌, nat_le, false, if◌then◌else◌, List, [], ◌∷◌, find, unwrap_or, Option, Some, None}
+use Rattle.std.specs.Option.{option_map, option_map_or}
 use Rattle.rv_base.specs.Halves.{with_low, with_high}
 use Rattle.rv_isa.specs.declared.InterruptLines.{InterruptLines}
 use Rattle.rv_pmp.specs.Pmp as protection
@@ -91,3 +91,14 @@ abbrev pub with_value_at : CsrState → ℕ → ℕ → Option Register → Opti
 with_value_at state addr word (Some register) = Some (with_value state register word)
 with_value_at state addr word None =
     option_map (λ pmp. record state { pmp = pmp }) (protection.write_register state.pmp addr word)
+
+-- ---- the parts of the table and of its accesses
+
+-- a row of the table
+abbrev pub Row : Type 0
+Row = List ℕ × (CsrState → InterruptLines → ℕ) × (CsrState → ℕ → CsrState)
+
+-- whether an instruction that wrote the register at an address, if any, wrote a half of a counter, whose low
+-- half is at another
+abbrev pub wrote_half : ℕ → Option ℕ → Bool
+wrote_half low wrote = option_map_or (λ addr. (addr == low) || (addr == low + 0x80)) wrote false

@@ -9,26 +9,13 @@ use Rattle.rv_base.specs.Halves.{with_low, with_high}
 use Rattle.rv_isa.specs.Names.{csr_names}
 use Rattle.rv_isa.specs.Number.{flag, truth}
 use Rattle.rv_isa.specs.declared.InterruptLines.{InterruptLines}
+pub use Rattle.rv_pmp.specs.Mode.{level}
+pub use Rattle.rv_csr.specs.MayAccess.{may_read, may_write}
 use Rattle.rv_pmp.specs.Pmp.{read_register, write_register}
 use Rattle.rv_pmp.specs.declared.mode.Mode.{Mode}
 use Rattle.rv_pmp.specs.declared.mode.Mode.TheVariants.{User, Machine}
 use Rattle.rv_csr.specs.State.{CsrState}
 use Rattle.rv_csr.specs.declared.mstatus.Mstatus.{Mstatus}
-
--- ---- the addresses
-
--- the level of a mode, as MPP and bits 9 and 8 of an address hold it
-abbrev pub level : Mode → ℕ
-level User = 0
-level Machine = 3
-
--- whether a mode may read, and write, at an address: bits 9 and 8 are the lowest level that may access it,
--- and if bits 11 and 10 are both 1 it is read-only
-abbrev pub may_read : ℕ → Mode → Bool
-may_read addr mode = nat_le (addr / 2 ^ 8 % 4) (level mode)
-
-abbrev pub may_write : ℕ → Mode → Bool
-may_write addr mode = may_read addr mode && not (addr / 2 ^ 10 % 4 == 3)
 
 -- ---- the values
 
@@ -60,14 +47,11 @@ aligned word = word / 4 * 4
 unfoldable pub number_of : List ℕ → ℕ
 number_of name = unwrap_or (lookup name csr_names) 0
 
--- a register: its name, the word that a read gives while the interrupt lines have these levels, and the state
--- after a write of a word
-abbrev pub Row : Type 0
-Row = List ℕ × (CsrState → InterruptLines → ℕ) × (CsrState → ℕ → CsrState)
-
--- the registers, but for those of physical memory protection. misa says RV32I with M and user mode; mtvec
--- has no bit 1. A register with no other row, as mcounteren, reads 0, and a write to it changes nothing
-unfoldable pub table : List Row
+-- the registers, but for those of physical memory protection: the name of each, the word that a read gives
+-- while the interrupt lines have these levels, and the state after a write of a word. misa says RV32I with M
+-- and user mode; mtvec has no bit 1. A register with no other row, as mcounteren, reads 0, and a write to it
+-- changes nothing
+unfoldable pub table : List (List ℕ × (CsrState → InterruptLines → ℕ) × (CsrState → ℕ → CsrState))
 table =
     (codes "mstatus", λ s _. status_word s.mstatus, λ s w. record s { mstatus = with_status s.mstatus w })
     ∷ (codes "misa", λ s _. 0x40101100, λ s w. s)
@@ -85,38 +69,33 @@ table =
     ∷ map (λ named. (named.0, λ s _. 0, λ s w. s)) csr_names
 
 -- the row of the register at an address: the first with its number
-unfoldable pub row_at : ℕ → Option Row
+unfoldable pub row_at : ℕ → Option (List ℕ × (CsrState → InterruptLines → ℕ) × (CsrState → ℕ → CsrState))
 row_at addr = find (λ row. addr == number_of row.0) table
 
 -- ---- reads and writes: physical memory protection has the first word about an address
 
--- the value that a mode reads at an address, while the interrupt lines have these levels; None if it may not,
--- or no register is there
+-- the value that a mode reads at an address, while the interrupt lines have these levels; None if no register
+-- is there, or the mode may not read it: bits 9 and 8 are the lowest level that may access it (section 2.1)
 unfoldable pub read : CsrState → ℕ → Mode → InterruptLines → Option ℕ
 read state addr mode lines =
-    if not (may_read addr mode) then None
-    else option_or (read_register state.pmp addr) (option_map (λ row. row.1 state lines) (row_at addr))
+    if nat_le (addr / 2 ^ 8 % 4) (level mode)
+    then option_or (read_register state.pmp addr) (option_map (λ row. row.1 state lines) (row_at addr)) else None
 
--- the state after a mode's write at an address; None if it may not, or no register is there
+-- the state after a mode's write at an address; None if no register is there, the mode may not access it, or
+-- bits 11 and 10 are both 1, so that it is read-only
 unfoldable pub write : CsrState → ℕ → Mode → ℕ → Option CsrState
 write state addr mode word =
-    if not (may_write addr mode) then None
-    else option_or (option_map (λ pmp. record state { pmp = pmp }) (write_register state.pmp addr word))
-    (option_map (λ row. row.2 state word) (row_at addr))
+    if nat_le (addr / 2 ^ 8 % 4) (level mode) && not (addr / 2 ^ 10 % 4 == 3)
+    then option_or (option_map (λ pmp. record state { pmp = pmp }) (write_register state.pmp addr word))
+    (option_map (λ row. row.2 state word) (row_at addr)) else None
 
 -- ---- the counters
 
--- whether an instruction that wrote the register at an address, if any, wrote a half of a counter, whose low
--- half is at another
-abbrev pub wrote_half : ℕ → Option ℕ → Bool
-wrote_half low wrote = option_map_or (λ addr. (addr == low) || (addr == low + 0x80)) wrote false
-
--- the state after a step is counted: mcycle grows in each, minstret if an instruction retired; but a
--- counter that the instruction wrote a half of keeps what was written
+-- the state after a step is counted: mcycle grows in each, minstret if an instruction retired; but a counter
+-- keeps what was written if the instruction wrote a half of it: the low one, or the high one 0x80 above it
 abbrev pub counted : CsrState → Bool → Option ℕ → CsrState
-counted state retired wrote = record state {
-  mcycle = if wrote_half (number_of (codes "mcycle")) wrote then state.mcycle
-      else (state.mcycle + 1) % 2 ^ 64;
-  minstret = if retired && not (wrote_half (number_of (codes "minstret")) wrote)
-      then (state.minstret + 1) % 2 ^ 64 else state.minstret;
-}
+counted s retired wrote =
+    let is_half = λ (low addr : ℕ). (addr == low) || (addr == low + 0x80) in
+    let more = λ (low n : ℕ). if option_map_or (is_half low) wrote false then n else (n + 1) % 2 ^ 64 in
+    let minstret = if retired then more (number_of (codes "minstret")) s.minstret else s.minstret in
+    record s { mcycle = more (number_of (codes "mcycle")) s.mcycle; minstret = minstret }

@@ -1,9 +1,8 @@
 -- The state of the control registers. RISC-V Privileged Architecture 20211203, section 3.1.
 -- To audit: public contracts cite this.
-use Rattle.std.specs.Prelude.{ℕ, false}
+use Rattle.std.specs.Prelude.{ℕ, false, replicate}
 use Rattle.rv_isa.specs.declared.InterruptLines.{InterruptLines}
-use Rattle.rv_pmp.specs.Pmp as protection
-use Rattle.rv_pmp.specs.Pmp.{PmpState}
+use Rattle.rv_pmp.specs.Pmp.{PmpState, off_entry}
 use Rattle.rv_pmp.specs.declared.mode.Mode.TheVariants.{User}
 use Rattle.rv_csr.specs.declared.mstatus.Mstatus.{Mstatus}
 
@@ -33,5 +32,5 @@ reset = record {
   mtval = 0;
   mcycle = 0;
   minstret = 0;
-  pmp = protection.reset;
+  pmp = record { entries = replicate 16 off_entry };
 }

@@ -1,30 +1,25 @@
 -- Interrupts, traps and the return from them. RISC-V Privileged Architecture 20211203, sections 3.1.6, 3.1.7,
 -- 3.1.9 and 3.3.2.
 -- To audit: public contracts cite this.
-use Rattle.std.specs.Prelude.{ℕ, ◌+◌, ◌-◌, ◌*◌, ◌%◌, ◌^◌, Bool, true, false, ◌==◌, ◌&&◌, not, nat_le, if◌then◌else◌, List, [], ◌∷◌, find, Option, None}
+use Rattle.std.specs.Prelude.{ℕ, ◌+◌, ◌-◌, ◌*◌, ◌%◌, ◌^◌, true, false, ◌==◌, ◌&&◌, not, nat_le, if◌then◌else◌, [], ◌∷◌, find, Option, None}
 use Rattle.std.specs.Option.{option_map}
+use Rattle.rv_isa.specs.Number.{flag}
 use Rattle.rv_isa.specs.declared.InterruptLines.{InterruptLines}
 use Rattle.rv_pmp.specs.Mode.{is_machine}
 use Rattle.rv_pmp.specs.declared.mode.Mode.{Mode}
 use Rattle.rv_pmp.specs.declared.mode.Mode.TheVariants.{User}
-use Rattle.rv_csr.specs.Registers.{aligned}
+use Rattle.rv_csr.specs.Registers.{aligned, lines_word}
 use Rattle.rv_csr.specs.State.{CsrState}
 
 -- ---- interrupts
 
--- the interrupts, the first one first (section 3.1.9): the cause of each, which is the interrupt bit with a
--- code, and its line
-abbrev pub interrupts : List (ℕ × (InterruptLines → Bool))
-interrupts =
-    (0x8000000B, λ lines. lines.external) ∷ (0x80000003, λ lines. lines.software)
-    ∷ (0x80000007, λ lines. lines.timer) ∷ []
-
--- the cause of the interrupt that is taken in a mode, if any: the first whose line is high and which is
--- enabled; in machine mode none unless MIE is set
+-- the cause of the interrupt that is taken in a mode, if any: the first of the external one, the software one
+-- and that of the timer whose bit is 1 in mip and in mie; in machine mode none unless MIE is set. A cause is
+-- the interrupt bit with the number of that bit (section 3.1.9)
 unfoldable pub pending : CsrState → Mode → InterruptLines → Option ℕ
 pending state mode lines =
-    if is_machine mode && not state.mstatus.mie then None
-    else option_map (λ first. first.0) (find (λ i. i.1 lines && i.1 state.mie) interrupts)
+    if is_machine mode && not state.mstatus.mie then None else option_map (λ code. 2 ^ 31 + code)
+    (find (λ code. flag (lines_word lines) code && flag (lines_word state.mie) code) (11 ∷ 3 ∷ 7 ∷ []))
 
 -- ---- trap entry and return
 

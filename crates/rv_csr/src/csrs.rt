@@ -1,5 +1,5 @@
 //! The control registers as a whole: reads and writes, interrupts, traps and the return from them.
-ghost use Rattle.std.specs.Prelude.{◌≡◌, ℕ, ◌+◌, ◌%◌, ◌^◌, ◌<◌, ◌≤◌, true, false, None, is_some};
+ghost use Rattle.std.specs.Prelude.{◌≡◌, ℕ, ◌+◌, ◌%◌, ◌^◌, ◌<◌, ◌≤◌, true, false, Some, None, is_some, MatchOption};
 ghost use Rattle.rv_csr.specs.RegisterCases.{value_of, with_value};
 ghost use Rattle.rv_csr.specs.Interruptible.{any_enabled};
 ghost use Rattle.rv_csr.specs.Later.{later};
@@ -9,7 +9,7 @@ ghost use Rattle.rv_csr.specs.Traps as traps;
 ghost use Rattle.rv_isa.specs.Width.{bytes_of};
 ghost use Rattle.rv_isa.specs.declared.op.Width.{Width};
 ghost use Rattle.rv_isa.specs.declared.InterruptLines.{InterruptLines};
-ghost use Rattle.rv_pmp.specs.Pmp.{WritesOrRefuses, grants};
+ghost use Rattle.rv_pmp.specs.Pmp.{grants};
 ghost use Rattle.rv_pmp.specs.declared.mode.Mode.{Mode};
 ghost use Rattle.rv_pmp.specs.declared.mode.Mode.TheVariants.{User};
 
@@ -168,10 +168,10 @@ impl Csrs {
     /// Writes the register at address `addr` in a mode. The register keeps those bits of the value that it
     /// has. Returns None, and changes nothing, if no register is there, the mode may not access it, or it is
     /// read-only.
-    #[tactic(auto, using(crate::proofs::Levels::no_store, crate::proofs::Table::write_by_cases))]
+    #[tactic(auto, using(crate::proofs::Table::write_by_cases))]
     pub fn write(&mut self, addr: u16, mode: Mode, value: u32) -> Option<()>
-        ensures written { WritesOrRefuses (registers.write self.old addr mode value)
-            self.old self.new result }
+        ensures written { MatchOption result ((registers.write self.old addr mode value ≡ None) × (self.new ≡ self.old))
+            (λ _. registers.write self.old addr mode value ≡ Some self.new) }
         ensures user { mode ≡ User → result ≡ None }
     {
         if !may_write(addr, mode) {

@@ -3,7 +3,7 @@
 ghost use Rattle.std.specs.Prelude.{◌≡◌, ◌<◌};
 ghost use Rattle.rv_csr.specs.RegisterCases.{register_at};
 ghost use Rattle.rv_csr.specs.RegisterCases as cases;
-ghost use Rattle.rv_csr.specs.Registers as spec;
+ghost use Rattle.rv_csr.specs.MayAccess as access;
 
 use crate::mstatus::mode_level;
 use rv_pmp::Mode;
@@ -85,14 +85,14 @@ fn is_zero(addr: u16) -> bool
 
 /// Whether a mode may read at address `addr`.
 pub(crate) fn may_read(addr: u16, mode: Mode) -> bool
-    ensures { result ≡ spec.may_read addr mode }
+    ensures { result ≡ access.may_read addr mode }
 {
     (addr >> 8) as u32 % 4 <= mode_level(mode)
 }
 
 /// Whether a mode may write at address `addr`.
 pub(crate) fn may_write(addr: u16, mode: Mode) -> bool
-    ensures { result ≡ spec.may_write addr mode }
+    ensures { result ≡ access.may_write addr mode }
 {
     may_read(addr, mode) && (addr >> 10) % 4 != 3
 }
@@ -100,7 +100,7 @@ pub(crate) fn may_write(addr: u16, mode: Mode) -> bool
 /// Whether the register that was written, if any, is a half of the counter whose low half is at `low`.
 pub(crate) fn wrote_half(low: u16, wrote: Option<u16>) -> bool
     requires { low < 0x1000 }
-    ensures { result ≡ spec.wrote_half low wrote }
+    ensures { result ≡ cases.wrote_half low wrote }
 {
     wrote.is_some_and(|addr| addr == low || addr == low + 0x80)
 }

@@ -39,23 +39,15 @@ configured entry b =
 unfoldable pub addressed : Entry → ℕ → Entry
 addressed entry word = if entry.locked then entry else record entry { address = word }
 
--- the bit for a kind of access: R, W or X
-abbrev pub permits : Entry → Access → Bool
-permits entry Read = entry.readable
-permits entry Write = entry.writable
-permits entry Execute = entry.executable
-
 -- whether the entry grants an access whose bytes are all in its region: an entry that isn't locked lets
--- machine mode do everything; otherwise the bit decides
+-- machine mode do everything; otherwise the bit of the access decides: R, W or X
 abbrev pub entry_grants : Entry → Mode → Access → Bool
-entry_grants entry mode access = (is_machine mode && not entry.locked) || permits entry access
+entry_grants entry mode access =
+    (is_machine mode && not entry.locked)
+    || elim access as (λ _. Bool) [ Read ↦ entry.readable | Write ↦ entry.writable | Execute ↦ entry.executable ]
 
 -- ---- the bytes that an entry matches: natural numbers without limit. An address register holds an address
 -- divided by 4
-
--- the number of trailing ones of an address register, of 32 bits
-abbrev pub trailing_ones : ℕ → ℕ
-trailing_ones address = prefix_len (λ i. flag address i) (range_with_len 0 32)
 
 -- whether a byte is matched, where `lower` is the address register of the entry before. TOR: the bytes from
 -- the address of the entry before up to but not including the entry's own. NA4: the four bytes at its
@@ -65,4 +57,4 @@ matched Off lower address byte = false
 matched Tor lower address byte = nat_le lower (byte / 4) && nat_lt (byte / 4) address
 matched Na4 lower address byte = byte / 4 == address
 matched Napot lower address byte =
-    let k = trailing_ones address in byte / 2 ^ (k + 3) == address / 2 ^ (k + 1)
+    let k = prefix_len (flag address) (range_with_len 0 32) in byte / 2 ^ (k + 3) == address / 2 ^ (k + 1)

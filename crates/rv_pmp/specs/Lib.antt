@@ -3,6 +3,7 @@ pub mod Entry
 pub mod Guards
 pub mod Mode
 pub mod PermissionCache
+pub mod Permits
 pub mod Pmp
 pub mod Registers
 pub mod Span

@@ -1,7 +1,7 @@
 -- Physical memory protection: its registers, and what they grant. RISC-V Privileged Architecture 20211203,
 -- section 3.7.1.
 -- To audit: public contracts cite this.
-use Rattle.std.specs.Prelude.{◌≡◌, ℕ, zero, suc, ◌+◌, ◌-◌, ◌*◌, ◌/◌, ◌%◌, ◌^◌, Bool, false, ◌==◌, ◌&&◌, not, nat_le, if◌then◌else◌, List, replicate, find, length, map, slice_index_or, Option, Some, None}
+use Rattle.std.specs.Prelude.{ℕ, zero, suc, ◌+◌, ◌-◌, ◌*◌, ◌/◌, ◌%◌, ◌^◌, Bool, false, ◌==◌, ◌&&◌, not, nat_le, if◌then◌else◌, List, find, length, map, slice_index_or, Option, Some, None}
 use Rattle.std.specs.List.{list_any, list_all, range_with_len, sum_by}
 use Rattle.std.specs.Option.{option_map, option_map_or}
 use Rattle.rv_pmp.specs.declared.access.Access.{Access}
@@ -15,14 +15,10 @@ use Rattle.rv_pmp.specs.Mode.{is_machine}
 pub record PmpState : Type 0 where
   pub entries : List Entry
 
--- an entry that matches nothing
+-- an entry that matches nothing: each of the sixteen after a reset
 abbrev pub off_entry : Entry
 off_entry =
     record { address = 0; readable = false; writable = false; executable = false; locked = false; matching = Off }
-
--- the registers after a reset: sixteen entries
-abbrev pub reset : PmpState
-reset = record { entries = replicate 16 off_entry }
 
 -- ---- which accesses are granted
 
@@ -39,17 +35,14 @@ lower_of pmp (suc n) = (entry_at pmp n).address
 abbrev pub matches : PmpState → ℕ → ℕ → Bool
 matches pmp n byte = matched (entry_at pmp n).matching (lower_of pmp n) (entry_at pmp n).address byte
 
--- the entry that decides about an access: the lowest-numbered one that matches any of its bytes
-abbrev pub decides : PmpState → List ℕ → Option ℕ
-decides pmp bytes = find (λ n. list_any (matches pmp n) bytes) (range_with_len 0 (length pmp.entries))
-
--- whether a mode is granted an access to `count` bytes from `first` on: the entry that decides has to match
--- all of them, and to grant it. Without such an entry only machine mode is granted the access
+-- whether a mode is granted an access to `count` bytes from `first` on: the lowest-numbered entry that matches
+-- any of them decides, and has to match all of them and to grant it. Without such an entry only machine mode
+-- is granted the access
 unfoldable pub grants : PmpState → Mode → Access → ℕ → ℕ → Bool
 grants pmp mode access first count =
     let bytes = range_with_len first count in
     option_map_or (λ n. list_all (matches pmp n) bytes && entry_grants (entry_at pmp n) mode access)
-    (decides pmp bytes) (is_machine mode)
+    (find (λ n. list_any (matches pmp n) bytes) (range_with_len 0 (length pmp.entries))) (is_machine mode)
 
 -- ---- the registers: pmpcfg0 to pmpcfg3 at 0x3A0 to 0x3A3, each with the configuration bytes of four
 -- entries, low byte first; and pmpaddr0 to pmpaddr15 at 0x3B0 to 0x3BF
@@ -81,8 +74,3 @@ unfoldable pub write_register : PmpState → ℕ → ℕ → Option PmpState
 write_register pmp addr word =
     option_map (λ value. record { entries = map (written pmp addr word) (range_with_len 0 (length pmp.entries)) })
     (read_register pmp addr)
-
--- the result of a write that may be refused, and the state after it: the old one where it is refused
-abbrev pub WritesOrRefuses : {A : Type 0} → Option A → A → A → Option Unit → Type 0
-WritesOrRefuses after old new (Some done) = after ≡ Some new
-WritesOrRefuses after old new None = (after ≡ None) × (new ≡ old)

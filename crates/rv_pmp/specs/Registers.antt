@@ -1,7 +1,7 @@
 -- The registers as the code reads and writes them: one entry after another. proofs/ proves that these are the
 -- entries by number.
 -- Not to audit: private contracts alone cite this.
-use Rattle.std.specs.Prelude.{ℕ, ◌+◌, ◌-◌, ◌*◌, ◌/◌, ◌%◌, ◌^◌, Bool, false, ◌==◌, ◌&&◌, nat_le, if◌then◌else◌, List, [], ◌∷◌, slice_index_or, slice_get, slice_set, Option, Some, None}
+use Rattle.std.specs.Prelude.{◌≡◌, ℕ, ◌+◌, ◌-◌, ◌*◌, ◌/◌, ◌%◌, ◌^◌, Bool, false, ◌==◌, ◌&&◌, nat_le, if◌then◌else◌, List, [], ◌∷◌, slice_index_or, slice_get, slice_set, Option, Some, None, MatchOption}
 use Rattle.std.specs.Option.{option_map_or}
 use Rattle.rv_pmp.specs.declared.entry.Entry.{Entry}
 use Rattle.rv_pmp.specs.declared.entry.Matching.{Matching}
@@ -75,3 +75,7 @@ with_word entries (Config first) word =
     let three = with_config two (first + 2) (byte_of word 2) in
     with_config three (first + 3) (byte_of word 3)
 with_word entries (Address place) word = with_address entries place word
+
+-- the result of a write that may be refused, and the state after it: the old one where it is refused
+abbrev pub WritesOrRefuses : {A : Type 0} → Option A → A → A → Option Unit → Type 0
+WritesOrRefuses after old new result = MatchOption result ((after ≡ None) × (new ≡ old)) (λ _. after ≡ Some new)

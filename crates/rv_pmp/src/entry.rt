@@ -3,6 +3,7 @@ ghost use Rattle.std.specs.Prelude.{◌≡◌, ◌==◌};
 ghost use Rattle.rv_pmp.specs.Entry.{matching_code, config_byte, entry_grants};
 ghost use Rattle.rv_pmp.specs.Registers.{matching_of};
 ghost use Rattle.rv_pmp.specs.Entry as spec;
+ghost use Rattle.rv_pmp.specs.Permits as bits;
 ghost use Rattle.rv_pmp.specs.ActiveEntries.{is_matching};
 
 use crate::{Access, Mode};
@@ -144,7 +145,7 @@ impl Entry {
 
     /// Returns the bit for a kind of access: R, W or X.
     pub(crate) fn permits(&self, access: Access) -> bool
-        ensures { result ≡ spec.permits self.now access }
+        ensures { result ≡ bits.permits self.now access }
     {
         match access {
             Access::Read => self.readable,

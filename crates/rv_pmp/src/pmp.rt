@@ -1,10 +1,10 @@
 //! The registers of protection, and what they grant.
-ghost use Rattle.std.specs.Prelude.{◌≡◌, All, IsTrue, ℕ, ◌+◌, ◌-◌, ◌^◌, ◌<◌, ◌≤◌, ◌&&◌, find, nat_le, nat_lt, true};
+ghost use Rattle.std.specs.Prelude.{◌≡◌, All, IsTrue, ℕ, ◌+◌, ◌-◌, ◌^◌, ◌<◌, ◌≤◌, ◌&&◌, find, nat_le, nat_lt, true, replicate, Some, None, MatchOption};
 ghost use Rattle.std.specs.List.{list_any, range_with_len};
 ghost use Rattle.rv_isa.specs.Width.{bytes_of};
 ghost use Rattle.rv_isa.specs.declared.op.Width.{Width};
 ghost use Rattle.rv_pmp.specs.ActiveEntries.{AllReadable, some_on, some_locked, actives_from, decision};
-ghost use Rattle.rv_pmp.specs.Pmp.{PmpState, reset, entry_at, grants, lower_of, matches, read_register, write_register, WritesOrRefuses};
+ghost use Rattle.rv_pmp.specs.Pmp.{PmpState, entry_at, grants, lower_of, matches, read_register, write_register, off_entry};
 ghost use Rattle.rv_pmp.specs.Registers.{config_at, with_config, with_address, with_word, starts_locked};
 ghost use Rattle.rv_pmp.specs.Registers as spec;
 ghost use Rattle.rv_pmp.specs.WidestSpan.{AreForward, IsWidestSpan};
@@ -53,7 +53,7 @@ impl Model for Pmp {
 impl Pmp {
     /// Creates the registers as they are after a reset: all zero, so that no entry protects anything.
     pub fn new() -> Pmp
-        ensures reset { result ≡ reset }
+        ensures reset { result ≡ record { entries = replicate 16 off_entry } }
         ensures readable { All (λ entry. IsTrue entry.writable → IsTrue entry.readable) result.entries }
     {
         Pmp::of([Entry::OFF; ENTRIES])
@@ -93,7 +93,8 @@ impl Pmp {
     /// if no register of protection is there.
     #[tactic(auto, using(crate::proofs::Registers::writes))]
     pub fn write_csr(&mut self, addr: u16, value: u32) -> Option<()>
-        ensures stored { WritesOrRefuses (write_register self.old addr value) self.old self.new result }
+        ensures stored { MatchOption result ((write_register self.old addr value ≡ None) × (self.new ≡ self.old))
+            (λ _. write_register self.old addr value ≡ Some self.new) }
         ensures readable { All (λ entry. IsTrue entry.writable → IsTrue entry.readable) self.new.entries }
     {
         let mut entries = self.entries;
