@@ -12,6 +12,7 @@ use Rattle.rv_isa.specs.Width.{bytes_of}
 use Rattle.rv_ram.specs.Bytes.{value_at, put}
 use Rattle.rv_bus.specs.State.{BusState}
 use Rattle.rv_bus.specs.Locations.{location_of}
+use Rattle.rv_bus.proofs.Memory.{fetch_is}
 use Rattle.rv_bus.specs.Access.{fetch, load, store, ram_byte}
 use Rattle.rv_bus.specs.AtLocation.{load_at, store_at}
 use Rattle.rv_bus.proofs.Others.{byte_put}
@@ -83,11 +84,11 @@ memory_after_load b a w =
 
 pub same_fetch : (one other : List ℕ) (a : ℕ) → length other ≡ length one
     → (ram_base ≤ a → SameBytes one other (a - ram_base) 4) → fetch other a ≡ fetch one a
-unfolding fetch
 same_fetch one other a size same =
-    ap (λ n. if nat_le ram_base a && nat_lt (a - ram_base) n then Some (value_at other (a - ram_base) 4) else None)
+    fetch_is other a
+    ∙ ap (λ n. if nat_le ram_base a && nat_lt (a - ram_base) n then Some (value_at other (a - ram_base) 4) else None)
     size
-    ∙ by (nat_le ram_base a) (nat_lt (a - ram_base) (length one)) refl
+    ∙ by (nat_le ram_base a) (nat_lt (a - ram_base) (length one)) refl ∙ sym (fetch_is one a)
   where
     by : (t u : Bool) → nat_le ram_base a ≡ t
         → (if t && u then Some (value_at other (a - ram_base) 4) else None)

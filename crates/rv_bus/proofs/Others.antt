@@ -1,5 +1,5 @@
 -- A store leaves the bytes and the words that it doesn't write to as they were.
-use Rattle.std.proofs.Common.{◌≡◌, ◌≢◌, ℕ, zero, suc, ◌+◌, ◌-◌, ◌*◌, ◌/◌, ◌%◌, ◌<◌, List, slice_index, slice_set, Some, None, Bool, true, false, nat_le, nat_lt, arith, refl, ap, ◌∙◌}
+use Rattle.std.proofs.Common.{◌≡◌, ◌≢◌, ℕ, zero, suc, ◌+◌, ◌-◌, ◌*◌, ◌/◌, ◌%◌, ◌<◌, List, slice_index, slice_set, Some, None, Bool, true, false, nat_le, nat_lt, arith, refl, sym, ap, ◌∙◌}
 use Rattle.std.specs.Prelude.{◌&&◌, if◌then◌else◌}
 use Rattle.std.proofs.lemmas.Bool.{and_parts, leb-true}
 use Rattle.std.proofs.lemmas.Grind.{elements}
@@ -10,7 +10,9 @@ use Rattle.rv_isa.specs.Width.{bytes_of}
 use Rattle.rv_ram.specs.Bytes.{put, value_at}
 use Rattle.rv_ram.proofs.Put.{length_put}
 use Rattle.rv_ram.proofs.Value.{same_value}
-use Rattle.rv_bus.specs.Access.{fetch, in_memory}
+use Rattle.rv_bus.specs.Access.{fetch}
+use Rattle.rv_bus.specs.AtLocation.{in_memory}
+use Rattle.rv_bus.proofs.Memory.{fetch_is}
 
 -- a write of one byte leaves another as it was
 other : (bs : List ℕ) (i x j : ℕ) → j ≢ i → slice_index (slice_set bs i x) j ≡ slice_index bs j
@@ -40,11 +42,11 @@ other_word bs off v k Four a s n = word_put bs off 4 v k (λ j l i m e. omega ar
 -- a store leaves the word that is fetched from another address as it was
 pub fetch_put : (ram : List ℕ) (off addr a v : ℕ) (w : Width) → off % bytes_of w ≡ 0 → addr ≡ ram_base + off
     → a % 4 ≡ 0 → a ≢ addr / 4 * 4 → fetch (put ram off (bytes_of w) v) a ≡ fetch ram a
-unfolding fetch
 fetch_put ram off addr a v w al e s n =
-    ap (λ len. if nat_le ram_base a && nat_lt (a - ram_base) len
+    fetch_is (put ram off (bytes_of w) v) a
+    ∙ ap (λ len. if nat_le ram_base a && nat_lt (a - ram_base) len
     then Some (value_at (put ram off (bytes_of w) v) (a - ram_base) 4) else None) (length_put ram off (bytes_of w) v)
-    ∙ by (in_memory ram a) refl
+    ∙ by (in_memory ram a) refl ∙ sym (fetch_is ram a)
   where
     by : (t : Bool) → in_memory ram a ≡ t
         → (if t then Some (value_at (put ram off (bytes_of w) v) (a - ram_base) 4) else None)

@@ -1,41 +1,37 @@
 -- To audit: public contracts cite this.
 -- Loads, stores and fetches on the bus, and its interrupt lines.
-use Rattle.std.specs.Prelude.{ℕ, Bool, ◌-◌, ◌==◌, ◌&&◌, ◌||◌, nat_le, nat_lt, if◌then◌else◌, List, length, slice_get, Option, Some, None}
+use Rattle.std.specs.Prelude.{ℕ, Bool, ◌-◌, ◌==◌, ◌||◌, nat_le, if◌then◌else◌, List, slice_get, is_some, Option, Some, None}
 use Rattle.std.specs.Option.{option_map}
 use Rattle.rv_base.specs.Limits.{ram_base}
+use Rattle.rv_isa.specs.Width.{bytes_of}
 use Rattle.rv_isa.specs.declared.op.Width.{Width}
 use Rattle.rv_isa.specs.declared.InterruptLines.{InterruptLines}
 use Rattle.rv_ram.specs.Bytes.{value_at}
-use Rattle.rv_plic.specs.Plic as plic
-use Rattle.rv_mmio.specs.Timer as timer
+use Rattle.rv_plic.specs.Plic.{is_notified}
+use Rattle.rv_mmio.specs.Timer.{is_due}
 use Rattle.rv_bus.specs.State.{BusState}
 use Rattle.rv_bus.specs.Table.{reached}
 
 -- the value that a load returns, with the bus after it, or none for a fault
 unfoldable pub load : BusState → ℕ → Width → Option (ℕ × BusState)
-load b a w = option_map (λ x. x.loaded) (reached b a w)
+load b a w = option_map (λ reached. reached.0) (reached b a (bytes_of w))
 
 -- the bus after a store, or none for a fault
 unfoldable pub store : BusState → ℕ → Width → ℕ → Option BusState
-store b a w v = option_map (λ x. x.stored v) (reached b a w)
-
--- whether an address is in the memory
-abbrev pub in_memory : List ℕ → ℕ → Bool
-in_memory ram a = nat_le ram_base a && nat_lt (a - ram_base) (length ram)
-
--- whether a store at an address goes into the memory or to the transmit register
-unfoldable pub writes : BusState → ℕ → Bool
-writes b a = in_memory b.ram a || (a == 0x10000000)
-
--- the word that a fetch returns, or none for a fault: only the memory can be fetched from
-unfoldable pub fetch : List ℕ → ℕ → Option ℕ
-fetch ram a = if in_memory ram a then Some (value_at ram (a - ram_base) 4) else None
+store b a w v = option_map (λ reached. reached.1 v) (reached b a (bytes_of w))
 
 -- the byte of the memory at an address, if there is one
 abbrev pub ram_byte : List ℕ → ℕ → Option ℕ
 ram_byte ram a = if nat_le ram_base a then slice_get ram (a - ram_base) else None
 
+-- whether a store at an address goes into the memory or to the transmit register
+unfoldable pub writes : BusState → ℕ → Bool
+writes b a = is_some (ram_byte b.ram a) || (a == 0x10000000)
+
+-- the word that a fetch returns, or none for a fault: only the memory can be fetched from
+unfoldable pub fetch : List ℕ → ℕ → Option ℕ
+fetch ram a = if is_some (ram_byte ram a) then Some (value_at ram (a - ram_base) 4) else None
+
 -- the levels of the interrupt lines into the hart
 abbrev pub lines_of : BusState → InterruptLines
-lines_of b =
-    record { software = b.timer.software; timer = timer.is_due b.timer; external = plic.is_notified b.plic }
+lines_of b = record { software = b.timer.software; timer = is_due b.timer; external = is_notified b.plic }

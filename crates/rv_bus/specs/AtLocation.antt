@@ -1,6 +1,7 @@
 -- Not to audit: private contracts alone cite this. proofs/ proves that it is what the address table says.
 -- Accesses by the locations in which the code looks.
-use Rattle.std.specs.Prelude.{◌≡◌, ℕ, Bool, true, false, ◌%◌, ◌^◌, List, length, Option, Some, None}
+use Rattle.std.specs.Prelude.{◌≡◌, ℕ, Bool, true, false, ◌-◌, ◌%◌, ◌^◌, ◌&&◌, nat_le, nat_lt, List, length, Option, Some, None}
+use Rattle.rv_base.specs.Limits.{ram_base}
 use Rattle.rv_isa.specs.declared.op.Width.{Width}
 use Rattle.rv_isa.specs.Width.{bytes_of}
 use Rattle.rv_ram.specs.Bytes.{put, value_at}
@@ -14,6 +15,10 @@ use Rattle.rv_bus.specs.Access as access
 use Rattle.rv_bus.specs.Locations.{location_of}
 use Rattle.rv_bus.specs.declared.locations.Location.{Location}
 use Rattle.rv_bus.specs.declared.locations.Location.TheVariants.{Ram, Halt, Timer, Plic, Serial, Nowhere}
+
+-- whether an address is in the memory
+abbrev pub in_memory : List ℕ → ℕ → Bool
+in_memory ram a = nat_le ram_base a && nat_lt (a - ram_base) (length ram)
 
 -- the location at an address
 abbrev pub location : BusState → ℕ → Width → Location
