@@ -22,8 +22,8 @@ use Rattle.rv_csr.specs.declared.register.Register.{Register}
 use Rattle.rv_csr.specs.declared.register.Register.TheVariants.{Mstatus}
 use Rattle.rv_bus.specs.Access.{lines_of}
 use Rattle.rv_hart.specs.State.{Machine}
-use Rattle.rv_hart.specs.Effect.{Effect, effect, csr_written}
-use Rattle.rv_hart.specs.EffectParts.{csr_value, exchange_effect, exchange_result, is_write, return_effect, trap_step, with_result, write_result}
+use Rattle.rv_hart.specs.Effect.{effect, csr_written}
+use Rattle.rv_hart.specs.EffectParts.{Effect, csr_value, exchange_effect, exchange_result, is_write, return_effect, trap_step, with_result, write_result}
 use Rattle.rv_hart.specs.Step.{step, ticked, fetched, attempt, finished, counts, enter}
 use Rattle.rv_hart.specs.declared.trap.Trap.{Trap}
 use Rattle.rv_hart.proofs.Rows.{IfRetired, rows}

@@ -3,12 +3,14 @@
 use Rattle.std.specs.Prelude.{◌≡◌, ℕ, Bool, true, false, ◌&&◌, if◌then◌else◌, ◌+◌, ◌%◌, ◌^◌, List, [], ◌∷◌, ◌++◌, fold, take, slice_get, is_none, is_some}
 use Rattle.std.specs.Option.{option_map_or}
 use Rattle.circular_buffer.specs.Buffer.{keep_last}
+use Rattle.rv_plic.specs.Gateways.{with_line}
+use Rattle.rv_mmio.specs.Serial.{received}
 use Rattle.rv_hart.specs.State.{Machine}
-use Rattle.rv_hart.specs.Step.{step, with_line, receive}
+use Rattle.rv_hart.specs.Step.{step}
 use Rattle.rv_hart.specs.Step as hart
 use Rattle.rv_hart.specs.declared.trap.Outcome.{Outcome}
 use Rattle.rv_hart.specs.declared.trap.Outcome.TheVariants.{Trapped}
-use Rattle.rv_board.specs.BoardState.{BoardState}
+use Rattle.rv_board.specs.BoardState.{BoardState, on_bus}
 use Rattle.rv_board.specs.declared.event.Event.{Event}
 use Rattle.rv_board.specs.declared.event.Event.TheVariants.{Step, Line, Rx}
 use Rattle.rv_board.specs.declared.event.TrapRecord.{TrapRecord}
@@ -26,8 +28,8 @@ after_step b (m, o) = record { machine = m; traps = with_trap b.traps o; steps =
 -- the board after an event that happens to it
 abbrev pub with_event : BoardState → Event → BoardState
 with_event b Step = after_step b (step b.machine)
-with_event b (Line source high) = record b { machine = with_line b.machine source high }
-with_event b (Rx byte) = record b { machine = receive b.machine byte }
+with_event b (Line source high) = on_bus b (λ bus. record bus { plic = with_line bus.plic source high })
+with_event b (Rx byte) = on_bus b (λ bus. record bus { serial = received bus.serial byte })
 
 -- the board after an event: a halted board stays as it is
 unfoldable pub moved : BoardState → Event → BoardState

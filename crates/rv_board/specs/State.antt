@@ -27,6 +27,10 @@ memory_of b = b.machine.bus.ram
 abbrev pub pmp_of : BoardState → PmpState
 pmp_of b = b.machine.csrs.pmp
 
+-- the board with these bytes in its memory
+abbrev pub with_memory : BoardState → List ℕ → BoardState
+with_memory b ram = record b { machine = record b.machine { bus = record b.machine.bus { ram = ram } } }
+
 -- whether protection lets user mode read or execute the byte at an address, and whether it lets it write
 -- there
 abbrev pub user_sees : PmpState → ℕ → Bool

@@ -1,18 +1,12 @@
 -- A run of user code, and what it can't do.
 -- To audit: public contracts cite this.
-use Rattle.std.specs.Prelude.{◌≡◌, ℕ, true, false, ◌<◌, ◌≤◌, List, length, take, Result, Ok, Err}
+use Rattle.std.specs.Prelude.{◌≡◌, ℕ, true, false, ◌<◌, ◌≤◌, List, length, take}
 use Rattle.rv_pmp.specs.declared.access.Access.TheVariants.{Write}
 use Rattle.rv_bus.specs.Access.{ram_byte}
 use Rattle.rv_board.specs.BoardState.{BoardState}
 use Rattle.rv_board.specs.Agreement.{AgreeForUser, runs_user, user_may}
 use Rattle.rv_board.specs.Move.{run}
 use Rattle.rv_board.specs.declared.event.Event.{Event}
-use Rattle.rv_board.specs.declared.event.Stopped.{Stopped}
-
--- the number of events that were done
-abbrev pub done_of : Result ℕ Stopped → ℕ
-done_of (Ok n) = n
-done_of (Err s) = s.done
 
 -- the first n events were done, one after another, and before each of them user code ran
 pub record RanUser (old new : BoardState) (events : List Event) (n : ℕ) : Type 0 where

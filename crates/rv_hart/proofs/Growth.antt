@@ -14,7 +14,7 @@ use Rattle.rv_bus.specs.State.{BusState}
 use Rattle.rv_bus.specs.Access as bus
 use Rattle.rv_bus.proofs.Growth.{room_stores}
 use Rattle.rv_hart.specs.State.{Machine}
-use Rattle.rv_hart.specs.Effect.{execute, plus, reg}
+use Rattle.rv_hart.specs.Effect.{effect, execute, plus, reg}
 use Rattle.rv_hart.specs.EffectParts.{misaligned_store, refused_store, store_effect, store_result, may_access}
 use Rattle.rv_hart.specs.Room.{attempt_grows, may_grow, store_grows, wants_room}
 use Rattle.rv_hart.specs.Step as step
@@ -40,13 +40,14 @@ stores rule m w addr v is =
     and_from _ _ (retires m addr (addr % bytes_of w == 0) (may_access m Write addr w) (bus.store m.bus addr w v) a.0 b.0 s.1)
     s.0
 
-writing : (rule : RoomRule) (k : Kind) (m : Machine) → may_grow rule k m ≡ true → step.stores k m ≡ true
+writing : (rule : RoomRule) (k : Kind) (m : Machine) → may_grow rule k m ≡ true
+    → (is_ok (effect k m) && step.stores k m) ≡ true
 unfolding may_grow execute store_effect
 writing rule (Store w source base offset) m is = stores rule m w (plus (reg m base) offset) (reg m source) is
 writing rule k m is = absurd cc
 
 by_fetch : (rule : RoomRule) (m : Machine) (f : Result Kind Trap) → attempt_grows rule m f ≡ true
-    → option_map_or (λ k. step.stores k m) (result_ok f) false ≡ true
+    → option_map_or (λ k. is_ok (effect k m) && step.stores k m) (result_ok f) false ≡ true
 by_fetch rule m (Ok k) is = writing rule k m is
 by_fetch rule m (Err t) is = absurd cc
 

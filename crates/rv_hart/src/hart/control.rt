@@ -3,7 +3,7 @@ ghost use Rattle.std.specs.Prelude.{◌≡◌};
 ghost use Rattle.rv_isa.specs.Word as spec;
 ghost use Rattle.rv_isa.specs.declared.kind.Kind.{Kind};
 ghost use Rattle.rv_csr.specs.Registers as registers;
-ghost use Rattle.rv_pmp.specs.Pmp.{WritesOrRefuses};
+ghost use Rattle.rv_pmp.specs.Registers.{WritesOrRefuses};
 ghost use Rattle.rv_hart.specs.Effect.{csr_change, exchange, reg};
 ghost use Rattle.rv_hart.specs.EffectParts.{at_next, exchange_effect, return_effect, wait_effect};
 ghost use Rattle.rv_hart.specs.StepParts.{Does};
