@@ -3,15 +3,17 @@ use Rattle.std.proofs.Common.{◌≡◌, ℕ, List, [], ◌∷◌, ◌++◌, ℤ
 use Rattle.std.specs.Prelude.{Option, Some, IfSome, nat_eq}
 use Rattle.std.specs.Str.{bytes_eq}
 use Rattle.std.specs.Map.{lookup}
+use Rattle.rv_base.specs.Tables.{lookup as named}
 use lib.Pointwise.{pointwise}
 use Rattle.rv_program.specs.Program.{is_word}
-use Rattle.rv_program.specs.Program.{value_of, definitions_of}
-use Rattle.rv_program.specs.Kept.{AreWords}
+use Rattle.rv_program.specs.Kept.{AreWords, definitions_of}
+use Rattle.rv_tokens.proofs.Signs.{bytes_eq-swapped}
 
 pub lookup_value : {A : Type 0} (es : List (Vec ℕ A × ℤ)) (name : List ℕ)
-    → lookup (λ k. pointwise nat_eq name k.items) es ≡ value_of (definitions_of es) name
+    → lookup (λ k. pointwise nat_eq name k.items) es ≡ named name (definitions_of es)
 lookup_value [] name = refl
-lookup_value (e ∷ es) name = ap (cond (bytes_eq name e.0.items) (Some e.1)) (lookup_value es name)
+lookup_value (e ∷ es) name =
+    rw (bytes_eq-swapped name e.0.items) (ap (cond (bytes_eq e.0.items name) (Some e.1)) (lookup_value es name))
 
 pub definitions_of-push : {A : Type 0} (es : List (Vec ℕ A × ℤ)) (k : Vec ℕ A) (v : ℤ)
     → definitions_of (es ++ (k, v) ∷ []) ≡ definitions_of es ++ (k.items, v) ∷ []
@@ -24,10 +26,10 @@ IfSome-cond P true x o p q = p
 IfSome-cond P false x o p q = q
 
 pub word_of_name : (ds : List (List ℕ × ℤ)) (name : List ℕ) → AreWords ds
-    → IfSome (value_of ds name) (λ v. is_word v ≡ true)
+    → IfSome (named name ds) (λ v. is_word v ≡ true)
 word_of_name [] name h = tt
 word_of_name (d ∷ ds) name h =
-    IfSome-cond (λ v. is_word v ≡ true) (bytes_eq name d.0) d.1 (value_of ds name) h.0
+    IfSome-cond (λ v. is_word v ≡ true) (bytes_eq d.0 name) d.1 (named name ds) h.0
     (word_of_name ds name h.1)
 
 pub AreWords-push : (ds : List (List ℕ × ℤ)) (name : List ℕ) (v : ℤ) → AreWords ds → is_word v ≡ true

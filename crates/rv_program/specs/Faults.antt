@@ -1,7 +1,7 @@
 -- Faults of a source, and results that may be a fault.
 -- To audit: public contracts cite this.
 -- The language is this project's own: docs/ASSEMBLER.md.
-use Rattle.std.specs.Prelude.{◌≡◌, ℕ, List, Result, Ok, Err, codes}
+use Rattle.std.specs.Prelude.{◌≡◌, ◌==◌, ℕ, List, Result, Ok, Err, codes, MatchBool}
 use Rattle.rv_tokens.specs.declared.fault.LineFault.{LineFault}
 use Rattle.rv_tokens.specs.declared.fault.LineFault.TheVariants as line
 use Rattle.rv_program.specs.declared.fault.FaultKind.{FaultKind}
@@ -23,18 +23,11 @@ title_of Undefined = (10, codes "Undefined")
 title_of OutOfRange = (11, codes "OutOfRange")
 title_of OutOfMemory = (12, codes "OutOfMemory")
 
--- a fault of this kind is out of memory, at line 0, or the fault that is meant
-abbrev pub FailsBy : {B : Type 0} → FaultKind → AsmFault → Result B AsmFault → Type 0
-FailsBy OutOfMemory fault meaning = fault.line ≡ 0
-FailsBy kind fault meaning = meaning ≡ Err fault
-
-abbrev pub Fails : {B : Type 0} → AsmFault → Result B AsmFault → Type 0
-Fails fault meaning = FailsBy fault.kind fault meaning
-
--- a result, seen through a view, is the one meant, unless memory ran out
+-- a result, seen through a view, is the one meant, or memory ran out, which is E12 at line 0
 abbrev pub Gives : {A B : Type 0} → (A → B) → Result A AsmFault → Result B AsmFault → Type 0
 Gives view (Ok x) meaning = meaning ≡ Ok (view x)
-Gives view (Err fault) meaning = Fails fault meaning
+Gives view (Err fault) meaning =
+    MatchBool ((title_of fault.kind).0 == 12) (fault.line ≡ 0) (meaning ≡ Err fault)
 
 -- the kind of a fault of a line that can't be read
 abbrev pub kind_of : LineFault → FaultKind
@@ -44,8 +37,3 @@ kind_of line.Syntax = Syntax
 kind_of line.UnknownWord = UnknownWord
 kind_of line.BadOperands = BadOperands
 kind_of line.OutOfMemory = OutOfMemory
-
--- the fault of a kind at a line; out of memory is at line 0
-abbrev pub IsFaultAt : ℕ → FaultKind → AsmFault → Type 0
-IsFaultAt line OutOfMemory fault = fault ≡ record { line = 0; kind = OutOfMemory }
-IsFaultAt line kind fault = fault ≡ record { line = line; kind = kind }

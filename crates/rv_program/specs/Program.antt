@@ -1,8 +1,8 @@
 -- The image and the names that a source is assembled to.
 -- To audit: public contracts cite this.
 -- The language is this project's own: docs/ASSEMBLER.md.
-use Rattle.std.specs.Prelude.{ℕ, map, Vec, ◌&&◌, List, [], ◌∷◌, ℤ, pos, negsuc, int_le, Bool, Option, Some, None, if◌then◌else◌}
-use Rattle.std.specs.Str.{bytes_eq}
+use Rattle.std.specs.Prelude.{ℕ, ◌&&◌, List, ℤ, pos, negsuc, int_le, Bool, Option}
+use Rattle.rv_base.specs.Tables.{lookup}
 
 -- the bytes of the image, and the names with their values, in order of definition
 pub record Assembly : Type 0 where
@@ -10,13 +10,8 @@ pub record Assembly : Type 0 where
   pub symbols : List (List ℕ × ℤ)
 
 -- the value of a name: that of its only definition
-abbrev pub value_of : List (List ℕ × ℤ) → List ℕ → Option ℤ
-value_of [] name = None
-value_of (d ∷ ds) name = if bytes_eq name d.0 then Some d.1 else value_of ds name
-
--- the entries of a map, as names with their values
-abbrev pub definitions_of : {A : Type 0} → List (Vec ℕ A × ℤ) → List (List ℕ × ℤ)
-definitions_of = map (λ e. (e.0.items, e.1))
+unfoldable pub value_of : List (List ℕ × ℤ) → List ℕ → Option ℤ
+value_of ds name = lookup name ds
 
 -- whether a value fits into 32 bits, signed or unsigned: from -2 ^ 31 to 2 ^ 32 - 1
 abbrev pub is_word : ℤ → Bool

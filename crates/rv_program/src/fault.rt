@@ -126,11 +126,12 @@ pub struct AsmFault {
 }
 
 impl AsmFault {
-    ghost use Rattle.rv_program.specs.Faults.{IsFaultAt};
+    ghost use Rattle.std.specs.Prelude.{◌≡◌, ◌==◌, if◌then◌else◌};
+    ghost use Rattle.rv_program.specs.Faults.{title_of};
 
     /// Makes a fault at a line, or at line 0 if it is out of memory.
     pub fn at(line: usize, kind: FaultKind) -> Self
-        ensures { IsFaultAt line kind result }
+        ensures { result ≡ record { line = (if (title_of kind).0 == 12 then 0 else line); kind = kind } }
     {
         match kind {
             FaultKind::OutOfMemory => AsmFault { line: 0, kind },

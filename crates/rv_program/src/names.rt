@@ -1,6 +1,6 @@
 //! The names of a source.
-ghost use Rattle.std.specs.Prelude.{◌≡◌, true, List, [], ◌∷◌, ◌++◌, None, IfSome, OnOk, OnErr};
-ghost use Rattle.rv_program.specs.Program.{value_of, definitions_of};
+ghost use Rattle.std.specs.Prelude.{◌≡◌, true, List, [], ◌∷◌, ◌++◌, None, IfSome, OnOk, OnErr, map};
+ghost use Rattle.rv_base.specs.Tables.{lookup};
 ghost use Rattle.rv_program.specs.Program.{is_word};
 
 use indexmap::IndexMap;
@@ -22,8 +22,7 @@ impl Drop for Names {
 
 impl Model for Names {
     ghost use Rattle.std.specs.Prelude.{List, ℕ, ℤ};
-    ghost use Rattle.rv_program.specs.Program.{definitions_of};
-    ghost use Rattle.rv_program.specs.Kept.{AreWords};
+    ghost use Rattle.rv_program.specs.Kept.{AreWords, definitions_of};
 
     ghost Value = { List (List ℕ × ℤ) };
 
@@ -44,7 +43,7 @@ impl Names {
 
     /// Returns the value of a name, if it is defined.
     pub fn value(&self, name: &[u8]) -> Option<i64>
-        ensures value { result ≡ value_of self.now name.now }
+        ensures value { result ≡ lookup name.now self.now }
         ensures word { IfSome result (λ v. is_word v ≡ true) }
     {
         self.map.get(name).copied()
@@ -52,7 +51,7 @@ impl Names {
 
     /// Returns the names with their values as a map.
     pub fn map(&self) -> &IndexMap<Vec<u8>, i64>
-        ensures { definitions_of result.now.entries ≡ self.now }
+        ensures { map (λ e. (e.0.items, e.1)) result.now.entries ≡ self.now }
     {
         &self.map
     }
@@ -63,7 +62,7 @@ impl Names {
     ///
     /// `AllocError` if the allocator refuses; nothing changes then.
     pub fn define(&mut self, alloc: Global, name: &[u8], value: i64) -> Result<(), AllocError>
-        requires absent { value_of self.old name.now ≡ None }
+        requires absent { lookup name.now self.old ≡ None }
         requires word { is_word value ≡ true }
         ensures ok { OnOk result (self.new ≡ self.old ++ (name.now, value) ∷ []) }
         ensures err { OnErr result (self.new ≡ self.old) }

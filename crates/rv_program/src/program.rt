@@ -32,9 +32,9 @@ impl Model for Program {
 }
 
 impl Program {
-    ghost use Rattle.std.specs.Prelude.{◌≡◌, ◌≤◌, length};
+    ghost use Rattle.std.specs.Prelude.{◌≡◌, ◌≤◌, length, map};
     ghost use Rattle.rv_base.specs.Limits.{image_limit};
-    ghost use Rattle.rv_program.specs.Program.{value_of, definitions_of};
+    ghost use Rattle.rv_program.specs.Program.{value_of};
 
     /// Makes a program of an image and names.
     pub fn new(bytes: Vec<u8>, names: Names) -> Self
@@ -55,12 +55,13 @@ impl Program {
     /// Returns the names that the source defines, labels and constants, with their values, in order of
     /// definition.
     pub fn symbols(&self) -> &IndexMap<Vec<u8>, i64>
-        ensures { definitions_of result.now.entries ≡ self.now.symbols }
+        ensures { map (λ e. (e.0.items, e.1)) result.now.entries ≡ self.now.symbols }
     {
         self.names.map()
     }
 
     /// Returns the value of a name, if the source defines it.
+    #[tactic(auto, unfolding(crate::specs::Program::value_of))]
     pub fn symbol(&self, name: &[u8]) -> Option<i64>
         ensures { result ≡ value_of self.now.symbols name.now }
     {

@@ -4,7 +4,7 @@ use Rattle.std.specs.Prelude.{◌==◌, None, Some, Result, Ok, Err}
 use Rattle.rv_tokens.specs.declared.token.Token.{Token}
 use Rattle.rv_tokens.specs.declared.fault.LineFault.{LineFault}
 use Rattle.rv_tokens.specs.declared.fault.LineFault.TheVariants.{BadByte, LineTooLong, Syntax, UnknownWord, BadOperands, OutOfMemory}
-use Rattle.rv_tokens.specs.Faults.{Fails}
+use Rattle.rv_tokens.specs.Partial.{Fails}
 use Rattle.rv_base.specs.Words.{is_blank}
 use Rattle.rv_tokens.specs.Cuts.{front}
 use Rattle.rv_tokens.specs.Tokens.{is_comment, fault_at}

@@ -1,5 +1,6 @@
 pub mod Bools
 pub mod Digits
+pub mod Escapes
 pub mod Longest
 pub mod StringEnds
 pub mod Front

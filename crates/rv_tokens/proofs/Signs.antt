@@ -13,9 +13,9 @@ use Rattle.rv_base.specs.Tables.{lookup}
 use Rattle.rv_tokens.specs.declared.token.Token.{Token}
 use Rattle.rv_tokens.specs.declared.token.Token.TheVariants.{Character, Text}
 use Rattle.rv_base.specs.Numbers.{number_in}
-use Rattle.rv_tokens.specs.Literals.{prefixes, letters, has_leading_zero, number, short_decimal, between}
+use Rattle.rv_tokens.specs.Literals.{letters, has_leading_zero, number, short_decimal, between}
 use Rattle.rv_tokens.specs.Tokens.{is_name_byte, local, word, signs, token_of}
-use Rattle.rv_tokens.specs.Partial.{has_prefix, letter_escape, sign, half, character, string}
+use Rattle.rv_tokens.specs.Partial.{prefixes, has_prefix, letter_escape, sign, half, character, string}
 
 same_by : (a b : ℕ) (s t : Bool) → (a == b) ≡ s → (b == a) ≡ t → (s && true) ≡ t
 same_by a b true true e f = refl
@@ -23,10 +23,10 @@ same_by a b true false e f = grind (arith, nat_tests)
 same_by a b false true e f = grind (arith, nat_tests)
 same_by a b false false e f = refl
 
-same_byte : (a b : ℕ) → ((a == b) && true) ≡ (b == a)
+pub same_byte : (a b : ℕ) → ((a == b) && true) ≡ (b == a)
 same_byte a b = same_by a b (a == b) (b == a) refl refl
 
-no_more : (a : Bool) → (a && false) ≡ false
+pub no_more : (a : Bool) → (a && false) ≡ false
 no_more true = refl
 no_more false = refl
 

@@ -3,22 +3,31 @@ use Rattle.std.proofs.Common.{◌≡◌, ℕ, zero, suc, ◌<◌, ◌≤◌, Boo
 use Rattle.std.specs.Prelude.{Option, None, Some}
 use Rattle.std.specs.Bool.{◌==◌}
 use Rattle.std.specs.Option.{option_map}
-use Rattle.rv_tokens.specs.Literals.{longest, escape, spelled, first_byte, bytes_after, string_bytes}
+use Rattle.rv_tokens.specs.Literals.{longest, escape, spelled, bytes_after}
+use Rattle.rv_tokens.specs.Partial.{escape_by, spelled_by, first_byte, string_bytes}
+use Rattle.rv_tokens.proofs.Escapes.{escape_is, spelled_is}
 use Rattle.rv_tokens.proofs.Longest.{longest_above, longest_found}
 
-cond_none : (b : Bool) → ◌≡◌ {A = Option ℕ} (cond b None None) None
-cond_none true = refl
-cond_none false = refl
+cond_none : (b : Bool) (o : Option ℕ) → o ≡ None → cond b o None ≡ None
+cond_none true o e = e
+cond_none false o e = refl
+
+long_escape : (b c d e : ℕ) (es : List ℕ) → escape (b ∷ c ∷ d ∷ e ∷ es) ≡ None
+unfolding escape_by
+long_escape b c d e es = escape_is (b ∷ c ∷ d ∷ e ∷ es)
+
+long_by : (quote : ℕ) (text : List ℕ) → 4 < length text → spelled_by quote text ≡ None
+unfolding spelled_by
+long_by quote [] h = absurd (omega arith)
+long_by quote (a ∷ []) h = absurd (omega arith)
+long_by quote (a ∷ b ∷ []) h = absurd (omega arith)
+long_by quote (a ∷ b ∷ c ∷ []) h = absurd (omega arith)
+long_by quote (a ∷ b ∷ c ∷ d ∷ []) h = absurd (omega arith)
+long_by quote (a ∷ b ∷ c ∷ d ∷ e ∷ bs) h = cond_none (a == 92) _ (long_escape b c d e bs)
 
 -- the text of a byte has at most four bytes
 pub spelled_long : (quote : ℕ) (text : List ℕ) → 4 < length text → spelled quote text ≡ None
-unfolding spelled escape
-spelled_long quote [] h = absurd (omega arith)
-spelled_long quote (a ∷ []) h = absurd (omega arith)
-spelled_long quote (a ∷ b ∷ []) h = absurd (omega arith)
-spelled_long quote (a ∷ b ∷ c ∷ []) h = absurd (omega arith)
-spelled_long quote (a ∷ b ∷ c ∷ d ∷ []) h = absurd (omega arith)
-spelled_long quote (a ∷ b ∷ c ∷ d ∷ e ∷ bs) h = cond_none (a == 92)
+spelled_long quote text h = spelled_is quote text ∙ long_by quote text h
 
 -- the byte that the first n bytes of a text spell in a string
 abbrev pub string_byte_in : List ℕ → ℕ → Option ℕ

@@ -13,11 +13,12 @@ use Rattle.std.proofs.Math.Seq.{drop-cons}
 use Rattle.rv_tokens.specs.declared.token.Token.{Token}
 use Rattle.rv_tokens.specs.declared.token.Token.TheVariants.{Text}
 use Rattle.rv_base.specs.Numbers.{hex_digit, number_in}
-use Rattle.rv_tokens.specs.Literals.{longest, escape, spelled, between, first_byte, bytes_after, string_bytes}
+use Rattle.rv_tokens.specs.Literals.{longest, escape, spelled, between, bytes_after}
 use Rattle.rv_tokens.specs.Cuts.{front}
 use Rattle.rv_tokens.specs.Tokens.{token_of, token_in}
-use Rattle.rv_tokens.specs.Partial.{may_precede, is_digit, string}
+use Rattle.rv_tokens.specs.Partial.{may_precede, is_digit, first_byte, string_bytes, string, escape_by, spelled_by}
 use Rattle.rv_tokens.proofs.Signs.{token_is}
+use Rattle.rv_tokens.proofs.Escapes.{escape_is, spelled_is}
 use Rattle.rv_tokens.proofs.Front.{kept_in, no_name_last, token_in_is}
 use Rattle.rv_tokens.proofs.Digits.{number_in_is}
 use Rattle.rv_tokens.proofs.Longest.{longest_is, longest_found, longest_missing, longest_none}
@@ -40,37 +41,45 @@ hex_quote c d e b zero true x h lt q = let f : c ≡ 120 = grind (arith, nat_tes
 hex_quote c d e b (suc i) true x h lt q = no_quote 16 (d ∷ e ∷ []) b i (omega arith) h (omega arith) q
 hex_quote c d e b i false x h lt q = no_quote 8 (c ∷ d ∷ e ∷ []) b i (omega arith) h (omega arith) q
 
+quote_by : (cs : List ℕ) (b i : ℕ) → 1 < length cs → escape_by cs ≡ Some b → i < length cs
+    → get_or cs i 0 ≡ 34 → ⊥
+unfolding escape_by
+quote_by [] b i long h lt q = omega arith
+quote_by (c ∷ []) b i long h lt q = omega arith
+quote_by (c ∷ d ∷ []) b i long h lt q = no_quote 8 (c ∷ d ∷ []) b i (omega arith) h lt q
+quote_by (c ∷ d ∷ e ∷ []) b i long h lt q = hex_quote c d e b i (c == 120) refl h lt q
+quote_by (c ∷ d ∷ e ∷ f ∷ fs) b i long h lt q = absurd cc
+
 escape_quote : (cs : List ℕ) (b i : ℕ) → 1 < length cs → escape cs ≡ Some b → i < length cs
     → get_or cs i 0 ≡ 34 → ⊥
-unfolding escape
-escape_quote [] b i long h lt q = omega arith
-escape_quote (c ∷ []) b i long h lt q = omega arith
-escape_quote (c ∷ d ∷ []) b i long h lt q = no_quote 8 (c ∷ d ∷ []) b i (omega arith) h lt q
-escape_quote (c ∷ d ∷ e ∷ []) b i long h lt q = hex_quote c d e b i (c == 120) refl h lt q
-escape_quote (c ∷ d ∷ e ∷ f ∷ fs) b i long h lt q = absurd cc
+escape_quote cs b i long h lt q = quote_by cs b i long (sym (escape_is cs) ∙ h) lt q
 
 cond_some : (t : Bool) (o : Option ℕ) (b : ℕ) → cond t o None ≡ Some b → (t ≡ true) × (o ≡ Some b)
 cond_some true o b h = (refl, h)
 cond_some false o b h = absurd cc
 
--- before a quote within the spelling of a byte there is only a `\`
-before_quote : (quote : ℕ) (s : List ℕ) (b j : ℕ) → spelled quote s ≡ Some b → 0 < j → j < length s
+before_by : (quote : ℕ) (s : List ℕ) (b j : ℕ) → spelled_by quote s ≡ Some b → 0 < j → j < length s
     → get_or s j 0 ≡ 34 → take j s ≡ 92 ∷ []
-unfolding spelled
-before_quote quote [] b j h some lt q = absurd (omega arith)
-before_quote quote (a ∷ []) b j h some lt q = absurd (omega arith)
-before_quote quote (a ∷ c ∷ []) b j h some lt q =
+unfolding spelled_by
+before_by quote [] b j h some lt q = absurd (omega arith)
+before_by quote (a ∷ []) b j h some lt q = absurd (omega arith)
+before_by quote (a ∷ c ∷ []) b j h some lt q =
     let p = cond_some (a == 92) (escape (c ∷ [])) b h in
     let e : j ≡ 1 = omega arith in
     let f : a ≡ 92 = grind (arith, nat_tests, p.0) in
     rw (e, f) refl
-before_quote quote (a ∷ c ∷ d ∷ ds) b zero h some lt q = absurd (omega arith)
-before_quote quote (a ∷ c ∷ d ∷ ds) b (suc j) h some lt q =
+before_by quote (a ∷ c ∷ d ∷ ds) b zero h some lt q = absurd (omega arith)
+before_by quote (a ∷ c ∷ d ∷ ds) b (suc j) h some lt q =
     let p = cond_some (a == 92) (escape (c ∷ d ∷ ds)) b h in
     absurd (escape_quote (c ∷ d ∷ ds) b j (omega arith) p.1 (omega arith) q)
 
+-- before a quote within the spelling of a byte there is only a `\`
+before_quote : (quote : ℕ) (s : List ℕ) (b j : ℕ) → spelled quote s ≡ Some b → 0 < j → j < length s
+    → get_or s j 0 ≡ 34 → take j s ≡ 92 ∷ []
+before_quote quote s b j h some lt q = before_by quote s b j (sym (spelled_is quote s) ∙ h) some lt q
+
 lone_backslash : string_bytes (92 ∷ []) ≡ None
-unfolding bytes_after longest spelled
+unfolding bytes_after longest spelled escape number_in
 lone_backslash = refl
 
 -- the text of a byte that is cut off before a quote isn't the text of any bytes

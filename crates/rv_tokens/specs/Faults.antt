@@ -5,15 +5,11 @@ use Rattle.std.specs.Prelude.{◌≡◌, Result, Ok, Err}
 use Rattle.rv_tokens.specs.declared.fault.LineFault.{LineFault}
 use Rattle.rv_tokens.specs.declared.fault.LineFault.TheVariants.{OutOfMemory}
 
--- a fault is the one meant, unless memory ran out
-abbrev pub Fails : {B : Type 0} → LineFault → Result B LineFault → Type 0
-Fails OutOfMemory meaning = Unit {0}
-Fails fault meaning = meaning ≡ Err fault
-
 -- a result, seen through a view, is the one meant, unless memory ran out
 abbrev pub Gives : {A B : Type 0} → (A → B) → Result A LineFault → Result B LineFault → Type 0
 Gives view (Ok x) meaning = meaning ≡ Ok (view x)
-Gives view (Err fault) meaning = Fails fault meaning
+Gives view (Err OutOfMemory) meaning = Unit {0}
+Gives view (Err fault) meaning = meaning ≡ Err fault
 
 -- continue with the value, unless there is a fault
 infixl 10 ◌>>=◌

@@ -3,7 +3,7 @@
 -- The language is this project's own: docs/ASSEMBLER.md.
 use Rattle.std.specs.Prelude.{ℕ, zero, suc, pred, ◌-◌, Bool, not, ◌&&◌, ◌||◌, List, [], ◌∷◌, length, take, drop, if◌then◌else◌, ◌==◌, nat_le, nat_lt, Option, Some, None, option_and_then, slice_index, codes}
 use Rattle.std.specs.Option.{option_map, option_map_or, option_or}
-use Rattle.rv_base.specs.Numbers.{number_in}
+use Rattle.rv_base.specs.Numbers.{hex_byte, number_in}
 use Rattle.rv_base.specs.Tables.{lookup}
 
 -- Of the prefixes of a text up to n bytes, the longest that spells something: what it spells, and its length.
@@ -18,13 +18,10 @@ longest spells (suc n) = option_or (option_map (λ x. (x, suc n)) (spells (suc n
 abbrev pub has_leading_zero : List ℕ → Bool
 has_leading_zero text = nat_lt 1 (length text) && (slice_index text 0 == 48)
 
--- the bases of numbers, by the two bytes that they begin with
-abbrev pub prefixes : List (List ℕ × ℕ)
-prefixes = (codes "0x", 16) ∷ (codes "0X", 16) ∷ (codes "0b", 2) ∷ (codes "0B", 2) ∷ []
-
 -- a number: a prefix and digits in its base, `0` and octal digits, or decimal digits without a leading zero
 unfoldable pub number : List ℕ → Option ℕ
 number text =
+    let prefixes = (codes "0x", 16) ∷ (codes "0X", 16) ∷ (codes "0b", 2) ∷ (codes "0B", 2) ∷ [] in
     option_map_or (λ base. number_in base 0xffffffff (drop 2 text)) (lookup (take 2 text) prefixes)
     (if has_leading_zero text then number_in 8 0xffffffff (drop 1 text) else number_in 10 0xffffffff text)
 
@@ -42,25 +39,18 @@ letters =
 
 -- an escape without its `\`: a letter, `x` and two hexadecimal digits, or one to three octal digits of a byte
 unfoldable pub escape : List ℕ → Option ℕ
-escape (b ∷ []) = option_or (lookup (b ∷ []) letters) (number_in 8 255 (b ∷ []))
-escape (b ∷ c ∷ []) = number_in 8 255 (b ∷ c ∷ [])
-escape (b ∷ c ∷ d ∷ []) =
-    if b == 120 then number_in 16 255 (c ∷ d ∷ []) else number_in 8 255 (b ∷ c ∷ d ∷ [])
-escape _ = None
+escape text =
+    if slice_index text 0 == 120 then hex_byte (drop 1 text)
+    else (if nat_lt 3 (length text) then None else option_or (lookup text letters) (number_in 8 255 text))
 
--- whether a byte stands for itself between two quotes: 0x20 to 0x7E, and in a string a tab and 0x80 to 0xFF,
--- except this quote and `\`
-abbrev pub is_plain : ℕ → ℕ → Bool
-is_plain quote b =
-    ((nat_le 32 b && nat_le b 126) || ((quote == 34) && ((b == 9) || nat_le 128 b)))
-    && (not (b == quote) && not (b == 92))
-
--- the byte that a text as a whole spells between two quotes: a plain byte stands for itself, or it is an
--- escape
+-- the byte that a text as a whole spells between two quotes: an escape, or a byte that stands for itself,
+-- 0x20 to 0x7E but this quote, and in a string a tab and 0x80 to 0xFF
 unfoldable pub spelled : ℕ → List ℕ → Option ℕ
 spelled quote [] = None
-spelled quote (b ∷ []) = if is_plain quote b then Some b else None
-spelled quote (b ∷ bs) = if b == 92 then escape bs else None
+spelled quote (b ∷ bs) =
+    let in_string = (quote == 34) && ((b == 9) || nat_le 128 b) in
+    let is_plain = ((nat_le 32 b && nat_le b 126) || in_string) && not (b == quote) in
+    if b == 92 then escape bs else (if is_plain && (length bs == 0) then Some b else None)
 
 -- what stands between two signs, the first and the last byte of a text
 abbrev pub between : ℕ → ℕ → List ℕ → Option (List ℕ)
@@ -69,18 +59,11 @@ between left right text =
     then Some (drop 1 (take (length text - 1) text))
     else None
 
--- the first byte of a string, and the length of its text: the longest prefix that spells a byte
-abbrev pub first_byte : List ℕ → Option (ℕ × ℕ)
-first_byte text = longest (λ n. spelled 34 (take n text)) (length text)
-
--- the bytes of a string after the first n bytes of its text
+-- the bytes of a string after the first n bytes of the text between its quotes: the longest part from there
+-- that spells a byte is one, and the others follow
 unfoldable pub bytes_after : List ℕ → ℕ → Option (List ℕ)
 bytes_after [] n = Some []
 bytes_after (b ∷ bs) (suc n) = bytes_after bs n
 bytes_after (b ∷ bs) zero =
     option_and_then (λ found. option_map (λ cs. found.0 ∷ cs) (bytes_after bs (pred found.1)))
-    (first_byte (b ∷ bs))
-
--- the bytes of a string, by the text between its quotes
-abbrev pub string_bytes : List ℕ → Option (List ℕ)
-string_bytes spelling = bytes_after spelling 0
+    (longest (λ n. spelled 34 (take n (b ∷ bs))) (length (b ∷ bs)))

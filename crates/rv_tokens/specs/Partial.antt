@@ -1,17 +1,30 @@
--- What the lexer asks of a byte or a short text, each by tests in their order; and the tokens of a line, and
--- their places, each by a recursion of its own. The language is this project's own: docs/ASSEMBLER.md.
+-- What the lexer asks of a byte or a short text, each by tests in their order; the tokens of a line, and
+-- their places, each by a recursion of its own; and the faults of results. The language is this project's own: docs/ASSEMBLER.md.
 -- Not to audit: private contracts alone cite this.
-use Rattle.std.specs.Prelude.{ℕ, zero, suc, pred, ◌-◌, Bool, not, ◌&&◌, ◌||◌, List, [], ◌∷◌, ◌++◌, length, if◌then◌else◌, ◌==◌, nat_lt, Option, Some, None, option_and_then, slice_index, codes, Result, Ok, Err}
+use Rattle.std.specs.Prelude.{ℕ, zero, suc, pred, ◌-◌, Bool, not, ◌&&◌, ◌||◌, ◌≡◌, List, [], ◌∷◌, ◌++◌, length, take, if◌then◌else◌, ◌==◌, nat_le, nat_lt, Option, Some, None, option_and_then, slice_index, codes, Result, Ok, Err}
 use Rattle.std.specs.Str.{bytes_eq}
 use Rattle.rv_base.specs.Words.{is_blank}
 use Rattle.rv_tokens.specs.declared.place.Place.{Place}
 use Rattle.rv_tokens.specs.declared.fault.LineFault.{LineFault}
-use Rattle.rv_base.specs.Numbers.{digit_value}
-use Rattle.rv_tokens.specs.Literals.{spelled, between, string_bytes}
+use Rattle.std.specs.Option.{option_map, option_or}
+use Rattle.rv_base.specs.Numbers.{digit_value, number_in}
+use Rattle.rv_base.specs.Tables.{lookup}
+use Rattle.rv_tokens.specs.declared.fault.LineFault.TheVariants.{OutOfMemory}
+use Rattle.rv_tokens.specs.Literals.{longest, short_decimal, letters, escape, spelled, between, bytes_after}
 use Rattle.rv_tokens.specs.Cuts.{front}
 use Rattle.rv_tokens.specs.Tokens.{is_name_byte, is_comment, fault_at}
 use Rattle.rv_tokens.specs.declared.token.Token.{Token}
-use Rattle.rv_tokens.specs.declared.token.Token.TheVariants.{Comma, Open, Close, Plus, Minus, Colon, At, High, Low}
+use Rattle.rv_tokens.specs.declared.token.Direction.TheVariants.{Backward, Forward}
+use Rattle.rv_tokens.specs.declared.token.Token.TheVariants.{Local, Comma, Open, Close, Plus, Minus, Colon, At, High, Low}
+
+-- a fault is the one meant, unless memory ran out
+abbrev pub Fails : {B : Type 0} → LineFault → Result B LineFault → Type 0
+Fails OutOfMemory meaning = Unit {0}
+Fails fault meaning = meaning ≡ Err fault
+
+-- the bases of numbers, by the two bytes that they begin with
+abbrev pub prefixes : List (List ℕ × ℕ)
+prefixes = (codes "0x", 16) ∷ (codes "0X", 16) ∷ (codes "0b", 2) ∷ (codes "0B", 2) ∷ []
 
 -- whether a text begins with `0` and a letter in either case
 abbrev pub has_prefix : ℕ → ℕ → List ℕ → Bool
@@ -29,6 +42,35 @@ letter_escape b =
     else (if b == 102 then Some 12
     else (if (b == 92) || ((b == 34) || (b == 39)) then Some b
     else None)))))
+
+-- an escape without its `\`, by the number of its bytes
+unfoldable pub escape_by : List ℕ → Option ℕ
+escape_by (b ∷ []) = option_or (lookup (b ∷ []) letters) (number_in 8 255 (b ∷ []))
+escape_by (b ∷ c ∷ []) = number_in 8 255 (b ∷ c ∷ [])
+escape_by (b ∷ c ∷ d ∷ []) =
+    if b == 120 then number_in 16 255 (c ∷ d ∷ []) else number_in 8 255 (b ∷ c ∷ d ∷ [])
+escape_by _ = None
+
+-- whether a byte stands for itself between two quotes
+abbrev pub is_plain : ℕ → ℕ → Bool
+is_plain quote b =
+    ((nat_le 32 b && nat_le b 126) || ((quote == 34) && ((b == 9) || nat_le 128 b)))
+    && (not (b == quote) && not (b == 92))
+
+-- the byte that a text spells between two quotes, by the number of its bytes
+unfoldable pub spelled_by : ℕ → List ℕ → Option ℕ
+spelled_by quote [] = None
+spelled_by quote (b ∷ []) = if is_plain quote b then Some b else None
+spelled_by quote (b ∷ bs) = if b == 92 then escape bs else None
+
+-- a reference to a local label, by its last byte
+unfoldable pub local_by : List ℕ → Option Token
+local_by text =
+    if slice_index text (length text - 1) == 98
+    then option_map (λ n. Local n Backward) (short_decimal (take (length text - 1) text))
+    else (if slice_index text (length text - 1) == 102
+    then option_map (λ n. Local n Forward) (short_decimal (take (length text - 1) text))
+    else None)
 
 -- a sign of one byte
 abbrev pub sign : ℕ → Option Token
@@ -64,6 +106,14 @@ is_digit base b = nat_lt (digit_value b) base
 -- the byte of a character with its quotes
 unfoldable pub character : List ℕ → Option ℕ
 character text = option_and_then (spelled 39) (between 39 39 text)
+
+-- the first byte of a string, and the length of its text
+abbrev pub first_byte : List ℕ → Option (ℕ × ℕ)
+first_byte text = longest (λ n. spelled 34 (take n text)) (length text)
+
+-- the bytes of a string, by the text between its quotes
+abbrev pub string_bytes : List ℕ → Option (List ℕ)
+string_bytes spelling = bytes_after spelling 0
 
 -- the bytes of a string with its quotes
 unfoldable pub string : List ℕ → Option (List ℕ)

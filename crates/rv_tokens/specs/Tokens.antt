@@ -1,7 +1,7 @@
 -- The spelling of tokens, and what begins none.
 -- To audit: public contracts cite this.
 -- The language is this project's own: docs/ASSEMBLER.md.
-use Rattle.std.specs.Prelude.{ℕ, ◌-◌, Bool, ◌&&◌, ◌||◌, List, [], ◌∷◌, length, take, if◌then◌else◌, ◌==◌, nat_eq, nat_le, option_and_then, Option, Some, None, slice_index, codes}
+use Rattle.std.specs.Prelude.{ℕ, ◌-◌, Bool, ◌&&◌, ◌||◌, List, [], ◌∷◌, length, take, drop, if◌then◌else◌, ◌==◌, nat_eq, nat_le, option_and_then, Option, Some, None, slice_index, codes}
 use Rattle.std.specs.List.{list_all, starts_with}
 use Rattle.std.specs.Option.{option_map, option_or}
 use Rattle.std.specs.Char.{is_ascii_digit, is_ascii_alphabetic}
@@ -11,7 +11,7 @@ use Rattle.rv_tokens.specs.declared.token.Token.{Token}
 use Rattle.rv_tokens.specs.declared.token.Token.TheVariants.{Name, Digits, Number, Local, Character, Text, Comma, Open, Close, Plus, Minus, Colon, At, High, Low}
 use Rattle.rv_tokens.specs.declared.fault.LineFault.{LineFault}
 use Rattle.rv_tokens.specs.declared.fault.LineFault.TheVariants.{BadByte, Syntax}
-use Rattle.rv_tokens.specs.Literals.{number, short_decimal, between, spelled, string_bytes}
+use Rattle.rv_tokens.specs.Literals.{number, short_decimal, between, spelled, bytes_after}
 
 -- ---- the spelling of a token
 
@@ -26,11 +26,9 @@ is_name_byte b = is_name_start b || is_ascii_digit b
 -- a reference to a local label: a short number, and `b` or `f`
 unfoldable pub local : List ℕ → Option Token
 local text =
-    if slice_index text (length text - 1) == 98
-    then option_map (λ n. Local n Backward) (short_decimal (take (length text - 1) text))
-    else (if slice_index text (length text - 1) == 102
-    then option_map (λ n. Local n Forward) (short_decimal (take (length text - 1) text))
-    else None)
+    let end = length text - 1 in
+    option_and_then (λ d. option_map (λ n. Local n d) (short_decimal (take end text)))
+    (lookup (drop end text) ((codes "b", Backward) ∷ (codes "f", Forward) ∷ []))
 
 -- a word, a text of name bytes: a name, or if it begins with a digit a local reference or a number
 unfoldable pub word : List ℕ → Option Token
@@ -49,7 +47,7 @@ signs =
 unfoldable pub token_of : List ℕ → Option Token
 token_of text =
     if list_all is_name_byte text then word text
-    else option_or (option_map (λ s. Text s) (option_and_then string_bytes (between 34 34 text)))
+    else option_or (option_map (λ s. Text s) (option_and_then (λ t. bytes_after t 0) (between 34 34 text)))
     (option_or (option_map (λ b. Character b) (option_and_then (spelled 39) (between 39 39 text))) (lookup text signs))
 
 -- ---- in a line

@@ -2,8 +2,8 @@
 ghost use Rattle.std.specs.Prelude.{◌≡◌, ◌<◌, ◌≤◌, IfSome, length};
 ghost use Rattle.rv_base.specs.Numbers.{digit_value, number_in};
 ghost use Rattle.std.specs.Option.{option_map};
-ghost use Rattle.rv_tokens.specs.Literals.{has_leading_zero, number, short_decimal, escape, spelled, is_plain, between, first_byte};
-ghost use Rattle.rv_tokens.specs.Partial.{character, has_prefix, is_digit, letter_escape};
+ghost use Rattle.rv_tokens.specs.Literals.{has_leading_zero, number, short_decimal, escape, spelled, between};
+ghost use Rattle.rv_tokens.specs.Partial.{character, first_byte, has_prefix, is_digit, is_plain, letter_escape};
 
 use rv_base::hex_digit;
 
@@ -113,7 +113,7 @@ fn byte_in(base: u64, digits: &[u8]) -> Option<u8>
 }
 
 /// Reads an escape without its `\`: a letter, `x` and two hexadecimal digits, or one to three octal digits.
-#[tactic(auto, unfolding(crate::specs::Literals::escape), using(crate::proofs::Signs::letter_is))]
+#[tactic(auto, unfolding(crate::specs::Partial::escape_by), using(crate::proofs::Signs::letter_is, crate::proofs::Escapes::as_escape))]
 fn escape(text: &[u8]) -> Option<u8>
     ensures { result ≡ escape text.now }
 {
@@ -135,7 +135,7 @@ fn is_plain(quote: u8, b: u8) -> bool
 }
 
 /// Reads the text of a byte between two quotes: the byte itself, or an escape.
-#[tactic(auto, unfolding(crate::specs::Literals::spelled))]
+#[tactic(auto, unfolding(crate::specs::Partial::spelled_by), using(crate::proofs::Escapes::as_spelled))]
 fn byte_between(quote: u8, text: &[u8]) -> Option<u8>
     ensures { result ≡ spelled quote text.now }
 {

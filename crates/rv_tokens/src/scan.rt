@@ -1,8 +1,10 @@
 //! The lexer.
-ghost use Rattle.std.specs.Prelude.{◌≡◌, ◌==◌, IfOk, IsTrue, ◌<◌, ◌≤◌, length, true, false, take, slice_index};
+ghost use Rattle.std.specs.Prelude.{◌≡◌, ◌↔◌, ◌==◌, ℕ, List, Result, IfOk, IsTrue, ◌<◌, ◌≤◌, length, true, false, take, slice_index};
 ghost use Rattle.std.specs.List.{list_all};
 ghost use Rattle.rv_tokens.specs.Faults.{Gives};
-ghost use Rattle.rv_tokens.specs.Parts.{IsCutInto, OneCut};
+ghost use Rattle.rv_tokens.specs.Parts.{IsCutInto};
+ghost use Rattle.rv_tokens.specs.declared.fault.LineFault.{LineFault};
+ghost use Rattle.rv_tokens.specs.declared.token.Token.{Token};
 ghost use Rattle.rv_tokens.specs.Partial.{begins_with_name_byte, sign, half, tokens_after};
 ghost use Rattle.rv_tokens.specs.Cuts.{front, tokens};
 ghost use Rattle.rv_tokens.specs.Tokens.{is_name_start, is_name_byte, local, word, is_comment, fault_at};
@@ -28,7 +30,7 @@ fn is_name_byte(b: u8) -> bool
 }
 
 /// Reads a reference to a local label: one to four digits, and `b` or `f`.
-#[tactic(auto, unfolding(crate::specs::Tokens::local))]
+#[tactic(auto, unfolding(crate::specs::Partial::local_by), using(crate::proofs::Escapes::as_local))]
 fn local_reference<'a>(text: &[u8]) -> Option<Token<'a>>
     requires { 0 < length text.now }
     ensures { result ≡ local text.now }
@@ -274,5 +276,5 @@ pub fn cut_line<'a>(alloc: Global, line: &'a [u8]) -> Result<Vec<Token<'a>>, Lin
 /// A law: a line is cut in exactly one way into tokens, each the longest at its place, or has exactly one
 /// fault. That is the result of `cut_line`.
 pub fn one_cut()
-    ensures { OneCut }
+    ensures { (line : List ℕ) → (r : Result (List Token) LineFault) → IsCutInto line r ↔ (tokens line ≡ r) }
 {}

@@ -23,18 +23,18 @@ pub struct Text<'a> {
 impl<'a> Model for Text<'a> {
     ghost use Rattle.std.specs.Prelude.{List, [], ℕ, IsTrue, is_some};
     ghost use Rattle.std.specs.Option.{unwrap_or};
-    ghost use Rattle.rv_tokens.specs.Literals.{string_bytes};
+    ghost use Rattle.rv_tokens.specs.Literals.{bytes_after};
 
     ghost Value = { List ℕ };
 
-    ghost view = { λ text. unwrap_or (string_bytes text.spelling.now) [] };
+    ghost view = { λ text. unwrap_or (bytes_after text.spelling.now 0) [] };
 
-    ghost invariant = { λ text. IsTrue (is_some (string_bytes text.spelling.now)) };
+    ghost invariant = { λ text. IsTrue (is_some (bytes_after text.spelling.now 0)) };
 }
 
 impl<'a> Text<'a> {
     ghost use Rattle.std.specs.Prelude.{◌≡◌, ◌++◌, length, IsTrue, is_some, Some, OnOk};
-    ghost use Rattle.rv_tokens.specs.Literals.{string_bytes};
+    ghost use Rattle.rv_tokens.specs.Partial.{string_bytes};
 
     /// Makes a string of the text between its quotes.
     pub(crate) fn new(spelling: &'a [u8]) -> Self

@@ -1,6 +1,6 @@
 use Rattle.std.proofs.Common.{refl, rules, ◌≡◌, ◌∷◌, ◌+◌, suc, take, get_or, sym, ap, ◌∙◌, arith}
 use Rattle.std.specs.Prelude.{Some}
-use Rattle.rv_tokens.specs.Literals.{string_bytes, first_byte}
+use Rattle.rv_tokens.specs.Partial.{string_bytes, first_byte}
 use Rattle.rv_tokens.specs.Cuts.{front}
 use Rattle.rv_tokens.proofs.StringEnds.{scanned_some, scanned_more, front_string, front_bad, front_unended, begins_quoted}
 use Rattle.rv_tokens.proofs.Front.{at_front}

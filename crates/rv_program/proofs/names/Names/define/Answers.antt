@@ -4,7 +4,8 @@ use lib.Pointwise.{pointwise}
 use Rattle.std.specs.Prelude.{nat_eq}
 use mir.Syntax.{w64}
 use mir.Val.{SFits}
-use Rattle.rv_program.specs.Program.{value_of, definitions_of}
+use Rattle.rv_base.specs.Tables.{lookup}
+use Rattle.rv_program.specs.Kept.{definitions_of}
 use Rattle.indexmap.proofs.CallerLemmas.{insert_entry-new}
 use Rattle.rv_program.proofs.Lookups.{lookup_value, definitions_of-push, AreWords-push}
 use Rattle.rv_program.proofs.names.Names.define.Goals as goal
@@ -17,7 +18,7 @@ entries_are : (c : In_ok-insert)
     → definitions_of c.insert.new.self.entries
     ≡ definitions_of c.self.inside.map.entries ++ (c.args.name.now, c.args.value) ∷ []
 entries_are c =
-    let absent : value_of (definitions_of c.self.inside.map.entries) c.in_ok-key.key.items ≡ None =
+    let absent : lookup c.in_ok-key.key.items (definitions_of c.self.inside.map.entries) ≡ None =
     rw (key_is c, c.self.view_is) c.requires.absent in
     let fits : SFits w64 c.args.value = search rules in
     let new =
