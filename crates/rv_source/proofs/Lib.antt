@@ -1,3 +1,4 @@
+mod Forms
 mod OneValue
 pub mod Pieces
 pub mod Ranges

@@ -1,14 +1,14 @@
 -- Expressions as a grammar: the tokens of one have one reading.
 use Rattle.std.proofs.Common.{◌≡◌, Bool, false, not, List, [], ◌∷◌, ◌++◌, refl, subst, append_assoc}
-use Rattle.std.specs.Prelude.{map, Option, Some, None}
+use Rattle.std.specs.Prelude.{◌↔◌, map, Option, Some, None}
 use Rattle.std.specs.Bool.{beq}
 use Rattle.std.proofs.lemmas.List.{append-nil}
+use Rattle.rv_tokens.specs.declared.token.Token.{Token}
 use Rattle.rv_source.specs.declared.expression.Term.{Term}
 use Rattle.rv_source.specs.declared.expression.Atom.{Atom}
 use Rattle.rv_source.specs.declared.terms.Piece.{Piece}
 use Rattle.rv_source.specs.declared.terms.Piece.TheVariants as p
 use Rattle.rv_source.specs.Expressions.{IsSum, Alone, Signed, OneSign, TwoSigns, piece_of, term}
-use Rattle.rv_source.specs.Operands.{OneValue}
 use Rattle.rv_source.specs.Sums.{further, sum, expression, with_term}
 
 -- ---- a sum of the grammar is what `sum` reads
@@ -99,6 +99,6 @@ is_sum (p.Sign s ∷ p.Other ∷ ps) ts e = absurd (cc)
 is_sum (p.Sign s ∷ []) ts e = absurd (cc)
 is_sum (p.Other ∷ ps) ts e = absurd (cc)
 
-pub has_one_value : OneValue
+pub has_one_value : (ts : List Token) (terms : List Term) → IsSum (map piece_of ts) terms ↔ (expression ts ≡ Some terms)
 unfolding expression
 has_one_value ts terms = (reads (map piece_of ts) terms, is_sum (map piece_of ts) terms)

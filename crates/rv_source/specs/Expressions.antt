@@ -1,7 +1,7 @@
 -- The expressions that tokens spell: atoms joined by signs.
 -- To audit: public contracts cite this.
 -- The language is this project's own: docs/ASSEMBLER.md.
-use Rattle.std.specs.Prelude.{ℕ, Bool, true, false, not, List, [], ◌∷◌, ◌++◌, if◌then◌else◌, codes}
+use Rattle.std.specs.Prelude.{Bool, true, false, not, List, [], ◌∷◌, ◌++◌, if◌then◌else◌, codes}
 use Rattle.std.specs.Bool.{beq}
 use Rattle.std.specs.Str.{bytes_eq}
 use Rattle.rv_tokens.specs.declared.token.Token.{Token}
@@ -12,15 +12,11 @@ use Rattle.rv_source.specs.declared.expression.Atom.TheVariants as a
 use Rattle.rv_source.specs.declared.terms.Piece.{Piece}
 use Rattle.rv_source.specs.declared.terms.Piece.TheVariants as p
 
--- whether a name is a symbol: one other than `.`
-abbrev pub is_symbol : List ℕ → Bool
-is_symbol name = not (bytes_eq name (codes "."))
-
 -- what a token is in an expression: a sign, which may be a minus, an atom, or neither
 abbrev pub piece_of : Token → Piece
 piece_of t.Plus = p.Sign false
 piece_of t.Minus = p.Sign true
-piece_of (t.Name name) = p.Atom (if is_symbol name then a.Symbol name else a.Here)
+piece_of (t.Name name) = p.Atom (if not (bytes_eq name (codes ".")) then a.Symbol name else a.Here)
 piece_of (t.Digits n) = p.Atom (a.Number n)
 piece_of (t.Number n) = p.Atom (a.Number n)
 piece_of (t.Character b) = p.Atom (a.Character b)
@@ -30,8 +26,9 @@ piece_of _ = p.Other
 abbrev pub term : Bool → Atom → Term
 term sign atom = record { negative = sign; atom = atom }
 
--- A sum is an atom with one sign or none, or a sum, one sign or two, and an atom. Two signs are together a minus if
--- just one of them is.
+-- A sum is an atom with one sign or none, or a sum, one sign or two, and an atom. Two signs are together a
+-- minus if just one of them is. `expression` gives E, the sum that tokens as a whole spell, and None where they
+-- spell none: the law `one_value`.
 pub data IsSum : List Piece → List Term → Type 0 where
   Alone : (x : Atom) → IsSum (p.Atom x ∷ []) (term false x ∷ [])
   Signed : (s : Bool) (x : Atom) → IsSum (p.Sign s ∷ p.Atom x ∷ []) (term s x ∷ [])

@@ -27,17 +27,14 @@ use Rattle.rv_source.specs.Operands.{terms_of}
 abbrev pub atom_alone : Operand → Option Atom
 atom_alone x = if x.count == 1 then option_map (λ t. t.atom) (slice_get (terms_of x) 0) else None
 
-abbrev pub symbol_of : Atom → Option (List ℕ)
-symbol_of (a.Symbol name) = Some name
-symbol_of _ = None
+-- the name that an atom is
+abbrev pub name_in : Option Atom → Option (List ℕ)
+name_in (Some (a.Symbol name)) = Some name
+name_in _ = None
 
--- the name that an operand is
-abbrev pub name_alone : Operand → Option (List ℕ)
-name_alone x = option_and_then symbol_of (atom_alone x)
-
--- what a table of names has for it
+-- what a table has for the name that an operand is
 abbrev pub entry_in : {A : Type 0} → List (List ℕ × A) → Operand → Option A
-entry_in table x = option_and_then (λ n. lookup n table) (name_alone x)
+entry_in table x = option_and_then (λ n. lookup n table) (name_in (atom_alone x))
 
 -- the control register of a name, or of a number of twelve bits
 abbrev pub csr_of : Atom → Option ℕ
@@ -77,7 +74,7 @@ put r.Csr x fields = option_map (λ n. record fields { csr = n }) (option_and_th
 put r.Before x fields = option_map (λ n. record fields { before = n }) (entry_in fence_sets x)
 put r.After x fields = option_map (λ n. record fields { after = n }) (entry_in fence_sets x)
 put r.Memory x fields = option_map (λ n. record fields { rs1 = n; value = Some x }) (base x.form)
-put r.Symbol x fields = option_map (λ n. record fields { value = Some x }) (name_alone x)
+put r.Symbol x fields = option_map (λ n. record fields { value = Some x }) (name_in (atom_alone x))
 put r.Second x fields = if takes r.Second x.form then Some (record fields { second = Some x }) else None
 put role x fields = if takes role x.form then Some (record fields { value = Some x }) else None
 

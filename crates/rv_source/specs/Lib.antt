@@ -5,4 +5,3 @@ pub mod Partial
 pub mod Reading
 pub mod Sums
 pub mod Table
-pub mod LineForm

@@ -1,7 +1,7 @@
 -- The operands that tokens spell.
 -- To audit: public contracts cite this.
 -- The language is this project's own: docs/ASSEMBLER.md.
-use Rattle.std.specs.Prelude.{◌≡◌, ◌↔◌, ℕ, ◌+◌, ◌-◌, Bool, true, false, List, [], ◌∷◌, ◌++◌, map, take, drop, length, Option, Some, None, option_and_then, if◌then◌else◌}
+use Rattle.std.specs.Prelude.{ℕ, ◌+◌, ◌-◌, Bool, true, false, List, [], ◌∷◌, ◌++◌, take, drop, length, slice_get, is_none, Option, Some, None, option_and_then, if◌then◌else◌}
 use Rattle.std.specs.List.{flat_map, slice_split}
 use Rattle.std.specs.Option.{option_map, option_or}
 use Rattle.rv_tokens.specs.declared.token.Token.{Token}
@@ -13,35 +13,19 @@ use Rattle.rv_source.specs.declared.operand.Part.TheVariants.{Whole, High, Low}
 use Rattle.rv_source.specs.declared.operand.Form.{Form}
 use Rattle.rv_source.specs.declared.operand.Form.TheVariants as f
 use Rattle.rv_source.specs.declared.operand.Operand.{Operand}
-use Rattle.rv_source.specs.Expressions.{IsSum, piece_of}
 use Rattle.rv_source.specs.Sums.{expression}
 
 abbrev pub is_comma : Token → Bool
 is_comma t.Comma = true
 is_comma _ = false
 
-abbrev pub is_nothing : {A : Type 0} → List A → Bool
-is_nothing [] = true
-is_nothing (_ ∷ _) = false
-
--- E, the expression that tokens as a whole spell: exactly the sum that they are, and none where they are no sum
-abbrev pub OneValue : Type 0
-OneValue = (ts : List Token) (terms : List Term) → IsSum (map piece_of ts) terms ↔ (expression ts ≡ Some terms)
-
 -- ---- the forms of operands
-
--- (name)
-abbrev pub base_of : List Token → Option (List ℕ)
-base_of (t.Open ∷ t.Name name ∷ t.Close ∷ []) = Some name
-base_of _ = None
-
-abbrev pub is_close : List Token → Bool
-is_close (t.Close ∷ []) = true
-is_close _ = false
 
 -- the tokens between two brackets around all others
 abbrev pub enclosed : List Token → Option (List Token)
-enclosed (t.Open ∷ ts) = if is_close (drop (length ts - 1) ts) then Some (take (length ts - 1) ts) else None
+enclosed (t.Open ∷ ts) =
+    let n = length ts - 1 in
+    elim (drop n ts) as (λ _. Option (List Token)) [ t.Close ∷ [] ↦ Some (take n ts) | _ ↦ None ]
 enclosed _ = None
 
 -- a part of E, with a base or none
@@ -60,9 +44,8 @@ form_with base ts = valued Whole base (Some ts)
 -- an operand, which may end in (name), its base
 unfoldable pub form_of : List Token → Option Form
 form_of ts =
-    let n = length ts - 3 in
-    option_or (form_with None ts)
-    (option_and_then (λ name. form_with (Some name) (take n ts)) (base_of (drop n ts)))
+    let n = length ts - 3 in option_or (form_with None ts) (elim (drop n ts) as (λ _. Option Form)
+    [ t.Open ∷ t.Name name ∷ t.Close ∷ [] ↦ form_with (Some name) (take n ts) | _ ↦ None ])
 
 -- ---- the operands of a mnemonic or directive
 
@@ -75,17 +58,13 @@ operands n (piece ∷ pieces) =
 
 -- the operands of a mnemonic or directive by the tokens following it, the first of which is token n
 unfoldable pub operands_of : ℕ → List Token → Option (List Operand)
-operands_of n ts = if is_nothing ts then Some [] else operands n (slice_split is_comma ts)
+operands_of n ts = if is_none (slice_get ts 0) then Some [] else operands n (slice_split is_comma ts)
 
 -- ---- what operands have
 
 -- the terms of an operand's value, or none of a string
 abbrev pub terms_of : Operand → List Term
 terms_of x = elim x.form as (λ _. List Term) [ f.Value part e base ↦ e | f.Text bytes ↦ [] ]
-
--- the part of its value
-abbrev pub part_of : Operand → Part
-part_of x = elim x.form as (λ _. Part) [ f.Value part e base ↦ part | f.Text bytes ↦ Whole ]
 
 -- the bytes of a string, or none of another operand
 abbrev pub text_of : Operand → List ℕ

@@ -1,7 +1,7 @@
 -- The tables of the language, and the statement of a word with its operands.
 -- To audit: public contracts cite this.
 -- The language is this project's own: docs/ASSEMBLER.md.
-use Rattle.std.specs.Prelude.{ℕ, true, false, not, ◌&&◌, List, map, slice_get, pos, negsuc, [], ◌∷◌, ◌++◌, Option, Some, None, option_and_then, if◌then◌else◌, Result, codes}
+use Rattle.std.specs.Prelude.{ℕ, true, false, ◌&&◌, List, map, slice_get, is_none, is_some, pos, negsuc, [], ◌∷◌, ◌++◌, Option, Some, None, option_and_then, if◌then◌else◌, Result, codes}
 use Rattle.std.specs.List.{filter_map, list_all}
 use Rattle.std.specs.Option.{option_map, option_map_or, ok_or}
 use Rattle.std.specs.Str.{bytes_eq}
@@ -21,8 +21,8 @@ use Rattle.rv_source.specs.declared.row.Role.{Role}
 use Rattle.rv_source.specs.declared.row.Role.TheVariants as r
 use Rattle.rv_source.specs.declared.row.Template.{Template}
 use Rattle.rv_source.specs.declared.row.Template.TheVariants as t
-use Rattle.rv_source.specs.Operands.{is_nothing, strings}
-use Rattle.rv_source.specs.Fields.{in_roles, unset, instruction, name_alone, takes}
+use Rattle.rv_source.specs.Operands.{strings}
+use Rattle.rv_source.specs.Fields.{atom_alone, name_in, in_roles, unset, instruction, takes}
 
 -- ---- the meaning of a row
 
@@ -38,7 +38,7 @@ filled t.Space xs f = option_map (λ x. s.Space x f.second) f.value
 filled t.Align xs f = option_map (λ x. s.Align x) f.value
 filled t.Balign xs f = option_map (λ x. s.Balign x) f.value
 filled t.Constant xs f =
-    option_and_then (λ n. option_map (λ x. s.Constant n x) f.second) (option_and_then name_alone f.value)
+    option_and_then (λ n. option_map (s.Constant n) f.second) (name_in (option_and_then atom_alone f.value))
 
 -- a row: as many operands as there are roles, each in its role; or one or more, all of a form that one role takes
 pub data Row : Type 0 where
@@ -49,7 +49,8 @@ pub data Row : Type 0 where
 abbrev pub meant : Row → List Operand → Option Statement
 meant (These roles template fields) xs = option_and_then (filled template xs) (in_roles roles xs fields)
 meant (Each role template) xs =
-    if not (is_nothing xs) && list_all (λ x. takes role x.form) xs then filled template xs unset else None
+    if is_some (slice_get xs 0) && list_all (λ x. takes role x.form) xs
+    then filled template xs unset else None
 
 -- ---- the tables
 
@@ -140,14 +141,11 @@ markers =
 
 -- ---- the statement of a word
 
--- the rows of a word: of an operation, or of a pseudo-instruction or a directive
-abbrev pub rows_of : List ℕ → List Row
-rows_of word = option_map_or (λ op. of_kind op (zeroed op)) (named word)
-    (filter_map (λ row. if bytes_eq row.0 word then Some row.1 else None) (pseudo_instructions ++ directives))
-
 -- the statement of a word with these operands: that of its first row that takes them; E4 if it has no row,
--- else E5
+-- else E5. Its rows are those of an operation, or of a pseudo-instruction or a directive.
 unfoldable pub meaning : List ℕ → List Operand → Result Statement LineFault
 meaning word xs =
-    let rows = rows_of word in
-    ok_or (slice_get (filter_map (λ row. meant row xs) rows) 0) (if is_nothing rows then UnknownWord else BadOperands)
+    let rows = option_map_or (λ op. of_kind op (zeroed op)) (named word)
+    (filter_map (λ x. if bytes_eq x.0 word then Some x.1 else None) (pseudo_instructions ++ directives)) in
+    ok_or (slice_get (filter_map (λ row. meant row xs) rows) 0)
+    (if is_none (slice_get rows 0) then UnknownWord else BadOperands)

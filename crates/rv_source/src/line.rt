@@ -52,7 +52,7 @@ pub enum Body<'a> {
     },
 }
 
-/// The form of a line: its labels, a word and its operands.
+/// The form of a line: its labels, a word and its operands. Its view is its labels and what follows them.
 pub struct Line<'a> {
     pub(crate) labels: Vec<Label<'a>>,
     pub(crate) body: Body<'a>,
@@ -66,11 +66,13 @@ impl<'a> Drop for Line<'a> {
 }
 
 impl<'a> Model for Line<'a> {
-    ghost use Rattle.rv_source.specs.LineForm.{LineForm};
+    ghost use Rattle.std.specs.Prelude.{List};
+    ghost use Rattle.rv_source.specs.declared.line.Label.{Label};
+    ghost use Rattle.rv_source.specs.declared.line.Body.{Body};
 
-    ghost Value = { LineForm };
+    ghost Value = { List Label × Body };
 
-    ghost view = { λ l. record { labels = l.labels.items; body = l.body } };
+    ghost view = { λ l. (l.labels.items, l.body) };
 }
 
 impl<'a> Line<'a> {
@@ -79,14 +81,14 @@ impl<'a> Line<'a> {
 
     /// Returns the labels, from left to right.
     pub fn labels(&self) -> &[Label<'a>]
-        ensures { result.now ≡ self.now.labels }
+        ensures { result.now ≡ self.now.0 }
     {
         self.labels.as_slice()
     }
 
     /// Returns what follows the labels.
     pub fn body(&self) -> &Body<'a>
-        ensures { result.now ≡ self.now.body }
+        ensures { result.now ≡ self.now.1 }
     {
         &self.body
     }
@@ -98,7 +100,7 @@ impl<'a> Line<'a> {
     /// `UnknownWord` if the word is neither a mnemonic nor a directive, else `BadOperands` if it doesn't take
     /// the operands.
     pub fn statement<'t>(&'t self) -> Result<Option<Statement<'t, 'a>>, LineFault>
-        ensures { result ≡ statement_of self.now.body }
+        ensures { result ≡ statement_of self.now.1 }
     {
         match &self.body {
             Body::Nothing => Ok(None),

@@ -2,8 +2,8 @@
 ghost use Rattle.std.specs.Prelude.{◌≡◌, ◌<◌, ◌≤◌, ◌+◌, ◌++◌, ◌∷◌, [], length, IfOk, IfSome, Some, None, if◌then◌else◌};
 ghost use Rattle.std.specs.Option.{option_map};
 ghost use Rattle.std.specs.List.{position};
-ghost use Rattle.rv_source.specs.Operands.{base_of, enclosed, form_of, form_with, is_comma, operands, operands_of, valued};
-ghost use Rattle.rv_source.specs.Partial.{pieces, pieces_after};
+ghost use Rattle.rv_source.specs.Operands.{enclosed, form_of, form_with, is_comma, operands, operands_of, valued};
+ghost use Rattle.rv_source.specs.Partial.{base_of, pieces, pieces_after};
 
 use crate::terms::read_expression;
 use crate::{Atom, Expression, Term};
@@ -122,7 +122,7 @@ fn read_with<'a>(
 }
 
 /// Reads the form of an operand.
-#[tactic(auto, unfolding(crate::specs::Operands::form_of))]
+#[tactic(auto, using(crate::proofs::Forms::as_form_of))]
 fn read_form<'a>(alloc: Global, tokens: &[Token<'a>]) -> Result<Option<Form<'a>>, AllocError>
     requires { length tokens.now ≤ 1024 }
     ensures { IfOk result (λ f. f ≡ form_of tokens.now) }

@@ -1,8 +1,10 @@
 //! Reads expressions.
-ghost use Rattle.std.specs.Prelude.{◌≡◌, ◌<◌, ◌≤◌, ◌+◌, ◌++◌, ◌∷◌, Bool, false, Some, None, IfOk, IfSome, length, map, option_and_then, if◌then◌else◌};
+ghost use Rattle.std.specs.Prelude.{◌≡◌, ◌↔◌, List, ◌<◌, ◌≤◌, ◌+◌, ◌++◌, ◌∷◌, Bool, false, Some, None, IfOk, IfSome, length, map, option_and_then, if◌then◌else◌};
 ghost use Rattle.std.specs.Option.{option_map};
-ghost use Rattle.rv_source.specs.Expressions.{is_symbol, piece_of};
-ghost use Rattle.rv_source.specs.Operands.{OneValue};
+ghost use Rattle.rv_source.specs.Expressions.{IsSum, piece_of};
+ghost use Rattle.rv_source.specs.Partial.{is_symbol};
+ghost use Rattle.rv_source.specs.declared.expression.Term.{Term};
+ghost use Rattle.rv_tokens.specs.declared.token.Token.{Token};
 ghost use Rattle.rv_source.specs.Sums.{expression, followed, further, sum};
 ghost use Rattle.rv_source.specs.declared.terms.Piece.TheVariants.{Sign};
 
@@ -109,5 +111,5 @@ pub fn read_expression<'a>(
 
 /// A law: tokens have at most one reading as a sum of terms, and `read_expression` gives it.
 pub fn one_value()
-    ensures { OneValue }
+    ensures { (ts : List Token) → (terms : List Term) → IsSum (map piece_of ts) terms ↔ (expression ts ≡ Some terms) }
 {}
