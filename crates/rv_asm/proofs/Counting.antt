@@ -1,6 +1,6 @@
 -- What is said of all lines by lists of their numbers is the same by recursion on a number.
 use Rattle.std.proofs.Common.{◌≡◌, ℕ, zero, suc, ◌+◌, List, [], ◌∷◌, ◌++◌, length, refl, ap, ◌∙◌, arith, append-nil, add-zero}
-use Rattle.std.specs.Prelude.{map, not, Option, Some, None, slice_get}
+use Rattle.std.specs.Prelude.{map, is_some, Option, Some, None, slice_get}
 use Rattle.std.specs.Option.{option_map, option_map_or, option_or, unwrap_or}
 use Rattle.std.specs.Result.{result_unwrap_or}
 use Rattle.std.specs.List.{flat_map, filter_map, cons_option, range_with_len, find}
@@ -8,12 +8,11 @@ use Rattle.std.proofs.lemmas.Grind.{flat_map-append}
 use Rattle.std.proofs.lemmas.List.{map-append}
 use Rattle.std.proofs.lemmas.List.Elements.{filter_map-append}
 use Rattle.rv_base.specs.Lines.{lines}
-use Rattle.rv_source.specs.Operands.{is_nothing}
 use Rattle.rv_program.specs.declared.fault.FaultKind.{FaultKind}
 use Rattle.rv_program.specs.declared.fault.AsmFault.{AsmFault}
 use Rattle.rv_asm.specs.Layout.{phase_two_fault}
-use Rattle.rv_asm.specs.Assembly.{all_parsed, assembled, faults_in, line_bytes, phase_one_fault}
-use Rattle.rv_asm.specs.Counted.{phase_three_fault, first, joined, up_to, first_fault, assembled_by, all_faults, faults_of_phases, unless_faulty, first_of}
+use Rattle.rv_asm.specs.Assembly.{all_parsed, assembled, faults_in, line_bytes}
+use Rattle.rv_asm.specs.Counted.{phase_three_fault, first, joined, up_to, first_fault, assembled_by, all_faults, faults_of_phases, unless_faulty, first_of, phase_one_fault}
 
 -- ---- numbers
 
@@ -83,7 +82,7 @@ first_is [] = refl
 first_is (fault ∷ faults) = refl
 
 phases_found : (one two three : List AsmFault)
-    → unwrap_or (find (λ faults. not (is_nothing faults)) (one ∷ two ∷ three ∷ [])) []
+    → unwrap_or (find (λ faults. is_some (slice_get faults 0)) (one ∷ two ∷ three ∷ [])) []
     ≡ unless_faulty one (unless_faulty two three)
 phases_found (x ∷ one) two three = refl
 phases_found [] (x ∷ two) three = refl

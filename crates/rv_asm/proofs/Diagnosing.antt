@@ -12,9 +12,9 @@ use Rattle.rv_program.specs.Program.{Assembly}
 use Rattle.rv_program.specs.declared.fault.FaultKind.{FaultKind}
 use Rattle.rv_program.specs.declared.fault.AsmFault.{AsmFault}
 use Rattle.rv_asm.specs.declared.diagnosis.Diagnosis.{Diagnosis}
-use Rattle.rv_asm.specs.Layout.{line_at, blank, phase_two_fault, definitions}
-use Rattle.rv_asm.specs.Assembly.{first_faults, phase_one_fault, all_parsed, assembled}
-use Rattle.rv_asm.specs.Counted.{phase_three_fault, fault_on, joined, first, first_fault, all_faults, unless_faulty, first_of, address}
+use Rattle.rv_asm.specs.Layout.{line_at, phase_two_fault, definitions}
+use Rattle.rv_asm.specs.Assembly.{first_faults, all_parsed, assembled}
+use Rattle.rv_asm.specs.Counted.{phase_three_fault, fault_on, joined, first, first_fault, all_faults, unless_faulty, first_of, address, phase_one_fault, blank}
 use Rattle.rv_asm.specs.Symbols.{Definitions}
 use Rattle.rv_asm.specs.Steps.{Known, start, known_before, labelled, with_line, stated_bytes, laid_out}
 use Rattle.rv_asm.specs.Diagnosed.{kept, faults_of, fault_of}

@@ -4,15 +4,14 @@ use Rattle.std.specs.Prelude.{Option, None, Some, is_some, Result, Ok, Err}
 use Rattle.std.specs.Option.{option_map}
 use Rattle.std.specs.Result.{result_err}
 use Rattle.rv_source.specs.Reading.{Parsed, parsed, line_form, statement_of}
-use Rattle.rv_source.specs.LineForm.{LineForm}
+use Rattle.rv_source.specs.Partial.{LineForm}
 use Rattle.rv_source.specs.declared.statement.Statement.{Statement}
-use Rattle.rv_tokens.specs.Faults.{Fails as LineFails}
+use Rattle.rv_tokens.specs.Partial.{Fails as LineFails}
 use Rattle.rv_tokens.specs.declared.fault.LineFault.{LineFault}
 use Rattle.rv_program.specs.declared.fault.FaultKind.{FaultKind}
 use Rattle.rv_program.specs.declared.fault.FaultKind.TheVariants.{DuplicateSymbol, OutOfMemory}
 use Rattle.rv_program.specs.declared.fault.AsmFault.{AsmFault}
-use Rattle.rv_program.specs.Faults.{Fails, FailsBy}
-use Rattle.rv_program.specs.Kept.{number_of}
+use Rattle.rv_program.specs.Kept.{FailsBy, number_of, Fails}
 use Rattle.rv_asm.specs.declared.diagnosis.Diagnosis.{Diagnosis}
 use Rattle.rv_asm.specs.Symbols.{Definitions}
 use Rattle.rv_asm.specs.Counted.{relabels, fault_stated, fault_on, fault_in}
@@ -113,9 +112,9 @@ unfolding parsed
 line_fails text fault h = unread_bind fault (line_form text) _ h
 
 pub statement_fails : (text : List ℕ) (read : LineForm) (fault : LineFault) → line_form text ≡ Ok read →
-    Err fault ≡ statement_of read.body → IsUnreadBy (parsed text) (Some fault)
+    Err fault ≡ statement_of read.1 → IsUnreadBy (parsed text) (Some fault)
 statement_fails text read fault w h =
-    fails_by fault (parsed text) (parsed_of text read w ∙ ap (with_labels read.labels) (sym h))
+    fails_by fault (parsed text) (parsed_of text read w ∙ ap (with_labels read.0) (sym h))
 
 -- ---- a line in phase three
 

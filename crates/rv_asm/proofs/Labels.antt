@@ -6,7 +6,7 @@ use Rattle.std.proofs.lemmas.List.Elements.{All-nil, All-cons, All-append}
 use Rattle.rv_source.specs.declared.line.Label.{Label}
 use Rattle.rv_source.specs.declared.line.Label.TheVariants as label
 use Rattle.rv_asm.specs.declared.locals.LocalLabel.{LocalLabel}
-use Rattle.rv_asm.specs.Symbols.{value_of}
+use Rattle.rv_base.specs.Tables.{lookup}
 use Rattle.rv_asm.specs.Layout.{Known, labelled, names_in, locals_in, redefines}
 use Rattle.rv_asm.specs.Counted.{relabels}
 use Rattle.rv_asm.specs.Judged.{new_among}
@@ -26,7 +26,7 @@ pub redefines-append : (known xs ys : List (List ℕ × ℤ)) →
 redefines-append known [] ys = rw append-nil refl
 redefines-append known (d ∷ ds) ys =
     rw (redefines-append (known ++ d ∷ []) ds ys, append_assoc)
-    (either_either (is_some (value_of known d.0)) (redefines (known ++ d ∷ []) ds) (redefines (known ++ d ∷ ds) ys))
+    (either_either (is_some (lookup d.0 known)) (redefines (known ++ d ∷ []) ds) (redefines (known ++ d ∷ ds) ys))
 
 names_more : (here : ℕ) (l : Label) (ls : List Label) → names_in here (l ∷ ls) ≡ names_in here (l ∷ []) ++ names_in here ls
 names_more here (label.Name name) ls = refl

@@ -19,8 +19,8 @@ use Rattle.rv_program.specs.Program.{Assembly}
 use Rattle.rv_program.specs.declared.fault.FaultKind.{FaultKind}
 use Rattle.rv_program.specs.declared.fault.AsmFault.{AsmFault}
 use Rattle.rv_asm.specs.Layout.{line_at, definitions, phase_two_fault, labels_in}
-use Rattle.rv_asm.specs.Assembly.{phase_one_fault, all_parsed, line_bytes, assembled}
-use Rattle.rv_asm.specs.Counted.{phase_three_fault, address, joined, first, first_fault, joined_bytes, assembled_by, up_to, labels}
+use Rattle.rv_asm.specs.Assembly.{all_parsed, line_bytes, assembled}
+use Rattle.rv_asm.specs.Counted.{phase_three_fault, address, joined, first, first_fault, joined_bytes, assembled_by, up_to, labels, phase_one_fault}
 use Rattle.rv_asm.proofs.Counting.{joined_is, up_to_is, assembled_is}
 use Rattle.rv_asm.specs.Lines.{Listed, listed, bytes_of}
 use Rattle.rv_asm.specs.Steps.{Known, known_before, laid_out, after_line}

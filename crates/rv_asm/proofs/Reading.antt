@@ -5,19 +5,21 @@ use Rattle.std.specs.Option.{option_map}
 use Rattle.std.specs.Result.{result_err, result_unwrap_or}
 use Rattle.std.proofs.lemmas.List.{get_or-map, get_or-drop, drop-drop}
 use Rattle.rv_source.specs.Reading.{Parsed, parsed, line_form, statement_of}
-use Rattle.rv_source.specs.LineForm.{LineForm}
+use Rattle.rv_source.specs.Partial.{LineForm}
 use Rattle.rv_source.specs.declared.line.Label.{Label}
 use Rattle.rv_source.specs.declared.statement.Statement.{Statement}
-use Rattle.rv_tokens.specs.Faults.{Fails as LineFails, ◌>>=◌}
+use Rattle.rv_tokens.specs.Faults.{◌>>=◌}
+use Rattle.rv_tokens.specs.Partial.{Fails as LineFails}
 use Rattle.rv_tokens.specs.declared.fault.LineFault.{LineFault}
 use Rattle.rv_tokens.specs.declared.fault.LineFault.TheVariants as line
 use Rattle.rv_program.specs.declared.fault.FaultKind.{FaultKind}
 use Rattle.rv_program.specs.declared.fault.FaultKind.TheVariants.{OutOfMemory}
 use Rattle.rv_program.specs.declared.fault.AsmFault.{AsmFault}
-use Rattle.rv_program.specs.Faults.{Fails, Gives, IsFaultAt, kind_of}
-use Rattle.rv_asm.specs.Layout.{line_at, blank}
-use Rattle.rv_asm.specs.Assembly.{phase_one_fault, all_parsed}
-use Rattle.rv_asm.specs.Counted.{first, first_fault}
+use Rattle.rv_program.specs.Faults.{Gives, kind_of}
+use Rattle.rv_program.specs.Kept.{Fails, IsFaultAt}
+use Rattle.rv_asm.specs.Layout.{line_at}
+use Rattle.rv_asm.specs.Assembly.{all_parsed}
+use Rattle.rv_asm.specs.Counted.{first, first_fault, phase_one_fault, blank}
 use Rattle.rv_asm.specs.Steps.{Known, Item, start, unless, known_before, laid_out, lines_laid_out, extended, AddsLine, Writes}
 use Rattle.rv_asm.specs.Taken.{so_far, Without, IsUnread}
 use Rattle.rv_asm.proofs.Labels.{IsUpTo}
@@ -179,7 +181,7 @@ unread_line k text fault at h e = record
     { kind = fault; fails = unread_bind fault (line_form text) _ h; at = e }
 
 pub parsed_of : (text : List ℕ) (read : LineForm) → line_form text ≡ Ok read
-    → parsed text ≡ (statement_of read.body >>= λ s. Ok (record { labels = read.labels; statement = s }))
+    → parsed text ≡ (statement_of read.1 >>= λ s. Ok (record { labels = read.0; statement = s }))
 unfolding parsed
 parsed_of text read w = rw w refl
 
@@ -191,16 +193,16 @@ fails_by line.OutOfMemory r h = tt
 fails_by fault r h = h
 
 pub unread_statement : (k : ℕ) (text : List ℕ) (read : LineForm) (fault : LineFault) (at : AsmFault) →
-    line_form text ≡ Ok read → Err fault ≡ statement_of read.body → IsFaultAt (k + 1) (kind_of fault) at →
+    line_form text ≡ Ok read → Err fault ≡ statement_of read.1 → IsFaultAt (k + 1) (kind_of fault) at →
     IsUnread k text at
 unread_statement k text read fault at w h e = record {
   kind = fault;
-  fails = fails_by fault (parsed text) (parsed_of text read w ∙ ap (with_labels read.labels) (sym h));
+  fails = fails_by fault (parsed text) (parsed_of text read w ∙ ap (with_labels read.0) (sym h));
   at = e;
 }
 
 pub read_statement : (text : List ℕ) (read : LineForm) (statement : Option Statement) → line_form text ≡ Ok
     read →
-    Ok statement ≡ statement_of read.body
-    → parsed text ≡ Ok (record { labels = read.labels; statement = statement })
-read_statement text read statement w h = parsed_of text read w ∙ ap (with_labels read.labels) (sym h)
+    Ok statement ≡ statement_of read.1
+    → parsed text ≡ Ok (record { labels = read.0; statement = statement })
+read_statement text read statement w h = parsed_of text read w ∙ ap (with_labels read.0) (sym h)

@@ -1,11 +1,13 @@
 -- Faults that are passed on, and runs element by element.
 use Rattle.std.proofs.Common.{◌≡◌, ℕ, ◌+◌, ◌<◌, ◌≤◌, List, [], ◌∷◌, ◌++◌, drop, get_or, length, ap, sym, ◌∙◌, refl, add-one}
-use Rattle.std.specs.Prelude.{Result, Ok, Err}
+use Rattle.std.specs.Prelude.{◌==◌, if◌then◌else◌, Result, Ok, Err}
 use Rattle.std.proofs.lemmas.List.{at_drop_more, at_drop_all}
 use Rattle.rv_program.specs.declared.fault.FaultKind.{FaultKind}
 use Rattle.rv_program.specs.declared.fault.FaultKind.TheVariants.{OutOfMemory}
 use Rattle.rv_program.specs.declared.fault.AsmFault.{AsmFault}
-use Rattle.rv_program.specs.Faults.{Fails, FailsBy, IsFaultAt}
+use Rattle.rv_program.specs.Faults.{title_of}
+use Rattle.rv_program.proofs.FaultLines.{is_at}
+use Rattle.rv_program.specs.Kept.{FailsBy, Fails, IsFaultAt}
 use Rattle.rv_asm.specs.Kept.{KindFails}
 use Rattle.rv_asm.specs.Listing.{◌>>=◌}
 use Rattle.rv_asm.specs.Steps.{at_line, run}
@@ -41,6 +43,11 @@ pub fails_at_line : {B : Type 0} (k : ℕ) (kind : FaultKind) (fault : AsmFault)
     KindFails kind r → IsFaultAt (k + 1) kind fault → Fails fault (at_line k r)
 fails_at_line k OutOfMemory fault r h e = rw e refl
 fails_at_line k kind fault r h e = fails_at (k + 1) kind fault (at_line k r) e (rw (h, add-one) refl)
+
+-- a fault at a line
+pub fault_at : (line : ℕ) (kind : FaultKind) (fault : AsmFault)
+    → fault ≡ record { line = (if (title_of kind).0 == 12 then 0 else line); kind = kind } → IsFaultAt line kind fault
+fault_at line kind fault e = is_at line kind fault e
 
 -- ---- runs
 

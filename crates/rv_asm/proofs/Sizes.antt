@@ -1,7 +1,7 @@
 -- The rows of statements, by the values that must be known; and a statement has as many bytes as its row
 -- says.
 use Rattle.std.proofs.Common.{◌≡◌, ◌∙◌, ℕ, ◌+◌, ◌*◌, ◌^◌, ◌%◌, ◌≤◌, ◌==◌, Bool, true, false, List, [], ◌∷◌, ◌++◌, length, replicate, ℤ, ap, refl, arith, length-append}
-use Rattle.std.specs.Prelude.{◌&&◌, ◌||◌, not, is_some, min, take, Option, Some, None, if◌then◌else◌, Result, Ok}
+use Rattle.std.specs.Prelude.{◌&&◌, ◌||◌, not, is_some, min, take, option_and_then, Option, Some, None, if◌then◌else◌, Result, Ok}
 use Rattle.std.specs.Int.{to_le_bytes, w32}
 use Rattle.std.proofs.lemmas.List.{length-replicate}
 use Rattle.rv_isa.specs.Number.{modulo}
@@ -11,15 +11,18 @@ use Rattle.rv_isa.specs.declared.kind.Kind.TheVariants.{Auipc}
 use Rattle.rv_isa.specs.declared.op.Width.{Width}
 use Rattle.rv_isa.specs.declared.op.Width.TheVariants.{One, Two, Four}
 use Rattle.rv_source.specs.declared.operand.Operand.{Operand}
-use Rattle.rv_source.specs.Operands.{part_of}
+use Rattle.rv_source.specs.declared.operand.Form.{Form}
+use Rattle.rv_source.specs.declared.operand.Form.TheVariants as f
+use Rattle.rv_source.specs.declared.operand.Part.{Part}
+use Rattle.rv_source.specs.declared.operand.Part.TheVariants.{Whole, High, Low}
 use Rattle.rv_source.specs.declared.statement.Statement.{Statement}
 use Rattle.rv_source.specs.declared.statement.Statement.TheVariants as s
 use Rattle.rv_program.specs.declared.fault.FaultKind.{FaultKind}
-use Rattle.rv_asm.specs.Symbols.{value_of}
+use Rattle.rv_base.specs.Tables.{lookup}
 use Rattle.rv_asm.specs.Values.{fits, part_value, far, hi, lo}
 use Rattle.rv_asm.specs.Layout.{redefines}
 use Rattle.rv_asm.specs.Listing.{bytes, bytes_in, code, filled, padding, space, row}
-use Rattle.rv_asm.specs.Kept.{byte, Valuation}
+use Rattle.rv_asm.specs.Kept.{byte, Valuation, value_by, wanted}
 use Rattle.rv_asm.specs.Counted.{renames}
 use Rattle.rv_asm.specs.Constants.{IsTaken, IsKnown, is_unknown, is_instruction, size_of, constant_in, statement_bytes}
 use Rattle.rv_asm.proofs.DataBytes.{Counts, placed_one, space_bytes, then_counted, mapped_counted, placed_counted}
@@ -50,7 +53,7 @@ module _ (early : Valuation) (here : ℕ) where
   pub renamed : (known : List (List ℕ × ℤ)) (statement : Statement) →
       redefines known (row early here statement).defines ≡ renames known statement
   unfolding row
-  renamed known (s.Constant name x) = either_false (is_some (value_of known name))
+  renamed known (s.Constant name x) = either_false (is_some (lookup name known))
   renamed known (s.Space size None) = refl
   renamed known (s.Space size (Some fill)) = refl
   renamed known statement = refl
@@ -73,6 +76,14 @@ padded n m e h = rw (length_padding, ← e) (omega arith)
 pub space_size : (n : ℕ) (fill : Option Operand) → (space n fill).size ≡ n
 space_size n None = length-replicate n 0
 space_size n (Some x) = omega arith
+
+-- the part that a form takes of a value
+part_is : (form : Form) (v : ℤ) → part_value form v
+    ≡ value_by (elim form as (λ _. Part) [ f.Value part e base ↦ part | f.Text bytes ↦ Whole ]) v
+part_is (f.Value Whole e base) v = refl
+part_is (f.Value High e base) v = refl
+part_is (f.Value Low e base) v = refl
+part_is (f.Text bytes) v = refl
 
 module _ (early : Valuation) (c : ℤ) (here : ℕ) where
   pub taken : (statement : Statement) → IsKnown early c statement → IsTaken c statement
@@ -104,7 +115,9 @@ module _ (early : Valuation) (c : ℤ) (here : ℕ) where
   pub contents_are : (late : Valuation) (statement : Statement) → IsKnown early c statement →
       (row early here statement).contents late ≡ statement_bytes c late here statement
   unfolding IsKnown row statement_bytes
-  contents_are late (s.WithValue kind x) k = placed_one _ x late
+  contents_are late (s.WithValue kind x) k =
+      placed_one _ x late
+      ∙ ap (λ place. wanted place (late x)) (λ i v. option_and_then (code here [] kind) (part_is x.form v i))
   contents_are late (s.Far scratch kind x) k = placed_one _ x late
   contents_are late (s.Li rd e) k = rw k.0 refl
   contents_are late (s.Space size fill) k = rw k.0 (space_bytes late (modulo c (2 ^ 32)) fill)
@@ -141,7 +154,7 @@ module _ (early late : Valuation) (here : ℕ) (bs : List ℕ) where
       length bs ≡ (row early here statement).size
   unfolding row
   statement_size (s.WithValue kind x) h =
-      placed_counted late _ 4 (then_counted _ (part_value (part_of x)) 4 (code_counted here [] kind)) (x ∷ []) bs h
+      placed_counted late _ 4 (then_counted _ (part_value x.form) 4 (code_counted here [] kind)) (x ∷ []) bs h
   statement_size (s.Far scratch kind x) h = placed_counted late _ 8
       (then_counted _ (far here) 8 (λ d. code_counted here (Auipc scratch (hi d) ∷ []) kind (lo d))) (x ∷ []) bs h
   statement_size (s.Data width xs) h = placed_counted late (bytes_in width) (bytes_of width) (bytes_counted width) xs bs h

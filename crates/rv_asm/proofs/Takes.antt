@@ -4,7 +4,7 @@ use Rattle.std.specs.Prelude.{Option, None, Some, is_some, Ok}
 use Rattle.rv_source.specs.Reading.{Parsed, parsed}
 use Rattle.rv_program.specs.declared.fault.FaultKind.{FaultKind}
 use Rattle.rv_program.specs.declared.fault.AsmFault.{AsmFault}
-use Rattle.rv_program.specs.Faults.{IsFaultAt}
+use Rattle.rv_program.specs.Kept.{IsFaultAt}
 use Rattle.rv_asm.specs.Kept.{KindFails}
 use Rattle.rv_asm.specs.Steps.{Known, Item, after_line, AddsLine}
 use Rattle.rv_asm.specs.Taken.{Takes}

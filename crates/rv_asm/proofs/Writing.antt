@@ -5,7 +5,7 @@ use Rattle.std.specs.Option.{unwrap_or}
 use Rattle.rv_source.specs.declared.statement.Statement.{Statement}
 use Rattle.rv_source.specs.declared.statement.Statement.TheVariants as s
 use Rattle.rv_source.specs.Reading.{Parsed, line_form, statement_of}
-use Rattle.rv_source.specs.LineForm.{LineForm}
+use Rattle.rv_source.specs.Partial.{LineForm}
 use Rattle.rv_source.specs.declared.line.Label.{Label}
 use Rattle.rv_tokens.specs.declared.fault.LineFault.{LineFault}
 use Rattle.rv_program.specs.declared.fault.FaultKind.{FaultKind}
@@ -34,30 +34,30 @@ stated_by labels (Ok o) = refl
 stated_by labels (Err fault) = refl
 
 again : (text : List ℕ) (read : LineForm) (m : Result (Option Statement) LineFault) → line_form text ≡ Ok read →
-    m ≡ statement_of read.body → stated_in text ≡ stated m
+    m ≡ statement_of read.1 → stated_in text ≡ stated m
 again text read m w e =
-    ap statement_by (parsed_of text read w ∙ ap (with_labels read.labels) (sym e)) ∙ stated_by read.labels m
+    ap statement_by (parsed_of text read w ∙ ap (with_labels read.0) (sym e)) ∙ stated_by read.0 m
 
 -- a line that is read again
 module _ (text : KeptLine) (read : LineForm) (w : line_form text.bytes ≡ Ok read) where
-  pub taken_again : (statement : Statement) → Ok (Some statement) ≡ statement_of read.body →
+  pub taken_again : (statement : Statement) → Ok (Some statement) ≡ statement_of read.1 →
       IsTaken text.constant (stated_in text.bytes) → IsTaken text.constant statement
   taken_again statement e t = rw (again text.bytes read (Ok (Some statement)) w e) at t
 
   module _ (ds : Definitions) (line here : ℕ) where
     pub written_again : {A : Type 0} (statement : Statement) (new out : List ℕ)
         (result : Result A FaultKind) →
-        Ok (Some statement) ≡ statement_of read.body
+        Ok (Some statement) ≡ statement_of read.1
         → KindBecomes new result (appended out
         (statement_bytes text.constant (operand_value ds line here) here statement))
         → KindBecomes new result (appended out (line_text_bytes ds line here text))
     written_again statement new out result e h = rw (again text.bytes read (Ok (Some statement)) w e) h
 
-    pub nothing_again : (out : List ℕ) → Ok None ≡ statement_of read.body →
+    pub nothing_again : (out : List ℕ) → Ok None ≡ statement_of read.1 →
         appended out (line_text_bytes ds line here text) ≡ Ok out
     nothing_again out e = nothing_written ds line here text out (sym (again text.bytes read (Ok None) w e))
 
-    pub fault_again : (fault : LineFault) (out : List ℕ) → Err fault ≡ statement_of read.body →
+    pub fault_again : (fault : LineFault) (out : List ℕ) → Err fault ≡ statement_of read.1 →
         appended out (line_text_bytes ds line here text) ≡ Ok out
     fault_again fault out e = nothing_written ds line here text out
         (sym (again text.bytes read (Err fault) w e))

@@ -6,7 +6,7 @@ use Rattle.std.specs.Option.{unwrap_or, option_map_or}
 use Rattle.rv_base.specs.Limits.{image_limit}
 use Rattle.rv_isa.specs.Number.{modulo}
 use Rattle.rv_source.specs.Reading.{parsed}
-use Rattle.rv_source.specs.Operands.{part_of}
+use Rattle.rv_source.specs.Partial.{part_of}
 use Rattle.rv_source.specs.declared.operand.Operand.{Operand}
 use Rattle.rv_source.specs.declared.statement.Statement.{Statement}
 use Rattle.rv_source.specs.declared.statement.Statement.TheVariants as s

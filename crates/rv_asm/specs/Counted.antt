@@ -1,9 +1,8 @@
 -- What is said of all lines, by recursion on the number of a line. The language is this project's own: docs/ASSEMBLER.md.
 -- Not to audit: private contracts alone cite this.
-use Rattle.std.specs.Prelude.{ℕ, zero, suc, ◌+◌, ◌%◌, Bool, false, not, ◌&&◌, ◌==◌, nat_lt, ℤ, is_some, option_and_then, List, [], ◌∷◌, ◌++◌, map, length, Option, Some, None, if◌then◌else◌, Result, Ok, Err}
+use Rattle.std.specs.Prelude.{ℕ, zero, suc, ◌+◌, ◌%◌, Bool, false, not, ◌&&◌, ◌==◌, nat_lt, ℤ, is_some, option_and_then, List, [], ◌∷◌, ◌++◌, map, length, get_or, slice_get, Option, Some, None, if◌then◌else◌, Result, Ok, Err}
 use Rattle.std.specs.List.{find}
 use Rattle.std.specs.Option.{option_map, option_map_or, option_or, unwrap_or}
-use Rattle.rv_source.specs.Operands.{is_nothing}
 use Rattle.std.specs.Result.{result_err, result_unwrap_or}
 use Rattle.rv_base.specs.Lines.{lines}
 use Rattle.rv_source.specs.Reading.{Parsed}
@@ -12,7 +11,8 @@ use Rattle.rv_source.specs.declared.line.Label.{Label}
 use Rattle.rv_source.specs.declared.statement.Statement.{Statement}
 use Rattle.rv_source.specs.declared.statement.Statement.TheVariants as s
 use Rattle.rv_program.specs.declared.fault.FaultKind.TheVariants.{DuplicateSymbol, NotConstant, Misplaced, TooLarge}
-use Rattle.rv_asm.specs.Symbols.{value_of, operand_value}
+use Rattle.rv_base.specs.Tables.{lookup}
+use Rattle.rv_asm.specs.Symbols.{operand_value}
 use Rattle.rv_asm.specs.Listing.{row}
 use Rattle.rv_asm.specs.Kept.{Valuation}
 use Rattle.rv_asm.specs.Constants.{is_unknown, is_instruction}
@@ -20,9 +20,19 @@ use Rattle.rv_program.specs.Program.{Assembly}
 use Rattle.rv_program.specs.declared.fault.FaultKind.{FaultKind}
 use Rattle.rv_program.specs.declared.fault.AsmFault.{AsmFault}
 use Rattle.rv_asm.specs.Layout.{Known, line_at, known_before, labelled, definitions, labels_in, names_in, redefines, phase_two_fault}
-pub use Rattle.rv_asm.specs.Layout.{address, names}
-use Rattle.rv_asm.specs.Assembly.{all_parsed, line_bytes, phase_one_fault}
+pub use Rattle.rv_asm.specs.Layout.{address}
+use Rattle.rv_source.specs.Reading.{parsed as parsed_of}
+use Rattle.rv_program.specs.Faults.{kind_of}
+use Rattle.rv_asm.specs.Assembly.{all_parsed, line_bytes}
 use Rattle.rv_asm.specs.Assembly.{faults_in}
+
+-- a line with no label and no statement, as every line past the end
+abbrev pub blank : Parsed
+blank = record { labels = []; statement = None }
+
+-- the names that are defined before line k
+abbrev pub names : List Parsed → ℕ → List (List ℕ × ℤ)
+names lines k = (known_before lines k).definitions.names
 
 -- ---- over the numbers below n, in their order
 
@@ -42,6 +52,10 @@ up_to f zero = f zero ∷ []
 up_to f (suc n) = up_to f n ++ f (suc n) ∷ []
 
 -- ---- the image, or its fault
+
+-- the fault of line k in phase one, if it has one
+abbrev pub phase_one_fault : List (List ℕ) → ℕ → Option FaultKind
+phase_one_fault texts k = option_map kind_of (result_err (parsed_of (get_or texts k [])))
 
 -- the fault of line k in phase three, if it has one
 abbrev pub phase_three_fault : List Parsed → ℕ → Option FaultKind
@@ -83,7 +97,7 @@ relabels known ls = redefines known.definitions.names (names_in known.address ls
 
 -- whether `.equ` defines a name that is already defined
 abbrev pub renames : List (List ℕ × ℤ) → Statement → Bool
-renames known (s.Constant name x) = is_some (value_of known name)
+renames known (s.Constant name x) = is_some (lookup name known)
 renames known statement = false
 
 -- `row_fault` of Layout, by `renames` and the value that must be known
@@ -117,7 +131,7 @@ all_faults fault n =
 -- those in the first of three phases that has any
 abbrev pub faults_of_phases : (one two three : ℕ → Option FaultKind) → ℕ → List AsmFault
 faults_of_phases one two three n = unwrap_or
-    (find (λ faults. not (is_nothing faults)) (map (λ f. faults_in f n) (one ∷ two ∷ three ∷ []))) []
+    (find (λ faults. is_some (slice_get faults 0)) (map (λ f. faults_in f n) (one ∷ two ∷ three ∷ []))) []
 
 abbrev pub unless_faulty : List AsmFault → List AsmFault → List AsmFault
 unless_faulty [] later = later

@@ -6,7 +6,7 @@ use Rattle.std.specs.Option.{option_map}
 use Rattle.std.specs.List.{All}
 use Rattle.std.specs.Result.{result_err}
 use Rattle.rv_source.specs.Reading.{Parsed, parsed}
-use Rattle.rv_tokens.specs.Faults.{Fails as LineFails}
+use Rattle.rv_tokens.specs.Partial.{Fails as LineFails}
 use Rattle.rv_tokens.specs.declared.fault.LineFault.{LineFault}
 use Rattle.rv_source.specs.declared.line.Label.{Label}
 use Rattle.rv_program.specs.declared.fault.FaultKind.{FaultKind}
@@ -14,11 +14,15 @@ use Rattle.rv_program.specs.declared.fault.AsmFault.{AsmFault}
 use Rattle.rv_program.specs.declared.fault.FaultKind.TheVariants.{OutOfMemory}
 use Rattle.rv_asm.specs.declared.diagnosis.Diagnosis.{Diagnosis}
 use Rattle.rv_asm.specs.Symbols.{Definitions}
-use Rattle.rv_asm.specs.Counted.{fault_on}
-use Rattle.rv_asm.specs.Steps.{Known, labelled, with_line, stated_bytes, after_line, known_before}
+use Rattle.rv_asm.specs.Counted.{address, names, fault_on}
+use Rattle.rv_asm.specs.Steps.{Known, labelled, with_line, stated_bytes, after_line}
 use Rattle.rv_asm.specs.Layout.{line_at, phase_two_fault}
-pub use Rattle.rv_asm.specs.Diagnosed.{cleared}
-use Rattle.rv_asm.specs.Diagnosed.{new_labels, kept, fault_of}
+use Rattle.rv_asm.specs.Diagnosed.{fault_of, new_labels, kept}
+
+-- line k without its statement, and without labels that define a name a second time
+abbrev pub cleared : List Parsed → ℕ → Parsed
+cleared ls k =
+    record { labels = new_labels (address ls k) (names ls k) (line_at ls k).labels; statement = None }
 
 -- unless memory ran out, nothing changed
 abbrev pub Keeps : {A : Type 0} → FaultKind → A → A → Type 0

@@ -1,7 +1,7 @@
 -- Results whose faults have no line yet, what instructions wait for, and lists of local labels.
 -- The language is this project's own: docs/ASSEMBLER.md.
 -- Not to audit: private contracts alone cite this.
-use Rattle.std.specs.Prelude.{◌≡◌, ℕ, zero, suc, List, [], ◌∷◌, ◌++◌, ℤ, pos, negsuc, ◌+ℤ◌, ◌-ℤ◌, ◌≤ℤ◌, ◌==◌, if◌then◌else◌, get_or, slice_get, replicate, Bool, Option, Some, None, option_and_then, Result, Ok, Err, is_none}
+use Rattle.std.specs.Prelude.{◌≡◌, ℕ, zero, suc, ◌^◌, filter, List, [], ◌∷◌, ◌++◌, ℤ, pos, negsuc, ◌+ℤ◌, ◌-ℤ◌, ◌≤ℤ◌, ◌==◌, if◌then◌else◌, get_or, slice_get, replicate, Bool, Option, Some, None, option_and_then, Result, Ok, Err, is_none}
 use Rattle.std.specs.Option.{ok_or}
 use Rattle.std.specs.List.{list_any}
 use Rattle.rv_source.specs.declared.operand.Operand.{Operand}
@@ -18,7 +18,9 @@ use Rattle.rv_asm.specs.declared.instructions.Instructions.{Instructions}
 use Rattle.rv_asm.specs.declared.instructions.Instructions.TheVariants as i
 use Rattle.rv_asm.specs.declared.symbols.Scope.{Scope}
 use Rattle.rv_asm.specs.Symbols.{operand_value}
-use Rattle.rv_asm.specs.Values.{field, part_value, far, hi, lo}
+use Rattle.rv_asm.specs.Values.{is_word, field, far, hi, lo}
+use Rattle.rv_isa.specs.Number.{modulo}
+use Rattle.rv_source.specs.declared.operand.Part.TheVariants.{Whole, High, Low}
 use Rattle.rv_asm.specs.Listing.{◌>>=◌, code, bytes_in}
 
 -- ---- results whose fault has no line yet
@@ -70,9 +72,15 @@ byte v = field (negsuc 127) (pos 255) 8 v
 abbrev pub five_bits : ℤ → Option ℕ
 five_bits v = field (pos 0) (pos 31) 5 v
 
+-- a part of a value that an instruction takes
+abbrev pub value_by : Part → ℤ → Option ℤ
+value_by Whole v = Some v
+value_by High v = if is_word v then Some (pos (hi (modulo v (2 ^ 32)))) else None
+value_by Low v = if is_word v then Some (lo (modulo v (2 ^ 32))) else None
+
 -- the bytes of one instruction that takes a part of a value
 abbrev pub near : ℕ → Kind → Part → ℤ → Option (List ℕ)
-near here kind part v = option_and_then (code here [] kind) (part_value part v)
+near here kind part v = option_and_then (code here [] kind) (value_by part v)
 
 -- those of two, for the distance to a target
 abbrev pub pair : ℕ → ℕ → Kind → ℤ → Option (List ℕ)
@@ -102,6 +110,10 @@ pub record IsNear (n : ℕ) (v : ℤ) : Type 0 where
   pub high : v ≤ℤ pos n
 
 -- ---- lists of local labels
+
+-- the definitions of number n
+abbrev pub of_number : ℕ → List LocalLabel → List LocalLabel
+of_number n = filter (λ d. d.number == n)
 
 -- the last of the first n elements
 abbrev pub last_of : {A : Type 0} → List A → ℕ → Option A

@@ -5,6 +5,7 @@
 use Rattle.std.specs.Prelude.{ℕ, zero, suc, ◌+◌, ◌%◌, Bool, false, not, ◌||◌, List, [], ◌∷◌, ◌++◌, map, length, get_or, ℤ, pos, nat_lt, ◌==◌, Option, Some, None, is_some, if◌then◌else◌}
 use Rattle.std.specs.Option.{unwrap_or}
 use Rattle.rv_base.specs.Limits.{ram_base, image_limit}
+use Rattle.rv_base.specs.Tables.{lookup}
 use Rattle.rv_source.specs.Reading.{Parsed}
 use Rattle.rv_source.specs.declared.line.Label.{Label}
 use Rattle.rv_source.specs.declared.line.Label.TheVariants as label
@@ -13,8 +14,7 @@ use Rattle.rv_source.specs.declared.statement.Statement.TheVariants.{Marker}
 use Rattle.rv_program.specs.declared.fault.FaultKind.{FaultKind}
 use Rattle.rv_program.specs.declared.fault.FaultKind.TheVariants.{DuplicateSymbol, NotConstant, Misplaced, TooLarge}
 use Rattle.rv_asm.specs.declared.locals.LocalLabel.{LocalLabel}
-use Rattle.rv_asm.specs.Symbols.{Definitions, followed, value_of, operand_value}
-use Rattle.rv_asm.specs.Values.{first_that}
+use Rattle.rv_asm.specs.Symbols.{Definitions, followed, operand_value}
 use Rattle.rv_asm.specs.Listing.{Row, row}
 
 -- ---- the labels of a line at an address
@@ -36,12 +36,9 @@ locals_in k here (label.Local n ∷ ls) = record { number = n; line = k; address
 
 -- ---- where lines lie
 
--- a line with no label and no statement, as every line past the end
-abbrev pub blank : Parsed
-blank = record { labels = []; statement = None }
-
+-- line k; past the end each has no label and no statement
 abbrev pub line_at : List Parsed → ℕ → Parsed
-line_at lines k = get_or lines k blank
+line_at lines k = get_or lines k (record { labels = []; statement = None })
 
 -- what is known at a place of a source: its address, and the symbols that are defined before it
 pub record Known : Type 0 where
@@ -71,12 +68,9 @@ known_before lines zero = record { address = ram_base; definitions = record { na
 known_before lines (suc k) =
     let line = line_at lines k in stated k (labelled k (known_before lines k) line.labels) line.statement
 
--- its address, and the names that are defined before it
+-- its address
 abbrev pub address : List Parsed → ℕ → ℕ
 address lines k = (known_before lines k).address
-
-abbrev pub names : List Parsed → ℕ → List (List ℕ × ℤ)
-names lines k = (known_before lines k).definitions.names
 
 -- the row of its statement, once its labels are defined
 abbrev pub row_on : List Parsed → ℕ → Row
@@ -91,13 +85,14 @@ definitions lines = (known_before lines (length lines)).definitions
 -- whether names define one that is already defined
 abbrev pub redefines : List (List ℕ × ℤ) → List (List ℕ × ℤ) → Bool
 redefines known [] = false
-redefines known (d ∷ ds) = is_some (value_of known d.0) || redefines (known ++ d ∷ []) ds
+redefines known (d ∷ ds) = is_some (lookup d.0 known) || redefines (known ++ d ∷ []) ds
 
 -- the fault of line k in phase two
 unfoldable pub phase_two_fault : List Parsed → ℕ → Option FaultKind
 phase_two_fault lines k =
-    let r = row_on lines k in
-    let new = names_in (address lines k) (line_at lines k).labels ++ r.defines in
-    first_that ((redefines (names lines k) new, DuplicateSymbol) ∷ (not r.is_known, NotConstant)
-    ∷ (not (address lines k % r.alignment == 0), Misplaced)
-    ∷ (nat_lt (ram_base + image_limit) (address lines k + r.size), TooLarge) ∷ [])
+    let known = known_before lines k in let r = row_on lines k in
+    let new = names_in known.address (line_at lines k).labels ++ r.defines in
+    if redefines known.definitions.names new then Some DuplicateSymbol
+    else (if not r.is_known then Some NotConstant
+    else (if not (known.address % r.alignment == 0) then Some Misplaced
+    else (if nat_lt (ram_base + image_limit) (known.address + r.size) then Some TooLarge else None)))

@@ -1,6 +1,6 @@
 -- The lines of an accepted source with their addresses and their bytes, and its labels.
 -- To audit: public contracts cite this.
--- Here lines are counted from 1, but `labels_on`, `address` and `line_bytes` count them from 0.
+-- Here lines are counted from 1, but `address`, `line_at` and `line_bytes` count them from 0.
 use Rattle.std.specs.Prelude.{ℕ, suc, ◌-◌, ◌<◌, ◌≤◌, ◌&&◌, nat_lt, List, [], map, length, get_or, slice_range, Option, Some, None, if◌then◌else◌, Result, Ok}
 use Rattle.std.specs.List.{flat_map, range_with_len}
 use Rattle.std.specs.Option.{option_map_or}
@@ -8,7 +8,6 @@ use Rattle.rv_base.specs.Lines.{lines}
 use Rattle.rv_base.specs.Limits.{ram_base}
 use Rattle.rv_program.specs.Program.{Assembly}
 use Rattle.rv_program.specs.declared.fault.AsmFault.{AsmFault}
-use Rattle.rv_source.specs.Reading.{Parsed}
 use Rattle.rv_asm.specs.Layout.{line_at, address, labels_in}
 use Rattle.rv_asm.specs.Listing.{◌>>=◌}
 use Rattle.rv_asm.specs.Assembly.{all_parsed, assembled}
@@ -20,18 +19,14 @@ pub record Listed : Type 0 where
   pub addresses : List ℕ
   pub labels : List (List ℕ × ℕ)
 
--- the names that line k, counted from 0, has as labels, with their address
-abbrev pub labels_on : List Parsed → ℕ → List (List ℕ × ℕ)
-labels_on lines k = labels_in (address lines k) (line_at lines k).labels
-
 -- the listing of a source, or its fault
 unfoldable pub listed : List ℕ → Result Listed AsmFault
 listed source =
     let parsed = all_parsed (lines source) in
     let addresses = map (address parsed) (range_with_len 0 (suc (length parsed))) in
-    let labels = flat_map (labels_on parsed) (range_with_len 0 (length parsed)) in
-    assembled source >>= λ assembly.
-    Ok (record { assembly = assembly; addresses = addresses; labels = labels })
+    let labels_on = λ (k : ℕ). labels_in (address parsed k) (line_at parsed k).labels in
+    let labels = flat_map labels_on (range_with_len 0 (length parsed)) in
+    assembled source >>= λ a. Ok (record { assembly = a; addresses = addresses; labels = labels })
 
 -- ---- what a listing says of a line
 

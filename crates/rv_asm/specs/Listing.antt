@@ -15,7 +15,6 @@ use Rattle.rv_isa.specs.declared.op.ImmOp.TheVariants.{Addi}
 use Rattle.rv_isa.specs.declared.op.Width.{Width}
 pub use Rattle.rv_tokens.specs.Faults.{◌>>=◌}
 use Rattle.rv_source.specs.declared.operand.Operand.{Operand}
-use Rattle.rv_source.specs.Operands.{part_of}
 use Rattle.rv_source.specs.declared.statement.Statement.{Statement}
 use Rattle.rv_source.specs.declared.statement.Statement.TheVariants as s
 use Rattle.rv_program.specs.declared.fault.FaultKind.{FaultKind}
@@ -107,7 +106,7 @@ asking v test row = record (row (modulo (unwrap_or v (pos 0)) (2 ^ 32))) { is_kn
 unfoldable pub row : (Operand → Option ℤ) → ℕ → Statement → Row
 row early here (s.Instruction kind) = ready 4 (bytes (kind ∷ []))
 row early here (s.WithValue kind x) =
-    waiting 4 4 (λ v. option_and_then (code here [] kind) (part_value (part_of x) v)) (x ∷ [])
+    waiting 4 4 (λ v. option_and_then (code here [] kind) (part_value x.form v)) (x ∷ [])
 row early here (s.Far scratch kind x) = waiting 4 8
     (λ v. option_and_then (λ d. code here (Auipc scratch (hi d) ∷ []) kind (lo d)) (far here v)) (x ∷ [])
 row early here (s.Li rd x) = asking (early x) is_word (λ w. ready 4 (bytes (loading rd w)))

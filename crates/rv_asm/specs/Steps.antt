@@ -18,9 +18,9 @@ use Rattle.rv_asm.specs.Symbols.{Definitions, atom_value, sum_value, operand_val
 pub use Rattle.rv_asm.specs.Layout.{Known, labelled, stated}
 unfoldable pub use Rattle.rv_asm.specs.Layout.{known_before}
 use Rattle.rv_asm.specs.Layout.{line_at, row_at, phase_two_fault}
-use Rattle.rv_asm.specs.Counted.{fault_stated_by, fault_stated, fault_on, first_fault, joined}
+use Rattle.rv_asm.specs.Counted.{phase_one_fault, fault_stated_by, fault_stated, fault_on, first_fault, joined}
 use Rattle.rv_asm.specs.Listing.{◌>>=◌, bytes}
-use Rattle.rv_asm.specs.Assembly.{phase_one_fault, all_parsed}
+use Rattle.rv_asm.specs.Assembly.{all_parsed}
 use Rattle.rv_asm.specs.Constants.{KeptLine, stated_in, statement_bytes}
 use Rattle.rv_asm.specs.Kept.{Valuation, added, wanted, kinds, with_value}
 

@@ -4,7 +4,7 @@
 use Rattle.std.specs.Prelude.{ℕ, List, [], ◌∷◌, ◌++◌, ℤ, pos, ◌+ℤ◌, ◌-ℤ◌, filter, Option, Some, None, option_and_then, ◌==◌, nat_le, nat_lt, if◌then◌else◌}
 use Rattle.std.specs.List.{find, last_or}
 use Rattle.std.specs.Option.{option_map}
-pub use Rattle.rv_program.specs.Program.{value_of}
+use Rattle.rv_base.specs.Tables.{lookup}
 use Rattle.rv_source.specs.declared.expression.Atom.{Atom}
 use Rattle.rv_source.specs.declared.expression.Atom.TheVariants.{Number, Character, Symbol, Local, Here}
 use Rattle.rv_source.specs.declared.expression.Term.{Term}
@@ -23,10 +23,6 @@ pub record Definitions : Type 0 where
 abbrev pub followed : Definitions → List (List ℕ × ℤ) → List LocalLabel → Definitions
 followed ds names locals = record { names = ds.names ++ names; locals = ds.locals ++ locals }
 
--- the definitions of number n
-abbrev pub of_number : ℕ → List LocalLabel → List LocalLabel
-of_number n = filter (λ d. d.number == n)
-
 -- the nearest of the definitions of a number: `b` means the last on this line or a line before it, `f` the first
 -- on a line after it
 abbrev pub nearest : List LocalLabel → ℕ → Direction → Option LocalLabel
@@ -37,9 +33,9 @@ nearest ds line Forward = find (λ d. nat_lt line d.line) ds
 abbrev pub atom_value : Definitions → ℕ → ℕ → Atom → Option ℤ
 atom_value ds line here (Number n) = Some (pos n)
 atom_value ds line here (Character b) = Some (pos b)
-atom_value ds line here (Symbol name) = value_of ds.names name
+atom_value ds line here (Symbol name) = lookup name ds.names
 atom_value ds line here (Local number direction) =
-    option_map (λ d. pos d.address) (nearest (of_number number ds.locals) line direction)
+    option_map (λ d. pos d.address) (nearest (filter (λ d. d.number == number) ds.locals) line direction)
 atom_value ds line here Here = Some (pos here)
 
 -- the value of an expression: the sum of its terms as whole numbers, if each atom has a value

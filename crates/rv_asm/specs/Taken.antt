@@ -4,9 +4,10 @@
 use Rattle.std.specs.Prelude.{◌≡◌, ℕ, ◌+◌, List, Option, Some, None, Result, Ok, Err}
 use Rattle.rv_source.specs.Reading.{Parsed, parsed}
 use Rattle.rv_tokens.specs.declared.fault.LineFault.{LineFault}
-use Rattle.rv_tokens.specs.Faults.{Fails as LineFails}
+use Rattle.rv_tokens.specs.Partial.{Fails as LineFails}
 use Rattle.rv_program.specs.declared.fault.AsmFault.{AsmFault}
-use Rattle.rv_program.specs.Faults.{Gives, IsFaultAt, kind_of}
+use Rattle.rv_program.specs.Faults.{Gives, kind_of}
+use Rattle.rv_program.specs.Kept.{IsFaultAt}
 use Rattle.rv_asm.specs.Steps.{Known, Item, AddsLine, extended}
 
 -- the state laid out, or the first fault in phase two

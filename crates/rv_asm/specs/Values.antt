@@ -10,13 +10,9 @@ use Rattle.rv_isa.specs.declared.kind.Kind.{Kind}
 use Rattle.rv_isa.specs.declared.kind.Kind.TheVariants.{Lui, OpImm}
 use Rattle.rv_isa.specs.declared.op.ImmOp.TheVariants.{Addi}
 use Rattle.rv_isa.specs.declared.op.Width.{Width}
-use Rattle.rv_source.specs.declared.operand.Part.{Part}
-use Rattle.rv_source.specs.declared.operand.Part.TheVariants.{Whole, High, Low}
-
--- what stands beside the first condition that holds
-abbrev pub first_that : {A : Type 0} → List (Bool × A) → Option A
-first_that [] = None
-first_that (row ∷ rows) = if row.0 then Some row.1 else first_that rows
+use Rattle.rv_source.specs.declared.operand.Form.{Form}
+use Rattle.rv_source.specs.declared.operand.Form.TheVariants as f
+use Rattle.rv_source.specs.declared.operand.Part.TheVariants.{High, Low}
 
 abbrev pub is_between : ℤ → ℤ → ℤ → Bool
 is_between low high v = int_le low v && int_le v high
@@ -28,8 +24,9 @@ fits width = let n = 2 ^ (8 * bytes_of width) in is_between (negsuc (n / 2 - 1))
 -- the immediate of an I-type or S-type instruction: a value from -2048 to 2047 itself,
 -- and one from 0xFFFFF800 to 0xFFFFFFFF less 2 ^ 32
 abbrev pub immediate : ℤ → Option ℤ
-immediate v = first_that ((is_between (negsuc 2047) (pos 2047) v, v)
-    ∷ (is_between (pos 0xfffff800) (pos 0xffffffff) v, v -ℤ pos (2 ^ 32)) ∷ [])
+immediate v =
+    if is_between (negsuc 2047) (pos 2047) v then Some v
+    else (if is_between (pos 0xfffff800) (pos 0xffffffff) v then Some (v -ℤ pos (2 ^ 32)) else None)
 
 -- a value in a range as a field of so many bits, and so modulo 2 ^ bits
 abbrev pub field : ℤ → ℤ → ℕ → ℤ → Option ℕ
@@ -51,10 +48,10 @@ lo w = if nat_lt (w % 4096) 2048 then pos (w % 4096) else negsuc (4095 - w % 409
 
 -- a part of a value that an instruction takes; the high and the low part are those of a value that fits into
 -- 32 bits
-abbrev pub part_value : Part → ℤ → Option ℤ
-part_value Whole v = Some v
-part_value High v = if is_word v then Some (pos (hi (modulo v (2 ^ 32)))) else None
-part_value Low v = if is_word v then Some (lo (modulo v (2 ^ 32))) else None
+abbrev pub part_value : Form → ℤ → Option ℤ
+part_value (f.Value High e base) v = if is_word v then Some (pos (hi (modulo v (2 ^ 32)))) else None
+part_value (f.Value Low e base) v = if is_word v then Some (lo (modulo v (2 ^ 32))) else None
+part_value _ v = Some v
 
 -- the distance from `here` to a target that fits into 32 bits, modulo 2 ^ 32
 abbrev pub far : ℕ → ℤ → Option ℕ

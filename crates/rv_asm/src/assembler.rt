@@ -4,7 +4,8 @@ ghost use Rattle.std.specs.List.{All};
 ghost use Rattle.rv_base.specs.Lines.{lines};
 ghost use Rattle.rv_source.specs.Reading.{parsed, line_form};
 ghost use Rattle.rv_program.specs.declared.fault.AsmFault.{AsmFault};
-ghost use Rattle.rv_program.specs.Faults.{Gives, IsFaultAt, kind_of};
+ghost use Rattle.rv_program.specs.Faults.{Gives, kind_of};
+ghost use Rattle.rv_program.specs.Kept.{IsFaultAt};
 ghost use Rattle.rv_asm.specs.Assembly.{all_parsed, assembled};
 ghost use Rattle.rv_asm.specs.Steps.{Known as KnownValue, AddsLine, Writes, start, extended, lines_laid_out, image_of};
 ghost use Rattle.rv_asm.specs.Taken.{so_far, Without, IsUnread, Takes};
@@ -18,6 +19,7 @@ use rv_source::{Label, LineFault, Statement, read_line};
 use std::alloc::Global;
 
 /// Returns the fault of a line that can't be read.
+#[tactic(auto, using(crate::proofs::Runs::fault_at))]
 fn unread(number: usize, fault: LineFault) -> AsmFault
     requires { number < 0xffffffffffffffff }
     ensures { IsFaultAt (number + 1) (kind_of fault) result }

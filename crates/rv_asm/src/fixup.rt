@@ -67,7 +67,7 @@ pub enum Waiting {
 
 impl Waiting {
     ghost use Rattle.std.specs.Prelude.{◌≡◌};
-    ghost use Rattle.rv_source.specs.Operands.{part_of};
+    ghost use Rattle.rv_source.specs.Partial.{part_of};
     ghost use Rattle.rv_asm.specs.Kept.{KindBecomes};
     ghost use Rattle.rv_asm.specs.Steps.{appended, waiting_bytes};
     ghost use Rattle.rv_asm.specs.declared.fixup.Waiting.TheVariants as w;

@@ -100,7 +100,7 @@ impl Drop for Locals {
 impl Model for Locals {
     ghost use Rattle.std.specs.Prelude.{◌≡◌, ℕ, List, [], get_or};
     ghost use Rattle.rv_asm.specs.declared.locals.LocalLabel.{LocalLabel};
-    ghost use Rattle.rv_asm.specs.Symbols.{of_number};
+    ghost use Rattle.rv_asm.specs.Kept.{of_number};
 
     ghost Value = { List LocalLabel };
 
@@ -112,7 +112,8 @@ impl Model for Locals {
 impl Locals {
     ghost use Rattle.std.specs.Prelude.{◌≡◌, ◌≤◌, [], ◌∷◌, ◌++◌, OnOk};
     ghost use Rattle.std.specs.List.{All};
-    ghost use Rattle.rv_asm.specs.Symbols.{of_number, nearest};
+    ghost use Rattle.rv_asm.specs.Kept.{of_number};
+    ghost use Rattle.rv_asm.specs.Symbols.{nearest};
 
     pub fn new(alloc: Global) -> Self
         ensures { result ≡ [] }

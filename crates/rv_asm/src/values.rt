@@ -1,9 +1,9 @@
 //! Conversions of the value of an expression to the field that it fills.
 ghost use Rattle.std.specs.Prelude.{◌≡◌, ◌==◌, ◌&&◌, ◌<◌, ◌≤◌, ◌^◌, true, Some, None, IfSome, if◌then◌else◌};
 ghost use Rattle.rv_isa.specs.Number.{IsWithin, IsDistance, modulo};
-ghost use Rattle.rv_asm.specs.Values.{is_between, is_word, fits, immediate, distance, hi, lo, part_value, far, gap};
+ghost use Rattle.rv_asm.specs.Values.{is_between, is_word, fits, immediate, distance, hi, lo, far, gap};
 ghost use Rattle.rv_asm.specs.Listing.{is_multiple};
-ghost use Rattle.rv_asm.specs.Kept.{byte, upper_immediate, five_bits};
+ghost use Rattle.rv_asm.specs.Kept.{byte, upper_immediate, five_bits, value_by};
 
 use rv_isa::Width;
 use rv_source::Part;
@@ -132,7 +132,7 @@ pub fn lo(word: u32) -> i32
 
 /// Returns the part of a value that an instruction takes, if the value has one.
 pub fn part_value(part: Part, value: i64) -> Option<i64>
-    ensures { result ≡ part_value part value }
+    ensures { result ≡ value_by part value }
 {
     match part {
         Part::Whole => Some(value),

@@ -1,8 +1,8 @@
 use Rattle.std.proofs.Common.{◌≡◌, ◌∙◌, ◌+◌, sym, arith, refl}
 use Rattle.std.specs.Prelude.{Ok}
-use Rattle.rv_program.specs.Faults.{Fails, IsFaultAt}
+use Rattle.rv_program.specs.Kept.{Fails, IsFaultAt}
 use Rattle.rv_asm.specs.Steps.{item_step, item_bytes, appended}
-use Rattle.rv_asm.proofs.Runs.{run_more, run_end, run_fails_at, fails_at_line}
+use Rattle.rv_asm.proofs.Runs.{fault_at, run_more, run_end, run_fails_at, fails_at_line}
 use Rattle.rv_asm.proofs.assembler.image.Goals as goal
 
 pub loop-item-preserved : goal.loop-item-preserved
@@ -22,7 +22,8 @@ returns-in-Err c =
     let ds = c.args.symbols.now in
     let item = c.item-item.result in
     let out = c.loop-item.out.items in
-    let at : IsFaultAt (item.line + 1) c.in-Err.kind c.at.result = rw c.line.ensures.value at c.at.ensures in
+    let at : IsFaultAt (item.line + 1) c.in-Err.kind c.at.result =
+    fault_at (item.line + 1) c.in-Err.kind c.at.result (rw c.line.ensures.value at c.at.ensures) in
     let step : Fails c.at.result (item_step ds out item) =
     fails_at_line item.line c.in-Err.kind c.at.result
     (appended out (item_bytes ds item)) c.in-Err.ensures at in

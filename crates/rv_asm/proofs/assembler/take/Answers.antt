@@ -1,7 +1,8 @@
-use Rattle.std.proofs.Common.{◌≡◌, sym}
+use Rattle.std.proofs.Common.{◌≡◌, ◌+◌, sym}
 use Rattle.std.specs.Prelude.{Ok}
 use Rattle.rv_source.specs.Reading.{Parsed, parsed}
 use Rattle.rv_asm.proofs.Reading.{read_statement}
+use Rattle.rv_asm.proofs.Runs.{fault_at}
 use Rattle.rv_asm.proofs.Takes.{takes_nothing, takes_line, takes_fault}
 use Rattle.rv_asm.proofs.assembler.take.Goals.{in-Err-add, in_default}
 use Rattle.rv_asm.proofs.assembler.take.Goals as goal
@@ -22,7 +23,8 @@ returns-clause-ok c =
     elim c.match-add.branch [
       | in-Err-add w ↦ rw w.fault-is (takes_fault c.args.number c.args.text.now line read c.args.known.now
           c.args.items.now.items c.add.new.self c.add.new.items.items c.args.fault.now _ _
-          (sym c.if-is_some.ensures) w.in-Err-add.ensures.known w.at.ensures)
+          (sym c.if-is_some.ensures) w.in-Err-add.ensures.known
+          (fault_at (c.args.number + 1) w.in-Err-add.kind w.at.result w.at.ensures))
       | in_default w ↦ rw w.fault-is (takes_line c.args.number c.args.text.now line read c.args.known.now
           c.args.items.now.items c.add.new.self c.add.new.items.items c.args.fault.now
           (sym c.if-is_some.ensures) w.in_default.ensures.known w.in_default.ensures.items)

@@ -1,6 +1,6 @@
 use Rattle.std.proofs.Common.{◌≡◌, ◌∙◌, ◌∷◌, length, ap, arith}
 use Rattle.rv_base.specs.Lines.{lines}
-use Rattle.rv_asm.specs.Assembly.{phase_one_fault}
+use Rattle.rv_asm.specs.Counted.{phase_one_fault}
 use Rattle.rv_asm.proofs.Diagnosing.{none_found, all_left, next_line, left_more, found_more, none_left}
 use Rattle.rv_asm.proofs.faults.diagnose_reading.Goals as goal
 

@@ -1,8 +1,7 @@
 use Rattle.std.proofs.Common.{◌≤◌, ◌+◌, length}
 use Rattle.rv_base.specs.Lines.{lines}
-use Rattle.rv_asm.specs.Assembly.{phase_one_fault}
 use Rattle.rv_asm.specs.Judged.{Diagnoses}
-use Rattle.rv_asm.specs.Counted.{all_faults}
+use Rattle.rv_asm.specs.Counted.{all_faults, phase_one_fault}
 use Rattle.rv_asm.proofs.Diagnosing.{LeftOf}
 use Rattle.rv_asm.proofs.faults.diagnose_reading.Given as goal
 

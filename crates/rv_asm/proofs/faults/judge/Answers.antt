@@ -9,7 +9,7 @@ use Rattle.rv_asm.proofs.faults.judge.Goals as goal
 pub returns-in-Some : goal.returns-in-Some
 returns-in-Some c =
     let old = c.args.known.now in
-    let line : Parsed = record { labels = c.in-Ok.line.labels; statement = c.in-Ok-statement.statement } in
+    let line : Parsed = record { labels = c.in-Ok.line.0; statement = c.in-Ok-statement.statement } in
     let read : parsed c.args.text.now ≡ Ok line = read_statement c.args.text.now c.in-Ok.line
     c.in-Ok-statement.statement c.in-Ok.ensures.form c.in-Ok-statement.ensures in
     let twice : relabels old line.labels ≡ true =
@@ -21,7 +21,7 @@ returns-in-Some c =
 pub returns-in_default-statement-2 : goal.returns-in_default-statement-2
 returns-in_default-statement-2 c =
     let old = c.args.known.now in
-    let line : Parsed = record { labels = c.in-Ok.line.labels; statement = c.in-Ok-statement.statement } in
+    let line : Parsed = record { labels = c.in-Ok.line.0; statement = c.in-Ok-statement.statement } in
     let read : parsed c.args.text.now ≡ Ok line = read_statement c.args.text.now c.in-Ok.line
     c.in-Ok-statement.statement c.in-Ok.ensures.form c.in-Ok-statement.ensures in
     let once : relabels old line.labels ≡ false =
@@ -33,7 +33,7 @@ returns-in_default-statement-2 c =
 pub returns-in-Ok-advance : goal.returns-in-Ok-advance
 returns-in-Ok-advance c =
     let old = c.args.known.now in
-    let line : Parsed = record { labels = c.in-Ok.line.labels; statement = c.in-Ok-statement.statement } in
+    let line : Parsed = record { labels = c.in-Ok.line.0; statement = c.in-Ok-statement.statement } in
     let read : parsed c.args.text.now ≡ Ok line = read_statement c.args.text.now c.in-Ok.line
     c.in-Ok-statement.statement c.in-Ok.ensures.form c.in-Ok-statement.ensures in
     let once : relabels old line.labels ≡ false =
@@ -45,7 +45,7 @@ returns-in-Ok-advance c =
 pub returns : goal.returns
 returns c =
     let old = c.args.known.now in
-    let line : Parsed = record { labels = c.in-Ok.line.labels; statement = c.in-Ok-statement.statement } in
+    let line : Parsed = record { labels = c.in-Ok.line.0; statement = c.in-Ok-statement.statement } in
     let read : parsed c.args.text.now ≡ Ok line = read_statement c.args.text.now c.in-Ok.line
     c.in-Ok-statement.statement c.in-Ok.ensures.form c.in-Ok-statement.ensures in
     let once : relabels old line.labels ≡ false =

@@ -9,7 +9,7 @@ use Rattle.rv_asm.proofs.faults.try_line.Goals as goal
 pub returns : goal.returns
 returns c =
     let old = c.args.known.now in
-    let line : Parsed = record { labels = c.in-Ok.line.labels; statement = c.in-Ok-statement.statement } in
+    let line : Parsed = record { labels = c.in-Ok.line.0; statement = c.in-Ok-statement.statement } in
     let read : parsed c.args.text.now ≡ Ok line = read_statement c.args.text.now c.in-Ok.line
     c.in-Ok-statement.statement c.in-Ok.ensures.form c.in-Ok-statement.ensures in
     let adds = rw (c.labels.ensures, c.new-items.ensures.items) at c.in-Ok-add.ensures.items in

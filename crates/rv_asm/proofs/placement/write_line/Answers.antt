@@ -12,7 +12,7 @@ pub write-requires : goal.write-requires
 write-requires c =
     let text : KeptLine = record { bytes = c.text.inside.bytes.now; constant = c.text.inside.constant } in
     let read : line_form c.text.inside.bytes.now ≡ Ok c.in-Ok.line = c.in-Ok.ensures.form in
-    let is : Ok (Some c.in-Ok-Some.statement) ≡ statement_of c.in-Ok.line.body = cc in
+    let is : Ok (Some c.in-Ok-Some.statement) ≡ statement_of c.in-Ok.line.1 = cc in
     let fits : SFits w64 c.text.inside.constant = search rules in
     let back : to_z w64 (of_z w64 c.text.inside.constant) ≡ c.text.inside.constant = rw to_z-of_z refl in
     rw back (taken_again text c.in-Ok.line read c.in-Ok-Some.statement is c.text.invariant)
@@ -21,7 +21,7 @@ pub returns-in-Ok-Some : goal.returns-in-Ok-Some
 returns-in-Ok-Some c =
     let text : KeptLine = record { bytes = c.text.inside.bytes.now; constant = c.text.inside.constant } in
     let read : line_form c.text.inside.bytes.now ≡ Ok c.in-Ok.line = c.in-Ok.ensures.form in
-    let is : Ok (Some c.in-Ok-Some.statement) ≡ statement_of c.in-Ok.line.body = cc in
+    let is : Ok (Some c.in-Ok-Some.statement) ≡ statement_of c.in-Ok.line.1 = cc in
     let fits : SFits w64 c.text.inside.constant = search rules in
     rw (← c.text.view_is) (written_again text c.in-Ok.line read c.args.scope.symbols.now c.args.scope.line
     c.args.scope.here c.in-Ok-Some.statement c.write.new.out.items c.args.out.now.items c.write.result is
