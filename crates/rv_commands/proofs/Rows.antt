@@ -5,8 +5,8 @@ use Rattle.std.proofs.lemmas.Slice.Eq.{bytes_eq-Decides}
 use Rattle.std.specs.Prelude.{Option, Some, None, codes, nat_eq, unwrap_or}
 use Rattle.std.specs.Str.{bytes_eq}
 use Rattle.rv_base.specs.Tables.{lookup}
-use Rattle.rv_commands.specs.Commands.{command_by, memory_command, with_operand, without_operand}
-use Rattle.rv_commands.specs.Rows.{number_alone, address_alone, steps, going, named, memory, row}
+use Rattle.rv_commands.specs.Commands.{command_by, with_operand, without_operand}
+use Rattle.rv_commands.specs.Rows.{memory_command, number_alone, address_alone, steps, going, named, memory, row}
 use Rattle.rv_commands.specs.declared.command.Command.{Command}
 use Rattle.rv_commands.specs.declared.command.Command.TheVariants.{Step, Go, Registers, Traps, Quit}
 

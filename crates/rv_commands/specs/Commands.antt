@@ -15,16 +15,9 @@ use Rattle.rv_commands.specs.declared.command.Command.TheVariants.{Step, Go, Set
 
 -- ---- operands
 
--- a decimal number from `low` to `high`
+-- a decimal number from m to n
 unfoldable pub number_between : ℕ → ℕ → List ℕ → Option ℕ
-number_between low high word =
-    option_and_then (λ n. if nat_le low n then Some n else None) (number_in 10 high word)
-
--- `m ADDR N`: an address and a number of bytes
-abbrev pub memory_command : (List ℕ → Option ℤ) → List ℕ → List ℕ → Option Command
-memory_command symbols address n =
-    option_and_then (λ addr. option_map (λ count. Memory addr count) (number_between 1 256 n))
-    (address_of symbols address)
+number_between m n word = option_and_then (λ k. if nat_le m k then Some k else None) (number_in 10 n word)
 
 -- ---- command lines
 
@@ -46,12 +39,13 @@ with_operand symbols word =
     ∷ (codes "e", option_map (λ source. Edges source) (number_between 24 31 word))
     ∷ []
 
--- a command by its first word and those following it
+-- a command by its first word and those following it: of three words there is `m ADDR N`
 abbrev pub command_by : (List ℕ → Option ℤ) → List ℕ → List (List ℕ) → Option Command
 command_by symbols word [] = lookup word without_operand
 command_by symbols word (operand ∷ []) = unwrap_or (lookup word (with_operand symbols operand)) None
 command_by symbols word (address ∷ n ∷ []) =
-    if bytes_eq word (codes "m") then memory_command symbols address n else None
+    let memory : ℕ → Option Command = λ a. option_map (λ k. Memory a k) (number_between 1 256 n) in
+    if bytes_eq word (codes "m") then option_and_then memory (address_of symbols address) else None
 command_by symbols word _ = None
 
 -- a line by its words; a blank line or a comment does nothing

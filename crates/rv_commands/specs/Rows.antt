@@ -6,9 +6,9 @@ use Rattle.std.specs.Str.{bytes_eq}
 use Rattle.rv_commands.specs.Addresses.{address_of}
 use Rattle.rv_base.specs.Tables.{lookup}
 use Rattle.rv_isa.specs.Names.{csr_names}
-use Rattle.rv_commands.specs.Commands.{number_between, memory_command}
+use Rattle.rv_commands.specs.Commands.{number_between}
 use Rattle.rv_commands.specs.declared.command.Command.{Command}
-use Rattle.rv_commands.specs.declared.command.Command.TheVariants.{Step, Go, SetBreak, ClearBreak, Registers, ControlRegister, Instruction, Traps, Edges, Quit}
+use Rattle.rv_commands.specs.declared.command.Command.TheVariants.{Step, Go, SetBreak, ClearBreak, Registers, ControlRegister, Memory, Instruction, Traps, Edges, Quit}
 
 -- the only word
 abbrev pub only : List (List ℕ) → Option (List ℕ)
@@ -44,7 +44,12 @@ going more = option_map (λ count. Go (Some count)) (number_alone 0 1000000000 m
 unfoldable pub named : List (List ℕ) → Option Command
 named more = option_and_then control_register (only more)
 
--- `m ADDR N`
+-- `m ADDR N`: an address and a number of bytes
+abbrev pub memory_command : (List ℕ → Option ℤ) → List ℕ → List ℕ → Option Command
+memory_command symbols address n =
+    option_and_then (λ addr. option_map (λ count. Memory addr count) (number_between 1 256 n))
+    (address_of symbols address)
+
 unfoldable pub memory : (List ℕ → Option ℤ) → List (List ℕ) → Option Command
 memory symbols (address ∷ n ∷ []) = memory_command symbols address n
 memory symbols _ = None

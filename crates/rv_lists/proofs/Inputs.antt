@@ -1,15 +1,15 @@
 -- Inputs following others.
 use Rattle.std.proofs.Common.{◌≡◌, ◌∙◌, ℕ, suc, ◌-◌, ◌<◌, ◌≤◌, Bool, true, false, cond, List, [], ◌∷◌, ◌++◌, length, get_or, refl, sym, ap, arith, append-nil, append_assoc}
 use Rattle.std.proofs.lemmas.Bool.Decides.{nat_tests}
-use Rattle.std.specs.Prelude.{Option, Some, None, nat_eq, nat_le, nat_lt, ◌&&◌, codes, option_and_then}
+use Rattle.std.specs.Prelude.{Option, Some, None, nat_eq, nat_le, nat_lt, ◌&&◌, codes, unwrap_or}
 use Rattle.std.specs.Str.{bytes_eq}
-use Rattle.std.specs.Option.{option_map}
+use Rattle.std.specs.Option.{option_map, option_zip}
 use Rattle.rv_lists.specs.declared.input.Input.{Input}
 use Rattle.rv_lists.specs.declared.input.Input.TheVariants.{Rx, Line}
 use Rattle.rv_lists.specs.declared.input.TimedInput.{TimedInput}
 use Rattle.rv_base.specs.Numbers.{hex_byte}
-use Rattle.rv_lists.specs.Timed.{all_of, byte_input, received, source_of, level_of, driven, inputs_of, at_step, never_falls}
-use Rattle.rv_lists.specs.Reading.{joined, latest_step, with_inputs, with_line, inputs_by}
+use Rattle.rv_lists.specs.Timed.{all_of, byte_input, received, driven, inputs_of, at_step, never_falls}
+use Rattle.rv_lists.specs.Reading.{joined, latest_step, source_of, level_of, with_inputs, with_line, inputs_by}
 
 pub latest_is : (xs : List TimedInput) (d : TimedInput) → 0 < length xs
     → (get_or xs (length xs - 1) d).step ≡ latest_step xs
@@ -142,7 +142,7 @@ received_some [] is e = absurd cc
 received_some (w ∷ ws) is e = received_by (hex_byte w) (all_of byte_input ws) is e
 
 driven_by : (source : Option ℕ) (level : Option Bool) (is : List Input)
-    → option_and_then (λ n. option_map (λ high. Line n high ∷ []) level) source ≡ Some is → 0 < length is
+    → option_map (λ line. Line line.0 line.1 ∷ []) (option_zip source level) ≡ Some is → 0 < length is
 driven_by None level is e = absurd cc
 driven_by (Some n) None is e = absurd cc
 driven_by (Some n) (Some high) is e = let same : Line n high ∷ [] ≡ is = cc in rw (← same) (omega arith)
@@ -160,7 +160,7 @@ some_by true b r d some more is e = some is e
 some_by false true r d some more is e = more is e
 some_by false false r d some more is e = absurd cc
 
--- the choice by a name is the look-up in the table of kinds
+-- the choice by a name is the look-up in the table of them
 eq_turned : (m n : ℕ) → nat_eq m n ≡ nat_eq n m
 eq_turned m n = grind (arith, nat_tests)
 
@@ -170,18 +170,17 @@ turned [] (y ∷ ys) = refl
 turned (x ∷ xs) [] = refl
 turned (x ∷ xs) (y ∷ ys) = rw (eq_turned x y, turned xs ys) refl
 
-looked_up : (a b : Bool) (f g : List (List ℕ) → Option (List Input)) (ws : List (List ℕ))
-    → cond a (f ws) (cond b (g ws) None)
-    ≡ option_and_then (λ reads. reads ws) (cond a (Some f) (cond b (Some g) None))
-looked_up true b f g ws = refl
-looked_up false true f g ws = refl
-looked_up false false f g ws = refl
+looked_up : (a b : Bool) (r d : Option (List Input))
+    → cond a r (cond b d None) ≡ unwrap_or (cond a (Some r) (cond b (Some d) None)) None
+looked_up true b r d = refl
+looked_up false true r d = refl
+looked_up false false r d = refl
 
 pub inputs_are : (kind : List ℕ) (ws : List (List ℕ)) → inputs_by kind ws ≡ inputs_of (kind ∷ ws)
 unfolding inputs_of inputs_by
 inputs_are kind ws =
     rw (turned kind (codes "rx"), turned kind (codes "line"))
-    (looked_up (bytes_eq (codes "rx") kind) (bytes_eq (codes "line") kind) received driven ws)
+    (looked_up (bytes_eq (codes "rx") kind) (bytes_eq (codes "line") kind) (received ws) (driven ws))
 
 none_of : (is : List Input) → inputs_of [] ≡ Some is → ⊥
 unfolding inputs_of

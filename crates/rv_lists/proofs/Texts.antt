@@ -15,14 +15,14 @@ use Rattle.std.proofs.lemmas.Str.{digit_value-digit_char}
 use Rattle.rv_base.specs.Lines.{lines, split}
 use Rattle.rv_base.proofs.DecimalDigits.{decimal_is}
 use Rattle.rv_base.specs.Decimals.{decimal_value, decimal_bytes}
-use Rattle.rv_base.specs.Numbers.{digit_value, hex_digit, hex_byte, number_in}
+use Rattle.rv_base.specs.Numbers.{hex_digit, hex_byte, number_in}
 use Rattle.rv_base.specs.Words.{words, is_blank, begins_comment}
 use Rattle.rv_lists.specs.declared.input.Input.{Input}
 use Rattle.rv_lists.specs.declared.input.Input.TheVariants.{Rx, Line}
 use Rattle.rv_lists.specs.declared.input.TimedInput.{TimedInput}
-use Rattle.rv_lists.specs.Reading.{is_input}
-use Rattle.rv_lists.specs.Text.{input_text, line_text, list_text, HasSteps}
-use Rattle.rv_lists.specs.Timed.{all_of, step_of, source_of, level_of, inputs_of, timed_line, never_falls, timed}
+use Rattle.rv_lists.specs.Reading.{HasSteps, is_input, line_text, source_of}
+use Rattle.rv_lists.specs.Text.{input_text, list_text}
+use Rattle.rv_lists.specs.Timed.{all_of, step_of, inputs_of, timed_line, never_falls, timed}
 use Rattle.rv_lists.proofs.Lines.{said_step}
 
 -- ---- comparisons as tests
@@ -274,11 +274,10 @@ module _ (n : ℕ) (high : Bool) (some : 0 < n) (few : n < 32) where
       (words_last (level_text high) (omega (arith, level_length high)) (level_graphic high))
 
   source_read : source_of (decimal n) ≡ Some n
-  unfolding source_of
   source_read = rw (read_back 31 n (decimal n) number (omega arith), le 1 n (omega arith)) refl
 
   driven_read : (b : Bool) → inputs_of (codes "line" ∷ decimal n ∷ level_text b ∷ []) ≡ Some (Line n b ∷ [])
-  unfolding inputs_of level_of
+  unfolding inputs_of
   driven_read true = rw source_read refl
   driven_read false = rw source_read refl
 

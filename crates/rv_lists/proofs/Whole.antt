@@ -3,8 +3,8 @@ use Rattle.std.proofs.Common.{◌≡◌, ◌∙◌, ℕ, zero, suc, ◌+◌, ◌
 use Rattle.std.specs.Prelude.{Option, Some, None, is_some, option_and_then}
 use Rattle.std.proofs.lemmas.List.{take_all}
 use Rattle.rv_lists.specs.declared.input.TimedInput.{TimedInput}
-use Rattle.rv_lists.specs.Timed.{all_of, timed_line, never_falls, timed, IsFirstRefused}
-use Rattle.rv_lists.specs.Reading.{joined, unless_falling, with_line}
+use Rattle.rv_lists.specs.Timed.{all_of, timed_line, never_falls, timed}
+use Rattle.rv_lists.specs.Reading.{IsFirstRefused, joined, unless_falling, with_line}
 
 joined_assoc : {B : Type 0} (a b c : Option (List B)) → joined a (joined b c) ≡ joined (joined a b) c
 joined_assoc None b c = refl
@@ -110,7 +110,7 @@ module _ (texts rest : List (List ℕ)) (n : ℕ) (inputs : List TimedInput)
 
     first_refused : with_line inputs (timed_line text) ≡ None → IsFirstRefused texts (n + 1)
     first_refused e =
-        record { refused = next_is ∙ e; taken = so.taken }
+        (next_is ∙ e, so.taken)
 
     pub refused : with_line inputs (timed_line text) ≡ None → (k : ℕ) → k ≡ n + 1 → IsFirstRefused texts k
     refused e k is = rw is (first_refused e)

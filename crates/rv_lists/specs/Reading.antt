@@ -1,14 +1,38 @@
 -- Not to audit: private contracts alone cite this.
 -- Reading a timed list, line by line, and writing one.
-use Rattle.std.specs.Prelude.{◌≡◌, ℕ, ◌&&◌, Bool, nat_lt, List, [], ◌∷◌, ◌++◌, if◌then◌else◌, Option, Some, None, Result, Ok, Err, codes, option_and_then}
+use Rattle.std.specs.Prelude.{◌≡◌, ℕ, ◌<◌, ◌&&◌, Bool, true, false, nat_le, nat_lt, List, [], ◌∷◌, ◌++◌, take, if◌then◌else◌, Option, Some, None, is_some, Result, Ok, Err, codes, decimal, option_and_then}
 use Rattle.std.specs.Option.{option_map}
+use Rattle.std.specs.List.{list_all}
 use Rattle.std.specs.Str.{bytes_eq}
 use Rattle.rv_lists.specs.declared.input.Input.{Input}
 use Rattle.rv_lists.specs.declared.input.Input.TheVariants.{Rx, Line}
 use Rattle.rv_lists.specs.declared.input.TimedInput.{TimedInput}
 use Rattle.rv_lists.specs.declared.line_refusal.LineRefusal.{LineRefusal}
 use Rattle.rv_lists.specs.declared.line_refusal.LineRefusal.TheVariants.{BadLine, OutOfMemory}
-use Rattle.rv_lists.specs.Timed.{received, driven, at_step, never_falls}
+use Rattle.rv_base.specs.Numbers.{number_in}
+use Rattle.rv_base.specs.Tables.{lookup}
+use Rattle.rv_lists.specs.Text.{input_text}
+use Rattle.rv_lists.specs.Timed.{received, driven, at_step, never_falls, timed}
+
+-- no step has more than ten digits
+abbrev pub HasSteps : List TimedInput → Type 0
+HasSteps xs = list_all (λ x. nat_le x.step 9999999999) xs ≡ true
+
+-- N of `line`, and V
+abbrev pub source_of : List ℕ → Option ℕ
+source_of word = option_and_then (λ n. if nat_le 1 n then Some n else None) (number_in 10 31 word)
+
+abbrev pub level_of : List ℕ → Option Bool
+level_of word = lookup word ((codes "0", false) ∷ (codes "1", true) ∷ [])
+
+-- the first n lines have no list, and any fewer of them have one
+abbrev pub IsFirstRefused : List (List ℕ) → ℕ → Type 0
+IsFirstRefused texts n =
+    (timed (take n texts) ≡ None) × ((k : ℕ) → k < n → is_some (timed (take k texts)) ≡ true)
+
+-- the line of an input, with its line end
+abbrev pub line_text : TimedInput → List ℕ
+line_text x = decimal x.step ++ codes " " ++ input_text x.input ++ codes "\n"
 
 -- one list followed by the other, if there are both
 abbrev pub joined : {B : Type 0} → Option (List B) → Option (List B) → Option (List B)

@@ -1,6 +1,7 @@
 //! Reads numbers.
 ghost use Rattle.std.specs.Prelude.{◌≡◌};
-ghost use Rattle.rv_lists.specs.Timed.{step_of, source_of, level_of};
+ghost use Rattle.rv_lists.specs.Reading.{source_of, level_of};
+ghost use Rattle.rv_lists.specs.Timed.{step_of};
 
 use rv_base::{decimal, look_up};
 use rv_plic::Source;
@@ -20,7 +21,6 @@ pub fn step(word: &[u8]) -> Option<u64>
 }
 
 /// Reads an interrupt source: a decimal number from 1 to 31.
-#[tactic(auto, unfolding(crate::specs::Timed::source_of))]
 pub fn source(word: &[u8]) -> Option<Source>
     ensures { result ≡ source_of word.now }
 {
@@ -32,7 +32,6 @@ pub fn source(word: &[u8]) -> Option<Source>
 static LEVELS: [(&str, bool); 2] = [("0", false), ("1", true)];
 
 /// Reads a level: `0` for low, `1` for high.
-#[tactic(auto, unfolding(crate::specs::Timed::level_of))]
 pub fn level(word: &[u8]) -> Option<bool>
     ensures { result ≡ level_of word.now }
 {

@@ -50,7 +50,8 @@ fn place_of(inputs: &[TimedInput], step: u64) -> usize
 
 impl Timeline {
     ghost use Rattle.std.specs.Prelude.{◌≡◌, true, OnOk, OnErr, IfOk};
-    ghost use Rattle.rv_lists.specs.Text.{HasSteps};
+    ghost use Rattle.std.specs.Prelude.{nat_le};
+    ghost use Rattle.std.specs.List.{list_all};
     ghost use Rattle.rv_lists.specs.Timed.{never_falls};
 
     /// Reads a timed list, in time linear in its length.
@@ -61,7 +62,7 @@ impl Timeline {
     /// - `OutOfMemory` may come in place of any result.
     pub fn read(alloc: Global, text: &[u8]) -> Result<Timeline, TimelineFault>
         ensures list { IsRead text.now result }
-        ensures steps { IfOk result HasSteps }
+        ensures steps { IfOk result (λ xs. list_all (λ x. nat_le x.step 9999999999) xs ≡ true) }
     {
         let mut inputs = Vec::new(alloc);
         let mut number: usize = 0;

@@ -1,7 +1,8 @@
 //! Writes timed lists.
-ghost use Rattle.std.specs.Prelude.{◌≡◌, ◌++◌, ◌∷◌, [], ℕ, true, if◌then◌else◌, Ok, OnOk, IfOk, codes, decimal};
-ghost use Rattle.rv_lists.specs.Reading.{is_input};
-ghost use Rattle.rv_lists.specs.Text.{input_text, line_text, list_text, HasSteps};
+ghost use Rattle.std.specs.Prelude.{◌≡◌, ◌++◌, ◌∷◌, [], ℕ, true, if◌then◌else◌, Ok, OnOk, IfOk, codes, decimal, nat_le};
+ghost use Rattle.std.specs.List.{list_all};
+ghost use Rattle.rv_lists.specs.Reading.{is_input, line_text};
+ghost use Rattle.rv_lists.specs.Text.{input_text, list_text};
 ghost use Rattle.rv_lists.specs.Timed.{never_falls, IsRead};
 
 use crate::{Input, TimedInput};
@@ -82,8 +83,8 @@ fn append_line(timed: TimedInput, text: &mut Vec<u8>) -> Result<(), NoMemory>
 /// `NoMemory` if memory runs out.
 pub fn list_text(alloc: Global, inputs: &[TimedInput]) -> Result<Vec<u8>, NoMemory>
     ensures text { IfOk result (λ text. text.items ≡ list_text inputs.now) }
-    ensures read { IfOk result (λ text. never_falls inputs.now ≡ true → HasSteps inputs.now
-        → IsRead text.items (Ok inputs.now)) }
+    ensures read { IfOk result (λ text. never_falls inputs.now ≡ true
+        → list_all (λ x. nat_le x.step 9999999999) inputs.now ≡ true → IsRead text.items (Ok inputs.now)) }
 {
     let mut text = Vec::new(alloc);
     for timed in inputs {
