@@ -13,3 +13,5 @@ pub mod Given
 pub mod Reached
 pub mod SessionCalls
 pub mod Resumed
+pub mod Words
+pub mod Silent

@@ -7,9 +7,9 @@ use Rattle.rv_board.specs.State.{BoardState}
 use Rattle.rv_monitor.specs.declared.stop.Stop.{Stop}
 use Rattle.rv_monitor.specs.declared.stop.Stop.TheVariants.{Limit}
 use Rattle.rv_monitor.specs.Resumed.{resumed, resumed_at}
-use Rattle.rv_monitor.specs.State.{Addresses, TimedState, SessionState, begun, most_of, after, with_due}
+use Rattle.rv_monitor.specs.State.{Addresses, TimedState, SessionState, begun, after, with_due}
 use Rattle.rv_monitor.specs.Stops.{stop_after, steps_between, Took, WasRefused, stop_of}
-use Rattle.rv_monitor.specs.TimedCalls.{HasStopped, IsRefused, begun_again}
+use Rattle.rv_monitor.specs.TimedCalls.{HasStopped, IsRefused, begun_again, most_of}
 use Rattle.rv_monitor.proofs.Stopping.{took_steps, stopped, refused}
 
 module _ (a : Addresses) (n : ℕ) (old new : SessionState) where

@@ -7,6 +7,10 @@ use Rattle.std.specs.FinSet as set
 use Rattle.std.specs.FinSet.{FinSet}
 use Rattle.std.specs.Ordering.{nat_cmp}
 
+-- sets of addresses
+abbrev pub Addresses : Type 0
+Addresses = FinSet nat_cmp
+
 -- the addresses, and for how many more there is room
 pub record Breaks : Type 0 where
   pub addresses : FinSet nat_cmp

@@ -7,13 +7,11 @@ use Rattle.std.specs.FinSet as set
 use Rattle.rv_program.specs.Program.{value_of}
 use Rattle.rv_commands.specs.Commands.{command_of}
 use Rattle.rv_commands.specs.declared.command.Command.{Command}
-use Rattle.rv_commands.specs.declared.command.Command.TheVariants.{Step, Go, SetBreak, ClearBreak, Registers, ControlRegister, Memory, Instruction, Traps, Edges, Quit, Nothing}
+use Rattle.rv_commands.specs.declared.command.Command.TheVariants.{Step, Go, SetBreak, ClearBreak, Registers, ControlRegister, Memory, Instruction, Traps, Edges}
 use Rattle.rv_base.specs.Digits.{hex}
 use Rattle.rv_monitor.specs.Views.{line, registers_text, control_register_text, memory_text, instruction_text, trap_text, edges_text, stop_text}
 use Rattle.rv_monitor.specs.declared.stop.Stop.{Stop}
 use Rattle.rv_monitor.specs.declared.stop.Stop.TheVariants.{Halted, Breakpoint, Limit}
-use Rattle.rv_monitor.specs.declared.command.Next.{Next}
-use Rattle.rv_monitor.specs.declared.command.Next.TheVariants as next
 use Rattle.rv_monitor.specs.State.{SessionState, with_break, without_break}
 pub use Rattle.rv_monitor.specs.Stops.{Took}
 use Rattle.rv_monitor.specs.Stops.{WasRefused, stop_of}
@@ -34,31 +32,27 @@ Leaves (Some (SetBreak addr)) old new = new ≡ with_break old addr
 Leaves (Some (ClearBreak addr)) old new = new ≡ without_break old addr
 Leaves _ old new = new ≡ old
 
--- the session after a command where memory ran out, at a step or before anything changed; a line that
--- answers nothing does not allocate
+-- the session after a command where memory ran out, at a step or before anything changed
 abbrev pub LeavesRefused : Option Command → SessionState → SessionState → Type 0
 LeavesRefused (Some (Step n)) old new = (new ≡ old) ⊎ WasRefused set.empty n old new
 LeavesRefused (Some (Go n)) old new =
     (new ≡ old) ⊎ WasRefused old.breakpoints.addresses (unwrap_or n old.limit) old new
-LeavesRefused (Some Quit) old new = ⊥
-LeavesRefused (Some Nothing) old new = ⊥
 LeavesRefused _ old new = new ≡ old
 
 -- ---- the answer of a command
 
 -- the word of a stop
-abbrev pub stop_word : Stop → List ℕ
-stop_word Halted = codes "halted"
-stop_word Breakpoint = codes "break"
-stop_word Limit = codes "limit"
+abbrev pub word_of : Stop → List ℕ
+word_of Halted = codes "halted"
+word_of Breakpoint = codes "break"
+word_of Limit = codes "limit"
 
 -- the answer, by the session before and after the command: `s` and `c` say why the steps ended, and how the
 -- board stands
 abbrev pub answer : Option Command → SessionState → SessionState → List ℕ
 answer None old new = line (codes "?")
-answer (Some (Step n)) old new = stop_text new.timed.board (stop_word (stop_of set.empty old new))
-answer (Some (Go n)) old new =
-    stop_text new.timed.board (stop_word (stop_of old.breakpoints.addresses old new))
+answer (Some (Step n)) old new = stop_text new.timed.board (word_of (stop_of set.empty old new))
+answer (Some (Go n)) old new = stop_text new.timed.board (word_of (stop_of old.breakpoints.addresses old new))
 answer (Some (SetBreak addr)) old new = line (codes "break " ++ hex 8 addr)
 answer (Some (ClearBreak addr)) old new =
     line (if set.contains old.breakpoints.addresses addr then codes "clear " ++ hex 8 addr else codes "no break")
@@ -69,9 +63,3 @@ answer (Some (Instruction addr)) old new = instruction_text old.timed.board addr
 answer (Some Traps) old new = flat_map trap_text old.timed.board.traps
 answer (Some (Edges source)) old new = edges_text old.timed.board source
 answer _ old new = []
-
--- ---- whether commands follow a command
-
-abbrev pub next_of : Option Command → Next
-next_of (Some Quit) = next.Quit
-next_of _ = next.More

@@ -1,5 +1,5 @@
 -- The number of a register, as it is printed (this project's own: docs/MONITOR.md).
--- To audit: public contracts cite this.
+-- Not to audit: private contracts alone cite this.
 use Rattle.std.specs.Prelude.{ℕ, ◌+◌, ◌/◌, ◌%◌, List, [], ◌∷◌}
 
 -- the two decimal digits of a number below 100

@@ -1,21 +1,17 @@
 -- To audit: public contracts cite this.
 -- The state of a session.
-use Rattle.std.specs.Prelude.{◌≡◌, ℕ, ◌+◌, ◌-◌, ◌≤◌, min, true, List, length, drop, filter, nat_le, nat_lt}
+use Rattle.std.specs.Prelude.{◌≡◌, ℕ, ◌+◌, ◌≤◌, true, List, length, drop, filter, nat_le, nat_lt}
 use Rattle.std.specs.List.{list_all}
-use Rattle.std.specs.Ordering.{nat_cmp}
-use Rattle.std.specs.FinSet.{FinSet}
 use Rattle.rv_program.specs.Program.{Assembly}
 use Rattle.rv_board.specs.BoardState.{BoardState}
 use Rattle.rv_board.specs.Move.{run}
+use Rattle.rv_board.specs.declared.event.Event.{Event}
 use Rattle.rv_lists.specs.Timed.{never_falls, inserted}
 use Rattle.rv_lists.specs.declared.input.Input.{Input}
 use Rattle.rv_lists.specs.declared.input.TimedInput.{TimedInput}
+pub use Rattle.rv_monitor.specs.Breaks.{Addresses}
 use Rattle.rv_monitor.specs.Breaks.{Breaks, no_breaks, with_address, without_address}
 use Rattle.rv_monitor.specs.Events.{inputs_at, events_of}
-
--- sets of addresses
-abbrev pub Addresses : Type 0
-Addresses = FinSet nat_cmp
 
 -- a board with all its timed inputs, the index of the next one, and the number of steps taken
 pub record TimedState : Type 0 where
@@ -51,10 +47,6 @@ abbrev pub new_session : BoardState → List TimedInput → Assembly → ℕ →
 new_session board inputs program limit =
     record { timed = begun board inputs; program = program; limit = limit; breakpoints = no_breaks }
 
--- the largest number of steps that a call for n may take
-abbrev pub most_of : SessionState → ℕ → ℕ
-most_of s n = min n (s.limit - s.timed.taken)
-
 -- ---- breakpoints
 
 -- a session with one breakpoint more
@@ -71,20 +63,17 @@ without_break s address = record s { breakpoints = without_address s.breakpoints
 abbrev pub count_before : ℕ → List TimedInput → ℕ
 count_before step timed = length (filter (λ x. nat_lt x.step step) timed)
 
--- the state after more steps
+-- the state after events, with the inputs of all times below `step` given
+abbrev pub past : TimedState → ℕ → List Event → TimedState
+past s step events = record s { board = run s.board events; place = s.place + count_before step (rest s) }
+
+-- the state after n more steps
 unfoldable pub after : TimedState → ℕ → TimedState
-after s count = record s {
-  board = run s.board (events_of (rest s) s.taken count);
-  place = s.place + count_before (s.taken + count) (rest s);
-  taken = s.taken + count;
-}
+after s n = record (past s (s.taken + n) (events_of (rest s) s.taken n)) { taken = s.taken + n }
 
 -- the state with the inputs of the next step given
 unfoldable pub with_due : TimedState → TimedState
-with_due s = record s {
-  board = run s.board (inputs_at (rest s) s.taken);
-  place = s.place + count_before (s.taken + 1) (rest s);
-}
+with_due s = past s (s.taken + 1) (inputs_at (rest s) s.taken)
 
 -- the state with an input given at once: it comes before the next step, after the other inputs of that step,
 -- and the list has it

@@ -1,7 +1,9 @@
 -- To audit: public contracts cite this.
 -- When a call ends, and the session that it leaves.
-use Rattle.std.specs.Prelude.{◌≡◌, ℕ, ◌-◌, ◌<◌, ◌≤◌, ◌&&◌, Bool, true, false, if◌then◌else◌, nat_lt, Option, Some, None, unwrap_or, is_none, is_some, Result, Ok, Err}
+use Rattle.std.specs.Prelude.{◌≡◌, ℕ, ◌-◌, ◌<◌, ◌≤◌, ◌&&◌, Bool, true, false, if◌then◌else◌, nat_lt, Option, Some, None, min, unwrap_or, is_none, is_some, IsSome, Result, Ok, Err}
 use Rattle.std.specs.FinSet as set
+use Rattle.std.specs.FinSet.{FinSet}
+use Rattle.std.specs.Ordering.{nat_cmp}
 use Rattle.rv_base.specs.declared.memory.NoMemory.{NoMemory}
 use Rattle.rv_hart.specs.declared.trap.Outcome.{Outcome}
 use Rattle.rv_hart.specs.Step.{step}
@@ -10,22 +12,22 @@ use Rattle.rv_board.specs.Move.{writes}
 use Rattle.rv_board.specs.declared.event.Event.TheVariants.{Step}
 use Rattle.rv_monitor.specs.declared.stop.Stop.{Stop}
 use Rattle.rv_monitor.specs.declared.stop.Stop.TheVariants.{Halted, Breakpoint, Limit}
-use Rattle.rv_monitor.specs.State.{Addresses, TimedState, SessionState, most_of, after, with_due}
+use Rattle.rv_monitor.specs.State.{TimedState, SessionState, after, with_due}
 
 -- the reason why a call ends on a board after `count` of its steps: the board has halted, or else, after the
 -- first step, its next instruction is at a breakpoint
-unfoldable pub stop_after : Addresses → BoardState → ℕ → Option Stop
+unfoldable pub stop_after : FinSet nat_cmp → BoardState → ℕ → Option Stop
 stop_after breakpoints b count =
     if is_some b.machine.bus.halt then Some Halted
     else (if nat_lt 0 count && set.contains breakpoints b.machine.pc then Some Breakpoint else None)
 
 -- a call for n steps took the least number of them after which it has a reason to end, or all that it may
 -- take, and nothing else changed
-pub record Took (breakpoints : Addresses) (n : ℕ) (old new : SessionState) : Type 0 where
+pub record Took (breaks : FinSet nat_cmp) (n : ℕ) (old new : SessionState) : Type 0 where
   pub count : ℕ
-  pub within : count ≤ most_of old n
-  pub going : (i : ℕ) → i < count → stop_after breakpoints (after old.timed i).board i ≡ None
-  pub least : count < most_of old n → is_some (stop_after breakpoints new.timed.board count) ≡ true
+  pub within : count ≤ min n (old.limit - old.timed.taken)
+  pub going : (i : ℕ) → i < count → stop_after breaks (after old.timed i).board i ≡ None
+  pub least : count < min n (old.limit - old.timed.taken) → IsSome (stop_after breaks new.timed.board count)
   pub state : new ≡ record old { timed = after old.timed count }
 
 -- the number of steps from one state to a later one
@@ -33,16 +35,16 @@ abbrev pub steps_between : TimedState → TimedState → ℕ
 steps_between old new = new.taken - old.taken
 
 -- why a call ended, by the session before and after it
-abbrev pub stop_of : Addresses → SessionState → SessionState → Stop
+abbrev pub stop_of : FinSet nat_cmp → SessionState → SessionState → Stop
 stop_of breakpoints old new =
     unwrap_or (stop_after breakpoints new.timed.board (steps_between old.timed new.timed)) Limit
 
 -- memory ran out at a step of a call for n steps: the steps before it were taken, and the inputs before it
 -- were given, and nothing else changed; the step is one that writes
-pub record WasRefused (breakpoints : Addresses) (n : ℕ) (old new : SessionState) : Type 0 where
+pub record WasRefused (breaks : FinSet nat_cmp) (n : ℕ) (old new : SessionState) : Type 0 where
   pub count : ℕ
-  pub within : count < most_of old n
-  pub going : (i : ℕ) → i ≤ count → stop_after breakpoints (after old.timed i).board i ≡ None
+  pub within : count < min n (old.limit - old.timed.taken)
+  pub going : (i : ℕ) → i ≤ count → stop_after breaks (after old.timed i).board i ≡ None
   pub state : new ≡ record old { timed = with_due (after old.timed count) }
   pub next_writes : writes new.timed.board Step ≡ true
 

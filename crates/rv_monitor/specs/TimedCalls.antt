@@ -1,6 +1,6 @@
 -- Not to audit: private contracts alone cite this.
 -- When a call over a board with its timed inputs ends, by the number of steps between two states.
-use Rattle.std.specs.Prelude.{◌≡◌, ℕ, ◌<◌, ◌≤◌, true, Option, None, unwrap_or, is_some}
+use Rattle.std.specs.Prelude.{◌≡◌, ℕ, ◌-◌, ◌<◌, ◌≤◌, min, true, Option, None, unwrap_or, is_some}
 use Rattle.rv_board.specs.Move.{writes}
 use Rattle.rv_board.specs.declared.event.Event.TheVariants.{Step}
 use Rattle.rv_monitor.specs.declared.stop.Stop.{Stop}
@@ -8,6 +8,10 @@ use Rattle.rv_monitor.specs.declared.stop.Stop.TheVariants.{Limit}
 use Rattle.rv_board.specs.State.{BoardState}
 use Rattle.rv_monitor.specs.State.{Addresses, SessionState, TimedState, after, begun, with_due}
 use Rattle.rv_monitor.specs.Stops.{stop_after, steps_between}
+
+-- the largest number of steps that a call for n may take
+abbrev pub most_of : SessionState → ℕ → ℕ
+most_of s n = min n (s.limit - s.timed.taken)
 
 -- the number of steps of `c`
 abbrev pub going_for : SessionState → Option ℕ → ℕ

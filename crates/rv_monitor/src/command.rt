@@ -1,12 +1,12 @@
 //! The commands over a session, and their answers.
-ghost use Rattle.std.specs.Prelude.{◌≡◌, ◌++◌, ◌+◌, ◌-◌, ◌≤◌, Some, length, IfOk, OnOk, OnErr, vec_len, vec_capacity};
+ghost use Rattle.std.specs.Prelude.{◌≡◌, ◌≢◌, ◌++◌, ◌+◌, ◌-◌, ◌≤◌, Some, length, IfOk, OnOk, OnErr, vec_len, vec_capacity};
 ghost use Rattle.rv_base.specs.Digits.{hex};
 ghost use Rattle.rv_monitor.specs.Views.{line};
 ghost use Rattle.rv_program.specs.Program.{value_of};
 ghost use Rattle.rv_commands.specs.Named.{IsNamed};
 ghost use Rattle.rv_commands.specs.declared.command.Command.{Command};
-ghost use Rattle.rv_monitor.specs.Answers.{AppendsAnswer};
-ghost use Rattle.rv_monitor.specs.Commands.{Leaves, LeavesRefused, answer, next_of, stop_word, command_in};
+ghost use Rattle.rv_monitor.specs.Answers.{AppendsAnswer, next_of};
+ghost use Rattle.rv_monitor.specs.Commands.{Leaves, LeavesRefused, answer, word_of, command_in};
 ghost use Rattle.rv_monitor.specs.Room.{LacksRoom};
 
 use crate::session::Session;
@@ -38,7 +38,7 @@ const BREAK_BYTES: usize = 15;
 
 /// Returns the word of a stop.
 fn stop_word(stop: Stop) -> &'static str
-    ensures word { result.now ≡ stop_word stop }
+    ensures word { result.now ≡ word_of stop }
     ensures short { length result.now ≤ WORD_BYTES }
 {
     match stop {
@@ -160,12 +160,20 @@ impl<M: ByteMemory, C: Decoded> Session<M, C> {
     /// `NoMemory` if memory runs out. `text` is left as it was, and nothing has changed but the steps taken
     /// so far, which are none if there was no room for the answer. A command that only looks at the board
     /// fails only if there was no room for the answer.
+    #[tactic(auto, using(crate::proofs::Silent::no_quit, crate::proofs::Silent::no_nothing, crate::proofs::Silent::quit_next, crate::proofs::Silent::more_next))]
     pub fn command(&mut self, line: &[u8], text: &mut Vec<u8>) -> Result<Next, NoMemory>
-        ensures next { IfOk result (λ next. next ≡ next_of (command_in line.now self.old)) }
+        ensures quits { command_in line.now self.old ≡ Some Command.Quit
+            → IfOk result (λ next. next ≡ Next.Quit) }
+        ensures more { command_in line.now self.old ≢ Some Command.Quit
+            → IfOk result (λ next. next ≡ Next.More) }
         ensures ok { OnOk result (Leaves (command_in line.now self.old) self.old self.new) }
         ensures text { OnOk result (text.new.items ≡ text.old.items
             ++ answer (command_in line.now self.old) self.old self.new) }
         ensures err { OnErr result (LeavesRefused (command_in line.now self.old) self.old self.new) }
+
+        // `q`, and a line that says nothing, are never refused.
+        ensures silent { OnErr result ((command_in line.now self.old ≢ Some Command.Quit)
+            × (command_in line.now self.old ≢ Some Command.Nothing)) }
         ensures room { OnErr result
             (LacksRoom M.wants_room (command_in line.now self.old) (vec_capacity text.old - vec_len text.old)
             self.old self.new) }

@@ -4,7 +4,8 @@ use Rattle.std.specs.Prelude.{◌&&◌, nat_lt, is_none, is_some, Option, Some, 
 use Rattle.std.proofs.lemmas.Bool.{cases_lt}
 use Rattle.std.proofs.lemmas.Bool.Decides.{nat_tests}
 use Rattle.rv_board.specs.State.{halted_of}
-use Rattle.rv_monitor.specs.State.{Addresses, SessionState, most_of, after}
+use Rattle.rv_monitor.specs.State.{Addresses, SessionState, after}
+use Rattle.rv_monitor.specs.TimedCalls.{most_of}
 use Rattle.rv_monitor.specs.Stops.{Took, may_step, stop_after}
 use Rattle.rv_monitor.specs.declared.stop.Stop.{Stop}
 use Rattle.rv_recording.specs.Recording.{RecordingState}

@@ -9,7 +9,7 @@ use Rattle.rv_hart.specs.declared.trap.Outcome.{Outcome}
 use Rattle.rv_board.specs.Boot.{boot_fault, reset}
 use Rattle.rv_board.specs.Move.{run}
 use Rattle.rv_board.specs.State.{BoardState, halted_of}
-use Rattle.rv_lists.specs.Text.{HasSteps}
+use Rattle.rv_lists.specs.Reading.{HasSteps}
 use Rattle.rv_lists.specs.Timed.{never_falls, inserted}
 use Rattle.rv_lists.specs.declared.input.Input.{Input}
 use Rattle.rv_lists.specs.declared.input.TimedInput.{TimedInput}
@@ -17,11 +17,11 @@ use Rattle.rv_program.specs.Program.{Assembly}
 use Rattle.rv_commands.specs.declared.command.Command.{Command}
 use Rattle.rv_commands.specs.declared.command.Command.TheVariants.{Step, Go, SetBreak, ClearBreak, Registers, ControlRegister, Memory, Instruction, Traps, Edges, Quit, Nothing}
 use Rattle.rv_monitor.specs.Commands.{Leaves, LeavesRefused}
-use Rattle.rv_monitor.specs.TimedCalls.{going_for}
+use Rattle.rv_monitor.specs.TimedCalls.{going_for, most_of}
 use Rattle.rv_monitor.specs.Events.{events_of}
 use Rattle.rv_monitor.specs.Laws.{IsReached}
 use Rattle.rv_monitor.specs.Resumed.{resumed, resumed_at}
-use Rattle.rv_monitor.specs.State.{Addresses, SessionState, TimedState, begun, after, with_due, given, most_of, with_break, without_break}
+use Rattle.rv_monitor.specs.State.{Addresses, SessionState, TimedState, begun, after, with_due, given, with_break, without_break}
 use Rattle.rv_monitor.specs.State as monitor
 use Rattle.rv_monitor.specs.Stops.{Took, WasRefused, stop_of, TakesStep}
 use Rattle.rv_monitor.specs.TimedCalls.{HasStopped, IsRefused}
@@ -30,7 +30,7 @@ use Rattle.rv_monitor.proofs.Given.{given_stands, reached_steps}
 use Rattle.rv_monitor.proofs.Resumed.{resumed_back}
 use Rattle.rv_monitor.proofs.SessionCalls.{took_was, took_others, refused_was, refused_others, on_was, on_others}
 use Rattle.rv_monitor.proofs.Reached.{begun_stands, stopped_stands, refused_stands, step_stands, due_is_reached}
-use Rattle.rv_opening.specs.Opening.{IsOpened}
+use Rattle.rv_opening.specs.Opening.{Opens}
 use Rattle.rv_recording.specs.Recording.{RecordingState, gone_back}
 use Rattle.rv_recording.specs.Recorded.{IsRecorded}
 use Rattle.rv_recording.specs.Kept.{KeptBoard, AreKept, AreWithin}
@@ -77,11 +77,11 @@ begun_is s board program inputs pages slots boots rising small is booted =
     })
 
 pub opened_is : (source inputs : List ℕ) (pages slots : ℕ) (s : SessionState)
-    → IsOpened source inputs pages slots 9999999999 s → never_falls s.timed.inputs ≡ true
+    → Opens source inputs pages slots 9999999999 (Ok s) → never_falls s.timed.inputs ≡ true
     → HasSteps s.timed.inputs → (ks : List KeptBoard) → ks ≡ [] → Stands s pages slots ks
 opened_is source inputs pages slots s opens rising small ks none = (
-  begun_is s (reset s.program.bytes (4096 * pages)) s.program s.timed.inputs pages slots opens.boots rising small
-      opens.state refl,
+  begun_is s (reset s.program.bytes (4096 * pages)) s.program s.timed.inputs pages slots opens.2 rising small
+      opens.3 refl,
   subst (AreKept (reset s.program.bytes (4096 * pages)) s.timed.inputs) (sym none) tt,
 )
 
@@ -235,8 +235,8 @@ module _ (s new : SessionState) (p q : ℕ) (ks : List KeptBoard) (h : Stands s 
   left_refused (Some (Instruction addr)) e = unchanged e
   left_refused (Some Traps) e = unchanged e
   left_refused (Some (Edges source)) e = unchanged e
-  left_refused (Some Quit) f = absurd f
-  left_refused (Some Nothing) f = absurd f
+  left_refused (Some Quit) e = unchanged e
+  left_refused (Some Nothing) e = unchanged e
 
   pub commanded : {A : Type 0} (c : Option Command) (r : Result A NoMemory) → OnOk r (Leaves c s new)
       → OnErr r (LeavesRefused c s new) → Stands new p q ks

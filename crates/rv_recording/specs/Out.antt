@@ -12,26 +12,20 @@ use Rattle.rv_hart.specs.Step.{step}
 use Rattle.rv_monitor.specs.State.{TimedState, after, with_due}
 use Rattle.rv_monitor.specs.Views.{word_at}
 
--- one call more, of which 2 ^ 64 - 1 are counted at most
-abbrev pub after_call : ℕ → ℕ
-after_call calls = min (calls + 1) (2 ^ 64 - 1)
-
 -- the number of open calls after a step that did that, by its instruction: a trap calls its handler; a jump that
 -- writes ra (x1) is a call; a jump to ra that writes no register is a return (RISC-V Unprivileged ISA 20191213,
--- section 2.5), and so is MRET
+-- section 2.5), and so is MRET. At most 2 ^ 64 - 1 are counted
 unfoldable pub open_after : ℕ → Outcome → Option Kind → ℕ
-open_after calls (Trapped cause epc tval) kind = after_call calls
-open_after calls did (Some (Jal rd offset)) = if rd == 1 then after_call calls else calls
+open_after calls (Trapped cause epc tval) kind = min (calls + 1) (2 ^ 64 - 1)
+open_after calls did (Some (Jal rd offset)) = if rd == 1 then min (calls + 1) (2 ^ 64 - 1) else calls
 open_after calls did (Some (Jalr rd base offset)) =
-    if rd == 1 then after_call calls else (if rd == 0 && base == 1 then calls - 1 else calls)
+    if rd == 1 then min (calls + 1) (2 ^ 64 - 1) else (if rd == 0 && base == 1 then calls - 1 else calls)
 open_after calls did (Some Mret) = calls - 1
 open_after calls did kind = calls
 
--- the number after the next step of a state, and after n steps
-unfoldable pub open_of_step : ℕ → TimedState → ℕ
-open_of_step calls s =
-    open_after calls (step (with_due s).board.machine).1 (option_and_then means (word_at s.board s.board.machine.pc))
-
+-- the number after n steps of a state
 unfoldable pub open_at : ℕ → TimedState → ℕ → ℕ
 open_at calls s zero = calls
-open_at calls s (suc n) = open_of_step (open_at calls s n) (after s n)
+open_at calls s (suc n) =
+    let now = after s n in open_after (open_at calls s n)
+    (step (with_due now).board.machine).1 (option_and_then means (word_at now.board now.board.machine.pc))

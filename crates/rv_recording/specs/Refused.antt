@@ -3,7 +3,8 @@
 use Rattle.std.specs.Prelude.{◌≡◌, ℕ, suc, ◌<◌, Bool, true, Option, None}
 use Rattle.rv_board.specs.Move.{writes}
 use Rattle.rv_board.specs.declared.event.Event.TheVariants.{Step}
-use Rattle.rv_monitor.specs.State.{SessionState, most_of, after, with_due}
+use Rattle.rv_monitor.specs.State.{SessionState, after, with_due}
+use Rattle.rv_monitor.specs.TimedCalls.{most_of}
 use Rattle.rv_monitor.specs.Stops.{steps_between}
 use Rattle.rv_recording.specs.Until.{end_at}
 use Rattle.rv_recording.specs.declared.until.End.{End}

@@ -1,7 +1,9 @@
 -- Not to audit: private contracts alone cite this.
 -- One step of a run.
-use Rattle.std.specs.Prelude.{◌≡◌, ◌⊎◌, ℕ, ◌==◌, Bool, true, false, if◌then◌else◌, Option, Some, None, is_some, Result, Ok, Err}
+use Rattle.std.specs.Prelude.{◌≡◌, ◌⊎◌, ℕ, ◌+◌, ◌-◌, ◌^◌, ◌==◌, min, Bool, true, false, if◌then◌else◌, Option, Some, None, is_some, Result, Ok, Err}
 use Rattle.std.specs.FinSet as set
+use Rattle.std.specs.Option.{option_and_then}
+use Rattle.rv_isa.specs.Meaning.{means}
 use Rattle.rv_base.specs.declared.memory.NoMemory.{NoMemory}
 use Rattle.rv_hart.specs.Step.{step}
 use Rattle.rv_board.specs.State.{BoardState, pc_of, halted_of}
@@ -9,12 +11,22 @@ use Rattle.rv_board.specs.Move.{writes}
 use Rattle.rv_board.specs.declared.event.Event.TheVariants.{Step}
 use Rattle.rv_monitor.specs.State.{Addresses, TimedState, after, with_due}
 use Rattle.rv_monitor.specs.Stops.{may_step}
+use Rattle.rv_monitor.specs.Views.{word_at}
 use Rattle.rv_recording.specs.Recording.{RecordingState, with_timed}
 use Rattle.rv_recording.specs.Until.{holds}
-use Rattle.rv_recording.specs.Out.{open_of_step}
+use Rattle.rv_recording.specs.Out.{open_after}
 use Rattle.rv_recording.specs.declared.until.End.{End}
 use Rattle.rv_recording.specs.declared.until.End.TheVariants.{Halted, Reached, Breakpoint, Stuck}
 use Rattle.rv_recording.specs.declared.until.Condition.{Condition}
+
+-- one open call more
+abbrev pub after_call : ℕ → ℕ
+after_call calls = min (calls + 1) (2 ^ 64 - 1)
+
+-- the number of open calls after the next step of a state
+abbrev pub open_of_step : ℕ → TimedState → ℕ
+open_of_step calls s =
+    open_after calls (step (with_due s).board.machine).1 (option_and_then means (word_at s.board s.board.machine.pc))
 
 -- why a run ends after a step, if it does, by whether it has come to what it goes on for
 abbrev pub end_after : Bool → Addresses → BoardState → Option End

@@ -6,10 +6,10 @@ ghost use Rattle.rv_board.specs.State.{pc_of};
 ghost use Rattle.rv_hart.specs.declared.trap.Outcome.TheVariants.{Retired};
 ghost use Rattle.rv_monitor.specs.Stops.{steps_between};
 ghost use Rattle.rv_monitor.specs.Views.{word_at};
-ghost use Rattle.rv_recording.specs.Out.{after_call, open_after, open_at, open_of_step};
+ghost use Rattle.rv_recording.specs.Out.{open_after, open_at};
 ghost use Rattle.rv_recording.specs.Until.{HasRun};
 ghost use Rattle.rv_recording.specs.Refused.{IsRefusedIn};
-ghost use Rattle.rv_recording.specs.Steps.{StepsOut, end_after};
+ghost use Rattle.rv_recording.specs.Steps.{StepsOut, after_call, end_after};
 
 use crate::Recording;
 use crate::until::{End, end_after};
@@ -76,7 +76,6 @@ fn open_after(calls: u64, outcome: Outcome, instr: Option<Instr>) -> u64
 
 impl Recording {
     /// Takes a step of a run out of calls, and returns why the run ends with it, if it does.
-    #[tactic(auto, unfolding(crate::specs::Out::open_of_step))]
     fn step_out(&mut self, calls: &mut u64) -> Result<Option<End>, NoMemory>
         ensures { StepsOut calls.old calls.new self.old self.new result }
     {

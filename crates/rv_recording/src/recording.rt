@@ -1,10 +1,11 @@
 //! Recordings.
-ghost use Rattle.std.specs.Prelude.{◌≡◌, ◌-◌, ◌++◌, ◌≤◌, true, false, min, Ok, Err, OnOk, OnErr, IfOk, IfErr, vec_capacity, vec_len};
+ghost use Rattle.std.specs.Prelude.{◌≡◌, ◌≢◌, ◌-◌, ◌++◌, ◌≤◌, true, false, min, Some, Ok, Err, OnOk, OnErr, IfOk, IfErr, vec_capacity, vec_len};
 ghost use Rattle.std.specs.FinSet as set;
 ghost use Rattle.rv_board.specs.Move.{run};
+ghost use Rattle.rv_commands.specs.declared.command.Command.{Command};
 ghost use Rattle.rv_lists.specs.Text.{list_text};
 ghost use Rattle.rv_lists.specs.Timed.{never_falls, IsRead};
-ghost use Rattle.rv_monitor.specs.Commands.{Leaves, LeavesRefused, answer, command_in, next_of};
+ghost use Rattle.rv_monitor.specs.Commands.{Leaves, LeavesRefused, answer, command_in};
 ghost use Rattle.rv_monitor.specs.Events.{events_of};
 ghost use Rattle.rv_monitor.specs.Laws.{IsReached};
 ghost use Rattle.rv_monitor.specs.Room.{LacksRoom, NextWantsRoom};
@@ -294,13 +295,18 @@ impl Recording {
     ///
     /// As those of [`Session::command`].
     pub fn command(&mut self, line: &[u8], text: &mut Vec<u8>) -> Result<Next, NoMemory>
-        ensures next { IfOk result (λ next. next ≡ next_of (command_in line.now self.old.session)) }
+        ensures quits { command_in line.now self.old.session ≡ Some Command.Quit
+            → IfOk result (λ next. next ≡ Next.Quit) }
+        ensures more { command_in line.now self.old.session ≢ Some Command.Quit
+            → IfOk result (λ next. next ≡ Next.More) }
         ensures ok { OnOk result
             (Leaves (command_in line.now self.old.session) self.old.session self.new.session) }
         ensures text { OnOk result (text.new.items ≡ text.old.items
             ++ answer (command_in line.now self.old.session) self.old.session self.new.session) }
         ensures err { OnErr result
             (LeavesRefused (command_in line.now self.old.session) self.old.session self.new.session) }
+        ensures silent { OnErr result ((command_in line.now self.old.session ≢ Some Command.Quit)
+            × (command_in line.now self.old.session ≢ Some Command.Nothing)) }
         ensures room { OnErr result
             (LacksRoom ⟦<PagedRam as ByteMemory>⟧.wants_room (command_in line.now self.old.session)
             (vec_capacity text.old - vec_len text.old) self.old.session self.new.session) }

@@ -3,9 +3,9 @@ ghost use Rattle.std.specs.Prelude.{◌≡◌, ◌++◌, ◌+◌, ◌%◌, ◌==
 ghost use Rattle.rv_base.specs.Tables.{lookup};
 ghost use Rattle.rv_isa.specs.Names.{csr_names};
 ghost use Rattle.rv_board.specs.State.{csr_of};
+ghost use Rattle.rv_pmp.specs.Mode.{is_machine};
 ghost use Rattle.rv_monitor.specs.Growth.{GrewBy};
 ghost use Rattle.rv_monitor.specs.Room.{registers_room, control_register_room};
-ghost use Rattle.rv_monitor.specs.Views as spec;
 ghost use Rattle.rv_monitor.specs.Views.{pieces, registers_text, control_register_text, register_in_line};
 ghost use Rattle.rv_base.specs.Digits.{hex};
 ghost use Rattle.rv_monitor.specs.Numbers.{two_decimals};
@@ -19,7 +19,7 @@ use rv_ram::ByteMemory;
 
 /// Returns the letter of a mode: `U` or `M`.
 pub fn mode_letter(mode: Mode) -> &'static str
-    ensures letter { result.now ≡ spec.mode_letter mode }
+    ensures letter { result.now ≡ (if is_machine mode then codes "M" else codes "U") }
     ensures one { length result.now ≡ 1 }
 {
     match mode {
@@ -35,7 +35,7 @@ const PLACE_BYTES: usize = 18;
 pub(crate) fn append_place(pc: u32, mode: Mode, text: &mut Vec<u8>)
     requires { vec_len text.old + PLACE_BYTES ≤ vec_capacity text.old }
     ensures { GrewBy text.old text.new (codes "pc=" ++ hex 8 pc ++ codes " mode="
-        ++ spec.mode_letter mode) PLACE_BYTES }
+        ++ (if is_machine mode then codes "M" else codes "U")) PLACE_BYTES }
 {
     append_within(text, b"pc=");
     append_within(text, &word_digits(pc));
@@ -76,7 +76,7 @@ fn append_register(register: Reg, value: u32, text: &mut Vec<u8>)
 }
 
 /// Appends the lines of all registers, four in a line.
-#[tactic(auto, using(crate::proofs::Pieces::no_piece_after, crate::proofs::Pieces::one_more_after), unfolding(crate::specs::Views::register_in_line))]
+#[tactic(auto, using(crate::proofs::Pieces::no_piece_after, crate::proofs::Pieces::one_more_after), unfolding(crate::specs::Views::register_in_line, crate::specs::Numbers::two_decimals))]
 fn append_registers<M: ByteMemory, C: Decoded>(board: &Board<M, C>, text: &mut Vec<u8>)
     requires { vec_len text.old + 416 ≤ vec_capacity text.old }
     ensures { GrewBy text.old text.new (pieces (register_in_line board.now) 32) 416 }

@@ -1,5 +1,6 @@
 use Rattle.std.proofs.Common.{◌≡◌, ◌+◌, ◌*◌, ◌≤◌, ◌++◌, vec_len, vec_capacity}
-use Rattle.rv_monitor.specs.Views.{pieces, byte_in_line}
+use Rattle.rv_monitor.specs.Labels.{byte_in_line}
+use Rattle.rv_monitor.specs.Views.{pieces}
 use Rattle.rv_monitor.proofs.views.memory.append_bytes.Given as goal
 
 -- the bytes below the offset were appended, 3 bytes of text each

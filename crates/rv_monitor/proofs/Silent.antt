@@ -1,0 +1,48 @@
+-- Commands that answer nothing lack no room; and the command after which no other follows.
+use Rattle.std.proofs.Common.{◌≡◌, ◌∙◌, ℕ, Option, Some, None, ap, refl, subst, arith}
+use Rattle.std.specs.Prelude.{◌≢◌}
+use Rattle.rv_ram.specs.Room.{RoomRule}
+use Rattle.rv_commands.specs.declared.command.Command.{Command}
+use Rattle.rv_commands.specs.declared.command.Command.TheVariants.{Quit, Nothing}
+use Rattle.rv_monitor.specs.Answers.{next_of}
+use Rattle.rv_monitor.specs.Room.{LacksRoom}
+use Rattle.rv_monitor.specs.State.{SessionState}
+use Rattle.rv_monitor.specs.declared.command.Next.{Next}
+use Rattle.rv_monitor.specs.declared.command.Next.TheVariants as next
+
+pub no_quit : (rule : RoomRule) (c : Option Command) (room : ℕ) (old new : SessionState)
+    → LacksRoom rule c room old new → c ≢ Some Quit
+no_quit rule c room old new h e =
+    let none = subst (λ (d : Option Command). LacksRoom rule d room old new) e h in omega (arith, none)
+
+pub no_nothing : (rule : RoomRule) (c : Option Command) (room : ℕ) (old new : SessionState)
+    → LacksRoom rule c room old new → c ≢ Some Nothing
+no_nothing rule c room old new h e =
+    let none = subst (λ (d : Option Command). LacksRoom rule d room old new) e h in omega (arith, none)
+
+-- ---- whether commands follow
+
+pub more_of : (c : Option Command) → c ≢ Some Quit → next_of c ≡ next.More
+more_of None other = refl
+more_of (Some Quit) other = absurd (other refl)
+more_of (Some command) other = refl
+
+pub quit_is : (c : Option Command) → next.Quit ≡ next_of c → c ≡ Some Quit
+quit_is None is = absurd cc
+quit_is (Some Quit) is = refl
+quit_is (Some command) is = absurd cc
+
+pub not_quit : (c : Option Command) → next.More ≡ next_of c → c ≢ Some Quit
+not_quit c is e = let bad : next.More ≡ next.Quit = is ∙ ap next_of e in cc
+
+pub quit_next : (n : Next) (c : Option Command) → c ≡ Some Quit → n ≡ next_of c → n ≡ next.Quit
+quit_next n c e is = is ∙ ap next_of e
+
+pub more_next : (n : Next) (c : Option Command) → c ≢ Some Quit → n ≡ next_of c → n ≡ next.More
+more_next n c other is = is ∙ more_of c other
+
+pub next_is : (n : Next) (c : Option Command) → (c ≡ Some Quit → n ≡ next.Quit)
+    → (c ≢ Some Quit → n ≡ next.More) → n ≡ next_of c
+next_is n None quits more = more (λ e. cc)
+next_is n (Some Quit) quits more = quits refl
+next_is n (Some command) quits more = more (λ e. cc)
