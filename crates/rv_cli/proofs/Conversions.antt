@@ -1,9 +1,9 @@
 -- The faults of a run are those that its texts mean.
-use Rattle.std.proofs.Common.{◌≡◌, ℕ, List, Ok, Err, refl}
+use Rattle.std.proofs.Common.{◌≡◌, ℕ, List, Ok, Err, ap, refl}
 use Rattle.rv_monitor.specs.State.{SessionState}
 use Rattle.rv_opening.specs.declared.fault.OpenFault.{OpenFault}
 use Rattle.rv_opening.specs.declared.fault.OpenFault.TheVariants as open_fault
-use Rattle.rv_texts.specs.Readers.{Texts}
+use Rattle.rv_texts.specs.Calls.{Texts}
 use Rattle.rv_texts.specs.declared.fault.ReadFault.{ReadFault}
 use Rattle.rv_texts.specs.declared.fault.ReadFault.TheVariants as read
 use Rattle.rv_texts.specs.declared.fault.TextName.TheVariants as text
@@ -43,4 +43,4 @@ pub run_ends : (texts : Texts) (options : Options) (first : SessionState) (resul
     → OpensFor texts options (Ok first) → IsRunOf texts.commands first result
     → IsOutput texts options (Ok result)
 run_ends texts options first result opens run =
-    (first, run.last, run.answers, opens, run.done, run.is)
+    (first, run.last, run.answers, opens, run.done, ap (λ d. d.0) run.is, ap (λ d. d.1) run.is)

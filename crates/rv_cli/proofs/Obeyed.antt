@@ -2,7 +2,9 @@
 use Rattle.std.proofs.Common.{◌≡◌, ◌++◌, ◌∷◌, [], ℕ, List, Option, Some, None, refl, sym, subst, append_assoc, append-nil}
 use Rattle.rv_commands.specs.declared.command.Command.{Command}
 use Rattle.rv_commands.specs.declared.command.Command.TheVariants as command
-use Rattle.rv_monitor.specs.Commands.{Leaves, answer, command_in, next_of}
+use Rattle.rv_monitor.specs.Answers.{next_of}
+use Rattle.rv_monitor.specs.Commands.{Leaves, answer, command_in}
+use Rattle.rv_monitor.proofs.Silent.{not_quit, quit_is}
 use Rattle.rv_monitor.specs.State.{SessionState}
 use Rattle.rv_monitor.specs.declared.command.Next.TheVariants.{More, Quit}
 use Rattle.rv_cli.specs.Output.{Obeys, goes_on, none, quits}
@@ -27,7 +29,7 @@ obeys_more : (line : List ℕ) (more : List (List ℕ)) (now next new : SessionS
     Obeys more next new following
     → Obeys (line ∷ more) now new (answer (command_in line now) now next ++ following)
 obeys_more line more now next new following more_follow leaves rest =
-    goes_on line following more now next new (sym more_follow) leaves rest
+    goes_on line following more now next new (not_quit (command_in line now) more_follow) leaves rest
 
 -- a line that quits
 obeys_last : (line : List ℕ) (more : List (List ℕ)) (now next : SessionState)
@@ -36,7 +38,7 @@ obeys_last : (line : List ℕ) (more : List (List ℕ)) (now next : SessionState
 obeys_last line more now next quit leaves =
     let same = quit_by (command_in line now) now next quit leaves in
     rw same.1 (subst (λ (s : SessionState). Obeys (line ∷ more) now s []) (sym same.0)
-    (quits line more now (sym quit)))
+    (quits line more now (quit_is (command_in line now) quit)))
 
 -- no line at all
 obeys_none : (now : SessionState) → Obeys [] now now []

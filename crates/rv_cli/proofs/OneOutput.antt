@@ -6,11 +6,11 @@ use Rattle.rv_monitor.specs.State.{SessionState}
 use Rattle.rv_opening.proofs.OneOpening.{Opening, one_opening}
 use Rattle.rv_opening.specs.declared.fault.OpenFault.{OpenFault}
 use Rattle.rv_opening.specs.declared.fault.OpenFault.TheVariants.{OutOfMemory}
-use Rattle.rv_texts.specs.Readers.{Texts}
+use Rattle.rv_texts.specs.Calls.{Texts}
 use Rattle.rv_words.specs.declared.Options.{Options}
 use Rattle.rv_cli.specs.OneOutput.{OneOutput}
-use Rattle.rv_cli.specs.Meanings.{OpensFor}
-use Rattle.rv_cli.specs.Output.{IsOutput, Output, ending_of, printed}
+use Rattle.rv_cli.specs.Meanings.{Output, OpensFor, ending_of}
+use Rattle.rv_cli.specs.Output.{IsOutput, printed}
 use Rattle.rv_cli.proofs.OneRun.{one_done, some_done}
 
 abbrev end_of : SessionState → List ℕ → Output
@@ -32,7 +32,7 @@ module _ (texts : Texts) (options : Options) where
       → IsOutput texts options (output_of opening)
   is_output (Err fault) opens kept = (λ e. kept (ap (λ f. Err f) e), opens)
   is_output (Ok first) opens kept =
-      let some = some_done texts.commands first in (first, some.0, some.1.0, opens, some.1.1, refl)
+      let some = some_done texts.commands first in (first, some.0, some.1.0, opens, some.1.1, refl, refl)
 
   only : (opening : Opening)
       → ((other : Opening) → OpensFor texts options other → other ≢ Err OutOfMemory → other ≡ opening)
@@ -41,7 +41,8 @@ module _ (texts : Texts) (options : Options) where
       ap output_of (one (Err fault) is.1 (λ e. is.0 (same_fault (Err fault) fault OutOfMemory refl e)))
   only opening one (Ok done) is =
       let some = some_done texts.commands is.0 in
-      ap (λ d. Ok d) is.5
+      ap (λ text. Ok (text, done.1)) is.5
+      ∙ ap (λ ending. Ok (is.2 ++ printed is.1.timed.board, ending)) is.6
       ∙ (same_end is.1 some.0 is.2 some.1.0 (one_done texts.commands is.0 is.1 some.0 is.2 some.1.0 is.4
       some.1.1)
       ∙ ap output_of (one (Ok is.0) is.3 (λ e. cc)))

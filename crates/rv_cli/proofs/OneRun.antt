@@ -5,10 +5,12 @@ use Rattle.std.specs.FinSet as set
 use Rattle.std.proofs.lemmas.Bool.{cases_lt, false≢true}
 use Rattle.rv_commands.specs.declared.command.Command.{Command}
 use Rattle.rv_commands.specs.declared.command.Command.TheVariants.{Step, Go, SetBreak, ClearBreak}
-use Rattle.rv_monitor.specs.Commands.{Leaves, Took, answer, command_in, next_of}
-use Rattle.rv_monitor.specs.State.{Addresses, SessionState, TimedState, after, most_of, with_break, without_break}
+use Rattle.rv_monitor.specs.Answers.{next_of}
+use Rattle.rv_monitor.specs.Commands.{Leaves, Took, answer, command_in}
+use Rattle.rv_monitor.proofs.Silent.{more_of, not_quit, quit_is}
+use Rattle.rv_monitor.specs.State.{Addresses, SessionState, TimedState, after, with_break, without_break}
 use Rattle.rv_monitor.specs.Stops.{stop_after}
-use Rattle.rv_monitor.specs.TimedCalls.{IsCount, going_for}
+use Rattle.rv_monitor.specs.TimedCalls.{IsCount, going_for, most_of}
 use Rattle.rv_monitor.specs.declared.command.Next.{Next}
 use Rattle.rv_monitor.specs.declared.command.Next.TheVariants.{More, Quit}
 use Rattle.rv_monitor.specs.declared.stop.Stop.{Stop}
@@ -136,7 +138,7 @@ begun : (ls : List (List ℕ)) (old new : SessionState) (text : List ℕ) → Ob
 begun _ _ _ _ (none s) = (refl, refl)
 begun _ _ _ _ (quits line more s quit) = rw quit (refl, refl)
 begun _ _ _ _ (goes_on line following more old next new more_follow leaves rest) =
-    rw more_follow
+    rw (more_of (command_in line old) more_follow)
     (record { next = next; following = following; left = leaves; rest = rest; is = refl })
 
 abbrev AreSame : SessionState → SessionState → List ℕ → List ℕ → Type 0
@@ -182,10 +184,11 @@ some_begun More line more old is rest =
     record {
       new = follow.new;
       text = answer (command_in line old) old first.0 ++ follow.text;
-      done = goes_on line follow.text more old first.0 follow.new is first.1 follow.done;
+      done = goes_on line follow.text more old first.0 follow.new (not_quit (command_in line old) (sym is)) first.1
+          follow.done;
     }
 some_begun Quit line more old is rest =
-    record { new = old; text = []; done = quits line more old is }
+    record { new = old; text = []; done = quits line more old (quit_is (command_in line old) (sym is)) }
 
 obeys_some : (ls : List (List ℕ)) (old : SessionState) → Obeyed ls old
 obeys_some [] old = record { new = old; text = []; done = none old }

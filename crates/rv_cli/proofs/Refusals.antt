@@ -1,9 +1,11 @@
 -- The results of a run, by those of its parts and by what the texts mean.
 use Rattle.std.proofs.Common.{◌≡◌, Option, Some, None, Ok, Err, subst}
-use Rattle.std.specs.Prelude.{ℕ, IfSome, IsErrAnd, List, Result}
+use Rattle.std.specs.Prelude.{ℕ, true, false, IfSome, IsErrAnd, List, Result, length, take}
 use Rattle.rv_words.specs.declared.Options.{Options}
-use Rattle.rv_texts.specs.Readers.{Reads, GaveIf, Readers, Texts}
-use Rattle.rv_texts.specs.Texts.{Gave, IsInOrder, Side, Wrote, WroteBeginning}
+use Rattle.rv_texts.specs.Calls.{GaveIf, Readers, Texts, WroteBeginning}
+use Rattle.rv_texts.specs.Readers.{Reads}
+use Rattle.rv_texts.specs.Texts.{Gave, IsSound, Side, Wrote}
+use Rattle.rv_texts.proofs.Sound.{sound}
 use Rattle.rv_texts.specs.declared.fault.ReadFault.{ReadFault}
 use Rattle.rv_texts.specs.declared.fault.ReadFault.TheVariants as read
 use Rattle.rv_cli.specs.Conversions.{unread_fault}
@@ -14,22 +16,22 @@ use Rattle.rv_cli.specs.Meanings.{RefusedBy}
 use Rattle.rv_cli.specs.Output.{IsOutput}
 use Rattle.rv_cli.specs.Run.{Runs}
 
--- a reader that gave its text is in order
-in_order : (reader : Side) (text : List ℕ) → Gave reader text → IsInOrder reader
-in_order reader text g = (text, g.gave, g.within, g.sound)
+-- a reader that gave its text is sound
+is_sound : (reader : Side) (text : List ℕ) → Gave reader text → IsSound true reader
+is_sound reader text g = (text, g.0, sound reader.failed (length text) g.2 g.3)
 
-in_order_if : (reader : Option Side) (text : Option (List ℕ)) → GaveIf reader text → IfSome reader IsInOrder
-in_order_if None None g = tt
-in_order_if None (Some text) g = absurd cc
-in_order_if (Some reader) (Some text) g = in_order reader text g
-in_order_if (Some reader) None g = absurd g
+is_sound_if : (reader : Option Side) (text : Option (List ℕ)) → GaveIf reader text → IfSome reader (IsSound true)
+is_sound_if None None g = tt
+is_sound_if None (Some text) g = absurd cc
+is_sound_if (Some reader) (Some text) g = is_sound reader text g
+is_sound_if (Some reader) None g = absurd g
 
--- readers that gave their texts are in order
-are_in_order : (r : Readers) (texts : Texts) → Reads r (Ok texts) → Reads r (Err read.OutOfMemory)
-are_in_order r texts g = (
-  in_order r.source texts.source g.0,
-  in_order r.inputs texts.inputs g.1,
-  in_order_if r.commands texts.commands g.2,
+-- readers that gave their texts are sound
+are_sound : (r : Readers) (texts : Texts) → Reads r (Ok texts) → Reads r (Err read.OutOfMemory)
+are_sound r texts g = (
+  is_sound r.source texts.source g.0,
+  is_sound r.inputs texts.inputs g.1,
+  is_sound_if r.commands texts.commands g.2,
 )
 
 -- the texts were not read
@@ -43,17 +45,17 @@ pub refused_by : (r : Readers) (out : Side) (options : Options) (texts : Texts) 
     Reads r (Ok texts)
     → RefusedBy (IsOutput texts options) fault → Runs r out options (Err fault)
 refused_by r out options texts (Open fault) g h = (texts, g, h)
-refused_by r out options texts OutOfMemory g h = are_in_order r texts g
+refused_by r out options texts OutOfMemory g h = are_sound r texts g
 refused_by r out options texts (Read name) g h = absurd h
 refused_by r out options texts Write g h = absurd h
 
 -- the text that the run prints was written
 pub ended : (r : Readers) (out : Side) (options : Options) (texts : Texts) (text bytes : List ℕ)
     (ending : Ending)
-    → Reads r (Ok texts) → IsOutput texts options (Ok (text, ending)) → bytes ≡ text → Wrote out bytes
+    → Reads r (Ok texts) → IsOutput texts options (Ok (text, ending)) → bytes ≡ text → Wrote out bytes false
     → Runs r out options (Ok ending)
 ended r out options texts text bytes ending read is same wrote =
-    (text, (texts, read, is), subst (λ (b : List ℕ). Wrote out b) same wrote)
+    (text, (texts, read, is), subst (λ (b : List ℕ). Wrote out b false) same wrote)
 
 -- a beginning of it was written, and the writer failed
 pub cut_short : (r : Readers) (out : Side) (options : Options) (result : Result Ending CliFault)
@@ -63,4 +65,9 @@ pub cut_short : (r : Readers) (out : Side) (options : Options) (result : Result 
     → Runs r out options result
 cut_short r out options (Ok other) texts text bytes ending why read is same wrote = absurd why
 cut_short r out options (Err fault) texts text bytes ending why read is same wrote =
-    rw why ((text, ending), (texts, read, is), subst (λ (b : List ℕ). WroteBeginning out b) same wrote)
+    rw why (
+      (text, ending),
+      wrote.0,
+      (texts, read, is),
+      subst (λ (b : List ℕ). Wrote out (take wrote.0 b) true) same wrote.1,
+    )

@@ -3,27 +3,24 @@
 use Rattle.std.specs.Prelude.{ℕ, ◌==◌, List, ◌++◌, Result, Ok, Err, codes, if◌then◌else◌}
 use Rattle.std.specs.Fmt.{decimal}
 use Rattle.rv_program.specs.Faults.{title_of}
-use Rattle.rv_program.specs.declared.fault.AsmFault.{AsmFault}
 use Rattle.rv_board.specs.declared.event.BootFault.TheVariants.{BadPages, BadSlots, ImageTooLarge}
 use Rattle.rv_board.specs.declared.event.BootFault.TheVariants as boot_fault
 use Rattle.rv_opening.specs.declared.fault.OpenFault.TheVariants as open_fault
 use Rattle.rv_cli.specs.declared.fault.CliFault.{CliFault}
-use Rattle.rv_cli.specs.declared.fault.CliFault.TheVariants.{Open, OutOfMemory, Read, Write}
+use Rattle.rv_cli.specs.declared.fault.CliFault.TheVariants.{Open, Read, Write, OutOfMemory}
 use Rattle.rv_texts.specs.declared.fault.TextName.TheVariants.{Commands, Input, Source}
 use Rattle.rv_cli.specs.declared.fault.Ending.{Ending}
 use Rattle.rv_cli.specs.declared.fault.Ending.TheVariants.{Halted, Running}
 
--- the line of a source's fault, as `source line 3: E6 DuplicateSymbol`
-abbrev pub source_line_of : AsmFault → List ℕ
-source_line_of fault = codes "source line " ++ decimal fault.line
-    ++ codes ": E" ++ decimal (title_of fault.kind).0 ++ codes " " ++ (title_of fault.kind).1
-
--- a row a fault: its line without the line end, and the exit status
+-- a row a fault: its line without the line end, as `source line 3: E6 DuplicateSymbol` of a source's, and the
+-- exit status
 abbrev pub fault_row : CliFault → List ℕ × ℕ
 fault_row (Read Source) = (codes "cannot read source", 4)
 fault_row (Read Input) = (codes "cannot read input", 4)
 fault_row (Read Commands) = (codes "cannot read commands", 4)
-fault_row (Open (open_fault.Source fault)) = (source_line_of fault, 3)
+fault_row (Open (open_fault.Source fault)) =
+    let title = title_of fault.kind in
+    (codes "source line " ++ decimal fault.line ++ codes ": E" ++ decimal title.0 ++ codes " " ++ title.1, 3)
 fault_row (Open (open_fault.Input n)) = (codes "input line " ++ decimal n ++ codes ": refused", 3)
 fault_row (Open (open_fault.Board BadPages)) = (codes "bad pages", 3)
 fault_row (Open (open_fault.Board BadSlots)) = (codes "bad slots", 3)

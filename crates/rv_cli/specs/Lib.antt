@@ -6,4 +6,3 @@ pub mod Numbered
 pub mod Output
 pub mod Run
 pub mod Shown
-pub mod Status

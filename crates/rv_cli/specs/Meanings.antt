@@ -5,12 +5,22 @@ use Rattle.rv_board.specs.State.{halted_of}
 use Rattle.rv_opening.specs.declared.fault.OpenFault.{OpenFault}
 use Rattle.rv_monitor.specs.State.{SessionState}
 use Rattle.rv_opening.specs.Opening.{Opens}
-use Rattle.rv_texts.specs.Readers.{Texts}
+use Rattle.rv_texts.specs.Calls.{Texts}
 use Rattle.rv_words.specs.declared.Options.{Options}
-use Rattle.rv_cli.specs.Output.{Does, ending_of, printed}
+use Rattle.std.specs.Option.{option_map_or}
+use Rattle.rv_cli.specs.Output.{Does, printed}
 use Rattle.rv_cli.specs.declared.fault.CliFault.{CliFault}
 use Rattle.rv_cli.specs.declared.fault.CliFault.TheVariants.{Open, OutOfMemory}
 use Rattle.rv_cli.specs.declared.fault.Ending.{Ending}
+use Rattle.rv_cli.specs.declared.fault.Ending.TheVariants.{Halted, Running}
+
+-- how a run ends, by the code of the board's halt
+abbrev pub ending_of : Option ℕ → Ending
+ending_of halted = option_map_or (λ code. Halted code) halted Running
+
+-- the text that a run prints and how it ends, or the first fault of its texts and sizes
+abbrev pub Output : Type 0
+Output = Result (List ℕ × Ending) OpenFault
 
 -- the texts and sizes open a session, whose limit is the steps of the options, or they have a fault
 abbrev pub OpensFor : Texts → Options → Result SessionState OpenFault → Type 0

@@ -3,6 +3,7 @@
 use Rattle.std.specs.Prelude.{ℕ, Bool, List, false, true}
 use Rattle.rv_monitor.specs.Views.{line}
 use Rattle.rv_opening.specs.declared.fault.OpenFault.TheVariants as open_fault
+use Rattle.rv_program.specs.declared.fault.AsmFault.{AsmFault}
 use Rattle.rv_cli.specs.Faults.{fault_row}
 use Rattle.rv_cli.specs.declared.fault.CliFault.{CliFault}
 use Rattle.rv_cli.specs.declared.fault.CliFault.TheVariants.{Open}
@@ -16,3 +17,7 @@ has_number other = false
 -- the line of a fault
 abbrev pub line_of : CliFault → List ℕ
 line_of fault = line (fault_row fault).0
+
+-- the line of a source's fault, without its line end
+abbrev pub source_line_of : AsmFault → List ℕ
+source_line_of fault = (fault_row (Open (open_fault.Source fault))).0

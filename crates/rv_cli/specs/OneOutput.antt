@@ -1,9 +1,10 @@
 -- Texts and options have one output, as it is proved.
 -- Not to audit: the contract of the law says the same.
 use Rattle.std.specs.Prelude.{◌≡◌}
-use Rattle.rv_texts.specs.Readers.{Texts}
+use Rattle.rv_texts.specs.Calls.{Texts}
 use Rattle.rv_words.specs.declared.Options.{Options}
-use Rattle.rv_cli.specs.Output.{IsOutput, Output}
+use Rattle.rv_cli.specs.Meanings.{Output}
+use Rattle.rv_cli.specs.Output.{IsOutput}
 
 -- the texts and the options have an output, and no other
 pub record HaveOneOutput (texts : Texts) (options : Options) : Type 0 where

@@ -1,21 +1,22 @@
 -- The text that a run prints, and how the run ends (this project's own: docs/BOARD.md).
 -- To audit: public contracts cite this.
-use Rattle.std.specs.Prelude.{◌≡◌, ◌≢◌, ℕ, ◌==◌, ◌||◌, List, [], ◌∷◌, ◌++◌, Option, Some, None, Result, Ok, Err, if◌then◌else◌, length, nat_eq}
+use Rattle.std.specs.Prelude.{◌≡◌, ◌≢◌, ℕ, ◌==◌, ◌||◌, List, [], ◌∷◌, ◌++◌, Option, Some, None, Result, Ok, Err, if◌then◌else◌, length, nat_eq, codes}
 use Rattle.std.specs.FinSet as set
+use Rattle.std.specs.Fmt.{decimal}
 use Rattle.std.specs.List.{ends_with}
 use Rattle.std.specs.Option.{option_map_or}
+use Rattle.rv_base.specs.Digits.{hex}
 use Rattle.rv_base.specs.Lines.{lines}
 use Rattle.rv_board.specs.BoardState.{BoardState}
-use Rattle.rv_monitor.specs.Commands.{Leaves, Took, answer, command_in, next_of}
+use Rattle.rv_commands.specs.declared.command.Command.TheVariants.{Quit}
+use Rattle.rv_monitor.specs.Commands.{Leaves, Took, answer, command_in}
 use Rattle.rv_monitor.specs.State.{SessionState}
 use Rattle.rv_monitor.specs.Views.{line}
-use Rattle.rv_monitor.specs.declared.command.Next.TheVariants.{More, Quit}
 use Rattle.rv_opening.specs.Opening.{Opens}
 use Rattle.rv_opening.specs.declared.fault.OpenFault.{OpenFault}
 use Rattle.rv_opening.specs.declared.fault.OpenFault.TheVariants.{OutOfMemory}
-use Rattle.rv_texts.specs.Readers.{Texts}
+use Rattle.rv_texts.specs.Readers.{EachText}
 use Rattle.rv_words.specs.declared.Options.{Options}
-use Rattle.rv_cli.specs.Status.{status_text}
 use Rattle.rv_cli.specs.declared.fault.Ending.{Ending}
 use Rattle.rv_cli.specs.declared.fault.Ending.TheVariants.{Halted, Running}
 
@@ -25,24 +26,23 @@ use Rattle.rv_cli.specs.declared.fault.Ending.TheVariants.{Halted, Running}
 abbrev pub with_line_end : List ℕ → List ℕ
 with_line_end text = if length text == 0 || ends_with nat_eq text (10 ∷ []) then text else line text
 
--- the console and the status line
+-- the console and the status line: `halted` with a code, or `running at` a pc, and after how many steps
 abbrev pub printed : BoardState → List ℕ
-printed b = with_line_end b.machine.bus.serial.sent
-    ++ line (status_text b.machine.bus.halt b.machine.pc b.steps)
-
--- how a run ends, by the code of the board's halt
-abbrev pub ending_of : Option ℕ → Ending
-ending_of halted = option_map_or (λ code. Halted code) halted Running
+printed b =
+    let m = b.machine in
+    let running = codes "running at " ++ hex 8 m.pc in
+    let stand = option_map_or (λ code. codes "halted " ++ decimal code) m.bus.halt running in
+    with_line_end m.bus.serial.sent ++ line (stand ++ codes " after " ++ decimal b.steps ++ codes " steps")
 
 -- ---- commands
 
 -- lines are executed in order, up to one that quits: from a session to another, with their answers
 pub data Obeys : List (List ℕ) → SessionState → SessionState → List ℕ → Type 0 where
   none : (s : SessionState) → Obeys [] s s []
-  quits : (line : List ℕ) (more : List (List ℕ)) (s : SessionState) → next_of (command_in line s) ≡ Quit
+  quits : (line : List ℕ) (more : List (List ℕ)) (s : SessionState) → command_in line s ≡ Some Quit
       → Obeys (line ∷ more) s s []
   goes_on : (line text : List ℕ) (more : List (List ℕ)) (s next new : SessionState)
-      → next_of (command_in line s) ≡ More → Leaves (command_in line s) s next → Obeys more next new text
+      → command_in line s ≢ Some Quit → Leaves (command_in line s) s next → Obeys more next new text
       → Obeys (line ∷ more) s new (answer (command_in line s) s next ++ text)
 
 -- the commands are executed; without commands all steps are taken, past any breakpoint, and there is no
@@ -53,15 +53,12 @@ Does (Some commands) old new text = Obeys (lines commands) old new text
 
 -- ---- the run
 
--- the text that a run prints and how it ends, or the first fault of its texts and sizes
-abbrev pub Output : Type 0
-Output = Result (List ℕ × Ending) OpenFault
-
--- a fault of the opening is the run's; a session that is opened, with the steps of the options as its limit,
--- does what is asked, and then the answers and the board are printed
-abbrev pub IsOutput : Texts → Options → Output → Type 0
+-- the text that a run prints and how it ends, or the first fault of its texts and sizes: a fault of the
+-- opening is the run's; a session that is opened, with the steps of the options as its limit, does what is
+-- asked, and then the answers and the board are printed, and the run ends by the board's halt
+abbrev pub IsOutput : EachText (List ℕ) → Options → Result (List ℕ × Ending) OpenFault → Type 0
 IsOutput t o (Err fault) = (fault ≢ OutOfMemory) × Opens t.source t.inputs o.pages o.slots o.steps (Err fault)
 IsOutput t o (Ok done) =
     (old new : SessionState) × (answers : List ℕ) × Opens t.source t.inputs o.pages o.slots o.steps (Ok old)
-    × Does t.commands old new answers
-    × (done ≡ (answers ++ printed new.timed.board, ending_of new.timed.board.machine.bus.halt))
+    × Does t.commands old new answers × (done.0 ≡ answers ++ printed new.timed.board)
+    × (done.1 ≡ option_map_or (λ code. Halted code) new.timed.board.machine.bus.halt Running)

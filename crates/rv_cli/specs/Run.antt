@@ -1,25 +1,26 @@
 -- The results of a run, by what its readers gave and its writer took.
 -- To audit: public contracts cite this.
-use Rattle.std.specs.Prelude.{ℕ, List, Result, Ok, Err}
+use Rattle.std.specs.Prelude.{ℕ, true, false, List, take, Result, Ok, Err}
 use Rattle.rv_words.specs.declared.Options.{Options}
-use Rattle.rv_texts.specs.Readers.{Reads, Readers, Texts}
-use Rattle.rv_texts.specs.Texts.{Side, Wrote, WroteBeginning}
+use Rattle.rv_texts.specs.Readers.{EachText, Reads}
+use Rattle.rv_texts.specs.Texts.{Side, Wrote}
 use Rattle.rv_texts.specs.declared.fault.ReadFault.TheVariants as unread
-use Rattle.rv_cli.specs.Output.{IsOutput, Output}
+use Rattle.rv_opening.specs.declared.fault.OpenFault.{OpenFault}
+use Rattle.rv_cli.specs.Output.{IsOutput}
 use Rattle.rv_cli.specs.declared.fault.CliFault.{CliFault}
 use Rattle.rv_cli.specs.declared.fault.CliFault.TheVariants.{Open, OutOfMemory, Read, Write}
 use Rattle.rv_cli.specs.declared.fault.Ending.{Ending}
 
 -- the texts were read, and this is their output
-abbrev pub HasOutput : Readers → Options → Output → Type 0
-HasOutput r options output = (texts : Texts) × Reads r (Ok texts) × IsOutput texts options output
+abbrev pub HasOutput : EachText Side → Options → Result (List ℕ × Ending) OpenFault → Type 0
+HasOutput r options output = (texts : EachText (List ℕ)) × Reads r (Ok texts) × IsOutput texts options output
 
 -- a row a result: the text that the run prints was written, and nothing else; or there is a fault of the
 -- readers, of their texts, or of the writer, which took a beginning of the text
-abbrev pub Runs : Readers → Side → Options → Result Ending CliFault → Type 0
-Runs r out options (Ok ending) = (text : List ℕ) × HasOutput r options (Ok (text, ending)) × Wrote out text
+abbrev pub Runs : EachText Side → Side → Options → Result Ending CliFault → Type 0
+Runs r out options (Ok end) = (text : List ℕ) × HasOutput r options (Ok (text, end)) × Wrote out text false
 Runs r out options (Err (Read text)) = Reads r (Err (unread.Unreadable text))
 Runs r out options (Err OutOfMemory) = Reads r (Err unread.OutOfMemory)
 Runs r out options (Err (Open fault)) = HasOutput r options (Err fault)
 Runs r out options (Err Write) =
-    (done : List ℕ × Ending) × HasOutput r options (Ok done) × WroteBeginning out done.0
+    (done : List ℕ × Ending) × (n : ℕ) × HasOutput r options (Ok done) × Wrote out (take n done.0) true

@@ -16,6 +16,10 @@ abbrev pub stand_of : Option ℕ → ℕ → List ℕ
 stand_of halted pc =
     option_map_or (λ code. codes "halted " ++ decimal code) halted (codes "running at " ++ hex 8 pc)
 
+-- that, and after how many steps: the status line
+abbrev pub status_text : Option ℕ → ℕ → ℕ → List ℕ
+status_text halted pc steps = stand_of halted pc ++ codes " after " ++ decimal steps ++ codes " steps"
+
 -- the line of a timed list's fault
 abbrev pub input_line_of : ℕ → List ℕ
 input_line_of n = codes "input line " ++ decimal n ++ codes ": refused"

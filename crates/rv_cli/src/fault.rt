@@ -2,8 +2,8 @@
 ghost use Rattle.std.specs.Prelude.{◌≡◌, ◌++◌, Err, IfErr, IfOk, Ok, OnErr, OnOk, Some, false};
 ghost use Rattle.rv_monitor.specs.Views as spec;
 ghost use Rattle.rv_cli.specs.Shown.{IsAppended, input_line_of};
-ghost use Rattle.rv_cli.specs.Faults.{fault_row, source_line_of, status_of};
-ghost use Rattle.rv_cli.specs.Numbered.{has_number, line_of};
+ghost use Rattle.rv_cli.specs.Faults.{fault_row, status_of};
+ghost use Rattle.rv_cli.specs.Numbered.{has_number, line_of, source_line_of};
 ghost use Rattle.rv_cli.specs.declared.fault.CliFault.TheVariants.{Read};
 
 use rv_base::NoMemory;

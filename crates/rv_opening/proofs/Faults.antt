@@ -9,7 +9,7 @@ use Rattle.rv_lists.specs.Timed.{IsRead}
 use Rattle.rv_lists.specs.declared.fault.TimelineFault.{TimelineFault}
 use Rattle.rv_lists.specs.declared.fault.TimelineFault.TheVariants as list
 use Rattle.rv_lists.specs.declared.input.TimedInput.{TimedInput}
-use Rattle.rv_program.specs.Faults.{FailsBy, Fails}
+use Rattle.rv_program.specs.Kept.{FailsBy, Fails}
 use Rattle.rv_program.specs.Program.{Assembly}
 use Rattle.rv_program.specs.declared.fault.AsmFault.{AsmFault}
 use Rattle.rv_program.specs.declared.fault.FaultKind.{FaultKind}

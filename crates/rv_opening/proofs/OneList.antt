@@ -5,8 +5,8 @@ use Rattle.std.proofs.Math.Seq.{take-length}
 use Rattle.std.proofs.lemmas.Bool.{cases_lt, false≢true}
 use Rattle.std.proofs.lemmas.List.{take-append-drop}
 use Rattle.rv_lists.specs.declared.input.TimedInput.{TimedInput}
-use Rattle.rv_lists.specs.Reading.{joined, unless_falling}
-use Rattle.rv_lists.specs.Timed.{all_of, timed_line, never_falls, timed, IsFirstRefused}
+use Rattle.rv_lists.specs.Reading.{IsFirstRefused, joined, unless_falling}
+use Rattle.rv_lists.specs.Timed.{all_of, timed_line, never_falls, timed}
 use Rattle.rv_lists.proofs.Whole.{begun}
 
 -- ---- lines that have a list: so have those before them
@@ -72,11 +72,11 @@ front n texts some =
 pub not_both : (texts : List (List ℕ)) (inputs : List TimedInput) (n : ℕ) → timed texts ≡ Some inputs
     → IsFirstRefused texts n → ⊥
 not_both texts inputs n is first =
-    false≢true (ap is_some (sym first.refused) ∙ front n texts (ap is_some is))
+    false≢true (ap is_some (sym first.0) ∙ front n texts (ap is_some is))
 
 no_less : (texts : List (List ℕ)) (n m : ℕ) → IsFirstRefused texts n → IsFirstRefused texts m → n < m → ⊥
 no_less texts n m first other less =
-    false≢true (ap is_some (sym first.refused) ∙ other.taken n less)
+    false≢true (ap is_some (sym first.0) ∙ other.1 n less)
 
 -- one refused line
 pub one_line : (texts : List (List ℕ)) (n m : ℕ) → IsFirstRefused texts n → IsFirstRefused texts m → n ≡ m
@@ -94,7 +94,7 @@ searched_by : (texts : List (List ℕ)) (m : ℕ) (found : Option (List TimedInp
     → timed (take (m + 1) texts) ≡ found → m + 1 ≤ length texts → AllListed texts (m + 1)
     → AllListed texts (m + 1 + 1) ⊎ ((n : ℕ) × IsFirstRefused texts n)
 searched_by texts m None is le all =
-    inr (m + 1, record { refused = is; taken = all })
+    inr (m + 1, (is, all))
 searched_by texts m (Some inputs) is le all =
     inl (below_more (λ k. is_some (timed (take k texts)) ≡ true) (m + 1) all (ap is_some is))
 

@@ -6,7 +6,8 @@ use Rattle.rv_base.specs.Lines.{lines}
 use Rattle.rv_board.specs.Boot.{boot_fault}
 use Rattle.rv_board.specs.Boot as boot
 use Rattle.rv_board.specs.declared.event.BootFault.{BootFault}
-use Rattle.rv_lists.specs.Timed.{IsRead, timed, IsFirstRefused}
+use Rattle.rv_lists.specs.Reading.{IsFirstRefused}
+use Rattle.rv_lists.specs.Timed.{IsRead, timed}
 use Rattle.rv_lists.specs.declared.input.TimedInput.{TimedInput}
 use Rattle.rv_monitor.specs.State.{SessionState, new_session}
 use Rattle.rv_program.specs.Program.{Assembly}
@@ -40,7 +41,7 @@ module _ (source inputs : List ℕ) (pages slots limit : ℕ) where
   only_source : (fault : AsmFault) → assembled source ≡ Err fault → (other : Opening)
       → Opens source inputs pages slots limit other → other ≢ Err OutOfMemory → other ≡ Err (Source fault)
   only_source fault is (Ok s) opens kept =
-      let bad : Ok s.program ≡ Err fault = sym opens.program ∙ is in absurd cc
+      let bad : Ok s.program ≡ Err fault = sym opens.0 ∙ is in absurd cc
   only_source fault is (Err (Source other)) opens kept = let same : other ≡ fault = cc in cc
   only_source fault is (Err (Input n)) opens kept =
       absurd (no_fault (assembled source) fault is opens.0)
@@ -54,7 +55,7 @@ module _ (source inputs : List ℕ) (pages slots limit : ℕ) where
       → (other : Opening) → Opens source inputs pages slots limit other → other ≢ Err OutOfMemory
       → other ≡ Err (Input n)
   only_list program n is first (Ok s) opens kept =
-      absurd (not_both (lines inputs) s.timed.inputs n opens.list first)
+      absurd (not_both (lines inputs) s.timed.inputs n opens.1 first)
   only_list program n is first (Err (Source other)) opens kept =
       let bad : Ok program ≡ Err other = sym is ∙ opens in absurd cc
   only_list program n is first (Err (Input m)) opens kept =
@@ -80,7 +81,7 @@ module _ (source inputs : List ℕ) (pages slots limit : ℕ) where
         → Opens source inputs pages slots limit other → other ≢ Err OutOfMemory → other ≡ Err (Board fault)
     only_board fault boots (Ok s) opens kept =
         let e : None ≡ Some fault =
-        sym opens.boots ∙ (ap fault_of (same_program s.program opens.program) ∙ boots) in absurd cc
+        sym opens.2 ∙ (ap fault_of (same_program s.program opens.0) ∙ boots) in absurd cc
     only_board fault boots (Err (Source other)) opens kept =
         let bad : Ok program ≡ Err other = sym is ∙ opens in absurd cc
     only_board fault boots (Err (Input n)) opens kept =
@@ -98,8 +99,8 @@ module _ (source inputs : List ℕ) (pages slots limit : ℕ) where
         → Opens source inputs pages slots limit other → other ≢ Err OutOfMemory
         → other ≡ Ok (session program list)
     only_session boots (Ok s) opens kept =
-        ap (λ s. Ok s) (opens.state ∙ (ap (λ p. session p s.timed.inputs) (same_program s.program opens.program)
-        ∙ ap (session program) (same_list s.timed.inputs opens.list)))
+        ap (λ s. Ok s) (opens.3 ∙ (ap (λ p. session p s.timed.inputs) (same_program s.program opens.0)
+        ∙ ap (session program) (same_list s.timed.inputs opens.1)))
     only_session boots (Err (Source other)) opens kept =
         let bad : Ok program ≡ Err other = sym is ∙ opens in absurd cc
     only_session boots (Err (Input n)) opens kept =
@@ -118,7 +119,7 @@ module _ (source inputs : List ℕ) (pages slots limit : ℕ) where
     }
     one_by_board None boots = record {
       opening = Ok (session program list);
-      opens = record { program = is; list = read; boots = boots; state = refl };
+      opens = (is, read, boots, refl);
       kept = λ e. cc;
       only = only_session boots;
     }

@@ -1,6 +1,6 @@
 -- A session that is opened from its texts and sizes, or the first fault of those.
 -- To audit: public contracts cite this.
-use Rattle.std.specs.Prelude.{◌≡◌, ℕ, ◌*◌, ⊤, true, is_ok, List, length, None, Some, Result, Ok, Err}
+use Rattle.std.specs.Prelude.{◌≡◌, ℕ, ◌*◌, ⊤, IsOk, List, length, None, Some, Result, Ok, Err}
 use Rattle.rv_asm.specs.Assembly.{assembled}
 use Rattle.rv_board.specs.Boot.{boot_fault}
 use Rattle.rv_board.specs.Boot as boot
@@ -12,25 +12,17 @@ use Rattle.rv_program.specs.Program.{Assembly}
 use Rattle.rv_opening.specs.declared.fault.OpenFault.{OpenFault}
 use Rattle.rv_opening.specs.declared.fault.OpenFault.TheVariants.{Source, Input, Board, OutOfMemory}
 
--- a session before its first step: of the program of a source, with the inputs of a timed list, on the board
--- at reset, which boots
-pub record IsOpened (source inputs : List ℕ) (pages slots limit : ℕ) (s : SessionState) : Type 0 where
-  pub program : assembled source ≡ Ok s.program
-  pub list : IsRead inputs (Ok s.timed.inputs)
-  pub boots : boot_fault (length s.program.bytes) pages slots ≡ None
-  pub state : s ≡ new_session (boot.reset s.program.bytes (4096 * pages)) s.timed.inputs s.program limit
-
--- the first fault: of the source, of the timed list, of the board, which does not boot with these sizes; or
--- memory ran out
-abbrev pub HasFault : (source list : List ℕ) (pages slots : ℕ) → OpenFault → Type 0
-HasFault source list pages slots (Source fault) = assembled source ≡ Err fault
-HasFault source list pages slots (Input n) = (is_ok (assembled source) ≡ true) × IsRead list (Err (BadLine n))
-HasFault source list pages slots (Board fault) =
+-- a row a result: a session before its first step, of the program of a source, with the inputs of a timed
+-- list, on the board at reset, which boots; or the first fault, of the source, of the timed list, or of the
+-- board, which does not boot with these sizes; or memory ran out
+abbrev pub Opens : (source list : List ℕ) (pages slots limit : ℕ) → Result SessionState OpenFault → Type 0
+Opens source list pages slots limit (Ok s) =
+    (assembled source ≡ Ok s.program) × IsRead list (Ok s.timed.inputs)
+    × (boot_fault (length s.program.bytes) pages slots ≡ None)
+    × (s ≡ new_session (boot.reset s.program.bytes (4096 * pages)) s.timed.inputs s.program limit)
+Opens source list pages slots limit (Err (Source fault)) = assembled source ≡ Err fault
+Opens source list pages slots limit (Err (Input n)) = IsOk (assembled source) × IsRead list (Err (BadLine n))
+Opens source list pages slots limit (Err (Board fault)) =
     (program : Assembly) × (timed : List TimedInput) × (assembled source ≡ Ok program)
     × IsRead list (Ok timed) × (boot_fault (length program.bytes) pages slots ≡ Some fault)
-HasFault source list pages slots OutOfMemory = ⊤
-
--- the session, or the first fault
-abbrev pub Opens : (source inputs : List ℕ) (pages slots limit : ℕ) → Result SessionState OpenFault → Type 0
-Opens source inputs pages slots limit (Ok session) = IsOpened source inputs pages slots limit session
-Opens source inputs pages slots limit (Err fault) = HasFault source inputs pages slots fault
+Opens source list pages slots limit (Err OutOfMemory) = ⊤

@@ -1,6 +1,6 @@
 //! The opening of a session.
-ghost use Rattle.std.specs.Prelude.{IfOk};
-ghost use Rattle.rv_lists.specs.Text.{HasSteps};
+ghost use Rattle.std.specs.Prelude.{◌≡◌, true, IfOk, nat_le};
+ghost use Rattle.std.specs.List.{list_all};
 ghost use Rattle.rv_opening.specs.Opening.{Opens};
 
 use crate::fault::OpenFault;
@@ -28,7 +28,7 @@ pub fn open_session(
     limit: u64,
 ) -> Result<Session<PagedRam, DecodeCache>, OpenFault>
     ensures opened { Opens source.now inputs.now pages slots limit result }
-    ensures steps { IfOk result (λ s. HasSteps s.timed.inputs) }
+    ensures steps { IfOk result (λ s. list_all (λ x. nat_le x.step 9999999999) s.timed.inputs ≡ true) }
 {
     let program = assemble(alloc, source)?;
     let timeline = Timeline::read(alloc, inputs)?;

@@ -1,6 +1,6 @@
 -- The bytes that a reader gave and a writer took.
 -- To audit: public contracts cite this.
-use Rattle.std.specs.Prelude.{◌≡◌, ◌⊎◌, ◌<◌, ◌≤◌, ℕ, Bool, true, false, List, Option, length, take}
+use Rattle.std.specs.Prelude.{◌≡◌, ◌&&◌, ◌≤◌, ℕ, Bool, false, not, List, Option, length, nat_le}
 use Rattle.std.specs.Option.{option_map, option_zip}
 use Rattle.std.specs.Io.KnownBytes.{Appends, Consumes, IsAtEnd}
 use Rattle.rv_base.specs.Limits.{text_limit}
@@ -22,29 +22,17 @@ side_if bytes has_failed old new = option_map (λ p. side bytes has_failed p.0 p
 
 -- ---- a reader
 
+-- whether the reader is sound: it gave bytes over the call, no more than a text may have, and has not failed
+abbrev pub IsSound : Bool → Side → Type 0
+IsSound sound r = (bytes : List ℕ) × Consumes r.old r.new bytes
+    × ((not r.failed && nat_le (length bytes) text_limit) ≡ sound)
+
 -- the reader gave the text to its end and did not fail
-pub record Gave (reader : Side) (text : List ℕ) : Type 0 where
-  pub gave : Consumes reader.old reader.new text
-  pub ended : IsAtEnd reader.new
-  pub within : length text ≤ text_limit
-  pub sound : reader.failed ≡ false
-
--- the reader is in order, and gave no more bytes than a text may have
-abbrev pub IsInOrder : Side → Type 0
-IsInOrder r =
-    (bytes : List ℕ) × Consumes r.old r.new bytes × (length bytes ≤ text_limit) × (r.failed ≡ false)
-
--- the reader failed, or it gave more bytes than a text may have
-abbrev pub IsUnreadable : Side → Type 0
-IsUnreadable r =
-    (bytes : List ℕ) × Consumes r.old r.new bytes × ((r.failed ≡ true) ⊎ (text_limit < length bytes))
+abbrev pub Gave : Side → List ℕ → Type 0
+Gave r text = Consumes r.old r.new text × IsAtEnd r.new × (length text ≤ text_limit) × (r.failed ≡ false)
 
 -- ---- a writer
 
--- the writer took the whole text, and did not fail
-abbrev pub Wrote : Side → List ℕ → Type 0
-Wrote w text = Appends w.old w.new text × (w.failed ≡ false)
-
--- the writer took a beginning of the text, and failed
-abbrev pub WroteBeginning : Side → List ℕ → Type 0
-WroteBeginning w text = (count : ℕ) × Appends w.old w.new (take count text) × (w.failed ≡ true)
+-- the writer took these bytes, and failed or not
+abbrev pub Wrote : Side → List ℕ → (failed : Bool) → Type 0
+Wrote w bytes failed = Appends w.old w.new bytes × (w.failed ≡ failed)

@@ -1,8 +1,8 @@
 //! Reading a text and writing one, some bytes a call.
-ghost use Rattle.std.specs.Prelude.{◌≡◌, ◌≤◌, ◌<◌, ◌==◌, ◌&&◌, ◌||◌, ℕ, Bool, List, Option, IfErr, IfOk, OnErr, OnOk, false, length, nat_lt, true};
+ghost use Rattle.std.specs.Prelude.{◌≡◌, ◌≤◌, ◌<◌, ◌==◌, ◌&&◌, ◌||◌, ℕ, Bool, List, Option, IfErr, IfOk, OnErr, OnOk, false, length, nat_lt, take, true};
 ghost use Rattle.std.specs.Io.KnownBytes.{ReadConsumes, WriteAppends};
 ghost use Rattle.rv_texts.specs.Calls.{FailsToRead, WroteNone, WroteUpTo};
-ghost use Rattle.rv_texts.specs.Texts.{Gave, Wrote, WroteBeginning, side};
+ghost use Rattle.rv_texts.specs.Texts.{Gave, Wrote, side};
 ghost use Rattle.rv_texts.specs.Within.{IsWithin};
 
 use crate::fault::{ReadFault, TextName};
@@ -128,8 +128,9 @@ fn write_more<W: TextOut>(out: &mut W, bytes: &[u8], done: usize) -> Result<usiz
 /// `OutFailed` if a write fails or takes none of some bytes. A beginning of the bytes is written then.
 pub fn write_whole<W: TextOut>(out: &mut W, bytes: &[u8]) -> Result<(), OutFailed>
     requires { W.has_failed out.old ≡ false }
-    ensures ok { OnOk result (Wrote (side W.taken W.has_failed out.old out.new) bytes.now) }
-    ensures err { OnErr result (WroteBeginning (side W.taken W.has_failed out.old out.new) bytes.now) }
+    ensures ok { OnOk result (Wrote (side W.taken W.has_failed out.old out.new) bytes.now false) }
+    ensures err { OnErr result
+        ((count : ℕ) × Wrote (side W.taken W.has_failed out.old out.new) (take count bytes.now) true) }
 {
     let mut done = 0;
     while done < bytes.len() {

@@ -1,8 +1,9 @@
 //! The texts of a run, read from their readers.
-ghost use Rattle.std.specs.Prelude.{◌≡◌, ◌⊎◌, IfErr, IfOk, IfSome, IsSomeAnd, false, is_some};
+ghost use Rattle.std.specs.Prelude.{◌≡◌, ◌⊎◌, IfErr, IfOk, IfSome, IsSomeAnd, false, is_some, true};
 ghost use Rattle.std.specs.Option.{option_map};
-ghost use Rattle.rv_texts.specs.Readers.{Reads, GaveIf};
-ghost use Rattle.rv_texts.specs.Texts.{IsInOrder, IsUnreadable, side, side_if};
+ghost use Rattle.rv_texts.specs.Calls.{GaveIf};
+ghost use Rattle.rv_texts.specs.Readers.{Reads};
+ghost use Rattle.rv_texts.specs.Texts.{IsSound, side, side_if};
 ghost use Rattle.rv_texts.specs.Within.{AreWithin, IsWithin};
 ghost use Rattle.rv_texts.specs.declared.fault.ReadFault.TheVariants.{OutOfMemory, Unreadable};
 ghost use Rattle.rv_texts.specs.declared.fault.TextName.TheVariants.{Commands, Input, Source};
@@ -32,9 +33,10 @@ impl Drop for Texts {
 
 impl Model for Texts {
     ghost use Rattle.std.specs.Option.{option_map};
-    ghost use Rattle.rv_texts.specs.Readers as texts;
+    ghost use Rattle.std.specs.Prelude.{List, ℕ};
+    ghost use Rattle.rv_texts.specs.Readers.{EachText};
 
-    ghost Value = { texts.Texts };
+    ghost Value = { EachText (List ℕ) };
 
     ghost view = { λ t. record { source = t.source.items; inputs = t.inputs.items; commands = option_map (λ text. text.items) t.commands } };
 }
@@ -75,9 +77,9 @@ fn read_commands<C: TextIn>(
         GaveIf (side_if C.left C.has_failed commands.old commands.new) (option_map (λ t. t.items) text)) }
     ensures err { IfErr result (λ fault.
         ((fault ≡ Unreadable Commands)
-        × IsSomeAnd (side_if C.left C.has_failed commands.old commands.new) IsUnreadable)
+        × IsSomeAnd (side_if C.left C.has_failed commands.old commands.new) (IsSound false))
         ⊎ ((fault ≡ OutOfMemory)
-        × IfSome (side_if C.left C.has_failed commands.old commands.new) IsInOrder)) }
+        × IfSome (side_if C.left C.has_failed commands.old commands.new) (IsSound true))) }
     ensures within { IfSome (side_if C.left C.has_failed commands.old commands.new) IsWithin }
     ensures there { is_some commands.new ≡ is_some commands.old }
 {

@@ -7,6 +7,7 @@ use Rattle.std.specs.Str.{bytes_eq}
 use Rattle.std.specs.Str.Parse.{digits_value, without_leading_plus}
 use Rattle.std.proofs.lemmas.List.{map-append}
 use Rattle.std.proofs.lemmas.Slice.Eq.{bytes_eq-Decides}
+use Rattle.rv_base.specs.Tables.{lookup}
 use Rattle.clap.specs.Simple.{built, filled, help_rule, matches_of, names_of}
 use Rattle.clap.specs.Values.{read_as}
 use Rattle.clap.specs.Walk.{Held, Row, Rule, Text, Walk, default_rows, first_of, has_row, more_values, nothing_held, reacted, reading_by, row_text, rows_after, used, walked, with_default}
@@ -14,8 +15,8 @@ use Rattle.clap.specs.declared.builder.value_parser.Reading.TheVariants.{Without
 use Rattle.clap.specs.declared.parser.matches.ValueSource.TheVariants.{DefaultValue}
 use Rattle.rv_words.specs.Board.{OptionName, board_app, commands, input, name_of, pages, range_of, slots, steps}
 use Rattle.rv_words.specs.Read.{number_of}
-use Rattle.rv_words.specs.Parts.{ReadByRules, all_words, is_new, number_in, given_by, value_in}
-use Rattle.rv_words.specs.Rules.{Part, Says, are_new, is_allowed, is_value, is_readable, named, source, words_of}
+use Rattle.rv_words.specs.Parts.{ReadByRules, all_words, is_new, number_in, given_by, text_for, value_in}
+use Rattle.rv_words.specs.Rules.{Part, Says, are_new, is_allowed, is_value, gives, is_readable, named, source, words_of}
 use Rattle.rv_words.proofs.Rules.{absent, any_more, arguments, between, both, has_rows, has_source, holding, holding_rows, holding_source, joined_walked, name_walked, no_flag, not_source, or_false, or_true, parts_are_taken, position_of, row_added, row_for, rows_in, rule_for, rule_of, same_words, shape, source_rows, source_rule_built, source_used, source_walked, value_walked}
 
 -- ---- the rows at the end of the walk
@@ -225,6 +226,18 @@ gives_by id [] part at = absurd cc
 gives_by id (x ∷ xs) part at =
     given_part_by id x xs part (bytes_eq (given_by x) id) refl at (gives_by id xs part)
 
+-- the text that is given for an argument, by the table of what parts give
+looked_by : (t : Bool) (part : Part) (rest : Option Part)
+    → cond t (Some (value_in part)) (option_map value_in rest) ≡ option_map value_in (cond t (Some part) rest)
+looked_by true part rest = refl
+looked_by false part rest = refl
+
+looked : (id : Text) (parts : List Part) → text_for id parts ≡ lookup id (map gives parts)
+looked id [] = refl
+looked id (part ∷ more) =
+    sym (looked_by (bytes_eq (given_by part) id) part (part_for id more))
+    ∙ ap (cond (bytes_eq (given_by part) id) (Some (value_in part))) (looked id more)
+
 -- ---- the whole
 
 abbrev is_text_id : Text → Bool
@@ -407,24 +420,27 @@ module _ (parts : List Part) (rows : List Row) (is : rows ≡ fold with_default 
     option_says input =
         ap (first_of (codes "input")) is
         ∙ (ap first_text (part_at_end 1 (rule_of input) (codes "input") (option_id input) input_at parts)
-        ∙ input_text (part_for (codes "input") parts))
+        ∙ (input_text (part_for (codes "input") parts) ∙ looked (codes "input") parts))
     option_says commands =
         ap (first_of (codes "commands")) is
         ∙ (ap first_text (part_at_end 2 (rule_of commands) (codes "commands") (option_id commands)
         commands_at parts)
-        ∙ commands_text (part_for (codes "commands") parts))
+        ∙ (commands_text (part_for (codes "commands") parts) ∙ looked (codes "commands") parts))
     option_says steps =
         ap (number_of (codes "steps")) is
         ∙ (ap number_text (part_at_end 3 (rule_of steps) (codes "steps") (option_id steps) steps_at parts)
-        ∙ steps_number parts (part_for (codes "steps") parts) refl)
+        ∙ (steps_number parts (part_for (codes "steps") parts) refl
+        ∙ ap (λ t. number_in (unwrap_or t (codes "1000000"))) (looked (codes "steps") parts)))
     option_says pages =
         ap (number_of (codes "pages")) is
         ∙ (ap number_text (part_at_end 4 (rule_of pages) (codes "pages") (option_id pages) pages_at parts)
-        ∙ pages_number parts (part_for (codes "pages") parts) refl)
+        ∙ (pages_number parts (part_for (codes "pages") parts) refl
+        ∙ ap (λ t. number_in (unwrap_or t (codes "256"))) (looked (codes "pages") parts)))
     option_says slots =
         ap (number_of (codes "slots")) is
         ∙ (ap number_text (part_at_end 5 (rule_of slots) (codes "slots") (option_id slots) slots_at parts)
-        ∙ slots_number parts (part_for (codes "slots") parts) refl)
+        ∙ (slots_number parts (part_for (codes "slots") parts) refl
+        ∙ ap (λ t. number_in (unwrap_or t (codes "1024"))) (looked (codes "slots") parts)))
 
 pub read_by_rules : ReadByRules
 read_by_rules program parts readable taken =
@@ -434,6 +450,7 @@ read_by_rules program parts readable taken =
     record {
       source = ap (first_of (codes "source")) rows
           ∙ (ap first_text (part_at_end 0 source_rule_built (codes "source") source_id source_at parts)
-          ∙ source_text (part_for (codes "source") parts));
+          ∙ (source_text (part_for (codes "source") parts)
+          ∙ ap (λ t. Some (unwrap_or t (codes "-"))) (looked (codes "source") parts)));
       options = option_says parts _ rows;
     }

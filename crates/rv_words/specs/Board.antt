@@ -33,16 +33,15 @@ range_of o = (option_row o).1
 
 -- ---- their rules
 
--- the positional argument SOURCE, whose default is `-`
-abbrev pub source_rule : Rule
-source_rule =
-    record (new_rule (codes "source")) { action = Some Set; value_names = 1; defaults = codes "-" ∷ [] }
-
 -- an option that takes the path of a file, with no default
 abbrev pub file_rule : Text → Rule
 file_rule name = record (new_rule name) { long = Some name; action = Some Set; value_names = 1 }
 
--- an option that takes that, or a number
+-- the positional argument SOURCE, whose default is `-`
+abbrev pub source_rule : Rule
+source_rule = record (file_rule (codes "source")) { long = None; defaults = codes "-" ∷ [] }
+
+-- an option that takes the path of a file, or a number
 abbrev pub rule_by : Text → Option Range → Rule
 rule_by name None = file_rule name
 rule_by name (Some r) =

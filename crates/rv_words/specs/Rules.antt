@@ -1,11 +1,12 @@
 -- The words of the command line as rules: what they may say, and when they are taken (this project's own:
 -- docs/BOARD.md).
 -- To audit: public contracts cite this.
-use Rattle.std.specs.Prelude.{◌≡◌, pos, ◌==◌, ◌&&◌, ◌||◌, Bool, true, false, not, List, [], ◌∷◌, ◌++◌, Option, Some, None, codes, find, option_map, slice_index, unwrap_or}
+use Rattle.std.specs.Prelude.{◌≡◌, pos, ◌==◌, ◌&&◌, ◌||◌, Bool, true, false, not, List, [], ◌∷◌, ◌++◌, Option, Some, None, codes, map, slice_index, unwrap_or}
 use Rattle.std.specs.List.{list_any}
 use Rattle.std.specs.Option.{option_map_or}
 use Rattle.std.specs.Str.{bytes_eq}
 use Rattle.std.specs.Str.Parse.{digits_value, without_leading_plus}
+use Rattle.rv_base.specs.Tables.{lookup}
 use Rattle.clap.specs.ValueTests.{is_signed_in}
 use Rattle.clap.specs.Words.{Row, Text, first_of, without_minus}
 use Rattle.rv_words.specs.Board.{OptionName, Range, name_of, range_of}
@@ -55,14 +56,10 @@ are_new before (part ∷ more) =
 
 -- ---- what they then mean
 
--- the text that is given for an argument, if any part gives one
-abbrev pub text_for : Text → List Part → Option Text
-text_for id parts = option_map (λ part. (gives part).1) (find (λ part. bytes_eq (gives part).0 id) parts)
-
 -- what parts give for an option: a file, if any gives one, or a number, with a sign or none, or else its
 -- default
 abbrev pub Says : Option Range → Text → List Part → List Row → Type 0
-Says None name parts rows = first_of name rows ≡ text_for name parts
+Says None name parts rows = first_of name rows ≡ lookup name (map gives parts)
 Says (Some r) name parts rows =
-    number_of name rows
-    ≡ digits_value 10 (without_leading_plus (without_minus (unwrap_or (text_for name parts) r.default)))
+    let text = unwrap_or (lookup name (map gives parts)) r.default in
+    number_of name rows ≡ digits_value 10 (without_leading_plus (without_minus text))

@@ -1,11 +1,12 @@
 //! Laws of the words of the command line: `clap`'s meaning covers them, and they read as rules.
-ghost use Rattle.std.specs.Prelude.{◌≡◌, ◌&&◌, [], ◌∷◌, List, Some, codes, true, unwrap_or};
+ghost use Rattle.std.specs.Prelude.{◌≡◌, ◌&&◌, [], ◌∷◌, List, Some, codes, map, true, unwrap_or};
 ghost use Rattle.std.specs.List.{flat_map, list_all};
+ghost use Rattle.rv_base.specs.Tables.{lookup};
 ghost use Rattle.clap.specs.Faults.{is_simple_and_free};
 ghost use Rattle.clap.specs.Words.{Text, fault_of, first_of, matches_of, takes};
 ghost use Rattle.clap.specs.declared.error.kind.ErrorKind.TheVariants.{DisplayHelp};
 ghost use Rattle.rv_words.specs.Board.{OptionName, board_app, name_of, range_of};
-ghost use Rattle.rv_words.specs.Rules.{Part, Says, are_new, text_for, is_allowed, is_readable, words_of};
+ghost use Rattle.rv_words.specs.Rules.{Part, Says, are_new, gives, is_allowed, is_readable, words_of};
 
 /// Law: the command is one of those of which `clap`'s meaning says the matches and the errors. So what
 /// `read_words` ensures by them says something of all words.
@@ -34,7 +35,7 @@ pub fn words_are_read_by_rules()
     ensures source { (program : Text) (parts : List Part) → list_all is_readable parts ≡ true
         → takes board_app (program ∷ flat_map words_of parts) ≡ true
         → first_of (codes "source") (matches_of board_app (program ∷ flat_map words_of parts))
-        ≡ Some (unwrap_or (text_for (codes "source") parts) (codes "-")) }
+        ≡ Some (unwrap_or (lookup (codes "source") (map gives parts)) (codes "-")) }
     ensures options { (program : Text) (parts : List Part) → list_all is_readable parts ≡ true
         → takes board_app (program ∷ flat_map words_of parts) ≡ true
         → (o : OptionName) → Says (range_of o) (name_of o) parts

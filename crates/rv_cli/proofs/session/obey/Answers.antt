@@ -1,6 +1,8 @@
 use Rattle.std.proofs.Common.{◌≡◌, ◌∙◌, rules}
 use Rattle.rv_base.specs.Lines.{lines}
-use Rattle.rv_monitor.specs.Commands.{command_in, next_of}
+use Rattle.rv_monitor.specs.Answers.{next_of}
+use Rattle.rv_monitor.specs.Commands.{command_in}
+use Rattle.rv_monitor.proofs.Silent.{next_is}
 use Rattle.rv_monitor.specs.declared.command.Next.TheVariants.{More, Quit}
 use Rattle.rv_cli.proofs.Obeyed.{none_done, one_done, all_done, quit_done}
 use Rattle.rv_cli.proofs.session.obey.Goals as goal
@@ -17,6 +19,8 @@ loop-line-init g c =
 
 pub loop-line-preserved : goal.loop-line-preserved
 loop-line-preserved g c =
+    let next = next_is _ (command_in c.in-Some.line.now c.loop-line.session) c.in_ok-command.ensures.quits
+    c.in_ok-command.ensures.more in
     let goes_on : More ≡ next_of (command_in c.in-Some.line.now c.loop-line.session) = search rules in
     record {
       can_next = tt;
@@ -31,6 +35,8 @@ loop-line-preserved g c =
 
 pub returns-in-Quit : goal.returns-in-Quit
 returns-in-Quit g c =
+    let next = next_is _ (command_in c.in-Some.line.now c.loop-line.session) c.in_ok-command.ensures.quits
+    c.in_ok-command.ensures.more in
     let quits : Quit ≡ next_of (command_in c.in-Some.line.now c.loop-line.session) = search rules in
     rw c.in_ok-command.ensures.text
     (quit_done (lines c.args.commands.now) c.loop-line.line-iterator c.next.new.self c.in-Some.line.now

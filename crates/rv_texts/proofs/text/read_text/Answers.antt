@@ -1,5 +1,6 @@
-use Rattle.std.proofs.Common.{◌++◌, arith, inl, inr, refl, rules, take, length-append, length-take}
+use Rattle.std.proofs.Common.{◌++◌, arith, inl, inr, length, refl, rules, take, length-append, length-take}
 use Rattle.std.proofs.KnownBytes.{Consumes-kept, Consumes-trans}
+use Rattle.rv_texts.proofs.Sound.{failed, sound, too_long}
 use Rattle.rv_texts.proofs.text.read_text.Goals as goal
 
 pub returns-in_default-clause-err : goal.returns-in_default-clause-err
@@ -9,7 +10,7 @@ returns-in_default-clause-err g c =
       (
         c.loop-count.text.items,
         Consumes-kept _ _ _ c.loop-count.text.items c.loop-count.invariant.gave c.in_default.ensures.bytes,
-        inl c.in_default.ensures.err,
+        failed _ _ c.in_default.ensures.err,
       ),
     )
 
@@ -29,7 +30,7 @@ returns-then-len-count-clause-err g c =
       (
         c.loop-count.text.items ++ more,
         Consumes-trans _ _ _ c.loop-count.text.items more c.loop-count.invariant.gave c.in-Ok.ensures.bytes.0,
-        inr (omega (
+        too_long _ (length (c.loop-count.text.items ++ more)) (omega (
           arith,
           length-append c.loop-count.text.items more,
           length-take c.in-Ok.count c.read.new.buffer,
@@ -63,15 +64,14 @@ returns-then-is_err-clause-err g c =
       (
         c.loop-count.text.items ++ more,
         Consumes-trans _ _ _ c.loop-count.text.items more c.loop-count.invariant.gave c.in-Ok.ensures.bytes.0,
-        omega (
+        sound _ (length (c.loop-count.text.items ++ more)) (omega (
           arith,
           length-append c.loop-count.text.items more,
           length-take c.in-Ok.count c.read.new.buffer,
           c.if-len-count.false,
           c.len.ensures,
           c.loop-count.invariant.within,
-        ),
-        search rules,
+        )) (search rules),
       ),
     )
 
