@@ -1,6 +1,7 @@
 -- Pieces that are appended one after another.
-use Rattle.std.proofs.Common.{◌≡◌, ◌∙◌, ℕ, zero, suc, ◌+◌, ◌<◌, List, [], ◌∷◌, ◌++◌, get_or, length, refl, replicate, sym, ap, add-one, take, subst, append-nil, append_assoc, arith}
+use Rattle.std.proofs.Common.{◌≡◌, ◌∙◌, ℕ, zero, suc, ◌+◌, ◌-◌, ◌<◌, List, [], ◌∷◌, ◌++◌, codes, get_or, length, refl, replicate, sym, ap, add-one, take, subst, append-nil, append_assoc, arith}
 use Rattle.std.specs.List.{flat_map, range_with_len}
+use Rattle.std.proofs.lemmas.List.{length-append}
 use Rattle.rv_answers.specs.Answer.{Written, Appended}
 
 pub then : (a b c : Written) (p q : List ℕ) → Appended a b p → Appended b c q → Appended a c (p ++ q)
@@ -22,6 +23,13 @@ pub one_more_space : (a b d : Written) (n c : ℕ) → Appended a b (replicate n
     → Appended a d (replicate (n + 1) c)
 one_more_space a b d n c e f =
     subst (Appended a d) (more_last n c ∙ ap (λ k. replicate k c) (sym (add-one n))) (then a b d _ _ e f)
+
+-- the spaces after the number of a line and a colon
+pub numbered : (digits : List ℕ) (n : ℕ) (a b : Written) → n ≡ 5 - length digits → Appended a b (replicate n 32)
+    → Appended a b (replicate (6 - length (digits ++ codes ":")) 32)
+numbered digits n a b e o =
+    let same : n ≡ 6 - length (digits ++ codes ":") = omega (arith, e, length-append digits (codes ":")) in
+    subst (λ k. Appended a b (replicate k 32)) same o
 
 -- ---- the texts of some elements, one after another
 

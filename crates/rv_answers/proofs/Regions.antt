@@ -1,19 +1,26 @@
 -- The bytes that an entry of protection matches, and the rows of the entries that are on.
-use Rattle.std.proofs.Common.{◌≡◌, ◌∙◌, ℕ, zero, suc, ◌+◌, ◌-◌, ◌^◌, ◌<◌, ◌≤◌, ◌==◌, Bool, true, false, cond, List, [], ◌∷◌, ◌++◌, get_or, length, refl, sym, ap, subst, nat_le, nat_lt, append-nil, arith}
-use Rattle.std.specs.Prelude.{filter, codes, min, not, ◌&&◌}
+use Rattle.std.proofs.Common.{◌≡◌, ◌∙◌, ℕ, zero, suc, ◌+◌, ◌-◌, ◌/◌, ◌%◌, ◌^◌, ◌<◌, ◌≤◌, ◌==◌, Bool, true, false, cond, List, [], ◌∷◌, ◌++◌, get_or, length, refl, sym, ap, subst, nat_le, nat_lt, append-nil, append_assoc, arith}
+use Rattle.std.specs.Prelude.{filter, codes, min, not, slice_index_or, ◌&&◌}
+use Rattle.std.specs.Fmt.{decimal}
 use Rattle.std.specs.List.{flat_map, range_with_len}
 use Rattle.std.proofs.lemmas.Bool.Decides.{nat_tests}
 use Rattle.std.proofs.lemmas.List.{length-append}
 use Rattle.std.proofs.lemmas.List.Elements.{filter-append}
 use Rattle.std.proofs.lemmas.List.Concat.{flat_map-append}
 use Rattle.std.proofs.lemmas.List.FromFn.{get_or-range_with_len, length-range_with_len}
+use Rattle.rv_base.specs.Digits.{hex}
+use Rattle.rv_isa.specs.Number.{truth}
+use Rattle.rv_pmp.specs.declared.access.Access.{Access}
+use Rattle.rv_pmp.specs.declared.access.Access.TheVariants.{Read, Write, Execute}
 use Rattle.rv_pmp.specs.declared.entry.Entry.{Entry}
+use Rattle.rv_pmp.specs.declared.mode.Mode.{Mode}
 use Rattle.rv_pmp.specs.declared.mode.Mode.TheVariants.{User, Machine}
-use Rattle.rv_pmp.specs.Entry.{matching_code}
+use Rattle.rv_pmp.specs.Entry.{entry_grants, matching_code}
 use Rattle.rv_pmp.specs.Pmp.{PmpState, entry_at, matches}
 use Rattle.rv_answers.specs.Answer.{Written, Appended}
 use Rattle.rv_answers.specs.Forms.{filled}
 use Rattle.rv_answers.specs.Protection.{entries_on, entry_text, halves, protection_text, region_text, rights}
+use Rattle.rv_answers.specs.Parts.{letters}
 use Rattle.rv_answers.proofs.Pieces.{then}
 
 -- the last of some numbers
@@ -62,6 +69,51 @@ module _ (p : ℕ → Bool) (f e : ℕ) (between : (b : ℕ) → p b ≡ (nat_le
         let same : a ≡ f = grind (arith, nat_tests) in
         inside a (suc n) (omega (arith, same)) ∙ ap (λ k. range_with_len k (min e (a + suc n) - k)) same
 
+-- ---- an entry as one form
+
+joined : (p0 p1 p2 p3 p4 p5 q1 q2 q3 s r1 r2 r3 c : List ℕ)
+    → p0 ++ (p1 ++ (p2 ++ (p3 ++ (p4 ++ (p5 ++ []))))) ++ (q1 ++ (q2 ++ ((q3 ++ []) ++ []))) ++ s
+    ++ (r1 ++ (r2 ++ (r3 ++ []))) ++ c
+    ≡ p0 ++ (p1 ++ (p2 ++ (p3 ++ (p4 ++ (p5 ++ (q1 ++ (q2 ++ ((q3 ++ s)
+    ++ (r1 ++ (r2 ++ (r3 ++ ((c ++ []) ++ []))))))))))))
+joined p0 p1 p2 p3 p4 p5 q1 q2 q3 s r1 r2 r3 c = simp (append_assoc, append-nil) refl
+
+abbrev digit : ℕ → List ℕ
+digit high = slice_index_or ([] ∷ codes "1" ∷ codes "2" ∷ codes "3" ∷ []) (min high 3) []
+
+abbrev letter : ℕ → Entry → Mode → Access → List ℕ
+letter sign entry mode access =
+    slice_index_or (codes "-" ∷ (sign ∷ []) ∷ []) (min (truth (entry_grants entry mode access)) 1) []
+
+lock_is : (b : Bool)
+    → cond b (codes " (locked)") [] ≡ slice_index_or ([] ∷ codes " (locked)" ∷ []) (min (truth b) 1) []
+lock_is true = refl
+lock_is false = refl
+
+module _ (n first last : ℕ) (entry : Entry) where
+  abbrev in_parts : List ℕ → List ℕ
+  in_parts lock =
+      filled (codes "entry %d, %{|1|2|3}%x to %{|1|2|3}%x: user ") (n ∷ halves first ++ halves last)
+      ++ letters entry User ++ codes ", machine " ++ letters entry Machine ++ lock
+
+  abbrev in_one : List ℕ
+  in_one =
+      filled (codes "entry %d, %{|1|2|3}%x to %{|1|2|3}%x: user %{-|r}%{-|w}%{-|x}, machine "
+      ++ codes "%{-|r}%{-|w}%{-|x}%{| (locked)}") (n ∷ halves first ++ halves last ++ rights entry User
+      ++ rights entry Machine ++ truth entry.locked ∷ [])
+
+  one_form : in_parts (cond entry.locked (codes " (locked)") []) ≡ in_one
+  unfolding filled
+  one_form =
+      ap in_parts (lock_is entry.locked)
+      ∙ joined (codes "entry ") (decimal n ++ codes ", ") (digit (first / 2 ^ 32) ++ [])
+      (hex 8 (first % 2 ^ 32) ++ codes " to ") (digit (last / 2 ^ 32) ++ [])
+      (hex 8 (last % 2 ^ 32) ++ codes ": user ") (letter 114 entry User Read ++ [])
+      (letter 119 entry User Write ++ []) (letter 120 entry User Execute) (codes ", machine ")
+      (letter 114 entry Machine Read ++ []) (letter 119 entry Machine Write ++ [])
+      (letter 120 entry Machine Execute ++ [])
+      (slice_index_or ([] ∷ codes " (locked)" ∷ []) (min (truth entry.locked) 1) [])
+
 -- ---- an entry
 
 module _ (pmp : PmpState) (n f e : ℕ)
@@ -84,7 +136,7 @@ module _ (pmp : PmpState) (n f e : ℕ)
   abbrev pub told : (first last : ℕ) → Entry → List ℕ
   told first last entry =
       filled (codes "entry %d, %{|1|2|3}%x to %{|1|2|3}%x: user ") (n ∷ halves first ++ halves last)
-      ++ rights entry User ++ codes ", machine " ++ rights entry Machine
+      ++ letters entry User ++ codes ", machine " ++ letters entry Machine
       ++ cond entry.locked (codes " (locked)") []
 
   pub has_region : (a b : Written) (entry : Entry) (last : ℕ) → f < min e (2 ^ 34) → last ≡ min e (2 ^ 34) - 1
@@ -103,7 +155,8 @@ module _ (pmp : PmpState) (n f e : ℕ)
         ∙ (get_or-range_with_len f (suc c) c 0 (omega arith) ∙ omega (arith, at, some)) in
         subst (λ xs. Appended a b (region_text n xs (entry_at pmp n))) (sym all)
         (subst (λ x. Appended a b (region_text n (f ∷ range_with_len (f + 1) c) x)) is
-        (subst (λ l. Appended a b (told f l entry)) (sym final) o))
+        (subst (λ l. Appended a b (in_one n f l entry)) (sym final)
+        (subst (Appended a b) (one_form n f last entry) o)))
 
 -- ---- the rows of the entries that are on
 

@@ -28,28 +28,21 @@ serial_text s =
 
 -- ---- the interrupt controller
 
--- the request of a source: 1 if it is claimed and not completed, and 2 if it is pending
-abbrev pub request : PlicState → ℕ → ℕ
-request p s = if bit (word_of p.pending) s == 1 then 2 else truth (set.contains p.outstanding s)
-
--- its line, its request, whether it is enabled, and its priority
+-- of a source its line, its request (1 if it is claimed and not completed, 2 if it is pending), whether it is
+-- enabled, and its priority
 abbrev pub values : PlicState → ℕ → List ℕ
 values p s =
-    truth (set.contains p.high s) ∷ request p s ∷ bit (word_of p.enabled) s ∷ priority_of p s ∷ []
-
-abbrev pub state_text : PlicState → ℕ → List ℕ
-state_text p s =
-    filled (codes "  source %d: line %{low|high}, %{not pending|claimed and not completed|pending}, "
-    ++ codes "%{not enabled|enabled}, priority %d") (s ∷ values p s)
-
-abbrev pub edges_text : ℕ → List ℕ
-edges_text n = if n == 0 then [] else filled (codes ", %d pending edge%{s||s}") (n ∷ n ∷ [])
+    let request = if bit (word_of p.pending) s == 1 then 2 else truth (set.contains p.outstanding s) in
+    truth (set.contains p.high s) ∷ request ∷ bit (word_of p.enabled) s ∷ priority_of p s ∷ []
 
 -- its row, unless it is as at reset
 unfoldable pub source_row : PlicState → ℕ → List ℕ
 source_row p s =
-    if list_all (λ n. n == 0) (edges_of p.edges s ∷ values p s) then []
-    else state_text p s ++ edges_text (edges_of p.edges s) ++ codes "\n"
+    let state = filled (codes "  source %d: line %{low|high}, %{not pending|claimed and not completed|pending}"
+    ++ codes ", %{not enabled|enabled}, priority %d") (s ∷ values p s) in
+    let n = edges_of p.edges s in
+    let edges = if n == 0 then [] else filled (codes ", %d pending edge%{s||s}") (n ∷ n ∷ []) in
+    if list_all (λ v. v == 0) (n ∷ values p s) then [] else state ++ edges ++ codes "\n"
 
 unfoldable pub controller_text : PlicState → List ℕ
 controller_text p =

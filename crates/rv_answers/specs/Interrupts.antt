@@ -14,29 +14,22 @@ rows =
     ∷ (codes "  software line %{low|high}, %{not enabled in mie (bit 3)|enabled in mie}", 3)
     ∷ (codes "  timer    line %{low|high}, %{not enabled in mie (bit 7)|enabled in mie}", 7) ∷ []
 
--- 1 in user mode
-abbrev pub in_user_mode : Interrupts → ℕ
-in_user_mode i = truth (not (is_machine i.mode))
-
 -- 1 if interrupts are let in: in user mode always, in machine mode if mstatus.MIE, its bit 3, is 1 (section
 -- 3.1.6.1)
 abbrev pub let_in : Interrupts → ℕ
-let_in i = max (in_user_mode i) (bit i.mstatus 3)
+let_in i = max (truth (not (is_machine i.mode))) (bit i.mstatus 3)
 
--- what comes of an interrupt by its line, whether it is enabled, and whether it is let in: nothing (0), never
--- anything as it stands (1), it waits (2), or it is taken (3)
-abbrev pub outcome : (line enabled let_in : ℕ) → ℕ
-outcome line enabled let_in = if line == 0 then 0 else (if enabled == 0 then 1 else 2 + let_in)
-
+-- an interrupt by its line, whether it is enabled, and what comes of it: nothing (0), never anything as it
+-- stands (1), it waits (2), or it is taken (3)
 unfoldable pub interrupt_row : Interrupts → List ℕ × ℕ → List ℕ
 interrupt_row i row =
     let line = bit i.mip row.1 in
     let enabled = bit i.mie row.1 in
+    let outcome = if line == 0 then 0 else (if enabled == 0 then 1 else 2 + let_in i) in
     filled row.0 (line ∷ enabled ∷ []) ++ filled (codes "%{|: never taken as it stands|: waits, "
-    ++ codes "since mstatus.MIE is 0 in machine mode|: taken at the next step}\n")
-    (outcome line enabled (let_in i) ∷ [])
+    ++ codes "since mstatus.MIE is 0 in machine mode|: taken at the next step}\n") (outcome ∷ [])
 
 unfoldable pub interrupts_text : Interrupts → List ℕ
 interrupts_text i =
     filled (codes "interrupts: mstatus.MIE %d, %{machine mode|user mode, where they are always let in}\n")
-    (bit i.mstatus 3 ∷ in_user_mode i ∷ []) ++ flat_map (interrupt_row i) rows
+    (bit i.mstatus 3 ∷ truth (not (is_machine i.mode)) ∷ []) ++ flat_map (interrupt_row i) rows

@@ -3,9 +3,9 @@ pub mod Forms
 pub mod Places
 pub mod Registers
 pub mod Memory
-pub mod Standing
 pub mod Traps
 pub mod Control
 pub mod Devices
 pub mod Interrupts
 pub mod Protection
+pub mod Parts

@@ -16,20 +16,18 @@ use Rattle.rv_answers.specs.Forms.{filled}
 abbrev pub halves : ℕ → List ℕ
 halves a = a / 2 ^ 32 ∷ a ∷ []
 
--- the letters of what an entry grants a mode
+-- whether an entry grants a mode to read, to write and to execute
 abbrev pub rights : Entry → Mode → List ℕ
-rights entry mode =
-    filled (codes "%{-|r}%{-|w}%{-|x}")
-    (map (λ access. truth (entry_grants entry mode access)) (Read ∷ Write ∷ Execute ∷ []))
+rights entry mode = map (λ access. truth (entry_grants entry mode access)) (Read ∷ Write ∷ Execute ∷ [])
 
 -- an entry that matches these bytes: the first and the last of them, and what each mode may do there
 abbrev pub region_text : ℕ → List ℕ → Entry → List ℕ
 region_text n [] entry = filled (codes "entry %d, no byte") (n ∷ [])
 region_text n bytes entry =
-    filled (codes "entry %d, %{|1|2|3}%x to %{|1|2|3}%x: user ")
-    (n ∷ halves (get_or bytes 0 0) ++ halves (get_or bytes (length bytes - 1) 0))
-    ++ rights entry User ++ codes ", machine " ++ rights entry Machine
-    ++ (if entry.locked then codes " (locked)" else [])
+    filled (codes "entry %d, %{|1|2|3}%x to %{|1|2|3}%x: user %{-|r}%{-|w}%{-|x}, machine "
+    ++ codes "%{-|r}%{-|w}%{-|x}%{| (locked)}") (n ∷ halves (get_or bytes 0 0)
+    ++ halves (get_or bytes (length bytes - 1) 0) ++ rights entry User ++ rights entry Machine
+    ++ truth entry.locked ∷ [])
 
 -- the entry with a number, and the bytes that it matches of all that have an address of 34 bits
 unfoldable pub entry_text : PmpState → ℕ → List ℕ

@@ -13,21 +13,14 @@ use Rattle.rv_answers.specs.Answer.{padded}
 unfoldable pub register_name : ℕ → List ℕ
 register_name r = option_map_or (λ row. row.0) (find (λ row. row.1 == r) (drop 32 register_names)) []
 
--- a word, and in decimal too where it is a small number
-unfoldable pub value_text : ℕ → List ℕ
-value_text w = hex 8 w
-    ++ (if nat_lt w 1000000 || nat_le 0xfffff000 w then codes " (" ++ signed_decimal (signed w) ++ codes ")" else [])
-
--- a register with its value
+-- a register with its value, in decimal too where that is a small number
 unfoldable pub register_text : ℕ → ℕ → List ℕ
-register_text r w = register_name r ++ codes " = " ++ value_text w
+register_text r w =
+    register_name r ++ codes " = " ++ (hex 8 w ++ (if nat_lt w 1000000 || nat_le 0xfffff000 w
+    then codes " (" ++ signed_decimal (signed w) ++ codes ")" else []))
 
--- its cell, four in a line, with a star where the last command changed it
-unfoldable pub register_cell : List ℕ → List ℕ → ℕ → List ℕ
-register_cell before now r =
-    (if slice_index now r == slice_index before r then codes "  " else codes " *") ++ padded 5 (register_name r)
-    ++ hex 8 (slice_index now r) ++ (if r % 4 == 3 then codes "\n" else [])
-
--- all of them
+-- all of them, four in a line, each with a star where the last command changed it
 unfoldable pub registers_text : List ℕ → List ℕ → List ℕ
-registers_text before now = flat_map (register_cell before now) (range_with_len 0 32)
+registers_text before now = flat_map (λ r. (if slice_index now r == slice_index before r then codes "  "
+    else codes " *") ++ padded 5 (register_name r) ++ hex 8 (slice_index now r)
+    ++ (if r % 4 == 3 then codes "\n" else [])) (range_with_len 0 32)

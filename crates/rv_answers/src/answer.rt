@@ -32,12 +32,11 @@ impl Model for Answer {
 }
 
 impl Answer {
-    ghost use Rattle.std.specs.Prelude.{◌≡◌, [], ◌∷◌, true, false, codes, replicate};
+    ghost use Rattle.std.specs.Prelude.{◌≡◌, [], ◌∷◌, ◌++◌, true, false, codes, replicate};
     ghost use Rattle.std.specs.Fmt.{decimal, signed_decimal};
     ghost use Rattle.rv_base.specs.Digits.{hex};
     ghost use Rattle.rv_isa.specs.Text.{text};
     ghost use Rattle.rv_answers.specs.Answer.{Appended, padded};
-    ghost use Rattle.rv_answers.specs.Places.{number_text};
 
     /// Returns an empty answer. It doesn't allocate.
     pub fn new(alloc: Global) -> Answer
@@ -158,9 +157,9 @@ impl Answer {
     }
 
     /// Appends the number of a line and a colon, and spaces up to a width.
-    #[tactic(auto, using(crate::proofs::Pieces::then), unfolding(crate::specs::Places::number_text))]
+    #[tactic(auto, using(crate::proofs::Pieces::then, crate::proofs::Pieces::numbered))]
     pub fn line_number(&mut self, number: usize)
-        ensures { Appended self.old self.new (number_text number) }
+        ensures { Appended self.old self.new (padded 6 (decimal number ++ codes ":")) }
     {
         let mut buffer = Buffer::new();
         let digits = buffer.format(number).as_bytes();

@@ -10,8 +10,9 @@ ghost use Rattle.rv_plic.specs.Plic.{is_notified, priority_of};
 ghost use Rattle.rv_plic.specs.Sources.{sources, word_of};
 ghost use Rattle.rv_answers.specs.Answer.{Appended};
 ghost use Rattle.rv_answers.specs.Forms.{filled};
-ghost use Rattle.rv_answers.specs.Devices.{controller_text, edges_text, serial_text, source_row, timer_text};
-ghost use Rattle.rv_answers.specs.Devices as spec;
+ghost use Rattle.rv_answers.specs.Devices.{controller_text, serial_text, source_row, timer_text, values};
+ghost use Rattle.rv_answers.specs.Parts.{edges_text, state_text};
+ghost use Rattle.rv_answers.specs.Parts as spec;
 
 use crate::Answer;
 use crate::control::{bit, has_bit};
@@ -122,7 +123,7 @@ fn enabled(source: Source, plic: &Plic) -> u64
 
 /// Returns whether a source is as at reset.
 fn is_at_reset(source: Source, plic: &Plic) -> bool
-    ensures { result ≡ list_all (λ n. n == 0) (edges_of plic.now.edges source ∷ spec.values plic.now source) }
+    ensures { result ≡ list_all (λ n. n == 0) (edges_of plic.now.edges source ∷ values plic.now source) }
 {
     plic.edges(source) == 0
         && line(source, plic) == 0
@@ -138,7 +139,7 @@ const SOURCE: &str =
 
 /// Appends how a source stands, without its edges.
 fn append_state(source: Source, plic: &Plic, answer: &mut Answer)
-    ensures { Appended answer.old answer.new (spec.state_text plic.now source) }
+    ensures { Appended answer.old answer.new (state_text plic.now source) }
 {
     let values = [
         u64::from(source.number()),

@@ -2,7 +2,8 @@
 ghost use Rattle.std.specs.Prelude.{◌≡◌, ◌≤◌, IfSome};
 ghost use Rattle.rv_base.specs.Tables.{lookup};
 ghost use Rattle.rv_base.specs.Words.{words};
-ghost use Rattle.rv_answers.specs.Memory.{extent, format_of, formats};
+ghost use Rattle.rv_answers.specs.Memory.{extent};
+ghost use Rattle.rv_answers.specs.Parts.{format_of, formats};
 
 use rv_base::{decimal, first_word, has_word, look_up};
 
@@ -32,7 +33,7 @@ static FORMATS: [(&str, (Format, u64)); 3] = [
 ];
 
 /// Returns how memory is shown, by its word, and how many bytes or words where no number is given.
-#[tactic(auto, unfolding(crate::specs::Memory::formats), using(crate::proofs::Formats::few))]
+#[tactic(auto, unfolding(crate::specs::Parts::formats), using(crate::proofs::Formats::few))]
 fn format_named(word: &[u8]) -> Option<(Format, u64)>
     ensures value { result ≡ lookup word.now formats }
     ensures most { IfSome result (λ f. f.1 ≤ 64) }
@@ -55,7 +56,7 @@ fn read_format(text: &[u8]) -> Option<(Format, u64)>
 }
 
 /// Reads how many bytes or words are shown, and how.
-#[tactic(auto, unfolding(crate::specs::Memory::extent))]
+#[tactic(auto, using(crate::proofs::Filled::extent_told))]
 pub fn read_extent(text: &[u8]) -> Option<Extent>
     ensures value { result ≡ extent (words text.now) }
     ensures most { IfSome result (λ e. e.count ≤ 4096) }

@@ -2,7 +2,8 @@
 ghost use Rattle.std.specs.Prelude.{◌≡◌, ◌≤◌, ◌==◌, length};
 ghost use Rattle.std.specs.List.{after_first, before_first, position_or_len};
 ghost use Rattle.rv_answers.specs.Answer.{Appended};
-ghost use Rattle.rv_answers.specs.Forms.{choice, filled, piece, pieces};
+ghost use Rattle.rv_answers.specs.Forms.{filled};
+ghost use Rattle.rv_answers.specs.Parts.{choice, piece_by};
 
 use crate::Answer;
 use rv_base::low_word;
@@ -58,7 +59,7 @@ impl Answer {
     /// Appends what follows a `%` of a form, with a value in its place.
     #[tactic(auto, using(crate::proofs::Pieces::then, crate::proofs::Pieces::nothing))]
     fn put_piece(&mut self, text: &[u8], value: u64)
-        ensures { Appended self.old self.new (piece text.now value) }
+        ensures { Appended self.old self.new (piece_by text.now value) }
     {
         match text {
             [b'd', rest @ ..] => {

@@ -4,7 +4,9 @@ ghost use Rattle.rv_isa.specs.Number as number;
 ghost use Rattle.rv_answers.specs.Answer.{Appended};
 ghost use Rattle.rv_answers.specs.Forms.{filled};
 ghost use Rattle.rv_answers.specs.Interrupts as spec;
-ghost use Rattle.rv_answers.specs.Interrupts.{in_user_mode, interrupt_row, interrupts_text};
+ghost use Rattle.rv_answers.specs.Interrupts.{interrupt_row, interrupts_text};
+ghost use Rattle.rv_answers.specs.Parts.{in_user_mode};
+ghost use Rattle.rv_answers.specs.Parts as parts;
 
 use crate::Answer;
 use crate::control::bit;
@@ -39,7 +41,7 @@ impl Interrupts {
 /// it is taken.
 fn outcome(line: u64, enabled: u64, let_in: u64) -> u64
     requires { let_in < 2 }
-    ensures { result ≡ spec.outcome line enabled let_in }
+    ensures { result ≡ parts.outcome line enabled let_in }
 {
     if line == 0 {
         return 0;

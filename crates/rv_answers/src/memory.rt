@@ -6,7 +6,8 @@ ghost use Rattle.std.specs.Option.{option_map};
 ghost use Rattle.rv_base.specs.Digits.{hex};
 ghost use Rattle.rv_base.specs.Tables.{rows};
 ghost use Rattle.rv_answers.specs.Answer.{Appended};
-ghost use Rattle.rv_answers.specs.Memory.{byte_cell, bytes_row, character, escaped, escapes, word_cell, words_row};
+ghost use Rattle.rv_answers.specs.Memory.{bytes_row, escaped, escapes, words_row};
+ghost use Rattle.rv_answers.specs.Parts.{byte_cell, character, word_cell};
 
 use crate::Answer;
 

@@ -5,7 +5,7 @@ ghost use Rattle.std.specs.Option.{option_map_or};
 ghost use Rattle.rv_base.specs.Lines.{lines};
 ghost use Rattle.rv_isa.specs.Meaning.{means};
 ghost use Rattle.rv_answers.specs.Answer.{Appended};
-ghost use Rattle.rv_answers.specs.Places.{instruction_text, label_text};
+ghost use Rattle.rv_answers.specs.Places.{instruction_text};
 
 use crate::Answer;
 use rv_base::{TextLines, cut_lines};
@@ -43,9 +43,10 @@ fn append_distance(distance: u32, answer: &mut Answer)
 }
 
 /// Appends a label, and the distance from it, as ` <loop+8>`.
-#[tactic(auto, using(crate::proofs::Pieces::then), unfolding(crate::specs::Places::label_text))]
+#[tactic(auto, using(crate::proofs::Pieces::then))]
 pub fn append_label(name: &[u8], distance: u32, answer: &mut Answer)
-    ensures { Appended answer.old answer.new (label_text name.now distance) }
+    ensures { Appended answer.old answer.new (codes " <" ++ name.now
+        ++ (if distance == 0 then [] else codes "+" ++ decimal distance) ++ codes ">") }
 {
     answer.say(" <");
     answer.put(name);

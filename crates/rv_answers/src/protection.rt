@@ -6,7 +6,8 @@ ghost use Rattle.rv_pmp.specs.declared.mode.Mode.TheVariants as mode;
 ghost use Rattle.rv_pmp.specs.Entry.{entry_grants, matching_code};
 ghost use Rattle.rv_answers.specs.Answer.{Appended};
 ghost use Rattle.rv_answers.specs.Forms.{filled};
-ghost use Rattle.rv_answers.specs.Protection.{entries_on, entry_text, halves, protection_text, rights};
+ghost use Rattle.rv_answers.specs.Protection.{entries_on, entry_text, halves, protection_text};
+ghost use Rattle.rv_answers.specs.Parts.{letters};
 
 use crate::Answer;
 use rv_pmp::{Access, Entry, Matching, Mode, Pmp, Span};
@@ -23,7 +24,7 @@ fn right(entry: Entry, mode: Mode, access: Access) -> u64
 
 /// Appends the letters of what an entry grants a mode.
 fn append_rights(entry: Entry, mode: Mode, answer: &mut Answer)
-    ensures { Appended answer.old answer.new (rights entry mode) }
+    ensures { Appended answer.old answer.new (letters entry mode) }
 {
     let values = [
         right(entry, mode, Access::Read),
@@ -48,7 +49,7 @@ fn append_lock(entry: Entry, answer: &mut Answer)
 fn append_region(number: usize, entry: Entry, first: u64, last: u64, answer: &mut Answer)
     ensures { Appended answer.old answer.new
         (filled (codes "entry %d, %{|1|2|3}%x to %{|1|2|3}%x: user ") (number ∷ halves first ++ halves last)
-        ++ rights entry mode.User ++ codes ", machine " ++ rights entry mode.Machine
+        ++ letters entry mode.User ++ codes ", machine " ++ letters entry mode.Machine
         ++ (if entry.locked then codes " (locked)" else [])) }
 {
     let values = [number as u64, first >> 32, first, last >> 32, last];

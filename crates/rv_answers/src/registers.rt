@@ -5,7 +5,8 @@ ghost use Rattle.std.specs.Fmt.{signed_decimal};
 ghost use Rattle.rv_base.specs.Digits.{hex};
 ghost use Rattle.rv_isa.specs.Number.{signed};
 ghost use Rattle.rv_answers.specs.Answer.{Appended, padded};
-ghost use Rattle.rv_answers.specs.Registers.{register_cell, register_name, register_text, registers_text, value_text};
+ghost use Rattle.rv_answers.specs.Registers.{register_name, register_text, registers_text};
+ghost use Rattle.rv_answers.specs.Parts.{register_cell};
 
 use crate::Answer;
 use rv_isa::Reg;
@@ -60,9 +61,10 @@ fn append_small(word: u32, answer: &mut Answer)
 }
 
 /// Appends a word, and in decimal too where it is a small number.
-#[tactic(auto, using(crate::proofs::Pieces::then), unfolding(crate::specs::Registers::value_text))]
+#[tactic(auto, using(crate::proofs::Pieces::then))]
 pub fn append_value(word: u32, answer: &mut Answer)
-    ensures { Appended answer.old answer.new (value_text word) }
+    ensures { Appended answer.old answer.new (hex 8 word ++ (if nat_lt word 1000000 || nat_le 0xfffff000 word
+        then codes " (" ++ signed_decimal (signed word) ++ codes ")" else [])) }
 {
     answer.word(word);
     append_small(word, answer);
@@ -118,7 +120,7 @@ fn end_fourth(register: Reg, answer: &mut Answer)
 }
 
 /// Appends a register's cell in the list of all: a star where it changed.
-#[tactic(auto, using(crate::proofs::Pieces::then), unfolding(crate::specs::Registers::register_cell))]
+#[tactic(auto, using(crate::proofs::Pieces::then), unfolding(crate::specs::Parts::register_cell))]
 fn append_register_cell(register: Reg, before: &Registers, now: &Registers, answer: &mut Answer)
     ensures { Appended answer.old answer.new (register_cell before.now now.now register) }
 {
@@ -130,7 +132,7 @@ fn append_register_cell(register: Reg, before: &Registers, now: &Registers, answ
 }
 
 /// Appends all registers, four in a line, with a star before each that changed.
-#[tactic(auto, using(crate::proofs::Pieces::nothing), unfolding(crate::specs::Registers::registers_text))]
+#[tactic(auto, using(crate::proofs::Pieces::nothing, crate::proofs::Filled::registers_told))]
 pub fn append_registers(before: &Registers, now: &Registers, answer: &mut Answer)
     ensures { Appended answer.old answer.new (registers_text before.now now.now) }
 {

@@ -1,9 +1,11 @@
 //! Rows of a list of the source.
-ghost use Rattle.std.specs.Prelude.{◌++◌, codes};
+ghost use Rattle.std.specs.Prelude.{◌++◌, [], ◌∷◌, codes};
 ghost use Rattle.std.specs.Option.{option_map_or};
 ghost use Rattle.rv_base.specs.Digits.{hex};
 ghost use Rattle.rv_answers.specs.Answer.{Appended};
-ghost use Rattle.rv_answers.specs.Places.{cell_text, length_text, mark, row_text};
+ghost use Rattle.rv_answers.specs.Places.{row_text};
+ghost use Rattle.rv_answers.specs.Forms.{filled};
+ghost use Rattle.rv_answers.specs.Parts.{cell_text, mark};
 
 use crate::Answer;
 use crate::standing::append_plural;
@@ -54,7 +56,6 @@ fn append_word(word: Option<u32>, answer: &mut Answer)
 }
 
 /// Appends where a line lies, or spaces where it has no bytes.
-#[tactic(auto, unfolding(crate::specs::Places::cell_text))]
 fn append_cell(row: Row, answer: &mut Answer)
     ensures { Appended answer.old answer.new (cell_text row) }
 {
@@ -78,9 +79,9 @@ pub fn append_row(row: Row, number: usize, text: &[u8], answer: &mut Answer)
 }
 
 /// Appends how many lines a source has.
-#[tactic(auto, using(crate::proofs::Pieces::then), unfolding(crate::specs::Places::length_text))]
+#[tactic(auto, using(crate::proofs::Filled::length_told))]
 pub fn append_length(lines: usize, answer: &mut Answer)
-    ensures { Appended answer.old answer.new (length_text lines) }
+    ensures { Appended answer.old answer.new (filled (codes "the source has %d line%{s||s}\n") (lines ∷ lines ∷ [])) }
 {
     answer.say("the source has ");
     answer.number(lines as u64);

@@ -1,9 +1,11 @@
 //! How a board stands: its steps, its mode, and whether it has halted.
-ghost use Rattle.std.specs.Prelude.{◌==◌, ◌++◌, [], ◌≡◌, codes, if◌then◌else◌};
+ghost use Rattle.std.specs.Prelude.{◌==◌, ◌++◌, [], ◌∷◌, ◌≡◌, codes, if◌then◌else◌};
 ghost use Rattle.std.specs.Fmt.{decimal};
-ghost use Rattle.rv_base.specs.Digits.{hex};
+ghost use Rattle.rv_isa.specs.Number.{truth};
+ghost use Rattle.rv_pmp.specs.Mode.{is_machine};
 ghost use Rattle.rv_answers.specs.Answer.{Appended};
-ghost use Rattle.rv_answers.specs.Standing.{halted_text, mode_text, step_text};
+ghost use Rattle.rv_answers.specs.Forms.{filled};
+ghost use Rattle.rv_answers.specs.Parts.{mode_text};
 
 use crate::Answer;
 use rv_pmp::Mode;
@@ -19,18 +21,19 @@ fn mode_name(mode: Mode) -> &'static str
 }
 
 /// Appends a mode in words, and ends the line.
-#[tactic(auto, using(crate::proofs::Pieces::then))]
+#[tactic(auto, using(crate::proofs::Filled::mode_told))]
 pub fn append_mode(mode: Mode, answer: &mut Answer)
-    ensures { Appended answer.old answer.new (mode_text mode ++ codes "\n") }
+    ensures { Appended answer.old answer.new (filled (codes "%{user|machine} mode\n") (truth (is_machine mode) ∷ [])) }
 {
     answer.say(mode_name(mode));
     answer.end();
 }
 
 /// Appends the number of steps and the mode.
-#[tactic(auto, using(crate::proofs::Pieces::then), unfolding(crate::specs::Standing::step_text))]
+#[tactic(auto, using(crate::proofs::Filled::step_told))]
 pub fn append_step(steps: u64, mode: Mode, answer: &mut Answer)
-    ensures { Appended answer.old answer.new (step_text steps mode) }
+    ensures { Appended answer.old answer.new
+        (filled (codes "step %d, %{user|machine} mode\n") (steps ∷ truth (is_machine mode) ∷ [])) }
 {
     answer.say("step ");
     answer.number(steps);
@@ -61,9 +64,10 @@ fn append_steps(steps: u64, answer: &mut Answer)
 }
 
 /// Appends that a board has halted.
-#[tactic(auto, using(crate::proofs::Pieces::then), unfolding(crate::specs::Standing::halted_text))]
+#[tactic(auto, using(crate::proofs::Filled::halted_told))]
 pub fn append_halted(code: u16, steps: u64, answer: &mut Answer)
-    ensures { Appended answer.old answer.new (halted_text code steps) }
+    ensures { Appended answer.old answer.new
+        (filled (codes "halted with code %d after %d step%{s||s}\n") (code ∷ steps ∷ steps ∷ [])) }
 {
     answer.say("halted with code ");
     answer.number(u64::from(code));

@@ -3,12 +3,12 @@ ghost use Rattle.std.specs.Prelude.{◌≡◌, ◌++◌, ◌^◌, [], codes, if�
 ghost use Rattle.std.specs.Fmt.{decimal};
 ghost use Rattle.rv_base.specs.Digits.{hex};
 ghost use Rattle.rv_answers.specs.Answer.{Appended};
-ghost use Rattle.rv_answers.specs.Traps.{cause_name, cause_text};
+ghost use Rattle.rv_answers.specs.Traps.{cause_name};
 
 use crate::Answer;
 
 /// Returns the name of a cause.
-#[tactic(auto, unfolding(crate::specs::Traps::causes, crate::specs::Traps::cause_name))]
+#[tactic(auto, unfolding(crate::specs::Traps::cause_name))]
 pub fn cause_name(cause: u32) -> &'static str
     ensures { result.now ≡ cause_name cause }
 {
@@ -42,9 +42,10 @@ fn append_cause_number(cause: u32, answer: &mut Answer)
 }
 
 /// Appends the number of a cause, and its name.
-#[tactic(auto, using(crate::proofs::Pieces::then), unfolding(crate::specs::Traps::cause_text))]
+#[tactic(auto, using(crate::proofs::Pieces::then))]
 pub fn append_cause(cause: u32, answer: &mut Answer)
-    ensures { Appended answer.old answer.new (cause_text cause) }
+    ensures { Appended answer.old answer.new ((if nat_lt cause (2 ^ 31) then decimal cause else hex 8 cause)
+        ++ codes ", " ++ cause_name cause) }
 {
     append_cause_number(cause, answer);
     answer.say(", ");
@@ -54,8 +55,9 @@ pub fn append_cause(cause: u32, answer: &mut Answer)
 /// Appends a trap up to its place: its cause, and what mtval is there.
 #[tactic(auto, using(crate::proofs::Pieces::then))]
 pub fn append_trap(cause: u32, value: u32, answer: &mut Answer)
-    ensures { Appended answer.old answer.new (codes "trap " ++ cause_text cause ++ codes ", mtval "
-        ++ hex 8 value ++ codes ", at") }
+    ensures { Appended answer.old answer.new (codes "trap "
+        ++ ((if nat_lt cause (2 ^ 31) then decimal cause else hex 8 cause) ++ codes ", " ++ cause_name cause)
+        ++ codes ", mtval " ++ hex 8 value ++ codes ", at") }
 {
     answer.say("trap ");
     append_cause(cause, answer);

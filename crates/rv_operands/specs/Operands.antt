@@ -44,10 +44,8 @@ line_number word =
 
 -- a name of the source or `0x` and a number, as the monitor reads them, `pc`, or a register
 unfoldable pub base_value : Listed → BoardState → List ℕ → Option ℕ
-base_value l b word =
-    option_or (address_of (value_of l.assembly.symbols) word)
-    (option_or (lookup word ((codes "pc", pc_of b) ∷ []))
-    (option_map (λ r. slice_index b.machine.registers r) (lookup word register_names)))
+base_value l b word = option_or (address_of (value_of l.assembly.symbols) word) (lookup word
+    ((codes "pc", pc_of b) ∷ map (λ row. (row.0, slice_index b.machine.registers row.1)) register_names))
 
 -- what is added: `+N`, `-N`, or nothing
 unfoldable pub added : List ℕ → Option ℕ
@@ -96,18 +94,14 @@ relations =
     (codes "=", (Eq, false)) ∷ (codes "==", (Eq, false)) ∷ (codes "!=", (Ne, false)) ∷ (codes ">", (Lt, true))
     ∷ (codes ">=", (Ge, false)) ∷ (codes "<", (Lt, false)) ∷ (codes "<=", (Ge, true)) ∷ []
 
--- pc is at one of the bytes of a line, or of the next that has some; or it is at another WHERE
-unfoldable pub at_place : Listed → BoardState → List ℕ → Option Condition
-at_place l b word =
-    let line = option_and_then (line_with_bytes l) (line_number word) in
-    option_map (λ a. At a (option_map_or (λ k. length (bytes_of l k)) line 1)) (address l b word)
-
--- one word of `until`: that what it watches changes, an event, or a place
+-- one word of `until`: that what it watches changes, an event, or a place: pc is at one of the bytes of a line,
+-- or of the next that has some, or at another WHERE
 unfoldable pub word_condition : Listed → BoardState → List ℕ → Option Condition
 word_condition l b word =
+    let line = option_and_then (line_with_bytes l) (line_number word) in
     option_or (option_map (λ w. Changed w (watched_value b w)) (watched l b word)) (option_or (lookup word
     ((codes "trap", Trap) ∷ (codes "console", Console (length b.machine.bus.serial.sent)) ∷ []))
-    (at_place l b word))
+    (option_map (λ a. At a (option_map_or (λ k. length (bytes_of l k)) line 1)) (address l b word)))
 
 -- `until`: one word, or a comparison of what is watched
 unfoldable pub condition : Listed → BoardState → List (List ℕ) → Option Condition
@@ -119,11 +113,6 @@ condition l b _ = None
 
 -- ---- inputs
 
--- a text without the blanks at its ends
-unfoldable pub trimmed : List ℕ → List ℕ
-trimmed text =
-    let front = take (length text - suffix_len is_blank text) text in drop (prefix_len is_blank front) front
-
 -- the bytes of a text between quotes, if each can be read
 unfoldable pub unescaped : List ℕ → Option (List ℕ)
 unescaped [] = Some []
@@ -132,8 +121,11 @@ unescaped (c ∷ d ∷ rest) =
     if c == 92 then option_and_then (λ b. option_map (λ bs. b ∷ bs) (unescaped rest)) (lookup (d ∷ []) escapes)
     else option_map (λ bs. c ∷ bs) (unescaped (d ∷ rest))
 
--- `rx`: the bytes of a text between quotes, or those of words as in a timed list; none if they can't be read
+-- `rx`: the bytes of a text between quotes, once the blanks at its ends are gone, or those of words as in a timed
+-- list; none if they can't be read
 unfoldable pub bytes_inputs : List ℕ → Option (List Input)
 bytes_inputs text =
-    option_map_or (λ quoted. option_map (map (λ b. Rx b)) (unescaped quoted)) (between 34 34 (trimmed text))
+    let front = take (length text - suffix_len is_blank text) text in
+    let trimmed = drop (prefix_len is_blank front) front in
+    option_map_or (λ quoted. option_map (map (λ b. Rx b)) (unescaped quoted)) (between 34 34 trimmed)
     (all_of byte_input (words text))

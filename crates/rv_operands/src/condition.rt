@@ -2,8 +2,8 @@
 ghost use Rattle.std.specs.Prelude.{◌≡◌};
 ghost use Rattle.rv_base.specs.Tables.{lookup};
 ghost use Rattle.rv_base.specs.Words.{words};
-ghost use Rattle.rv_operands.specs.Operands.{at_place, condition, word_condition, relations, watched};
-ghost use Rattle.rv_operands.specs.Words.{named_event, size_from};
+ghost use Rattle.rv_operands.specs.Operands.{condition, word_condition, relations, watched};
+ghost use Rattle.rv_operands.specs.Words.{at_place, named_event, size_from};
 
 use crate::place::{Scope, line_with_bytes};
 use crate::word::{line_number, only_word};
@@ -56,7 +56,6 @@ impl<'a> Scope<'a> {
     }
 
     /// Returns the condition of a place in the source or in memory: pc is there.
-    #[tactic(auto, unfolding(crate::specs::Operands::at_place))]
     fn at(&self, word: &[u8]) -> Option<Condition>
         ensures { result ≡ at_place self.now.listing.now self.now.board.now word.now }
     {

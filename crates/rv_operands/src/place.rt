@@ -122,7 +122,7 @@ impl<'a> Scope<'a> {
     }
 
     /// Returns the value of a name, a number after `0x`, `pc` or a register.
-    #[tactic(auto, unfolding(crate::specs::Operands::base_value))]
+    #[tactic(auto, using(crate::proofs::Lines::base_told))]
     fn base(&self, word: &[u8]) -> Option<u32>
         ensures { result ≡ base_value self.now.listing.now self.now.board.now word.now }
     {

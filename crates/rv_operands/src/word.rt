@@ -4,8 +4,8 @@ ghost use Rattle.std.specs.Option.{option_map};
 ghost use Rattle.std.specs.List.{position_or_len, prefix_len, suffix_len};
 ghost use Rattle.rv_base.specs.Words.{is_blank, words};
 ghost use Rattle.rv_commands.specs.Addresses.{address_of};
-ghost use Rattle.rv_operands.specs.Operands.{line_number, plain_number, operand_text, trimmed};
-ghost use Rattle.rv_operands.specs.Words.{only_of};
+ghost use Rattle.rv_operands.specs.Operands.{line_number, plain_number, operand_text};
+ghost use Rattle.rv_operands.specs.Words.{only_of, trimmed};
 
 use rv_base::{decimal, first_word, has_word, is_blank, low_word};
 use rv_commands::hexadecimal;
@@ -90,7 +90,6 @@ fn without_blanks_after(text: &[u8]) -> &[u8]
 }
 
 /// Returns a text without the blanks at its ends.
-#[tactic(auto, unfolding(crate::specs::Operands::trimmed))]
 pub(crate) fn trimmed(text: &[u8]) -> &[u8]
     ensures { result.now ≡ trimmed text.now }
 {
