@@ -1,14 +1,17 @@
 -- What `p` and `e` answer.
-use Rattle.std.proofs.Common.{◌≡◌, ◌∙◌, ℕ, List, [], ◌∷◌, ◌++◌, ap, codes, subst}
+use Rattle.std.proofs.Common.{◌≡◌, ◌∙◌, ℕ, List, [], ◌∷◌, ◌++◌, ap, codes, refl, subst}
 use Rattle.std.specs.Borrow.{Bor}
-use Rattle.std.specs.Prelude.{Option, Some, None, IfSome, unwrap_or}
+use Rattle.std.specs.Prelude.{Bool, true, false, if◌then◌else◌, Option, Some, None, IfSome, option_and_then, unwrap_or}
+use Rattle.std.specs.Int.{is_in_range}
 use Rattle.std.specs.Option.{option_map}
 use Rattle.rv_base.specs.Tables.{lookup}
 use Rattle.rv_isa.specs.Names.{csr_names}
 use Rattle.rv_operands.specs.Words.{only_of}
 use Rattle.rv_answers.specs.Answer.{Written, Appended}
 use Rattle.rv_lab.specs.State.{LabState, board}
-use Rattle.rv_lab.specs.Devices.{csr_text, csr_told, edge_source, edges_told, pending_text}
+use Rattle.rv_lab.specs.Words.{count_of}
+use Rattle.rv_lab.specs.Devices.{csr_told, edges_told}
+use Rattle.rv_lab.specs.Rows.{csr_text, edge_source, pending_text}
 
 -- ---- `p`
 
@@ -25,7 +28,7 @@ line l name csr = option_map (λ n. name ++ codes " = " ++ csr_text (board l) na
 told_for : (l : LabState) (ws : List (List ℕ)) (name : List ℕ) (csr : Option ℕ) (a b : Written)
     → name ≡ unwrap_or (only_of ws) [] → csr ≡ lookup name csr_names → IfSome (line l name csr) (Appended a b)
     → IfSome (csr_told l ws) (Appended a b)
-unfolding csr_told
+unfolding csr_told csr_text
 told_for l [] name csr a b e f h = tt
 told_for l (w ∷ []) name csr a b e f h =
     subst (λ n. IfSome (line l n (lookup n csr_names)) (Appended a b)) e
@@ -44,12 +47,29 @@ is_csr l ws name csr a b e f h = told_for l ws name (Some csr) a b e f h
 
 -- ---- `e`
 
+in_range : (f : ℕ → List ℕ) (s : ℕ) (b : Bool)
+    → option_map f (if b then Some s else None) ≡ if b then Some (f s) else None
+in_range f s true = refl
+in_range f s false = refl
+
+each : (f : ℕ → List ℕ) (is : ℕ → Bool) (o : Option ℕ)
+    → option_map f (option_and_then (λ s. if is s then Some s else None) o)
+    ≡ option_and_then (λ s. if is s then Some (f s) else None) o
+each f is None = refl
+each f is (Some s) = in_range f s (is s)
+
+edges_are : (l : LabState) (ws : List (List ℕ)) → option_map (pending_text l) (edge_source ws) ≡ edges_told l ws
+unfolding edges_told edge_source pending_text
+edges_are l ws = each (pending_text l) (is_in_range 24 31) (count_of 0 31 ws)
+
 pub no_edges : (l : LabState) (ws : List (List ℕ)) (a b : Written) → None ≡ edge_source ws
     → IfSome (edges_told l ws) (Appended a b)
-unfolding edges_told
-no_edges l ws a b e = subst (λ s. IfSome (option_map (pending_text l) s) (Appended a b)) e tt
+no_edges l ws a b e =
+    subst (λ o. IfSome o (Appended a b)) (edges_are l ws)
+    (subst (λ s. IfSome (option_map (pending_text l) s) (Appended a b)) e tt)
 
 pub has_edges : (l : LabState) (ws : List (List ℕ)) (s : ℕ) (a b : Written) → Some s ≡ edge_source ws
     → Appended a b (pending_text l s) → IfSome (edges_told l ws) (Appended a b)
-unfolding edges_told
-has_edges l ws s a b e h = subst (λ s. IfSome (option_map (pending_text l) s) (Appended a b)) e h
+has_edges l ws s a b e h =
+    subst (λ o. IfSome o (Appended a b)) (edges_are l ws)
+    (subst (λ s. IfSome (option_map (pending_text l) s) (Appended a b)) e h)

@@ -6,7 +6,8 @@ use Rattle.std.specs.FinSet as set
 use Rattle.std.specs.Prelude.{◌&&◌, ◌==◌, nat_lt, is_none, is_some, max, min, if◌then◌else◌, IfSome, Option, Some, None, Result, Ok, Err, IfOk, OnOk}
 use Rattle.rv_base.specs.declared.memory.NoMemory.{NoMemory}
 use Rattle.rv_board.specs.State.{BoardState, halted_of, pc_of}
-use Rattle.rv_monitor.specs.State.{IsInTime, SessionState, TimedState, after, most_of}
+use Rattle.rv_monitor.specs.State.{IsInTime, SessionState, TimedState, after}
+use Rattle.rv_monitor.specs.TimedCalls.{most_of}
 use Rattle.rv_monitor.specs.Stops.{Took, may_step, stop_after}
 use Rattle.rv_monitor.specs.declared.stop.Stop.TheVariants.{Halted, Breakpoint}
 use Rattle.rv_monitor.proofs.Sets.{no_member}

@@ -10,7 +10,8 @@ use Rattle.rv_lists.specs.Timed.{never_falls}
 use Rattle.rv_lists.specs.declared.input.Input.{Input}
 use Rattle.rv_monitor.specs.Commands as monitor
 use Rattle.rv_monitor.specs.Commands.{LeavesRefused, command_in}
-use Rattle.rv_monitor.specs.State.{Addresses, IsInTime, SessionState, TimedState, after, given, most_of, with_due, with_break, without_break}
+use Rattle.rv_monitor.specs.State.{Addresses, IsInTime, SessionState, TimedState, after, given, with_due, with_break, without_break}
+use Rattle.rv_monitor.specs.TimedCalls.{most_of}
 use Rattle.rv_monitor.specs.Stops.{TakesStep, WasRefused, may_step, steps_between}
 use Rattle.rv_monitor.specs.Stops as stops
 use Rattle.rv_monitor.proofs.Steps.{after_due, after_more, after_rises}
@@ -508,8 +509,8 @@ module _ (s new : SessionState) (rising : never_falls s.timed.inputs ≡ true) w
   would (Some (monitored_by.Instruction addr)) e = unchanged (Some (monitored_by.Instruction addr)) s refl nowhere e
   would (Some monitored_by.Traps) e = unchanged (Some monitored_by.Traps) s refl nowhere e
   would (Some (monitored_by.Edges source)) e = unchanged (Some (monitored_by.Edges source)) s refl nowhere e
-  would (Some monitored_by.Quit) f = absurd f
-  would (Some monitored_by.Nothing) f = absurd f
+  would (Some monitored_by.Quit) e = unchanged (Some monitored_by.Quit) s refl nowhere e
+  would (Some monitored_by.Nothing) e = unchanged (Some monitored_by.Nothing) s refl nowhere e
 
 pub obeyed_short : {A : Type 0} (r : Result A NoMemory) (line : List ℕ) (inside old new : SessionState)
     → inside ≡ old → never_falls inside.timed.inputs ≡ true

@@ -2,7 +2,8 @@
 use Rattle.std.proofs.Common.{◌≡◌, List, ℕ, [], ◌∷◌, true, refl}
 use Rattle.std.proofs.lemmas.Bool.{eqb-true}
 use Rattle.rv_base.specs.Words.{begins_comment, words}
-use Rattle.rv_lab.specs.Words.{word_command, commands}
+use Rattle.rv_lab.specs.Rows.{word_command}
+use Rattle.rv_lab.specs.Words.{commands}
 use Rattle.rv_lab.specs.declared.command.Command.TheVariants.{Nothing}
 
 -- a comment is no command

@@ -1,6 +1,7 @@
 -- What commands that look answer.
-use Rattle.std.proofs.Common.{◌≡◌, ◌∙◌, ◌≢◌, ℕ, suc, ◌==◌, true, false, List, [], ◌∷◌, ◌++◌, cond, length, refl, sym, ap, append-nil, codes, nat_lt, slice_index, subst, arith}
+use Rattle.std.proofs.Common.{◌≡◌, ◌∙◌, ◌≢◌, ℕ, suc, ◌*◌, ◌==◌, true, false, List, [], ◌∷◌, ◌++◌, cond, length, refl, sym, ap, append-nil, codes, nat_lt, slice_index, subst, arith}
 use Rattle.std.specs.Prelude.{Option, Some, None, IfSome, Result, Ok, Err, OnOk}
+use Rattle.std.specs.List.{flat_map, range_with_len}
 use Rattle.std.specs.Option.{option_map}
 use Rattle.std.proofs.lemmas.Bool.Decides.{nat_tests}
 use Rattle.std.proofs.lemmas.List.{length-append}
@@ -12,10 +13,10 @@ use Rattle.rv_answers.specs.Registers.{register_text}
 use Rattle.rv_answers.proofs.Pieces.{then}
 use Rattle.rv_lab.specs.State.{LabState, board}
 use Rattle.rv_lab.specs.Commands.{ready}
-use Rattle.rv_lab.specs.Devices.{csr_told, devices_told, edges_told, pending_text}
-use Rattle.rv_lab.specs.Lines.{instruction_at, instruction_told, line_of, line_row, line_rows, excerpt, list_told, more_told, row_of}
-use Rattle.rv_lab.specs.Looks.{Tells, alone, all_registers, break_row, breaks_told, memory_told, place, registers_told, short_place, told, told_again, trap_rows, traps_told, where_told}
-use Rattle.rv_lab.specs.Rows.{IsQuiet, register_of}
+use Rattle.rv_lab.specs.Devices.{csr_told, devices_told, edges_told}
+use Rattle.rv_lab.specs.Lines.{instruction_at, instruction_told, line_row, row_of, excerpt}
+use Rattle.rv_lab.specs.Looks.{all_registers, breaks_told, memory_told, place, registers_told, short_place, told, told_again, trap_rows, where_told}
+use Rattle.rv_lab.specs.Rows.{IsQuiet, Tells, alone, break_row, register_of}
 use Rattle.rv_lab.specs.declared.command.Command.{Command}
 use Rattle.rv_lab.specs.declared.command.Command.TheVariants.{Where, Break, Registers, ControlRegister, Memory, Instruction, Traps, Edges, Again, Nothing}
 use Rattle.rv_lab.specs.declared.command.Command.TheVariants as command
@@ -28,13 +29,13 @@ quiet_still _ a = refl
 
 -- the same of an empty line
 again_ready : (c : Command) (l : LabState) → told_again c (ready Again l) ≡ told_again c l
-unfolding more_told row_of line_row line_rows
+unfolding line_row row_of
 again_ready command.List l = refl
 again_ready _ l = refl
 
 -- what is told of a lab that is ready is told of the lab
 told_ready : (c : Command) (operands : List ℕ) (l : LabState) → told c operands (ready c l) ≡ told c operands l
-unfolding where_told place break_row breaks_told all_registers registers_told csr_told devices_told memory_told trap_rows traps_told short_place edges_told pending_text instruction_at instruction_told row_of line_row line_rows line_of excerpt list_told
+unfolding where_told place breaks_told all_registers registers_told csr_told devices_told memory_told trap_rows short_place edges_told instruction_at instruction_told line_row row_of excerpt
 told_ready Where operands l = refl
 told_ready Break operands l = refl
 told_ready Registers operands l = refl
@@ -55,21 +56,24 @@ whole (Some text) a b h w = h.bytes w
 
 -- ---- words
 
+not_none : (n : ℕ) → (suc n == 0) ≡ false
+not_none n = grind (arith, nat_tests)
+
 pub not_alone : (ws : List (List ℕ)) (text : List ℕ) (a b : Written) → nat_lt 0 (length ws) ≡ true
     → IfSome (alone ws text) (Appended a b)
 not_alone [] text a b h = absurd cc
-not_alone (w ∷ ws) text a b h = tt
+not_alone (w ∷ ws) text a b h = rw (not_none (length ws)) tt
 
 pub is_alone : (ws : List (List ℕ)) (text : List ℕ) (a b : Written) → Appended a b text
     → IfSome (alone ws text) (Appended a b)
 is_alone [] text a b h = h
-is_alone (w ∷ ws) text a b h = tt
+is_alone (w ∷ ws) text a b h = rw (not_none (length ws)) tt
 
 pub has_place : (l : Listed) (m : BoardState) (ws : List (List ℕ)) (place : ℕ) (text : List ℕ) (a b : Written)
     → Some place ≡ break_address l m ws → IfSome (alone ws text) (Appended a b)
 unfolding break_address
 has_place l m [] place text a b e = absurd cc
-has_place l m (w ∷ ws) place text a b e = tt
+has_place l m (w ∷ ws) place text a b e = rw (not_none (length ws)) tt
 
 pub no_register : (l : LabState) (ws : List (List ℕ)) (a b : Written) → nat_lt 0 (length ws) ≡ false
     → Appended a b (all_registers l) → IfSome (registers_told l ws) (Appended a b)
@@ -122,9 +126,6 @@ none_so_far a b c (x ∷ xs) none e f h = record {
   bytes = λ w. absurd (omega (arith, ap length (e.bytes (f.whole w)), length-append a.bytes (x ∷ xs), h));
 }
 
-not_none : (n : ℕ) → (suc n == 0) ≡ false
-not_none n = grind (arith, nat_tests)
-
 pub some_so_far : (a b : Written) (rows none : List ℕ) → Appended a b rows → length b.bytes ≢ length a.bytes
     → Appended a b (cond (length rows == 0) none rows)
 some_so_far a b [] none e h = record {
@@ -133,3 +134,18 @@ some_so_far a b [] none e h = record {
 }
 some_so_far a b (x ∷ xs) none e h =
     subst (λ t. Appended a b (cond t none (x ∷ xs))) (sym (not_none (length xs))) e
+
+module _ (l : LabState) where
+  abbrev rows : List ℕ
+  rows = flat_map (break_row l) (range_with_len 0 (1024 * l.recording.pages))
+
+  pub no_breaks : (a b c : Written) → Appended a b rows
+      → Appended b c (codes "no breakpoints; `help b` shows how to set one\n") → length b.bytes ≡ length a.bytes
+      → Appended a c (breaks_told l)
+  unfolding breaks_told break_row
+  no_breaks a b c e f h = none_so_far a b c rows _ e f h
+
+  pub some_breaks : (a b : Written) → Appended a b rows → length b.bytes ≢ length a.bytes
+      → Appended a b (breaks_told l)
+  unfolding breaks_told break_row
+  some_breaks a b e h = some_so_far a b rows _ e h

@@ -6,7 +6,8 @@ use Rattle.rv_answers.specs.Answer.{Written, Appended}
 use Rattle.rv_answers.specs.Traps.{trap_text}
 use Rattle.rv_answers.proofs.Pieces.{then, nothing}
 use Rattle.rv_lab.specs.State.{LabState}
-use Rattle.rv_lab.specs.Looks.{comes_again, short_place, trap_rows}
+use Rattle.rv_lab.specs.Looks.{short_place, trap_rows}
+use Rattle.rv_lab.specs.Rows.{comes_again}
 
 no_more : (ts : List TrapRecord) (i : ℕ) → length ts ≤ i → drop i ts ≡ []
 no_more [] zero h = refl

@@ -72,10 +72,6 @@ Begins goal most old new = GoesOn (record { goal = goal; left = most }) (begun o
 abbrev pub Steps : ℕ → LabState → LabState → Type 0
 Steps n old new = Begins goal.Count n (record old { count = n }) new
 
--- a lab that went back to after its first n steps, with which the next command is compared
-abbrev pub backed : LabState → ℕ → LabState
-backed l n = record (begun l) { recording = gone_back l.recording n; before = n }
-
 -- ---- a command
 
 -- a lab that was given inputs
@@ -110,8 +106,9 @@ Leaves (Moves Until) text old new =
 Leaves (Moves Trace) text old new =
     With (count_of 10 1000 (words text)) (λ n l. InSession (RunsFor goal.Count n) (begun l)) old new
 Leaves (Moves Back) text old new =
-    With (count_of ((timed old).taken - old.before) last_step (words text))
-    (λ n before after. after ≡ backed before ((timed before).taken - n)) old new
+    With (count_of ((timed old).taken - old.before) last_step (words text)) (λ n before after.
+    let to = (timed before).taken - n in
+    after ≡ record (begun before) { recording = gone_back before.recording to; before = to }) old new
 Leaves command.List text old new =
     With (excerpt old (words text)) (λ e before after. after ≡ with_listed before e) old new
 Leaves Again text old new = Repeats old.again old new

@@ -7,7 +7,7 @@ use Rattle.rv_base.specs.Digits.{hex}
 use Rattle.rv_base.specs.Tables.{lookup}
 use Rattle.rv_isa.specs.Names.{csr_names}
 use Rattle.rv_plic.specs.Gateways.{edges_of}
-use Rattle.rv_board.specs.BoardState.{BoardState, csr_of}
+use Rattle.rv_board.specs.BoardState.{csr_of}
 use Rattle.rv_answers.specs.Control.{bits_told}
 use Rattle.rv_answers.specs.Devices.{controller_text, serial_text, timer_text}
 use Rattle.rv_answers.specs.Forms.{filled}
@@ -19,13 +19,10 @@ use Rattle.rv_lab.specs.Words.{count_of}
 -- ---- `p`
 
 -- a control register as machine mode reads it, and what its bits say
-unfoldable pub csr_text : BoardState → List ℕ → ℕ → List ℕ
-csr_text b name csr =
-    option_map_or (λ w. hex 8 w ++ bits_told (length b.traps) name w) (csr_of b csr) (codes "--------")
-
 unfoldable pub csr_told : LabState → List (List ℕ) → Option (List ℕ)
 csr_told l (name ∷ []) =
-    option_map (λ csr. name ++ codes " = " ++ csr_text (board l) name csr ++ codes "\n")
+    option_map (λ csr. name ++ codes " = " ++ option_map_or (λ w. hex 8 w
+    ++ bits_told (length (board l).traps) name w) (csr_of (board l) csr) (codes "--------") ++ codes "\n")
     (lookup name csr_names)
 csr_told l _ = None
 
@@ -42,15 +39,9 @@ devices_told l =
 
 -- ---- `e`
 
--- a source that is triggered by edges
-unfoldable pub edge_source : List (List ℕ) → Option ℕ
-edge_source words =
-    option_and_then (λ s. if is_in_range 24 31 s then Some s else None) (count_of 0 31 words)
-
-unfoldable pub pending_text : LabState → ℕ → List ℕ
-pending_text l s =
-    let n = edges_of (board l).machine.bus.plic.edges s in
-    filled (codes "source %d: %d pending edge%{s||s}\n") (s ∷ n ∷ n ∷ [])
-
+-- of a source that is triggered by edges
 unfoldable pub edges_told : LabState → List (List ℕ) → Option (List ℕ)
-edges_told l words = option_map (pending_text l) (edge_source words)
+edges_told l words = option_and_then (λ s.
+    let n = edges_of (board l).machine.bus.plic.edges s in
+    let text = filled (codes "source %d: %d pending edge%{s||s}\n") (s ∷ n ∷ n ∷ []) in
+    if is_in_range 24 31 s then Some text else None) (count_of 0 31 words)

@@ -1,15 +1,17 @@
 -- To audit: public contracts cite this.
 -- The lines of a lab's source by their addresses, and the texts that `i` and `l` answer (this project's own:
 -- docs/LAB.md).
-use Rattle.std.specs.Prelude.{ℕ, ◌+◌, ◌-◌, ◌/◌, ◌==◌, ◌&&◌, Bool, false, List, [], ◌∷◌, ◌++◌, codes, filter, find, get_or, if◌then◌else◌, length, max, min, nat_le, nat_lt, Option, Some, None, option_and_then, unwrap_or}
+use Rattle.std.specs.Prelude.{ℕ, ◌+◌, ◌-◌, ◌/◌, ◌==◌, ◌&&◌, false, List, [], ◌∷◌, ◌++◌, codes, filter, find, get_or, if◌then◌else◌, length, max, min, nat_le, nat_lt, Option, Some, None, option_and_then, unwrap_or}
 use Rattle.std.specs.FinSet as set
+use Rattle.std.specs.Fmt.{decimal}
 use Rattle.std.specs.List.{flat_map, last_or, range_with_len}
 use Rattle.std.specs.Option.{option_map, option_map_or, option_or}
+use Rattle.rv_base.specs.Digits.{hex}
 use Rattle.rv_base.specs.Lines.{lines}
 use Rattle.rv_asm.specs.Lines.{Listed, address_of, bytes_of}
 use Rattle.rv_monitor.specs.Views.{word_at}
 use Rattle.rv_operands.specs.Operands.{address, line_number}
-use Rattle.rv_answers.specs.Places.{length_text, place_text, row_text}
+use Rattle.rv_answers.specs.Places.{instruction_text, row_text}
 use Rattle.rv_answers.specs.declared.rows.Row.{Row}
 use Rattle.rv_lab.specs.declared.source.Excerpt.{Excerpt}
 use Rattle.rv_lab.specs.State.{LabState, board}
@@ -23,21 +25,19 @@ line_at l a =
     find (λ n. nat_le (get_or l.addresses (n - 1) 0) a && nat_lt a (get_or l.addresses n 0))
     (range_with_len 1 (length l.addresses - 1))
 
--- the last label at an address of the image or before it, with the distance from it
-unfoldable pub label_at : Listed → ℕ → Option (List ℕ × ℕ)
-label_at l a =
-    option_and_then (λ line. option_map (λ label. (label.0, a - label.1))
-    (last_or None (filter (λ label. nat_le label.1 a) l.labels))) (line_at l a)
-
--- the address of line n, if it has bytes
-abbrev pub bytes_at : Listed → ℕ → Option ℕ
-bytes_at l n = if length (bytes_of l n) == 0 then None else address_of l n
+-- the last label at an address of the image or before it, with the distance from it: ` <loop+8>`
+unfoldable pub label_text : Listed → ℕ → List ℕ
+label_text l a =
+    option_map_or (λ label. codes " <" ++ label.0
+    ++ (if a - label.1 == 0 then [] else codes "+" ++ decimal (a - label.1)) ++ codes ">")
+    (option_and_then (λ line. last_or None (filter (λ label. nat_le label.1 a) l.labels)) (line_at l a)) []
 
 -- ---- `i`
 
 -- an address with its label, and the instruction there
 unfoldable pub instruction_at : LabState → ℕ → List ℕ
-instruction_at l a = place_text a (label_at l.listing a) None (word_at (board l) a) ++ codes "\n"
+instruction_at l a =
+    hex 8 a ++ label_text l.listing a ++ codes "  " ++ instruction_text (word_at (board l) a) ++ codes "\n"
 
 -- of pc, or of the address of a word
 unfoldable pub instruction_told : LabState → List (List ℕ) → Option (List ℕ)
@@ -46,46 +46,35 @@ instruction_told l (word ∷ more) = option_map (instruction_at l) (address l.li
 
 -- ---- `l`
 
--- pc is at one of the bytes of line n
-abbrev pub is_here : LabState → ℕ → Bool
-is_here l n = option_map_or (λ here. here == n) (line_at l.listing (board l).machine.pc) false
+-- the address of line n, if it has bytes
+abbrev pub bytes_at : Listed → ℕ → Option ℕ
+bytes_at l n = if length (bytes_of l n) == 0 then None else address_of l n
 
--- a breakpoint is at its address
-abbrev pub is_marked : LabState → ℕ → Bool
-is_marked l n =
-    option_map_or (set.contains l.recording.session.breakpoints.addresses) (bytes_at l.listing n) false
-
--- its first word, if it has four bytes
-abbrev pub line_word : LabState → ℕ → Option ℕ
-line_word l n =
-    if nat_lt (length (bytes_of l.listing n)) 4 then None
-    else option_and_then (word_at (board l)) (bytes_at l.listing n)
-
--- the row of line n
+-- what is told of line n: whether pc is at one of its bytes, whether a breakpoint is at its address, that
+-- address if it has bytes, its first word if it has four bytes, and whether it has more
 unfoldable pub row_of : LabState → ℕ → Row
 row_of l n = record {
-  is_here = is_here l n;
-  is_marked = is_marked l n;
+  is_here = option_map_or (λ here. here == n) (line_at l.listing (board l).machine.pc) false;
+  is_marked = option_map_or (set.contains l.recording.session.breakpoints.addresses) (bytes_at l.listing n) false;
   address = bytes_at l.listing n;
-  word = line_word l n;
+  word = if nat_lt (length (bytes_of l.listing n)) 4 then None
+      else option_and_then (word_at (board l)) (bytes_at l.listing n);
   has_more = nat_lt 4 (length (bytes_of l.listing n));
 }
 
+-- its row, with its text
 unfoldable pub line_row : LabState → ℕ → List ℕ
 line_row l n = row_text (row_of l n) n (get_or (lines l.source) (n - 1) [])
-
--- the rows of some lines from one on: of those that the source has
-unfoldable pub line_rows : LabState → (first count : ℕ) → List ℕ
-line_rows l first count =
-    flat_map (line_row l) (range_with_len first (min count (length (lines l.source) + 1 - first)))
 
 -- the number of lines
 abbrev pub line_count : Listed → ℕ
 line_count l = length l.addresses - 1
 
--- the rows of an excerpt, or a text where it would begin behind the last line
+-- the rows of an excerpt, of those lines that the source has, or a text where it would begin behind the last
 abbrev pub rows_or : List ℕ → LabState → Excerpt → List ℕ
-rows_or text l e = if nat_lt (line_count l.listing) e.first then text else line_rows l e.first e.count
+rows_or text l e =
+    if nat_lt (line_count l.listing) e.first then text
+    else flat_map (line_row l) (range_with_len e.first (min e.count (length (lines l.source) + 1 - e.first)))
 
 -- ---- which lines are listed
 
@@ -93,16 +82,13 @@ rows_or text l e = if nat_lt (line_count l.listing) e.first then text else line_
 abbrev pub excerpt_round : (line count : ℕ) → Excerpt
 excerpt_round line count = record { first = max 1 (line - count / 2); count = count }
 
--- the line that a word stands for: its number, or the line at an address
-unfoldable pub line_of : LabState → List ℕ → Option ℕ
-line_of l word =
-    option_or (line_number word) (option_and_then (line_at l.listing) (address l.listing (board l) word))
-
--- `l`: round pc's line, or the line of a word; 11 lines, or as many as the next word says
+-- `l`: round pc's line, or the line of a word, by its number or at an address; 11 lines, or as many as the
+-- next word says
 unfoldable pub excerpt : LabState → List (List ℕ) → Option Excerpt
 excerpt l [] = Some (excerpt_round (unwrap_or (line_at l.listing (board l).machine.pc) 1) 11)
 excerpt l (word ∷ more) =
-    option_and_then (λ line. option_map (excerpt_round line) (count_of 11 1000 more)) (line_of l word)
+    option_and_then (λ line. option_map (excerpt_round line) (count_of 11 1000 more))
+    (option_or (line_number word) (option_and_then (line_at l.listing) (address l.listing (board l) word)))
 
 -- an empty line after it: the 11 lines that follow
 abbrev pub next_excerpt : LabState → Excerpt
@@ -111,11 +97,3 @@ next_excerpt l = record { first = l.listed + 1; count = 11 }
 -- the lab that listed an excerpt
 abbrev pub with_listed : LabState → Excerpt → LabState
 with_listed l e = record l { listed = min (e.first - 1 + e.count) (line_count l.listing) }
-
--- ---- the texts
-
-unfoldable pub list_told : LabState → List (List ℕ) → Option (List ℕ)
-list_told l words = option_map (rows_or (length_text (line_count l.listing)) l) (excerpt l words)
-
-unfoldable pub more_told : LabState → List ℕ
-more_told l = rows_or (codes "that was the last line\n") l (next_excerpt l)

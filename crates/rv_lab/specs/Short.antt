@@ -6,8 +6,8 @@ use Rattle.rv_monitor.specs.Commands as monitor
 use Rattle.rv_monitor.specs.Commands.{command_in}
 use Rattle.rv_monitor.specs.State.{SessionState, after}
 use Rattle.rv_monitor.specs.Stops.{may_step}
-use Rattle.rv_recording.specs.Recording.{RecordingState, with_timed}
-use Rattle.rv_lab.specs.Commands.{Leaves, RunsFor, with_inputs}
+use Rattle.rv_recording.specs.Recording.{RecordingState, gone_back, with_timed}
+use Rattle.rv_lab.specs.Commands.{Leaves, RunsFor, begun, with_inputs}
 use Rattle.rv_lab.specs.Refusals.{Leads}
 use Rattle.rv_lab.specs.State.{LabState}
 use Rattle.rv_lab.specs.declared.command.Command.{Command}
@@ -25,6 +25,10 @@ stepped r = if may_step r.session then with_timed r (after r.session.timed 1) el
 abbrev pub stepped_by : ℕ → RecordingState → RecordingState
 stepped_by zero r = r
 stepped_by (suc k) r = stepped_by k (stepped r)
+
+-- a lab that went back to after its first n steps, with which the next command is compared
+abbrev pub backed : LabState → ℕ → LabState
+backed l n = record (begun l) { recording = gone_back l.recording n; before = n }
 
 abbrev pub Traced : ℕ → LabState → LabState → Type 0
 Traced n old new = new ≡ record old { recording = stepped_by n old.recording }

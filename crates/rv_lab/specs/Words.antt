@@ -24,16 +24,13 @@ commands =
     (codes "rx", Receive) ∷ (codes "line", Line) ∷ (codes "save", Save) ∷ (codes "monitor", Monitor) ∷
     (codes "help h", Help) ∷ (codes "q exit quit", Quit) ∷ []
 
--- the command of a word; a word that is no command does nothing, and so does a comment
-unfoldable pub word_command : List ℕ → Command
-word_command word =
-    unwrap_or (option_map (λ r. r.1) (find (λ r. list_any (bytes_eq word) (words r.0)) commands)) Nothing
-
--- the command of a line: an empty one repeats a command, and one of more than 1,024 bytes does nothing
+-- the command of a line by its first word: an empty line repeats a command, one of more than 1,024 bytes does
+-- nothing, and so does one whose word is no command, as a comment
 unfoldable pub line_command : List ℕ → Command
 line_command line =
     if nat_lt line_limit (length line) then Nothing
-    else option_map_or word_command (slice_get (words line) 0) Again
+    else option_map_or (λ word. unwrap_or (option_map (λ r. r.1)
+    (find (λ r. list_any (bytes_eq word) (words r.0)) commands)) Nothing) (slice_get (words line) 0) Again
 
 -- what an empty line repeats after a command: a step or list command, a single step after another that moves
 -- the board, and else what it repeated before

@@ -7,7 +7,8 @@ ghost use Rattle.rv_operands.specs.Operands.{break_address};
 ghost use Rattle.rv_lab.specs.Commands.{Leaves};
 ghost use Rattle.rv_answers.specs.Answer.{Appended};
 ghost use Rattle.rv_lab.specs.State.{board, setup};
-ghost use Rattle.rv_lab.specs.Looks.{Tells, break_row, breaks_told};
+ghost use Rattle.rv_lab.specs.Looks.{breaks_told};
+ghost use Rattle.rv_lab.specs.Rows.{Tells, break_row};
 
 use crate::lab::{Lab, Next};
 use rv_answers::Answer;
@@ -85,7 +86,7 @@ impl Lab {
     }
 
     /// Appends the row of a word of memory, if a breakpoint is there.
-    #[tactic(auto, using(rv_answers::proofs::Pieces::then, rv_answers::proofs::Pieces::nothing), unfolding(crate::specs::Looks::break_row))]
+    #[tactic(auto, using(rv_answers::proofs::Pieces::then, rv_answers::proofs::Pieces::nothing), unfolding(crate::specs::Rows::break_row))]
     fn append_break(&self, word: u64, answer: &mut Answer)
         requires { word < 2 ^ 42 }
         ensures { Appended answer.old answer.new (break_row self.now word) }
@@ -109,7 +110,7 @@ impl Lab {
     }
 
     /// Appends the breakpoints in memory.
-    #[tactic(auto, using(crate::proofs::Told::none_so_far, crate::proofs::Told::some_so_far), unfolding(crate::specs::Looks::breaks_told))]
+    #[tactic(auto, using(crate::proofs::Told::no_breaks, crate::proofs::Told::some_breaks))]
     fn list_breaks(&self, answer: &mut Answer)
         ensures { Appended answer.old answer.new (breaks_told self.now) }
     {

@@ -5,8 +5,8 @@ ghost use Rattle.std.specs.Option.{option_map};
 ghost use Rattle.std.specs.Str.{bytes_eq};
 ghost use Rattle.rv_base.specs.Words.{words};
 ghost use Rattle.rv_operands.specs.Operands.{operand_text};
-ghost use Rattle.rv_lab.specs.Rows.{IsQuiet, named, row_of};
-ghost use Rattle.rv_lab.specs.Words.{word_command, commands, repeated, line_command};
+ghost use Rattle.rv_lab.specs.Rows.{IsQuiet, named, named_in, word_command};
+ghost use Rattle.rv_lab.specs.Words.{commands, repeated, line_command};
 
 use crate::nearest::Nearest;
 use rv_answers::Answer;
@@ -333,7 +333,7 @@ fn has(text: &[u8], word: &[u8]) -> bool
 
 /// Returns the row of a word in a table.
 fn row_in(table: &'static [(&'static str, Row)], word: &[u8]) -> Option<Row>
-    ensures { option_map (λ r. r.command) result ≡ row_of word.now (named table.now) }
+    ensures { option_map (λ r. r.command) result ≡ named_in word.now (named table.now) }
 {
     let [row, rest @ ..] = table else {
         return None;
@@ -346,7 +346,7 @@ fn row_in(table: &'static [(&'static str, Row)], word: &[u8]) -> Option<Row>
 
 /// Returns the row of a command's word.
 pub(crate) fn row_of(word: &[u8]) -> Option<Row>
-    ensures { option_map (λ r. r.command) result ≡ row_of word.now commands }
+    ensures { option_map (λ r. r.command) result ≡ named_in word.now commands }
 {
     row_in(commands(), word)
 }
@@ -399,7 +399,7 @@ pub(crate) fn read_command<'a>(
 }
 
 /// Returns the command of a line.
-#[tactic(auto, using(crate::proofs::Tables::comment_is_nothing), unfolding(crate::specs::Words::line_command))]
+#[tactic(auto, using(crate::proofs::Tables::comment_is_nothing), unfolding(crate::specs::Words::line_command, crate::specs::Rows::word_command))]
 fn said(line: &[u8], alloc: Global, answer: &mut Answer) -> Command
     ensures said { result ≡ line_command line.now }
     ensures quiet { IsQuiet result answer.old answer.new }
@@ -418,7 +418,7 @@ fn said(line: &[u8], alloc: Global, answer: &mut Answer) -> Command
 }
 
 /// Returns the command of a word, or `Nothing` where it is no command, which is answered.
-#[tactic(auto, unfolding(crate::specs::Words::word_command), using(crate::proofs::Told::quiet_still))]
+#[tactic(auto, unfolding(crate::specs::Rows::word_command), using(crate::proofs::Told::quiet_still))]
 fn command_of(word: &[u8], alloc: Global, answer: &mut Answer) -> Command
     ensures command { result ≡ word_command word.now }
     ensures quiet { IsQuiet result answer.old answer.new }

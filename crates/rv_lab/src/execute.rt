@@ -5,7 +5,8 @@ ghost use Rattle.rv_lab.specs.Refusals.{RunsOut, StopsShort};
 ghost use Rattle.rv_lab.specs.Short.{Changes};
 ghost use Rattle.rv_lab.specs.State.{setup};
 ghost use Rattle.rv_answers.specs.Answer.{Appended};
-ghost use Rattle.rv_lab.specs.Looks.{Tells, told_again};
+ghost use Rattle.rv_lab.specs.Looks.{told_again};
+ghost use Rattle.rv_lab.specs.Rows.{Tells};
 ghost use Rattle.rv_lab.specs.declared.command.Command.TheVariants.{Again, Break, List, Moves};
 
 use crate::command::{Command, Move};

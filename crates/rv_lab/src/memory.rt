@@ -3,7 +3,8 @@ ghost use Rattle.std.specs.Prelude.{◌≡◌, ◌*◌, ◌<◌, ◌≤◌, map}
 ghost use Rattle.std.specs.List.{flat_map, range_with_len};
 ghost use Rattle.rv_answers.specs.Answer.{Appended};
 ghost use Rattle.rv_answers.specs.Memory.{bytes_row, escaped, words_row};
-ghost use Rattle.rv_lab.specs.Looks.{char_at, dump, dump_row, shown, text_length, text_row, word_cell};
+ghost use Rattle.rv_lab.specs.Looks.{dump, shown, text_row};
+ghost use Rattle.rv_lab.specs.Rows.{char_at, dump_row, text_length, word_cell};
 ghost use Rattle.rv_answers.specs.Places.{instruction_text};
 ghost use Rattle.rv_monitor.specs.Views.{byte_at_offset, word_at};
 
@@ -58,7 +59,7 @@ fn append_row_of_bytes(board: &BootedBoard, address: u32, count: u32, row: u32, 
 }
 
 /// Appends `count` bytes from an address on, 16 in a row, with their characters.
-#[tactic(auto, using(rv_answers::proofs::Pieces::nothing), unfolding(crate::specs::Looks::dump))]
+#[tactic(auto, using(rv_answers::proofs::Pieces::nothing, crate::proofs::Dumps::dumped))]
 fn append_bytes(board: &BootedBoard, address: u32, count: u32, answer: &mut Answer)
     ensures { Appended answer.old answer.new (dump bytes_row (byte_at_offset board.now) 16 address count) }
 {
@@ -92,7 +93,7 @@ fn append_row_of_words(board: &BootedBoard, address: u32, count: u32, row: u32, 
 }
 
 /// Appends `count` words from an address on, four in a row.
-#[tactic(auto, using(rv_answers::proofs::Pieces::nothing), unfolding(crate::specs::Looks::dump))]
+#[tactic(auto, using(rv_answers::proofs::Pieces::nothing, crate::proofs::Dumps::dumped))]
 fn append_words(board: &BootedBoard, address: u32, count: u32, answer: &mut Answer)
     requires { count ≤ 4096 }
     ensures { Appended answer.old answer.new (dump words_row (word_cell board.now) 4 address count) }
@@ -110,7 +111,7 @@ fn char_at(board: &BootedBoard, address: u32, offset: u32) -> u8
 }
 
 /// Returns the number of bytes of a text that ends with a zero, at most `most`.
-#[tactic(auto, using(crate::proofs::Dumps::ends_at), unfolding(crate::specs::Looks::text_length))]
+#[tactic(auto, using(crate::proofs::Dumps::ends_at), unfolding(crate::specs::Rows::text_length))]
 fn text_length(board: &BootedBoard, address: u32, most: u32) -> u32
     ensures { result ≡ text_length board.now address most }
 {
@@ -134,7 +135,7 @@ fn append_characters(board: &BootedBoard, address: u32, count: u32, answer: &mut
 }
 
 /// Appends the text at an address up to a zero, or at most `most` bytes of it, between quotes.
-#[tactic(auto, using(rv_answers::proofs::Pieces::then), unfolding(crate::specs::Looks::text_row))]
+#[tactic(auto, using(rv_answers::proofs::Pieces::then, crate::proofs::Dumps::text_told))]
 fn append_text(board: &BootedBoard, address: u32, most: u32, answer: &mut Answer)
     ensures { Appended answer.old answer.new (text_row board.now address most) }
 {

@@ -2,8 +2,8 @@
 ghost use Rattle.std.specs.Prelude.{◌≡◌, ℕ, List};
 ghost use Rattle.std.specs.Option.{option_map};
 ghost use Rattle.rv_answers.specs.Answer.{Appended};
-ghost use Rattle.rv_answers.specs.Places.{near_text};
-ghost use Rattle.rv_lab.specs.Lines.{label_at, line_at};
+ghost use Rattle.rv_lab.specs.Lines.{label_text, line_at};
+ghost use Rattle.rv_lab.specs.Rows.{label_at};
 
 use rv_answers::{Answer, append_label};
 use rv_asm::{Listing, NearLabel};
@@ -17,7 +17,7 @@ pub(crate) fn line_at(listing: &Listing, address: u32) -> Option<usize>
 }
 
 /// Returns the nearest label before an address of the image, with the distance from it.
-#[tactic(auto, unfolding(crate::specs::Lines::label_at))]
+#[tactic(auto, unfolding(crate::specs::Rows::label_at))]
 fn near_label<'a>(listing: &'a Listing, address: u32) -> Option<NearLabel<'a>>
     ensures { option_map {U = List ℕ × ℕ} (λ n. (n.name, n.distance)) result ≡ label_at listing.now address }
 {
@@ -29,9 +29,9 @@ fn near_label<'a>(listing: &'a Listing, address: u32) -> Option<NearLabel<'a>>
 
 /// Appends the nearest label before an address with its distance, as `<loop+8>`, if the address is in the
 /// image.
-#[tactic(auto, using(rv_answers::proofs::Pieces::nothing))]
+#[tactic(auto, using(rv_answers::proofs::Pieces::nothing, crate::proofs::Lines::near_told))]
 pub(crate) fn append_near(listing: &Listing, address: u32, answer: &mut Answer)
-    ensures { Appended answer.old answer.new (near_text (label_at listing.now address)) }
+    ensures { Appended answer.old answer.new (label_text listing.now address) }
 {
     if let Some(near) = near_label(listing, address) {
         append_label(near.name.bytes(), near.distance, answer);

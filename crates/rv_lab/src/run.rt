@@ -3,9 +3,9 @@ ghost use Rattle.std.specs.Prelude.{◌≡◌, ◌≤◌, Ok, Some, None, true, 
 ghost use Rattle.rv_lab.specs.declared.command.Command.TheVariants as command;
 ghost use Rattle.rv_lab.specs.declared.command.Move.TheVariants as moves;
 ghost use Rattle.rv_lab.specs.declared.plan.Goal.TheVariants as goal;
-ghost use Rattle.rv_lab.specs.Commands.{Begins, GoesOn, Leaves, RunsFor, Steps, With, backed, begun, goal_after, with_session};
+ghost use Rattle.rv_lab.specs.Commands.{Begins, GoesOn, Leaves, RunsFor, Steps, With, begun, goal_after, with_session};
 ghost use Rattle.rv_lab.specs.Refusals.{RunsOut, StopsShort};
-ghost use Rattle.rv_lab.specs.Short.{IsOnWay, RunsShort, Traced, stepped};
+ghost use Rattle.rv_lab.specs.Short.{IsOnWay, RunsShort, Traced, backed, stepped};
 ghost use Rattle.rv_monitor.specs.Stops.{may_step, steps_between};
 ghost use Rattle.rv_lab.specs.State.{setup, timed};
 

@@ -2,13 +2,11 @@
 ghost use Rattle.std.specs.Prelude.{◌≡◌, ◌≤◌, ◌++◌, IfSome, codes, drop, slice_index};
 ghost use Rattle.rv_base.specs.Words.{words};
 ghost use Rattle.rv_answers.specs.Answer.{Appended};
-ghost use Rattle.rv_answers.specs.Places.{near_text};
-ghost use Rattle.rv_answers.specs.Standing.{pc_text};
 ghost use Rattle.rv_answers.specs.Registers.{register_text};
 ghost use Rattle.rv_answers.specs.Traps.{trap_text};
-ghost use Rattle.rv_lab.specs.Looks.{all_registers, comes_again, memory_told, registers_told, short_place, trap_rows, traps_told};
-ghost use Rattle.rv_lab.specs.Lines.{instruction_at, instruction_told, label_at};
-ghost use Rattle.rv_lab.specs.Rows.{register_of};
+ghost use Rattle.rv_lab.specs.Looks.{all_registers, memory_told, registers_told, short_place, trap_rows};
+ghost use Rattle.rv_lab.specs.Lines.{instruction_at, instruction_told, label_text};
+ghost use Rattle.rv_lab.specs.Rows.{comes_again, pc_text, register_of, traps_told};
 ghost use Rattle.rv_lab.specs.State.{board};
 
 use crate::lab::Lab;
@@ -41,10 +39,10 @@ fn comes_again(trap: TrapRecord, next: Option<TrapRecord>) -> bool
 
 impl Lab {
     /// Appends the pc and the mode.
-    #[tactic(auto, using(rv_answers::proofs::Pieces::then), unfolding(rv_answers::specs::Standing::pc_text))]
+    #[tactic(auto, using(rv_answers::proofs::Pieces::then))]
     fn append_pc(&self, answer: &mut Answer)
         ensures { Appended answer.old answer.new (pc_text (board self.now).machine.pc
-            (near_text (label_at self.now.listing (board self.now).machine.pc)) (board self.now).machine.mode) }
+            (label_text self.now.listing (board self.now).machine.pc) (board self.now).machine.mode) }
     {
         let board = self.board();
         answer.say("  pc   ");
@@ -108,7 +106,7 @@ impl Lab {
     }
 
     /// Appends the line of an address: its label and its instruction.
-    #[tactic(auto, using(rv_answers::proofs::Pieces::then), unfolding(crate::specs::Lines::instruction_at, rv_answers::specs::Places::place_text))]
+    #[tactic(auto, using(rv_answers::proofs::Pieces::then), unfolding(crate::specs::Lines::instruction_at))]
     fn append_instruction_line(&self, address: u32, answer: &mut Answer)
         ensures { Appended answer.old answer.new (instruction_at self.now address) }
     {
@@ -133,7 +131,6 @@ impl Lab {
     }
 
     /// Executes `t`.
-    #[tactic(auto, unfolding(crate::specs::Looks::traps_told))]
     pub(crate) fn traps_command(&self, answer: &mut Answer)
         ensures { Appended answer.old answer.new (traps_told self.now) }
     {

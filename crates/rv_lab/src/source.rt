@@ -2,10 +2,10 @@
 ghost use Rattle.std.specs.Prelude.{◌≡◌, ◌-◌, ◌≤◌, OnSome, IfSome, length};
 ghost use Rattle.rv_base.specs.Words.{words};
 ghost use Rattle.rv_answers.specs.Answer.{Appended};
-ghost use Rattle.rv_answers.specs.Places.{length_text};
 ghost use Rattle.rv_lab.specs.declared.command.Command.TheVariants.{List};
 ghost use Rattle.rv_lab.specs.Commands.{Leaves};
-ghost use Rattle.rv_lab.specs.Lines.{bytes_at, excerpt, excerpt_round, is_here, is_marked, line_count, line_of, line_rows, line_word, list_told, more_told, next_excerpt, row_of, rows_or, with_listed};
+ghost use Rattle.rv_lab.specs.Lines.{bytes_at, excerpt, excerpt_round, line_count, next_excerpt, row_of, rows_or, with_listed};
+ghost use Rattle.rv_lab.specs.Rows.{is_here, is_marked, length_text, line_of, line_rows, line_word, list_told, more_told};
 
 use crate::lab::Lab;
 use crate::operands::count_or;
@@ -121,6 +121,7 @@ impl Lab {
     }
 
     /// Appends the rows of an excerpt, or how many lines there are where it would begin behind the last.
+    #[tactic(auto, unfolding(crate::specs::Rows::line_rows))]
     fn append_excerpt(&self, excerpt: Excerpt, answer: &mut Answer)
         requires { 1 ≤ excerpt.first }
         ensures { Appended answer.old answer.new
@@ -144,7 +145,6 @@ impl Lab {
 
     /// Returns the line that a word stands for: its number, or the line at an address. Where there is none,
     /// that is answered.
-    #[tactic(auto, unfolding(crate::specs::Lines::line_of))]
     fn line_of(&self, word: &[u8], answer: &mut Answer) -> Option<usize>
         ensures value { result ≡ line_of self.now word.now }
         ensures quiet { OnSome result (answer.new ≡ answer.old) }
@@ -182,7 +182,6 @@ impl Lab {
     }
 
     /// Executes `l`.
-    #[tactic(auto, unfolding(crate::specs::Lines::list_told))]
     pub(crate) fn list_command(&mut self, operands: &[u8], answer: &mut Answer)
         ensures leaves { Leaves List operands.now self.old self.new }
         ensures tells { IfSome (list_told self.old (words operands.now)) (Appended answer.old answer.new) }

@@ -2,11 +2,9 @@
 ghost use Rattle.std.specs.Prelude.{◌≡◌, ◌++◌, [], codes};
 ghost use Rattle.std.specs.Option.{option_map_or};
 ghost use Rattle.rv_answers.specs.Answer.{Appended};
-ghost use Rattle.rv_answers.specs.Places.{near_text};
-ghost use Rattle.rv_answers.specs.Standing.{halted_text};
-ghost use Rattle.rv_lab.specs.Lines.{label_at};
+ghost use Rattle.rv_lab.specs.Lines.{label_text};
 ghost use Rattle.rv_lab.specs.Looks.{place, short_place, where_told};
-ghost use Rattle.rv_lab.specs.Rows.{line_or_instruction};
+ghost use Rattle.rv_lab.specs.Rows.{halted_text, line_or_instruction};
 ghost use Rattle.rv_lab.specs.State.{board};
 
 use crate::lab::Lab;
@@ -26,13 +24,13 @@ impl Lab {
     /// Appends the nearest label before an address with its distance, as `<loop+8>`, if the address is in the
     /// image.
     pub(crate) fn append_label(&self, address: u32, answer: &mut Answer)
-        ensures { Appended answer.old answer.new (near_text (label_at self.now.listing address)) }
+        ensures { Appended answer.old answer.new (label_text self.now.listing address) }
     {
         append_near(&self.listing, address, answer);
     }
 
     /// Appends an address with its label, its line's number and the line's text.
-    #[tactic(auto, using(rv_answers::proofs::Pieces::then), unfolding(crate::specs::Looks::place, rv_answers::specs::Places::place_text))]
+    #[tactic(auto, using(rv_answers::proofs::Pieces::then), unfolding(crate::specs::Looks::place))]
     pub(crate) fn append_place(&self, address: u32, answer: &mut Answer)
         ensures { Appended answer.old answer.new (place self.now address) }
     {
@@ -170,7 +168,7 @@ impl Lab {
     }
 
     /// Appends an address with the number of its line.
-    #[tactic(auto, using(rv_answers::proofs::Pieces::then), unfolding(crate::specs::Looks::short_place, rv_answers::specs::Places::short_place_text))]
+    #[tactic(auto, using(rv_answers::proofs::Pieces::then), unfolding(crate::specs::Looks::short_place))]
     pub(crate) fn append_short_place(&self, address: u32, answer: &mut Answer)
         ensures { Appended answer.old answer.new (short_place self.now address) }
     {

@@ -1,5 +1,5 @@
 use Rattle.rv_answers.proofs.Pieces.{next}
-use Rattle.rv_lab.specs.Looks.{break_row}
+use Rattle.rv_lab.specs.Rows.{break_row}
 use Rattle.rv_lab.proofs.lab.Lab.append_breaks.Goals as goal
 
 pub loop-word-preserved : goal.loop-word-preserved

@@ -1,6 +1,6 @@
 use Rattle.std.specs.List.{flat_map, range_with_len}
 use Rattle.rv_answers.specs.Answer.{Appended}
-use Rattle.rv_lab.specs.Looks.{break_row}
+use Rattle.rv_lab.specs.Rows.{break_row}
 use Rattle.rv_lab.proofs.lab.Lab.append_breaks.Given as goal
 
 -- the rows of the words so far were appended
