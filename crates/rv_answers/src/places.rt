@@ -8,11 +8,11 @@ ghost use Rattle.rv_answers.specs.Answer.{Appended};
 ghost use Rattle.rv_answers.specs.Places.{instruction_text};
 
 use crate::Answer;
-use rv_base::{TextLines, cut_lines};
+use rv_base::{Cut, cut_lines};
 use rv_isa::decode;
 
 /// Returns the lines of a source from one on, counted from 1; all of them from 0 on.
-pub fn lines_from(source: &[u8], first: usize) -> TextLines<'_>
+pub fn lines_from(source: &[u8], first: usize) -> Cut<'_>
     ensures { result ≡ drop (first - 1) (lines source.now) }
 {
     let mut left = cut_lines(source);

@@ -23,7 +23,7 @@ mod words;
 pub use digits::{append_hex, byte_digits, word_digits};
 pub use halves::{high_word, low_word, with_high_word, with_low_word};
 pub use limits::{IMAGE_LIMIT, LINE_LIMIT, RAM_BASE, TEXT_LIMIT};
-pub use lines::{TextLines, cut_lines};
+pub use lines::{Cut, cut_lines};
 pub use memory::{NoMemory, append_within};
 pub use numbers::{decimal, hex_byte, hex_digit};
 pub use tables::look_up;

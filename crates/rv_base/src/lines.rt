@@ -42,11 +42,11 @@ fn first_line(text: &[u8]) -> (&[u8], &[u8])
 /// An iterator over the lines of a text, each without its LF and without a CR before it; seen as the lines
 /// that are left.
 #[derive(Drop)]
-pub struct TextLines<'a> {
+pub struct Cut<'a> {
     rest: &'a [u8],
 }
 
-impl<'a> Model for TextLines<'a> {
+impl<'a> Model for Cut<'a> {
     ghost use Rattle.std.specs.Prelude.{List, ℕ};
     ghost use Rattle.rv_base.specs.Lines.{lines};
 
@@ -55,7 +55,7 @@ impl<'a> Model for TextLines<'a> {
     ghost view = { λ cut. lines cut.rest.now };
 }
 
-impl<'a> Iterator for TextLines<'a> {
+impl<'a> Iterator for Cut<'a> {
     type Item = &'a [u8];
 
     ghost next_gives = { YieldsFirstRef (λ cut. cut) };
@@ -77,9 +77,9 @@ impl<'a> Iterator for TextLines<'a> {
 /// The last line needs no LF. A loop `for line in cut_lines(text)` sees the lines left as `l.line-iterator`:
 /// its invariant names `length l.line-iterator`, or `lines text ≡ done ++ l.line-iterator`, and each turn
 /// takes one off by `steps`.
-pub fn cut_lines(text: &[u8]) -> TextLines<'_>
+pub fn cut_lines(text: &[u8]) -> Cut<'_>
     ensures cut { result ≡ lines text.now }
     ensures within { length result ≤ length text.now }
 {
-    TextLines { rest: text }
+    Cut { rest: text }
 }

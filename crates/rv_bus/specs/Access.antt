@@ -5,7 +5,7 @@ use Rattle.std.specs.Option.{option_map}
 use Rattle.rv_base.specs.Limits.{ram_base}
 use Rattle.rv_isa.specs.Width.{bytes_of}
 use Rattle.rv_isa.specs.declared.op.Width.{Width}
-use Rattle.rv_isa.specs.declared.InterruptLines.{InterruptLines}
+use Rattle.rv_isa.specs.declared.Lines.{Lines}
 use Rattle.rv_ram.specs.Bytes.{value_at}
 use Rattle.rv_plic.specs.Plic.{is_notified}
 use Rattle.rv_mmio.specs.Timer.{is_due}
@@ -33,5 +33,5 @@ unfoldable pub fetch : List ℕ → ℕ → Option ℕ
 fetch ram a = if is_some (ram_byte ram a) then Some (value_at ram (a - ram_base) 4) else None
 
 -- the levels of the interrupt lines into the hart
-abbrev pub lines_of : BusState → InterruptLines
+abbrev pub lines_of : BusState → Lines
 lines_of b = record { software = b.timer.software; timer = is_due b.timer; external = is_notified b.plic }

@@ -10,7 +10,7 @@ use Rattle.rv_mmio.specs.Timer as timer
 use Rattle.rv_bus.specs.State.{BusState}
 
 -- the timer and the interrupt controller, which a tick changes
-pub record SnapshotState : Type 0 where
+pub record MarkState : Type 0 where
   pub timer : TimerState
   pub plic : PlicState
 

@@ -18,7 +18,7 @@ ghost use Rattle.rv_bus.specs.declared.bus.StoreRefusal.TheVariants as refusal;
 
 use crate::locations::{Location, find_location};
 use rv_base::{NoMemory, RAM_BASE};
-use rv_isa::{InterruptLines, Width};
+use rv_isa::{Lines, Width};
 use rv_mmio::{Halt, Serial, SerialReg, Timer};
 use rv_plic::{Plic, Source, SourceSet};
 use rv_ram::{ByteMemory, PagedRam};
@@ -51,17 +51,17 @@ impl From<NoMemory> for StoreRefusal {
 
 /// A snapshot of the timer and the interrupt controller, by which ticks are undone.
 #[derive(Clone, Copy)]
-pub struct Snapshot {
+pub struct Mark {
     timer: Timer,
     plic: Plic,
 }
 
-impl Model for Snapshot {
+impl Model for Mark {
     ghost use Rattle.std.specs.Coded.{codes};
     ghost use Rattle.rv_plic.specs.Codes.{plic_code};
-    ghost use Rattle.rv_bus.specs.Ticks.{SnapshotState};
+    ghost use Rattle.rv_bus.specs.Ticks.{MarkState};
 
-    ghost Value = { SnapshotState };
+    ghost Value = { MarkState };
 
     ghost coded = { Prim.hlevel (codes, plic_code) };
 
@@ -177,7 +177,7 @@ impl<M: ByteMemory> Bus<M> {
         match self.location(addr, width) {
             Location::Ram(off) => Ok(self.load_ram(off, width)),
             Location::Halt => Ok(0),
-            Location::Timer(register) => Ok(self.timer.load(register)),
+            Location::Timer(register) => Ok(self.timer.word(register)),
             Location::Plic(off) => Ok(self.plic.load(off)),
             Location::Serial(register) => Ok(self.load_serial(register, width)),
             Location::Nowhere => Err(BusFault),
@@ -239,7 +239,7 @@ impl<M: ByteMemory> Bus<M> {
         match self.location(addr, width) {
             Location::Ram(off) => self.ram.write(off, width, value)?,
             Location::Halt => self.halt.store(value),
-            Location::Timer(register) => self.timer.store(register, value),
+            Location::Timer(register) => self.timer.set_word(register, value),
             Location::Plic(off) => self.plic.store(off, value),
             Location::Serial(register) => self.serial.store(register, value)?,
             Location::Nowhere => return Err(StoreRefusal::Fault),
@@ -296,10 +296,10 @@ impl<M: ByteMemory> Bus<M> {
     }
 
     /// Returns the levels of the interrupt lines into the hart.
-    pub fn lines(&self) -> InterruptLines
+    pub fn lines(&self) -> Lines
         ensures { result ≡ lines_of self.now }
     {
-        InterruptLines {
+        Lines {
             software: self.timer.software(),
             timer: self.timer.due(),
             external: self.plic.external(),
@@ -321,10 +321,10 @@ impl<M: ByteMemory> Bus<M> {
     }
 
     /// Returns a snapshot of the timer and the interrupt controller.
-    pub fn snapshot(&self) -> Snapshot
+    pub fn mark(&self) -> Mark
         ensures { result ≡ record { timer = self.now.timer; plic = self.now.plic } }
     {
-        Snapshot {
+        Mark {
             timer: self.timer,
             plic: self.plic,
         }
@@ -332,11 +332,11 @@ impl<M: ByteMemory> Bus<M> {
 
     /// Undoes the ticks since a snapshot: sets the timer and the interrupt controller back to it, and nothing
     /// else.
-    pub fn undo_tick(&mut self, snapshot: Snapshot)
-        ensures { self.new ≡ record self.old { timer = snapshot.timer; plic = snapshot.plic } }
+    pub fn put_back(&mut self, mark: Mark)
+        ensures { self.new ≡ record self.old { timer = mark.timer; plic = mark.plic } }
     {
-        self.timer = snapshot.timer;
-        self.plic = snapshot.plic;
+        self.timer = mark.timer;
+        self.plic = mark.plic;
     }
 
     /// Returns the part that the next tick changes. It is smaller than a snapshot, and one can be made of it
@@ -352,13 +352,13 @@ impl<M: ByteMemory> Bus<M> {
     }
 
     /// Returns the snapshot before the last tick, where `tick` was `next_tick` before it.
-    pub fn snapshot_before(&self, tick: Tick) -> Snapshot
+    pub fn mark_before(&self, tick: Tick) -> Mark
         ensures { (old : BusState) → All (λ n. n < 2 ^ 32) old.plic.edges → self.now ≡ ticked old
             → tick ≡ next_tick old → result ≡ record { timer = old.timer; plic = old.plic } }
     {
         let mut plic = self.plic;
         plic.withdraw(tick.requests);
-        Snapshot {
+        Mark {
             timer: self.timer.at_time(tick.time),
             plic,
         }

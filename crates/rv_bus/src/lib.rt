@@ -4,5 +4,5 @@
 mod bus;
 mod locations;
 
-pub use bus::{Bus, BusFault, Snapshot, StoreRefusal, Tick};
+pub use bus::{Bus, BusFault, Mark, StoreRefusal, Tick};
 pub use locations::Location;

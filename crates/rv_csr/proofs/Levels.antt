@@ -3,7 +3,7 @@ use Rattle.std.proofs.Common.{◌≡◌, ℕ, ◌+◌, ◌*◌, ◌/◌, ◌%◌
 use Rattle.std.specs.Prelude.{◌&&◌, not, if◌then◌else◌}
 use Rattle.std.proofs.lemmas.Bool.{leb-true}
 use Rattle.std.proofs.lemmas.Bool.Decides.{nat_tests}
-use Rattle.rv_isa.specs.declared.InterruptLines.{InterruptLines}
+use Rattle.rv_isa.specs.declared.Lines.{Lines}
 use Rattle.rv_pmp.specs.Pmp.{PmpState}
 use Rattle.rv_pmp.specs.Pmp as protection
 use Rattle.rv_pmp.specs.Registers.{WritesOrRefuses}
@@ -103,7 +103,7 @@ no_store old addr word new mode (Some done) may user stores =
 no_store old addr word new mode None may user stores = refl
 
 -- by the definition of a read
-pub nothing_read : (state : CsrState) (addr : ℕ) (lines : InterruptLines) → read state addr User lines ≡ None
+pub nothing_read : (state : CsrState) (addr : ℕ) (lines : Lines) → read state addr User lines ≡ None
 nothing_read state addr lines = read_by_cases state addr User lines ∙ by_level (may_read addr User) refl
   where
     by_level : (b : Bool) → may_read addr User ≡ b

@@ -7,7 +7,7 @@ use Rattle.std.specs.Option.{option_map, option_or}
 use Rattle.std.proofs.lemmas.Bool.Decides.{nat_tests}
 use Rattle.std.proofs.lemmas.List.Folds.{list_any-append}
 use Rattle.rv_isa.specs.Names.{csr_names, numbered}
-use Rattle.rv_isa.specs.declared.InterruptLines.{InterruptLines}
+use Rattle.rv_isa.specs.declared.Lines.{Lines}
 use Rattle.rv_pmp.specs.Pmp as protection
 use Rattle.rv_pmp.specs.Pmp.{PmpState, config_word, entry_at, written}
 use Rattle.rv_pmp.specs.Registers.{is_config, is_address}
@@ -22,7 +22,7 @@ use Rattle.rv_csr.specs.declared.register.Register.TheVariants.{Mstatus, Misa, M
 
 -- a row has the value and the write of a register
 pub record Agrees (row : Row) (register : Register) : Type 0 where
-  pub value : (s : CsrState) (lines : InterruptLines) → row.1 s lines ≡ value_of s lines register
+  pub value : (s : CsrState) (lines : Lines) → row.1 s lines ≡ value_of s lines register
   pub written : (s : CsrState) (word : ℕ) → row.2 s word ≡ with_value s register word
 
 abbrev Same : Option Row → Option Register → Type 0
@@ -313,7 +313,7 @@ module _ {A : Type 0} (of_row : Row → A) (of_register : Register → A) where
   picked None (Some register) s each = absurd s
   picked (Some row) None s each = absurd s
 
-pub values : (state : CsrState) (lines : InterruptLines) (addr : ℕ)
+pub values : (state : CsrState) (lines : Lines) (addr : ℕ)
     → option_or (protection.read_register state.pmp addr) (option_map (λ row. row.1 state lines) (row_at addr))
     ≡ cases.value_at state lines addr (register_at addr)
 unfolding protection.read_register
@@ -380,7 +380,7 @@ writes state addr word =
 
 -- ---- a read and a write by the register at the address
 
-pub read_by_cases : (state : CsrState) (addr : ℕ) (mode : Mode) (lines : InterruptLines)
+pub read_by_cases : (state : CsrState) (addr : ℕ) (mode : Mode) (lines : Lines)
     → read state addr mode lines
     ≡ (if may_read addr mode then cases.value_at state lines addr (register_at addr) else None)
 unfolding read row_at

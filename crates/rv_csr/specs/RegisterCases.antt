@@ -3,7 +3,7 @@
 use Rattle.std.specs.Prelude.{ℕ, ◌+◌, ◌%◌, ◌/◌, ◌^◌, Bool, ◌==◌, ◌&&◌, ◌||◌, nat_le, false, if◌then◌else◌, List, [], ◌∷◌, find, unwrap_or, Option, Some, None}
 use Rattle.std.specs.Option.{option_map, option_map_or}
 use Rattle.rv_base.specs.Halves.{with_low, with_high}
-use Rattle.rv_isa.specs.declared.InterruptLines.{InterruptLines}
+use Rattle.rv_isa.specs.declared.Lines.{Lines}
 use Rattle.rv_pmp.specs.Pmp as protection
 use Rattle.rv_pmp.specs.declared.mode.Mode.{Mode}
 use Rattle.rv_pmp.specs.declared.mode.Mode.TheVariants.{User, Machine}
@@ -49,7 +49,7 @@ register_at addr =
     else None)))))))))))))
 
 -- the value of a register, while the interrupt lines have these levels
-abbrev pub value_of : CsrState → InterruptLines → Register → ℕ
+abbrev pub value_of : CsrState → Lines → Register → ℕ
 value_of state lines Mstatus = status_word state.mstatus
 value_of state lines Misa = 0x40101100
 value_of state lines Mie = lines_word state.mie
@@ -83,7 +83,7 @@ with_value state Minstreth word = record state { minstret = with_high state.mins
 with_value state Zero word = state
 
 -- the value at an address, and the state after a write there, by the register at the address
-abbrev pub value_at : CsrState → InterruptLines → ℕ → Option Register → Option ℕ
+abbrev pub value_at : CsrState → Lines → ℕ → Option Register → Option ℕ
 value_at state lines addr (Some register) = Some (value_of state lines register)
 value_at state lines addr None = protection.read_register state.pmp addr
 
@@ -96,7 +96,7 @@ with_value_at state addr word None =
 
 -- a row of the table
 abbrev pub Row : Type 0
-Row = List ℕ × (CsrState → InterruptLines → ℕ) × (CsrState → ℕ → CsrState)
+Row = List ℕ × (CsrState → Lines → ℕ) × (CsrState → ℕ → CsrState)
 
 -- whether an instruction that wrote the register at an address, if any, wrote a half of a counter, whose low
 -- half is at another

@@ -8,7 +8,7 @@ use Rattle.rv_base.specs.Tables.{lookup}
 use Rattle.rv_base.specs.Halves.{with_low, with_high}
 use Rattle.rv_isa.specs.Names.{csr_names}
 use Rattle.rv_isa.specs.Number.{flag, truth}
-use Rattle.rv_isa.specs.declared.InterruptLines.{InterruptLines}
+use Rattle.rv_isa.specs.declared.Lines.{Lines}
 pub use Rattle.rv_pmp.specs.Mode.{level}
 pub use Rattle.rv_csr.specs.MayAccess.{may_read, may_write}
 use Rattle.rv_pmp.specs.Pmp.{read_register, write_register}
@@ -31,10 +31,10 @@ with_status old word =
     record { mie = flag word 3; mpie = flag word 7; mpp = mode; mprv = flag word 17; tw = flag word 21 }
 
 -- mie and mip: the software interrupt in bit 3, that of the timer in bit 7, the external one in bit 11
-unfoldable pub lines_word : InterruptLines → ℕ
+unfoldable pub lines_word : Lines → ℕ
 lines_word lines = truth lines.software * 2 ^ 3 + truth lines.timer * 2 ^ 7 + truth lines.external * 2 ^ 11
 
-unfoldable pub word_lines : ℕ → InterruptLines
+unfoldable pub word_lines : ℕ → Lines
 word_lines word = record { software = flag word 3; timer = flag word 7; external = flag word 11 }
 
 -- a word without its two lowest bits
@@ -51,7 +51,7 @@ number_of name = unwrap_or (lookup name csr_names) 0
 -- while the interrupt lines have these levels, and the state after a write of a word. misa says RV32I with M
 -- and user mode; mtvec has no bit 1. A register with no other row, as mcounteren, reads 0, and a write to it
 -- changes nothing
-unfoldable pub table : List (List ℕ × (CsrState → InterruptLines → ℕ) × (CsrState → ℕ → CsrState))
+unfoldable pub table : List (List ℕ × (CsrState → Lines → ℕ) × (CsrState → ℕ → CsrState))
 table =
     (codes "mstatus", λ s _. status_word s.mstatus, λ s w. record s { mstatus = with_status s.mstatus w })
     ∷ (codes "misa", λ s _. 0x40101100, λ s w. s)
@@ -69,14 +69,14 @@ table =
     ∷ map (λ named. (named.0, λ s _. 0, λ s w. s)) csr_names
 
 -- the row of the register at an address: the first with its number
-unfoldable pub row_at : ℕ → Option (List ℕ × (CsrState → InterruptLines → ℕ) × (CsrState → ℕ → CsrState))
+unfoldable pub row_at : ℕ → Option (List ℕ × (CsrState → Lines → ℕ) × (CsrState → ℕ → CsrState))
 row_at addr = find (λ row. addr == number_of row.0) table
 
 -- ---- reads and writes: physical memory protection has the first word about an address
 
 -- the value that a mode reads at an address, while the interrupt lines have these levels; None if no register
 -- is there, or the mode may not read it: bits 9 and 8 are the lowest level that may access it (section 2.1)
-unfoldable pub read : CsrState → ℕ → Mode → InterruptLines → Option ℕ
+unfoldable pub read : CsrState → ℕ → Mode → Lines → Option ℕ
 read state addr mode lines =
     if nat_le (addr / 2 ^ 8 % 4) (level mode)
     then option_or (read_register state.pmp addr) (option_map (λ row. row.1 state lines) (row_at addr)) else None

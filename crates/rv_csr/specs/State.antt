@@ -1,7 +1,7 @@
 -- The state of the control registers. RISC-V Privileged Architecture 20211203, section 3.1.
 -- To audit: public contracts cite this.
 use Rattle.std.specs.Prelude.{ℕ, false, replicate}
-use Rattle.rv_isa.specs.declared.InterruptLines.{InterruptLines}
+use Rattle.rv_isa.specs.declared.Lines.{Lines}
 use Rattle.rv_pmp.specs.Pmp.{PmpState, off_entry}
 use Rattle.rv_pmp.specs.declared.mode.Mode.TheVariants.{User}
 use Rattle.rv_csr.specs.declared.mstatus.Mstatus.{Mstatus}
@@ -10,7 +10,7 @@ use Rattle.rv_csr.specs.declared.mstatus.Mstatus.{Mstatus}
 -- protection
 pub record CsrState : Type 0 where
   pub mstatus : Mstatus
-  pub mie : InterruptLines
+  pub mie : Lines
   pub mtvec : ℕ
   pub mscratch : ℕ
   pub mepc : ℕ

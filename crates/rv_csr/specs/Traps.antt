@@ -4,7 +4,7 @@
 use Rattle.std.specs.Prelude.{ℕ, ◌+◌, ◌-◌, ◌*◌, ◌%◌, ◌^◌, true, false, ◌==◌, ◌&&◌, not, nat_le, if◌then◌else◌, [], ◌∷◌, find, Option, None}
 use Rattle.std.specs.Option.{option_map}
 use Rattle.rv_isa.specs.Number.{flag}
-use Rattle.rv_isa.specs.declared.InterruptLines.{InterruptLines}
+use Rattle.rv_isa.specs.declared.Lines.{Lines}
 use Rattle.rv_pmp.specs.Mode.{is_machine}
 use Rattle.rv_pmp.specs.declared.mode.Mode.{Mode}
 use Rattle.rv_pmp.specs.declared.mode.Mode.TheVariants.{User}
@@ -16,7 +16,7 @@ use Rattle.rv_csr.specs.State.{CsrState}
 -- the cause of the interrupt that is taken in a mode, if any: the first of the external one, the software one
 -- and that of the timer whose bit is 1 in mip and in mie; in machine mode none unless MIE is set. A cause is
 -- the interrupt bit with the number of that bit (section 3.1.9)
-unfoldable pub pending : CsrState → Mode → InterruptLines → Option ℕ
+unfoldable pub pending : CsrState → Mode → Lines → Option ℕ
 pending state mode lines =
     if is_machine mode && not state.mstatus.mie then None else option_map (λ code. 2 ^ 31 + code)
     (find (λ code. flag (lines_word lines) code && flag (lines_word state.mie) code) (11 ∷ 3 ∷ 7 ∷ []))

@@ -8,7 +8,7 @@ ghost use Rattle.rv_csr.specs.State.{reset};
 ghost use Rattle.rv_csr.specs.Traps as traps;
 ghost use Rattle.rv_isa.specs.Width.{bytes_of};
 ghost use Rattle.rv_isa.specs.declared.op.Width.{Width};
-ghost use Rattle.rv_isa.specs.declared.InterruptLines.{InterruptLines};
+ghost use Rattle.rv_isa.specs.declared.Lines.{Lines};
 ghost use Rattle.rv_pmp.specs.Pmp.{grants};
 ghost use Rattle.rv_pmp.specs.declared.mode.Mode.{Mode};
 ghost use Rattle.rv_pmp.specs.declared.mode.Mode.TheVariants.{User};
@@ -16,7 +16,7 @@ ghost use Rattle.rv_pmp.specs.declared.mode.Mode.TheVariants.{User};
 use crate::mstatus::{Mstatus, lines_word, word_lines};
 use crate::register::{Register, may_read, may_write, wrote_half};
 use rv_base::{high_word, low_word, with_high_word, with_low_word};
-use rv_isa::{InterruptLines, Width};
+use rv_isa::{Lines, Width};
 use rv_pmp::{Access, Mode, Pmp, Span};
 use std::marker::Model;
 
@@ -39,7 +39,7 @@ const MINSTRET: u16 = 0xB02;
 pub struct Csrs {
     mstatus: Mstatus,
     /// The interrupts that are enabled.
-    mie: InterruptLines,
+    mie: Lines,
     /// The address of the trap handler, and in the lowest bit whether each interrupt has a handler of its
     /// own.
     mtvec: u32,
@@ -93,7 +93,7 @@ impl Csrs {
                 mprv: false,
                 tw: false,
             },
-            mie: InterruptLines {
+            mie: Lines {
                 software: false,
                 timer: false,
                 external: false,
@@ -130,7 +130,7 @@ impl Csrs {
     /// Reads the register at address `addr` in a mode, while the interrupt lines have the levels `lines`.
     /// Returns None if no register is there or the mode may not read it. User mode may read none.
     #[tactic(auto, using(crate::proofs::Levels::no_load, crate::proofs::Table::read_by_cases))]
-    pub fn read(&self, addr: u16, mode: Mode, lines: InterruptLines) -> Option<u32>
+    pub fn read(&self, addr: u16, mode: Mode, lines: Lines) -> Option<u32>
         ensures value { result ≡ registers.read self.now addr mode lines }
         ensures user { mode ≡ User → result ≡ None }
     {
@@ -144,7 +144,7 @@ impl Csrs {
     }
 
     /// Returns the value of a register.
-    fn value(&self, register: Register, lines: InterruptLines) -> u32
+    fn value(&self, register: Register, lines: Lines) -> u32
         ensures { result ≡ value_of self.now lines register }
     {
         match register {
@@ -212,7 +212,7 @@ impl Csrs {
     pub fn takes_interrupts(&self, mode: Mode) -> bool
         ensures value { result
             ≡ is_some (traps.pending self.now mode (record { software = true; timer = true; external = true })) }
-        ensures none { result ≡ false → (lines : InterruptLines) → traps.pending self.now mode lines ≡ None }
+        ensures none { result ≡ false → (lines : Lines) → traps.pending self.now mode lines ≡ None }
     {
         self.any_enabled(mode)
     }
@@ -231,7 +231,7 @@ impl Csrs {
     /// levels `lines`. Of several the external interrupt comes first, then the software interrupt, then that
     /// of the timer.
     #[tactic(auto, using(crate::proofs::Pending::by_cases), unfolding(crate::specs::Interruptible::pending_by_cases))]
-    pub fn pending(&self, mode: Mode, lines: InterruptLines) -> Option<u32>
+    pub fn pending(&self, mode: Mode, lines: Lines) -> Option<u32>
         ensures { result ≡ traps.pending self.now mode lines }
     {
         if mode.is_machine() && !self.mstatus.mie {

@@ -6,7 +6,7 @@ ghost use Rattle.rv_csr.specs.Registers.{level, with_status, status_word};
 ghost use Rattle.rv_csr.specs.RegisterCases.{mode_kept};
 ghost use Rattle.rv_csr.specs.Registers as spec;
 
-use rv_isa::InterruptLines;
+use rv_isa::Lines;
 use rv_pmp::Mode;
 
 /// The fields of mstatus that this hart has. Privileged Architecture 20211203, section 3.1.6.
@@ -85,7 +85,7 @@ fn is_set(word: u32, place: u32) -> bool
 
 /// Encodes the levels of the interrupt lines as mie and mip hold them.
 #[tactic(auto, unfolding(crate::specs::Registers::lines_word))]
-pub(crate) fn lines_word(lines: InterruptLines) -> u32
+pub(crate) fn lines_word(lines: Lines) -> u32
     ensures { result ≡ spec.lines_word lines }
 {
     ((lines.software as u32) << 3) + ((lines.timer as u32) << 7) + ((lines.external as u32) << 11)
@@ -93,10 +93,10 @@ pub(crate) fn lines_word(lines: InterruptLines) -> u32
 
 /// Decodes the bits of mie.
 #[tactic(auto, unfolding(crate::specs::Registers::word_lines))]
-pub(crate) fn word_lines(word: u32) -> InterruptLines
+pub(crate) fn word_lines(word: u32) -> Lines
     ensures { result ≡ spec.word_lines word }
 {
-    InterruptLines {
+    Lines {
         software: is_set(word, 3),
         timer: is_set(word, 7),
         external: is_set(word, 11),

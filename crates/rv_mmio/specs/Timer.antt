@@ -1,7 +1,8 @@
 -- To audit: public contracts cite this.
 -- The machine timer: mtime and mtimecmp of the Privileged Architecture 20211203, section 3.2.1, and the
 -- software interrupt bit msip of section 3.1.9, each read and written by words.
-use Rattle.std.specs.Prelude.{ℕ, Bool, false, ◌+◌, ◌-◌, ◌/◌, ◌%◌, ◌^◌, ◌==◌, nat_le, if◌then◌else◌}
+use Rattle.std.specs.Prelude.{ℕ, Bool, false, ◌+◌, ◌-◌, ◌/◌, ◌%◌, ◌^◌, ◌==◌, nat_le, if◌then◌else◌, List, [], ◌∷◌, find, Option}
+use Rattle.std.specs.Option.{option_map}
 use Rattle.rv_base.specs.Halves.{with_low, with_high}
 use Rattle.rv_base.specs.Registers.{Register, register}
 use Rattle.rv_mmio.specs.declared.timer.TimerReg.{TimerReg}
@@ -32,3 +33,12 @@ at MtimecmpLow = register (λ t. t.compare % 2 ^ 32) (λ t w. record t { compare
 at MtimecmpHigh = register (λ t. t.compare / 2 ^ 32) (λ t w. record t { compare = with_high t.compare w })
 at MtimeLow = register (λ t. t.time % 2 ^ 32) (λ t w. record t { time = with_low t.time w })
 at MtimeHigh = register (λ t. t.time / 2 ^ 32) (λ t w. record t { time = with_high t.time w })
+
+-- where each register lies, in bytes from the timer's first address
+abbrev pub offsets : List (ℕ × TimerReg)
+offsets =
+    (0, Msip) ∷ (0x4000, MtimecmpLow) ∷ (0x4004, MtimecmpHigh) ∷ (0xbff8, MtimeLow) ∷ (0xbffc, MtimeHigh) ∷ []
+
+-- the register at an offset, if there is one
+abbrev pub register_at : ℕ → Option TimerReg
+register_at off = option_map (λ row. row.1) (find (λ row. off == row.0) offsets)

@@ -1,6 +1,7 @@
 //! The machine timer.
 ghost use Rattle.std.specs.Prelude.{◌≡◌};
-ghost use Rattle.rv_mmio.specs.Timer.{reset, ticked, is_due, at};
+ghost use Rattle.std.specs.Option.{option_map, option_map_or};
+ghost use Rattle.rv_mmio.specs.Timer.{reset, ticked, is_due, at, register_at};
 
 use rv_base::{high_word, low_word, with_high_word, with_low_word};
 use std::marker::Model;
@@ -21,6 +22,22 @@ pub enum TimerReg {
     MtimeLow,
     /// The high word of mtime.
     MtimeHigh,
+}
+
+impl TimerReg {
+    /// Returns the register at an offset in bytes from the timer's first address, if there is one.
+    pub fn at(off: u32) -> Option<TimerReg>
+        ensures { result ≡ register_at off }
+    {
+        match off {
+            0 => Some(TimerReg::Msip),
+            0x4000 => Some(TimerReg::MtimecmpLow),
+            0x4004 => Some(TimerReg::MtimecmpHigh),
+            0xbff8 => Some(TimerReg::MtimeLow),
+            0xbffc => Some(TimerReg::MtimeHigh),
+            _ => None,
+        }
+    }
 }
 
 /// The machine timer: the time, the time at which its interrupt line rises, and the level of the software
@@ -97,8 +114,29 @@ impl Timer {
         self.time >= self.compare
     }
 
-    /// Loads a register: returns its word.
-    pub fn load(&self, reg: TimerReg) -> u32
+    /// Loads the word at an offset in bytes from the timer's first address.
+    ///
+    /// Returns `None` where no register is.
+    pub fn load(&self, off: u32) -> Option<u32>
+        ensures { result ≡ option_map (λ reg. (at reg).word self.now) (register_at off) }
+    {
+        TimerReg::at(off).map(|reg| self.word(reg))
+    }
+
+    /// Stores a word at an offset in bytes from the timer's first address.
+    ///
+    /// Returns `None`, and changes nothing, where no register is.
+    pub fn store(&mut self, off: u32, word: u32) -> Option<()>
+        ensures result { result ≡ option_map (λ _. tt) (register_at off) }
+        ensures after { self.new ≡ option_map_or (λ reg. (at reg).stored self.old word) (register_at off) self.old }
+    {
+        let reg = TimerReg::at(off)?;
+        self.set_word(reg, word);
+        Some(())
+    }
+
+    /// Returns the word of a register.
+    pub fn word(&self, reg: TimerReg) -> u32
         ensures { result ≡ (at reg).word self.now }
     {
         match reg {
@@ -111,7 +149,7 @@ impl Timer {
     }
 
     /// Stores a word in a register. The software interrupt bit keeps bit 0.
-    pub fn store(&mut self, reg: TimerReg, word: u32)
+    pub fn set_word(&mut self, reg: TimerReg, word: u32)
         ensures { self.new ≡ (at reg).stored self.old word }
     {
         match reg {

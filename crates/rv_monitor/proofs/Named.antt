@@ -6,7 +6,7 @@ use Rattle.std.specs.Str.{bytes_eq}
 use Rattle.std.specs.Prelude.{Option, Some, None, ◌&&◌, is_some, IsSome, if◌then◌else◌}
 use Rattle.rv_base.specs.Tables.{lookup}
 use Rattle.rv_isa.specs.Names.{csr_names}
-use Rattle.rv_isa.specs.declared.InterruptLines.{InterruptLines}
+use Rattle.rv_isa.specs.declared.Lines.{Lines}
 use Rattle.rv_pmp.specs.Pmp.{read_register}
 use Rattle.rv_pmp.specs.declared.mode.Mode.TheVariants.{Machine}
 use Rattle.rv_csr.specs.Registers.{may_read, read}
@@ -16,25 +16,25 @@ use Rattle.rv_csr.specs.State.{CsrState}
 use Rattle.rv_board.specs.State.{BoardState, csr_of}
 use Rattle.rv_bus.specs.Access.{lines_of}
 
-abbrev is_read : CsrState → InterruptLines → ℕ → Bool
+abbrev is_read : CsrState → Lines → ℕ → Bool
 is_read state lines addr = is_some (read state addr Machine lines)
 
-abbrev is_read_by_cases : CsrState → InterruptLines → ℕ → Bool
+abbrev is_read_by_cases : CsrState → Lines → ℕ → Bool
 is_read_by_cases state lines addr =
     is_some (if may_read addr Machine then value_at state lines addr (register_at addr) else None)
 
-all_by_cases : (state : CsrState) (lines : InterruptLines) →
+all_by_cases : (state : CsrState) (lines : Lines) →
     list_all (λ e. is_read_by_cases state lines e.1) csr_names ≡ true
 unfolding csr_names digits register_at read_register
 all_by_cases state lines = refl
 
-as_cases : (state : CsrState) (lines : InterruptLines) (es : List (List ℕ × ℕ)) →
+as_cases : (state : CsrState) (lines : Lines) (es : List (List ℕ × ℕ)) →
     list_all (λ e. is_read state lines e.1) es ≡ list_all (λ e. is_read_by_cases state lines e.1) es
 as_cases state lines [] = refl
 as_cases state lines (e ∷ es) =
     λ i. is_some (read_by_cases state e.1 Machine lines i) && as_cases state lines es i
 
-all_are_read : (state : CsrState) (lines : InterruptLines) →
+all_are_read : (state : CsrState) (lines : Lines) →
     list_all (λ e. is_read state lines e.1) csr_names ≡ true
 all_are_read state lines = as_cases state lines csr_names ∙ all_by_cases state lines
 

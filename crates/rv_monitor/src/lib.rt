@@ -11,6 +11,7 @@ mod timed;
 mod views;
 
 pub use command::Next;
+pub use rv_lists::{Timeline, TimelineFault};
 pub use session::{Session, breakpoints_are_a_set, calls_join, given_as_listed};
 pub use stop::Stop;
 pub use views::{

@@ -556,7 +556,7 @@ grants_each pmp mode access first count i h granted =
     by_list pmp mode access (first + i) 1
     ∙ answer_each mode access first count i 0 pmp.entries h (sym (by_list pmp mode access first count) ∙ granted)
 
--- the answer of `allows`: that of the entry that decides, or that of the mode
+-- the answer of `allowed`: that of the entry that decides, or that of the mode
 pub grants-some : (pmp : PmpState) (mode : Mode) (access : Access) (first count : ℕ) (granted : Bool)
     → 0 < count
     → decision mode access first (first + count) (actives_from 0 pmp.entries) ≡ Some granted

@@ -190,7 +190,7 @@ impl Pmp {
     /// Whether `mode` is granted access to `width` bytes from address `addr` on, which needn't be aligned.
     #[inline(always)]
     #[tactic(auto, using(crate::proofs::Decision::quick_answers))]
-    pub fn allows(&self, mode: Mode, access: Access, addr: u32, width: Width) -> bool
+    pub fn allowed(&self, mode: Mode, access: Access, addr: u32, width: Width) -> bool
         ensures { result ≡ grants self.now mode access addr (bytes_of width) }
     {
         if !self.any_on {
@@ -199,7 +199,7 @@ impl Pmp {
         self.entries_grant(mode, access, addr, width)
     }
 
-    /// Whether the entries grant the access. Out of line, so that `allows` stays short for when no entry is
+    /// Whether the entries grant the access. Out of line, so that `allowed` stays short for when no entry is
     /// on.
     #[inline(never)]
     #[tactic(auto, using(crate::proofs::Decision::quick_answers))]
@@ -223,7 +223,7 @@ impl Pmp {
         }
     }
 
-    /// Returns what `allows` does, by the permission cache. If user mode is granted an access, the cache
+    /// Returns what `allowed` does, by the permission cache. If user mode is granted an access, the cache
     /// keeps the span round it in which user mode is granted all accesses of that kind, so that the next ones
     /// there ask no entry.
     #[inline(always)]
@@ -239,7 +239,7 @@ impl Pmp {
                 self.permissions.span_for(access).holds(first, end)
                     || self.admits_user(access, addr, width)
             }
-            Mode::Machine => self.allows(mode, access, addr, width),
+            Mode::Machine => self.allowed(mode, access, addr, width),
         }
     }
 

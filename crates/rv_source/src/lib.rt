@@ -23,6 +23,7 @@ pub use operand::{Form, Operand, Part};
 pub use place::{Spot, fault_spot, operand_place, token_place, whole_line, word_index};
 pub use reader::read_line;
 pub use row::Role;
+pub use rv_base::{Cut, cut_lines};
 pub use rv_tokens::{Direction, LineFault, Name, Place, Text};
 pub use shape::{Shape, shape_of, word_at};
 pub use statement::{Statement, Strings, Value, Values};

@@ -14,7 +14,7 @@ fn first_word() -> Option<Pmp> {
 
 /// Whether an access of four bytes is allowed.
 fn allows(mode: Mode, access: Access, addr: u32) -> Option<bool> {
-    Some(first_word()?.allows(mode, access, addr, Width::Four))
+    Some(first_word()?.allowed(mode, access, addr, Width::Four))
 }
 
 #[test]

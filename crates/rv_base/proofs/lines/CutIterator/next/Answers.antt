@@ -1,6 +1,6 @@
 use Rattle.std.proofs.Common.{◌≡◌, [], sym, ◌∙◌, arith}
 use Rattle.rv_base.proofs.LineSplitting.{lines_end}
-use Rattle.rv_base.proofs.lines.TextLinesIterator.next.Goals as goal
+use Rattle.rv_base.proofs.lines.CutIterator.next.Goals as goal
 
 pub returns-then-is_empty-clause-steps : goal.returns-then-is_empty-clause-steps
 returns-then-is_empty-clause-steps c =
