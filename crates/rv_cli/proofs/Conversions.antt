@@ -11,18 +11,19 @@ use Rattle.rv_words.specs.declared.Options.{Options}
 use Rattle.rv_cli.specs.Conversions.{unopened_fault, unread_fault}
 use Rattle.rv_cli.specs.Meanings.{IsRunOf, OpensFor, RefusedBy}
 use Rattle.rv_cli.specs.Output.{IsOutput}
-use Rattle.rv_cli.specs.declared.fault.CliFault.TheVariants.{Read}
+use Rattle.rv_cli.specs.declared.fault.CliFault.TheVariants.{ReadInput, ReadSource}
+use Rattle.rv_board.specs.declared.event.BootFault.TheVariants as boot_fault
 use Rattle.rv_cli.specs.declared.fault.Ending.{Ending}
 
 -- ---- texts that were not read
 
-pub is_source : (why : ReadFault) → unread_fault why ≡ Read text.Source → why ≡ read.Unreadable text.Source
+pub is_source : (why : ReadFault) → unread_fault why ≡ ReadSource → why ≡ read.Unreadable text.Source
 is_source (read.Unreadable text.Source) e = refl
 is_source (read.Unreadable text.Input) e = cc
 is_source (read.Unreadable text.Commands) e = cc
 is_source read.OutOfMemory e = cc
 
-pub is_input : (why : ReadFault) → unread_fault why ≡ Read text.Input → why ≡ read.Unreadable text.Input
+pub is_input : (why : ReadFault) → unread_fault why ≡ ReadInput → why ≡ read.Unreadable text.Input
 is_input (read.Unreadable text.Source) e = cc
 is_input (read.Unreadable text.Input) e = refl
 is_input (read.Unreadable text.Commands) e = cc
@@ -34,7 +35,10 @@ pub opening_refused : (texts : Texts) (options : Options) (why : OpenFault) → 
     → RefusedBy (IsOutput texts options) (unopened_fault why)
 opening_refused texts options (open_fault.Source why) h = (λ e. cc, h)
 opening_refused texts options (open_fault.Input n) h = (λ e. cc, h)
-opening_refused texts options (open_fault.Board why) h = (λ e. cc, h)
+opening_refused texts options (open_fault.Board boot_fault.BadPages) h = (λ e. cc, h)
+opening_refused texts options (open_fault.Board boot_fault.BadSlots) h = (λ e. cc, h)
+opening_refused texts options (open_fault.Board boot_fault.ImageTooLarge) h = (λ e. cc, h)
+opening_refused texts options (open_fault.Board boot_fault.OutOfMemory) h = tt
 opening_refused texts options open_fault.OutOfMemory h = tt
 
 -- ---- texts that open a session

@@ -10,7 +10,8 @@ use Rattle.rv_texts.specs.declared.fault.ReadFault.{ReadFault}
 use Rattle.rv_texts.specs.declared.fault.ReadFault.TheVariants as read
 use Rattle.rv_cli.specs.Conversions.{unread_fault}
 use Rattle.rv_cli.specs.declared.fault.CliFault.{CliFault}
-use Rattle.rv_cli.specs.declared.fault.CliFault.TheVariants.{Open, OutOfMemory, Read, Write}
+use Rattle.rv_cli.specs.declared.fault.CliFault.TheVariants.{ReadSource, ReadInput, ReadCommands, Source, Input, BadPages, BadSlots, ImageTooLarge, OutOfMemory, Write}
+use Rattle.rv_texts.specs.declared.fault.TextName.TheVariants as text
 use Rattle.rv_cli.specs.declared.fault.Ending.{Ending}
 use Rattle.rv_cli.specs.Meanings.{RefusedBy}
 use Rattle.rv_cli.specs.Output.{IsOutput}
@@ -37,16 +38,24 @@ are_sound r texts g = (
 -- the texts were not read
 pub refused_unread : (r : Readers) (out : Side) (options : Options) (why : ReadFault) → Reads r (Err why) →
     Runs r out options (Err (unread_fault why))
-refused_unread r out options (read.Unreadable name) h = h
+refused_unread r out options (read.Unreadable text.Source) h = h
+refused_unread r out options (read.Unreadable text.Input) h = h
+refused_unread r out options (read.Unreadable text.Commands) h = h
 refused_unread r out options read.OutOfMemory h = h
 
 -- the texts were read, and are refused by what they mean
 pub refused_by : (r : Readers) (out : Side) (options : Options) (texts : Texts) (fault : CliFault) →
     Reads r (Ok texts)
     → RefusedBy (IsOutput texts options) fault → Runs r out options (Err fault)
-refused_by r out options texts (Open fault) g h = (texts, g, h)
+refused_by r out options texts (Source fault) g h = (texts, g, h)
+refused_by r out options texts (Input line) g h = (texts, g, h)
+refused_by r out options texts BadPages g h = (texts, g, h)
+refused_by r out options texts BadSlots g h = (texts, g, h)
+refused_by r out options texts ImageTooLarge g h = (texts, g, h)
 refused_by r out options texts OutOfMemory g h = are_sound r texts g
-refused_by r out options texts (Read name) g h = absurd h
+refused_by r out options texts ReadSource g h = absurd h
+refused_by r out options texts ReadInput g h = absurd h
+refused_by r out options texts ReadCommands g h = absurd h
 refused_by r out options texts Write g h = absurd h
 
 -- the text that the run prints was written

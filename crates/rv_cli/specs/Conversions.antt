@@ -1,18 +1,37 @@
 -- The faults of a run by the errors of its parts.
 -- Not to audit: `?` takes these steps, and `Runs` says of each fault when it comes.
+use Rattle.rv_board.specs.declared.event.BootFault.{BootFault}
+use Rattle.rv_board.specs.declared.event.BootFault.TheVariants as boot_fault
 use Rattle.rv_opening.specs.declared.fault.OpenFault.{OpenFault}
 use Rattle.rv_opening.specs.declared.fault.OpenFault.TheVariants as open_fault
 use Rattle.rv_texts.specs.declared.fault.ReadFault.{ReadFault}
 use Rattle.rv_texts.specs.declared.fault.ReadFault.TheVariants as read
+use Rattle.rv_texts.specs.declared.fault.TextName.{TextName}
+use Rattle.rv_texts.specs.declared.fault.TextName.TheVariants as text
 use Rattle.rv_cli.specs.declared.fault.CliFault.{CliFault}
-use Rattle.rv_cli.specs.declared.fault.CliFault.TheVariants.{Open, OutOfMemory, Read}
+use Rattle.rv_cli.specs.declared.fault.CliFault.TheVariants as cli
+
+-- the fault of a text that can't be read
+abbrev pub unreadable : TextName → CliFault
+unreadable text.Source = cli.ReadSource
+unreadable text.Input = cli.ReadInput
+unreadable text.Commands = cli.ReadCommands
 
 -- the fault of texts that were not read
 abbrev pub unread_fault : ReadFault → CliFault
-unread_fault (read.Unreadable text) = Read text
-unread_fault read.OutOfMemory = OutOfMemory
+unread_fault (read.Unreadable name) = unreadable name
+unread_fault read.OutOfMemory = cli.OutOfMemory
+
+-- the fault of a board that isn't booted
+abbrev pub unbooted_fault : BootFault → CliFault
+unbooted_fault boot_fault.BadPages = cli.BadPages
+unbooted_fault boot_fault.BadSlots = cli.BadSlots
+unbooted_fault boot_fault.ImageTooLarge = cli.ImageTooLarge
+unbooted_fault boot_fault.OutOfMemory = cli.OutOfMemory
 
 -- the fault of texts that open no session
 abbrev pub unopened_fault : OpenFault → CliFault
-unopened_fault open_fault.OutOfMemory = OutOfMemory
-unopened_fault why = Open why
+unopened_fault (open_fault.Source fault) = cli.Source fault
+unopened_fault (open_fault.Input line) = cli.Input line
+unopened_fault (open_fault.Board why) = unbooted_fault why
+unopened_fault open_fault.OutOfMemory = cli.OutOfMemory

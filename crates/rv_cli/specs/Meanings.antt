@@ -10,7 +10,9 @@ use Rattle.rv_words.specs.declared.Options.{Options}
 use Rattle.std.specs.Option.{option_map_or}
 use Rattle.rv_cli.specs.Output.{Does, printed}
 use Rattle.rv_cli.specs.declared.fault.CliFault.{CliFault}
-use Rattle.rv_cli.specs.declared.fault.CliFault.TheVariants.{Open, OutOfMemory}
+use Rattle.rv_cli.specs.declared.fault.CliFault.TheVariants.{BadPages, BadSlots, ImageTooLarge, Input, OutOfMemory, Source}
+use Rattle.rv_board.specs.declared.event.BootFault.TheVariants as boot_fault
+use Rattle.rv_opening.specs.declared.fault.OpenFault.TheVariants as open_fault
 use Rattle.rv_cli.specs.declared.fault.Ending.{Ending}
 use Rattle.rv_cli.specs.declared.fault.Ending.TheVariants.{Halted, Running}
 
@@ -36,5 +38,9 @@ pub record IsRunOf (commands : Option (List ℕ)) (first : SessionState) (result
 -- the fault is one that the texts mean, unless memory ran out, and none of a reader or the writer
 abbrev pub RefusedBy : {A : Type 0} → (Result A OpenFault → Type 0) → CliFault → Type 0
 RefusedBy IsMeant OutOfMemory = ⊤
-RefusedBy IsMeant (Open why) = IsMeant (Err why)
+RefusedBy IsMeant (Source fault) = IsMeant (Err (open_fault.Source fault))
+RefusedBy IsMeant (Input line) = IsMeant (Err (open_fault.Input line))
+RefusedBy IsMeant BadPages = IsMeant (Err (open_fault.Board boot_fault.BadPages))
+RefusedBy IsMeant BadSlots = IsMeant (Err (open_fault.Board boot_fault.BadSlots))
+RefusedBy IsMeant ImageTooLarge = IsMeant (Err (open_fault.Board boot_fault.ImageTooLarge))
 RefusedBy IsMeant fault = ⊥

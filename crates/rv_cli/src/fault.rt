@@ -4,7 +4,7 @@ ghost use Rattle.rv_monitor.specs.Views as spec;
 ghost use Rattle.rv_cli.specs.Shown.{IsAppended, input_line_of};
 ghost use Rattle.rv_cli.specs.Faults.{fault_row, status_of};
 ghost use Rattle.rv_cli.specs.Numbered.{has_number, line_of, source_line_of};
-ghost use Rattle.rv_cli.specs.declared.fault.CliFault.TheVariants.{Read};
+ghost use Rattle.rv_cli.specs.Conversions.{unreadable};
 
 use rv_base::NoMemory;
 use rv_board::BootFault;
@@ -23,21 +23,39 @@ pub enum Ending {
     Running,
 }
 
-/// The reason why a run has no ending.
+/// The reason why a run has no ending, numbered from 1 to 10 in this order.
 ///
 /// `Display` writes the variant's name; `fault_line` appends the line that is printed.
 #[derive(Clone, Copy, Debug, PartialEq, Eq, Error)]
 pub enum CliFault {
-    /// A text's reader failed, or gave more than 16,777,216 bytes.
-    #[error("Read")]
-    Read(TextName),
-    /// The texts open no session: the source, the timed list or a size of the board is refused.
-    #[error("Open")]
-    Open(OpenFault),
-    /// Memory ran out.
+    /// 1: the source's reader failed, or gave more than 16,777,216 bytes.
+    #[error("ReadSource")]
+    ReadSource,
+    /// 2: the same of the timed list.
+    #[error("ReadInput")]
+    ReadInput,
+    /// 3: the same of the commands.
+    #[error("ReadCommands")]
+    ReadCommands,
+    /// 4: the source is refused, but not for memory.
+    #[error("Source")]
+    Source(AsmFault),
+    /// 5: the timed list is refused; the first refused line, from 1.
+    #[error("Input")]
+    Input(usize),
+    /// 6: the number of pages is out of range.
+    #[error("BadPages")]
+    BadPages,
+    /// 7: the number of slots is out of range, or no power of two.
+    #[error("BadSlots")]
+    BadSlots,
+    /// 8: the image is larger than the memory.
+    #[error("ImageTooLarge")]
+    ImageTooLarge,
+    /// 9: memory ran out.
     #[error("OutOfMemory")]
     OutOfMemory,
-    /// The writer failed, or took none of some bytes.
+    /// 10: the writer failed, or took none of some bytes.
     #[error("Write")]
     Write,
 }
@@ -54,6 +72,22 @@ impl From<NoMemory> for CliFault {
     }
 }
 
+/// A text that can't be read: its file isn't opened, its reader fails, or it is too long.
+impl From<TextName> for CliFault {
+    ghost use Rattle.std.specs.Prelude.{◌≡◌};
+    ghost use Rattle.rv_cli.specs.Conversions.{unreadable};
+
+    ghost from_gives = { λ text fault. fault ≡ unreadable text };
+
+    fn from(text: TextName) -> Self {
+        match text {
+            TextName::Source => CliFault::ReadSource,
+            TextName::Input => CliFault::ReadInput,
+            TextName::Commands => CliFault::ReadCommands,
+        }
+    }
+}
+
 /// The fault of texts that were not read.
 impl From<ReadFault> for CliFault {
     ghost use Rattle.std.specs.Prelude.{◌≡◌};
@@ -63,8 +97,25 @@ impl From<ReadFault> for CliFault {
 
     fn from(why: ReadFault) -> Self {
         match why {
-            ReadFault::Unreadable(text) => CliFault::Read(text),
+            ReadFault::Unreadable(text) => CliFault::from(text),
             ReadFault::OutOfMemory => CliFault::OutOfMemory,
+        }
+    }
+}
+
+/// The fault of a board that isn't booted.
+impl From<BootFault> for CliFault {
+    ghost use Rattle.std.specs.Prelude.{◌≡◌};
+    ghost use Rattle.rv_cli.specs.Conversions.{unbooted_fault};
+
+    ghost from_gives = { λ why fault. fault ≡ unbooted_fault why };
+
+    fn from(why: BootFault) -> Self {
+        match why {
+            BootFault::BadPages => CliFault::BadPages,
+            BootFault::BadSlots => CliFault::BadSlots,
+            BootFault::ImageTooLarge => CliFault::ImageTooLarge,
+            BootFault::OutOfMemory => CliFault::OutOfMemory,
         }
     }
 }
@@ -78,8 +129,10 @@ impl From<OpenFault> for CliFault {
 
     fn from(why: OpenFault) -> Self {
         match why {
+            OpenFault::Source(fault) => CliFault::Source(fault),
+            OpenFault::Input(line) => CliFault::Input(line),
+            OpenFault::Board(why) => CliFault::from(why),
             OpenFault::OutOfMemory => CliFault::OutOfMemory,
-            _ => CliFault::Open(why),
         }
     }
 }
@@ -99,11 +152,11 @@ impl From<OutFailed> for CliFault {
 /// Returns the file of a text, or the fault of the text's reader if the file can't be opened.
 pub fn file_or_fault<F: Drop>(text: TextName, file: io::Result<F>) -> Result<F, CliFault>
     ensures ok { IfOk file (λ f. result ≡ Ok f) }
-    ensures err { IfErr file (λ _. result ≡ Err (Read text)) }
+    ensures err { IfErr file (λ _. result ≡ Err (unreadable text)) }
 {
     match file {
         Ok(file) => Ok(file),
-        Err(_) => Err(CliFault::Read(text)),
+        Err(_) => Err(CliFault::from(text)),
     }
 }
 
@@ -141,15 +194,14 @@ fn plain_line(fault: CliFault) -> &'static str
     ensures { result.now ≡ line_of fault }
 {
     match fault {
-        CliFault::Read(TextName::Source) => "cannot read source\n",
-        CliFault::Read(TextName::Input) => "cannot read input\n",
-        CliFault::Read(TextName::Commands) => "cannot read commands\n",
-        CliFault::Open(OpenFault::Source(_) | OpenFault::Input(_)) => unreachable!(),
-        CliFault::Open(OpenFault::Board(BootFault::BadPages)) => "bad pages\n",
-        CliFault::Open(OpenFault::Board(BootFault::BadSlots)) => "bad slots\n",
-        CliFault::Open(OpenFault::Board(BootFault::ImageTooLarge)) => "image too large\n",
-        CliFault::Open(OpenFault::Board(BootFault::OutOfMemory)) => "out of memory\n",
-        CliFault::Open(OpenFault::OutOfMemory) | CliFault::OutOfMemory => "out of memory\n",
+        CliFault::ReadSource => "cannot read source\n",
+        CliFault::ReadInput => "cannot read input\n",
+        CliFault::ReadCommands => "cannot read commands\n",
+        CliFault::Source(_) | CliFault::Input(_) => unreachable!(),
+        CliFault::BadPages => "bad pages\n",
+        CliFault::BadSlots => "bad slots\n",
+        CliFault::ImageTooLarge => "image too large\n",
+        CliFault::OutOfMemory => "out of memory\n",
         CliFault::Write => "cannot write\n",
     }
 }
@@ -182,8 +234,8 @@ pub fn fault_line(fault: &CliFault, line: &mut Vec<u8>) -> Result<(), NoMemory>
     ensures err { OnErr result (line.new.items ≡ line.old.items) }
 {
     match *fault {
-        CliFault::Open(OpenFault::Source(fault)) => append_line(&SourceLine(fault), line),
-        CliFault::Open(OpenFault::Input(number)) => append_line(&InputLine(number), line),
+        CliFault::Source(fault) => append_line(&SourceLine(fault), line),
+        CliFault::Input(number) => append_line(&InputLine(number), line),
         other => append(plain_line(other), line),
     }
 }
@@ -193,11 +245,10 @@ fn status_of_fault(fault: CliFault) -> u8
     ensures { result ≡ (fault_row fault).1 }
 {
     match fault {
-        CliFault::Open(OpenFault::Source(_) | OpenFault::Input(_)) => 3,
-        CliFault::Open(OpenFault::Board(BootFault::BadPages | BootFault::BadSlots)) => 3,
-        CliFault::Open(OpenFault::Board(BootFault::ImageTooLarge)) => 3,
-        CliFault::Open(OpenFault::Board(BootFault::OutOfMemory) | OpenFault::OutOfMemory) => 4,
-        CliFault::Read(_) | CliFault::OutOfMemory | CliFault::Write => 4,
+        CliFault::Source(_) | CliFault::Input(_) => 3,
+        CliFault::BadPages | CliFault::BadSlots | CliFault::ImageTooLarge => 3,
+        CliFault::ReadSource | CliFault::ReadInput | CliFault::ReadCommands => 4,
+        CliFault::OutOfMemory | CliFault::Write => 4,
     }
 }
 

@@ -12,8 +12,6 @@ mod status;
 pub use fault::{CliFault, Ending, exit_status, fault_line, file_or_fault};
 pub use laws::one_output;
 pub use run::run_text;
-pub use rv_board::BootFault;
-pub use rv_opening::OpenFault;
 pub use rv_texts::{
     FileIn, FileOut, InFailed, MemoryIn, MemoryOut, OutFailed, ReadFault, TextIn, TextName, TextOut,
 };

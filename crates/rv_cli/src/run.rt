@@ -5,8 +5,7 @@ ghost use Rattle.rv_cli.specs.Meanings.{IsRunOf, OpensFor, RefusedBy};
 ghost use Rattle.rv_cli.specs.Run.{Runs};
 ghost use Rattle.rv_texts.specs.Texts.{side, side_if};
 ghost use Rattle.rv_texts.specs.Within.{AreWithin};
-ghost use Rattle.rv_texts.specs.declared.fault.TextName.TheVariants.{Input, Source};
-ghost use Rattle.rv_cli.specs.declared.fault.CliFault.TheVariants.{Read, Write};
+ghost use Rattle.rv_cli.specs.declared.fault.CliFault.TheVariants.{ReadInput, ReadSource, Write};
 
 use crate::fault::{CliFault, Ending};
 use crate::print::{ending, print_board};
@@ -74,10 +73,9 @@ fn open_and_run(alloc: Global, texts: &Texts, options: Options) -> Result<Printe
 ///
 /// # Errors
 ///
-/// The first fault that applies, in the order `Read` of the source, the timed list and the commands, `Open` of
-/// the source, the timed list and the sizes of the board, `Write`. Only `Write` leaves anything written: a
-/// beginning of the text. After a reader's fault the readers that follow are not touched. `OutOfMemory` may
-/// stand in place of any result but a fault that a reader or the writer had.
+/// The first fault that applies, in the order of its numbers; `OutOfMemory` alone may stand in place of any
+/// result but a fault that a reader or the writer had. Only `Write` leaves anything written: a prefix of the
+/// text. After a reader's fault the readers that follow are not touched.
 pub fn run_text<S: TextIn, I: TextIn, C: TextIn, W: TextOut>(
     alloc: Global,
     source: &mut S,
@@ -107,9 +105,9 @@ pub fn run_text<S: TextIn, I: TextIn, C: TextIn, W: TextOut>(
     }) }
 
     // After a reader's fault no reader that follows is touched.
-    ensures after_source { IfErr result (λ fault. fault ≡ Read Source → (inputs.new ≡ inputs.old)
+    ensures after_source { IfErr result (λ fault. fault ≡ ReadSource → (inputs.new ≡ inputs.old)
         × (commands.new ≡ commands.old)) }
-    ensures after_inputs { IfErr result (λ fault. fault ≡ Read Input → commands.new ≡ commands.old) }
+    ensures after_inputs { IfErr result (λ fault. fault ≡ ReadInput → commands.new ≡ commands.old) }
 {
     let texts = read_texts(alloc, source, inputs, commands)?;
     let printed = open_and_run(alloc, &texts, options)?;

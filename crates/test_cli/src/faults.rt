@@ -1,6 +1,6 @@
 //! The lines and the exit statuses of faults, and files that can't be opened.
 use rv_asm::{AsmFault, FaultKind};
-use rv_cli::{BootFault, CliFault, OpenFault, TextName, exit_status, fault_line, file_or_fault};
+use rv_cli::{CliFault, TextName, exit_status, fault_line, file_or_fault};
 use std::alloc::Global;
 use std::io;
 use std::test::Fail;
@@ -28,50 +28,30 @@ const SOURCE: AsmFault = AsmFault {
 
 static ROWS: [Row; 10] = [
     (
-        CliFault::Read(TextName::Source),
-        "Read",
+        CliFault::ReadSource,
+        "ReadSource",
         "cannot read source\n",
         4,
     ),
+    (CliFault::ReadInput, "ReadInput", "cannot read input\n", 4),
     (
-        CliFault::Read(TextName::Input),
-        "Read",
-        "cannot read input\n",
-        4,
-    ),
-    (
-        CliFault::Read(TextName::Commands),
-        "Read",
+        CliFault::ReadCommands,
+        "ReadCommands",
         "cannot read commands\n",
         4,
     ),
+    (CliFault::Input(3), "Input", "input line 3: refused\n", 3),
     (
-        CliFault::Open(OpenFault::Input(3)),
-        "Open",
-        "input line 3: refused\n",
-        3,
-    ),
-    (
-        CliFault::Open(OpenFault::Source(SOURCE)),
-        "Open",
+        CliFault::Source(SOURCE),
+        "Source",
         "source line 3: E6 DuplicateSymbol\n",
         3,
     ),
+    (CliFault::BadPages, "BadPages", "bad pages\n", 3),
+    (CliFault::BadSlots, "BadSlots", "bad slots\n", 3),
     (
-        CliFault::Open(OpenFault::Board(BootFault::BadPages)),
-        "Open",
-        "bad pages\n",
-        3,
-    ),
-    (
-        CliFault::Open(OpenFault::Board(BootFault::BadSlots)),
-        "Open",
-        "bad slots\n",
-        3,
-    ),
-    (
-        CliFault::Open(OpenFault::Board(BootFault::ImageTooLarge)),
-        "Open",
+        CliFault::ImageTooLarge,
+        "ImageTooLarge",
         "image too large\n",
         3,
     ),
@@ -98,10 +78,10 @@ fn fault_of(text: TextName, kind: io::ErrorKind) -> Option<CliFault> {
 #[test]
 fn an_unopened_file_is_its_reader_s_fault(rt: HostRuntime) {
     let found = fault_of(TextName::Source, io::ErrorKind::PermissionDenied);
-    assert!(rt; found == Some(CliFault::Read(TextName::Source)));
+    assert!(rt; found == Some(CliFault::ReadSource));
     let found = fault_of(TextName::Input, io::ErrorKind::NotFound);
-    assert!(rt; found == Some(CliFault::Read(TextName::Input)));
+    assert!(rt; found == Some(CliFault::ReadInput));
     let found = fault_of(TextName::Commands, io::ErrorKind::NotFound);
-    assert!(rt; found == Some(CliFault::Read(TextName::Commands)));
+    assert!(rt; found == Some(CliFault::ReadCommands));
     assert!(rt; file_or_fault(TextName::Source, Ok(7u8)) == Ok(7));
 }

@@ -2,7 +2,7 @@
 ghost use Rattle.std.specs.Prelude.{◌≡◌, false};
 
 use crate::runs::{DEFAULTS, HELLO};
-use rv_cli::{CliFault, Ending, MemoryIn, MemoryOut, OpenFault, TextName, TextOut, run_text};
+use rv_cli::{CliFault, Ending, MemoryIn, MemoryOut, TextOut, run_text};
 use std::alloc::Global;
 
 /// Returns a reader over memory, whose first call fails where `fails` says so.
@@ -42,23 +42,11 @@ fn run(
 type Row = (&'static [u8], (bool, bool, bool), CliFault);
 
 static ROWS: [Row; 5] = [
-    (HELLO, (true, true, true), CliFault::Read(TextName::Source)),
-    (HELLO, (false, true, true), CliFault::Read(TextName::Input)),
-    (
-        b"foo",
-        (false, true, false),
-        CliFault::Read(TextName::Input),
-    ),
-    (
-        b"foo",
-        (false, false, true),
-        CliFault::Read(TextName::Commands),
-    ),
-    (
-        HELLO,
-        (false, false, false),
-        CliFault::Open(OpenFault::Input(1)),
-    ),
+    (HELLO, (true, true, true), CliFault::ReadSource),
+    (HELLO, (false, true, true), CliFault::ReadInput),
+    (b"foo", (false, true, false), CliFault::ReadInput),
+    (b"foo", (false, false, true), CliFault::ReadCommands),
+    (HELLO, (false, false, false), CliFault::Input(1)),
 ];
 
 // The texts are read in order, and all of them before the first one is judged.

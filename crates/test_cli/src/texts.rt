@@ -3,8 +3,8 @@ ghost use Rattle.std.specs.Prelude.{◌≡◌, false};
 
 use crate::runs::{DEFAULTS, HELLO};
 use rv_cli::{
-    CliFault, Ending, FileIn, FileOut, InFailed, MemoryIn, MemoryOut, Options, TextIn, TextName,
-    TextOut, exit_status, run_text,
+    CliFault, Ending, FileIn, FileOut, InFailed, MemoryIn, MemoryOut, Options, TextIn, TextOut,
+    exit_status, run_text,
 };
 use std::alloc::Global;
 use std::io::{self, ErrorKind, Read, Write};
@@ -37,7 +37,7 @@ fn reads_and_writes_a_byte_a_call(rt: HostRuntime) {
 /// How runs of `HELLO` end, and runs whose source can't be read, or whose text can't be written.
 const HALTED: Result<Ending, CliFault> = Ok(Ending::Halted(0));
 
-const UNREAD: Result<Ending, CliFault> = Err(CliFault::Read(TextName::Source));
+const UNREAD: Result<Ending, CliFault> = Err(CliFault::ReadSource);
 
 const UNWRITTEN: Result<Ending, CliFault> = Err(CliFault::Write);
 
@@ -126,7 +126,7 @@ fn stops_at_commands_without_an_end(rt: HostRuntime) {
         DEFAULTS,
         &mut out,
     );
-    assert!(rt; outcome == Err(CliFault::Read(TextName::Commands)));
+    assert!(rt; outcome == Err(CliFault::ReadCommands));
     assert!(rt; out.bytes().is_empty());
 }
 

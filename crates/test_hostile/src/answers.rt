@@ -1,7 +1,7 @@
 //! The answers that a source, a timed list and commands may get, whatever they say.
 use crate::texts::SENDER;
 use rv_asm::FaultKind;
-use rv_cli::{BootFault, CliFault, Ending, MemoryIn, MemoryOut, OpenFault, Options, run_text};
+use rv_cli::{CliFault, Ending, MemoryIn, MemoryOut, Options, run_text};
 use std::alloc::Global;
 
 /// The kind of a text.
@@ -58,13 +58,13 @@ fn has_line(text: &[u8], line: usize) -> bool {
 /// Whether a text of this kind may have this fault.
 fn may_be_refused(kind: Text, text: &[u8], fault: CliFault) -> bool {
     match fault {
-        CliFault::Open(OpenFault::Source(fault)) => {
+        CliFault::Source(fault) => {
             kind == Text::Source
                 && fault.kind != FaultKind::OutOfMemory
                 && has_line(text, fault.line)
         }
-        CliFault::Open(OpenFault::Board(BootFault::ImageTooLarge)) => kind == Text::Source,
-        CliFault::Open(OpenFault::Input(line)) => kind == Text::Inputs && has_line(text, line),
+        CliFault::ImageTooLarge => kind == Text::Source,
+        CliFault::Input(line) => kind == Text::Inputs && has_line(text, line),
         _ => false,
     }
 }

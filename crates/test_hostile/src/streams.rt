@@ -172,19 +172,19 @@ fn stop_at_readers(alloc: Global) -> bool {
         alloc,
         TextName::Source,
         ECHO,
-        CliFault::Read(TextName::Source),
+        CliFault::ReadSource,
         [true, false, false, false],
     ) && stops_at_reads(
         alloc,
         TextName::Input,
         INPUTS,
-        CliFault::Read(TextName::Input),
+        CliFault::ReadInput,
         [false, true, false, false],
     ) && stops_at_reads(
         alloc,
         TextName::Commands,
         COMMANDS,
-        CliFault::Read(TextName::Commands),
+        CliFault::ReadCommands,
         [false, false, true, false],
     )
 }
