@@ -7,6 +7,8 @@ mod faults;
 #[cfg(test)]
 mod readers;
 #[cfg(test)]
+mod rows;
+#[cfg(test)]
 mod runs;
 #[cfg(test)]
 mod texts;

@@ -1,95 +1,107 @@
 //! The words of the command line: those that are accepted, those that are refused, and the help.
+use crate::rows::{ALL_FIELDS, FIVE_STEPS, Gives, ONE_FIELD, REFUSED};
 use crate::runs::DEFAULTS;
 use clap::error::ErrorKind;
 use rv_cli::{Options, Origin, Words, read_words, refusal_status};
 use std::alloc::{AllocError, Global};
 use std::test::Fail;
 
-/// Returns the words of a line, in which a blank separates two.
+/// Returns the program's name and the words of a line, in which a blank separates two.
 fn words_of<'a>(alloc: Global, line: &'a str) -> Result<Vec<&'a str>, AllocError> {
-    line.split(' ').collect(alloc)
+    let mut words = Vec::new(alloc);
+    words.push("rvboard")?;
+    words.extend(line.split(' '))?;
+    Ok(words)
 }
 
-/// A line, and what is read of its words: the source, the timed list, the commands, and the options.
-type Row = (
-    &'static str,
-    &'static str,
-    Option<&'static str>,
-    Option<&'static str>,
-    Options,
-);
+/// What is read where no word gives anything.
+const NOTHING: Words<'static> = Words {
+    source: "-",
+    input: None,
+    commands: None,
+    options: DEFAULTS,
+};
 
-static ROWS: [Row; 11] = [
-    ("rvboard", "-", None, None, DEFAULTS),
-    (
-        "rvboard a.s --steps 2 --pages=1 --slots 64",
-        "a.s",
-        None,
-        None,
-        Options {
-            steps: 2,
-            pages: 1,
-            slots: 64,
-        },
-    ),
-    (
-        "rvboard --steps +0005 -- --x",
-        "--x",
-        None,
-        None,
-        Options {
+/// What is read where words give one field.
+fn one_field(gives: Gives) -> Words<'static> {
+    let mut words = NOTHING;
+    match gives {
+        Gives::Source(path) => words.source = path,
+        Gives::Input(path) => words.input = Some(path),
+        Gives::Commands(path) => words.commands = Some(path),
+        Gives::Steps(n) => words.options.steps = n,
+        Gives::Pages(n) => words.options.pages = n,
+        Gives::Slots(n) => words.options.slots = n,
+    }
+    words
+}
+
+/// What is read of `FIVE_STEPS` with this source.
+fn five_steps(source: &str) -> Words<'_> {
+    Words {
+        source,
+        options: Options {
             steps: 5,
-            pages: 256,
-            slots: 1024,
+            ..DEFAULTS
         },
-    ),
-    (
-        "rvboard --slots=4096 --pages=4096 --steps=1000000000 -",
-        "-",
-        None,
-        None,
-        Options {
-            steps: 1_000_000_000,
-            pages: 4096,
-            slots: 4096,
-        },
-    ),
-    (
-        "rvboard --commands=c.txt a.s --input i.txt",
-        "a.s",
-        Some("i.txt"),
-        Some("c.txt"),
-        DEFAULTS,
-    ),
-    ("rvboard --input i.txt", "-", Some("i.txt"), None, DEFAULTS),
-    ("rvboard --commands -", "-", None, Some("-"), DEFAULTS),
-    ("rvboard --input=-x", "-", Some("-x"), None, DEFAULTS),
-    ("rvboard --input=", "-", Some(""), None, DEFAULTS),
-    // The last word is empty.
-    ("rvboard --commands ", "-", None, Some(""), DEFAULTS),
-    ("rvboard ./-", "./-", None, None, DEFAULTS),
-];
-
-/// Whether what is read is what is wanted.
-fn is_read(read: &Words<'_>, wanted: &Row) -> bool {
-    read.source == wanted.1
-        && read.input == wanted.2
-        && read.commands == wanted.3
-        && read.options == wanted.4
+        ..NOTHING
+    }
 }
 
-/// Whether the words of a row's line are read so.
-fn reads(alloc: Global, row: &Row) -> Result<bool, Fail> {
-    let words = words_of(alloc, row.0)?;
-    let read = read_words(alloc, words.as_slice())?;
-    Ok(is_read(&read, row))
+/// What is read of `ALL_FIELDS`.
+const ALL: Words<'static> = Words {
+    source: "a.s",
+    input: Some("b"),
+    commands: Some("c"),
+    options: Options {
+        steps: 5,
+        pages: 6,
+        slots: 64,
+    },
+};
+
+/// Whether words, with the program's name, are read so.
+fn reads_words(alloc: Global, words: &[&str], wanted: Words<'_>) -> Result<bool, Fail> {
+    let read = read_words(alloc, words)?;
+    Ok(
+        read.source == wanted.source
+            && read.input == wanted.input
+            && read.commands == wanted.commands
+            && read.options == wanted.options,
+    )
+}
+
+/// Whether the words of a line are read so.
+fn reads(alloc: Global, line: &str, wanted: Words<'_>) -> Result<bool, Fail> {
+    let words = words_of(alloc, line)?;
+    reads_words(alloc, words.as_slice(), wanted)
 }
 
 #[test]
 fn reads_the_words(rt: HostRuntime) -> Result<(), Fail> {
-    for row in ROWS.iter() {
-        assert!(rt; reads(rt.alloc(), row)?, "{}", row.0);
+    for &(line, gives) in ONE_FIELD.iter() {
+        assert!(rt; reads(rt.alloc(), line, one_field(gives))?, "{line}");
     }
+    Ok(())
+}
+
+#[test]
+fn reads_several_fields(rt: HostRuntime) -> Result<(), Fail> {
+    for &(line, source) in FIVE_STEPS.iter() {
+        assert!(rt; reads(rt.alloc(), line, five_steps(source))?, "{line}");
+    }
+    for &line in ALL_FIELDS.iter() {
+        assert!(rt; reads(rt.alloc(), line, ALL)?, "{line}");
+    }
+    Ok(())
+}
+
+// The first word, the program's name, is no argument, whatever it is.
+#[test]
+fn the_first_word_is_no_argument(rt: HostRuntime) -> Result<(), Fail> {
+    assert!(rt; reads_words(rt.alloc(), &[], NOTHING)?);
+    assert!(rt; reads_words(rt.alloc(), &["rvboard"], NOTHING)?);
+    assert!(rt; reads_words(rt.alloc(), &["--stop"], NOTHING)?);
     Ok(())
 }
 
@@ -118,41 +130,6 @@ fn refusal(alloc: Global, words: &[&str]) -> Option<(ErrorKind, u8)> {
     }
 }
 
-/// Lines that are refused, each with the kind of the error and the exit status.
-static REFUSALS: [(&str, ErrorKind, u8); 19] = [
-    (
-        "rvboard --input=a --input=b",
-        ErrorKind::ArgumentConflict,
-        3,
-    ),
-    (
-        "rvboard --commands a --commands a",
-        ErrorKind::ArgumentConflict,
-        3,
-    ),
-    ("rvboard --input", ErrorKind::InvalidValue, 3),
-    ("rvboard --commands", ErrorKind::InvalidValue, 3),
-    ("rvboard --input --commands a", ErrorKind::InvalidValue, 3),
-    ("rvboard --input -x", ErrorKind::UnknownArgument, 3),
-    ("rvboard --commands -x", ErrorKind::UnknownArgument, 3),
-    ("rvboard --pages 0", ErrorKind::ValueValidation, 3),
-    ("rvboard --pages 4097", ErrorKind::ValueValidation, 3),
-    ("rvboard --slots 63", ErrorKind::ValueValidation, 3),
-    ("rvboard --slots=4097", ErrorKind::ValueValidation, 3),
-    ("rvboard --steps 1000000001", ErrorKind::ValueValidation, 3),
-    ("rvboard --step 1", ErrorKind::UnknownArgument, 3),
-    ("rvboard a.s b.s", ErrorKind::UnknownArgument, 3),
-    (
-        "rvboard --steps 1 --steps 1",
-        ErrorKind::ArgumentConflict,
-        3,
-    ),
-    ("rvboard --help", ErrorKind::DisplayHelp, 0),
-    ("rvboard -h", ErrorKind::DisplayHelp, 0),
-    ("rvboard --pages x", ErrorKind::ValueValidation, 3),
-    ("rvboard -V", ErrorKind::UnknownArgument, 3),
-];
-
 /// Whether the words of a line are refused so.
 fn is_refused(alloc: Global, line: &str, kind: ErrorKind, status: u8) -> Result<bool, AllocError> {
     let words = words_of(alloc, line)?;
@@ -161,9 +138,26 @@ fn is_refused(alloc: Global, line: &str, kind: ErrorKind, status: u8) -> Result<
 
 #[test]
 fn refuses_by_kind(rt: HostRuntime) -> Result<(), Fail> {
-    for &(line, kind, status) in REFUSALS.iter() {
+    for &(line, kind, status) in REFUSED.iter() {
         assert!(rt; is_refused(rt.alloc(), line, kind, status)?, "{line}");
     }
+    Ok(())
+}
+
+// A blank is a part of its word.
+#[test]
+fn words_may_have_blanks(rt: HostRuntime) -> Result<(), Fail> {
+    let spaced = Words {
+        input: Some(" "),
+        ..five_steps("a b.s")
+    };
+    let words = ["rvboard", "--input", " ", "a b.s", "--steps=5"];
+    assert!(rt; reads_words(rt.alloc(), &words, spaced)?);
+    let invalid = Some((ErrorKind::ValueValidation, 3));
+    assert!(rt; refusal(rt.alloc(), &["rvboard", "--steps", " 5"]) == invalid);
+    assert!(rt; refusal(rt.alloc(), &["rvboard", "--pages=5 "]) == invalid);
+    let unknown = Some((ErrorKind::UnknownArgument, 3));
+    assert!(rt; refusal(rt.alloc(), &["rvboard", "--steps ", "5"]) == unknown);
     Ok(())
 }
 
