@@ -17,9 +17,7 @@ mod status;
 use clap::builder::ValueParser;
 use clap::error::ErrorKind;
 use clap::{Arg, ArgAction, ArgMatches, Command, Error, value_parser};
-pub use laws::{
-    help_is_answered, words_are_read_by_rules, words_are_taken_by_rules, words_have_a_meaning,
-};
+pub use laws::{help_is_answered, words_have_a_meaning};
 pub use origin::Origin;
 pub use status::{REFUSED, refusal_status};
 use std::alloc::{AllocError, Global};
