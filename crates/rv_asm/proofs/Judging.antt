@@ -3,11 +3,8 @@ use Rattle.std.proofs.Common.{◌≡◌, ℕ, true, false, cond, List, [], refl,
 use Rattle.std.specs.Prelude.{Option, None, Some, is_some, Result, Ok, Err}
 use Rattle.std.specs.Option.{option_map}
 use Rattle.std.specs.Result.{result_err}
-use Rattle.rv_source.specs.Reading.{Parsed, parsed, line_form, statement_of}
-use Rattle.rv_source.specs.Partial.{LineForm}
+use Rattle.rv_source.specs.Reading.{Parsed, parsed}
 use Rattle.rv_source.specs.declared.statement.Statement.{Statement}
-use Rattle.rv_tokens.specs.Partial.{Fails as LineFails}
-use Rattle.rv_tokens.specs.declared.fault.LineFault.{LineFault}
 use Rattle.rv_program.specs.declared.fault.FaultKind.{FaultKind}
 use Rattle.rv_program.specs.declared.fault.FaultKind.TheVariants.{DuplicateSymbol, OutOfMemory}
 use Rattle.rv_program.specs.declared.fault.AsmFault.{AsmFault}
@@ -17,8 +14,7 @@ use Rattle.rv_asm.specs.Symbols.{Definitions}
 use Rattle.rv_asm.specs.Counted.{relabels, fault_stated, fault_on, fault_in}
 use Rattle.rv_asm.specs.Kept.{KindFails}
 use Rattle.rv_asm.specs.Steps.{Known, Item, labelled, stated, unless, after_statement, stated_bytes, at_line, appended, image_of, run, AddsOptional}
-use Rattle.rv_asm.specs.Judged.{Keeps, IsUnreadBy, new_among, known_after, IsFound, Judges}
-use Rattle.rv_asm.proofs.Reading.{unread_bind, fails_by, parsed_of, with_labels}
+use Rattle.rv_asm.specs.Judged.{Keeps, new_among, known_after, IsFound, Judges}
 use Rattle.rv_asm.proofs.Labels.{all_new}
 use Rattle.rv_asm.proofs.Laying.{all_labelled, not_stated}
 
@@ -102,19 +98,6 @@ module _ (k : ℕ) (text : List ℕ) (old new : Known) (line : Parsed) (read : p
         (number_of kind ≡ 12 → ⊥) → IsFound k text (Some kind) found → Judges k text old new found
     stated_not kind h same n f =
         by (Some kind) (stated_badly k s line.statement kind h n) (really_kept kind s new same n) f
-
--- ---- phase one
-
--- the fault of a line or of its statement is that of the line
-pub line_fails : (text : List ℕ) (fault : LineFault) → LineFails fault (line_form text) →
-    IsUnreadBy (parsed text) (Some fault)
-unfolding parsed
-line_fails text fault h = unread_bind fault (line_form text) _ h
-
-pub statement_fails : (text : List ℕ) (read : LineForm) (fault : LineFault) → line_form text ≡ Ok read →
-    Err fault ≡ statement_of read.1 → IsUnreadBy (parsed text) (Some fault)
-statement_fails text read fault w h =
-    fails_by fault (parsed text) (parsed_of text read w ∙ ap (with_labels read.0) (sym h))
 
 -- ---- a line in phase three
 

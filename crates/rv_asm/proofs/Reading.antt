@@ -6,9 +6,7 @@ use Rattle.std.specs.Result.{result_err, result_unwrap_or}
 use Rattle.std.proofs.lemmas.List.{get_or-map, get_or-drop, drop-drop}
 use Rattle.rv_source.specs.Reading.{Parsed, parsed, line_form, statement_of}
 use Rattle.rv_source.specs.Partial.{LineForm}
-use Rattle.rv_source.specs.declared.line.Label.{Label}
-use Rattle.rv_source.specs.declared.statement.Statement.{Statement}
-use Rattle.rv_tokens.specs.Faults.{◌>>=◌}
+use Rattle.rv_source.proofs.Parsed.{form_fails, statement_fails}
 use Rattle.rv_tokens.specs.Partial.{Fails as LineFails}
 use Rattle.rv_tokens.specs.declared.fault.LineFault.{LineFault}
 use Rattle.rv_tokens.specs.declared.fault.LineFault.TheVariants as line
@@ -168,41 +166,16 @@ module _ (texts rest : List (List ℕ)) (n : ℕ) (so : SoFar texts rest n) wher
 
 -- ---- a line that can't be read
 
-pub unread_bind : (fault : LineFault) (r : Result LineForm LineFault) (f : LineForm → Result Parsed LineFault) →
-    LineFails fault r → LineFails fault (r >>= f)
-unread_bind line.OutOfMemory r f h = h
-unread_bind fault r f h = rw h refl
-
 pub unread_line : (k : ℕ) (text : List ℕ) (fault : LineFault) (at : AsmFault) → LineFails fault
     (line_form text) →
     IsFaultAt (k + 1) (kind_of fault) at → IsUnread k text at
-unfolding parsed
-unread_line k text fault at h e = record
-    { kind = fault; fails = unread_bind fault (line_form text) _ h; at = e }
-
-pub parsed_of : (text : List ℕ) (read : LineForm) → line_form text ≡ Ok read
-    → parsed text ≡ (statement_of read.1 >>= λ s. Ok (record { labels = read.0; statement = s }))
-unfolding parsed
-parsed_of text read w = rw w refl
-
-abbrev pub with_labels : List Label → Result (Option Statement) LineFault → Result Parsed LineFault
-with_labels labels m = m >>= λ s. Ok (record { labels = labels; statement = s })
-
-pub fails_by : (fault : LineFault) (r : Result Parsed LineFault) → r ≡ Err fault → LineFails fault r
-fails_by line.OutOfMemory r h = tt
-fails_by fault r h = h
+unread_line k text fault at h e = record { kind = fault; fails = form_fails text fault h; at = e }
 
 pub unread_statement : (k : ℕ) (text : List ℕ) (read : LineForm) (fault : LineFault) (at : AsmFault) →
     line_form text ≡ Ok read → Err fault ≡ statement_of read.1 → IsFaultAt (k + 1) (kind_of fault) at →
     IsUnread k text at
 unread_statement k text read fault at w h e = record {
   kind = fault;
-  fails = fails_by fault (parsed text) (parsed_of text read w ∙ ap (with_labels read.0) (sym h));
+  fails = statement_fails text read w fault h;
   at = e;
 }
-
-pub read_statement : (text : List ℕ) (read : LineForm) (statement : Option Statement) → line_form text ≡ Ok
-    read →
-    Ok statement ≡ statement_of read.1
-    → parsed text ≡ Ok (record { labels = read.0; statement = statement })
-read_statement text read statement w h = parsed_of text read w ∙ ap (with_labels read.0) (sym h)

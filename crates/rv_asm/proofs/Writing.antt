@@ -9,7 +9,7 @@ use Rattle.rv_source.specs.Partial.{LineForm}
 use Rattle.rv_source.specs.declared.line.Label.{Label}
 use Rattle.rv_tokens.specs.declared.fault.LineFault.{LineFault}
 use Rattle.rv_program.specs.declared.fault.FaultKind.{FaultKind}
-use Rattle.rv_asm.proofs.Reading.{parsed_of, with_labels}
+use Rattle.rv_source.proofs.Parsed.{parsed_of, with_labels}
 use Rattle.rv_asm.specs.Constants.{IsTaken, KeptLine, stated_in, statement_bytes}
 use Rattle.rv_asm.specs.Kept.{KindBecomes}
 use Rattle.rv_asm.specs.Steps.{line_text_bytes, appended}

@@ -15,7 +15,7 @@ use crate::placement::PlacedStatement;
 use crate::symbols::Symbols;
 use crate::{AsmFault, FaultKind, Program};
 use rv_base::cut_lines;
-use rv_source::{Label, LineFault, Statement, read_line};
+use rv_source::{Label, LineFault, Statement, read_line_form};
 use std::alloc::Global;
 
 /// Returns the fault of a line that can't be read.
@@ -29,7 +29,7 @@ fn unread(number: usize, fault: LineFault) -> AsmFault
 
 /// Performs phases one and two on one more line, or phase one alone if a line before it had a fault in phase
 /// two.
-#[tactic(auto, using(crate::proofs::Reading::unread_line, crate::proofs::Reading::unread_statement, crate::proofs::Reading::read_statement))]
+#[tactic(auto, using(crate::proofs::Reading::unread_line, crate::proofs::Reading::unread_statement, rv_source::proofs::Parsed::as_parsed))]
 fn take<'a>(
     alloc: Global,
     number: usize,
@@ -43,7 +43,7 @@ fn take<'a>(
     ensures ok { OnOk result (Takes number text.now fault.old known.old items.old.items fault.new known.new items.new.items) }
     ensures err { IfErr result (IsUnread number text.now) }
 {
-    let line = match read_line(alloc, text) {
+    let line = match read_line_form(alloc, text) {
         Ok(line) => line,
         Err(cause) => return Err(unread(number, cause)),
     };

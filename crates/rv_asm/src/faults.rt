@@ -22,7 +22,9 @@ use crate::origins::Origins;
 use crate::placement::PlacedStatement;
 use crate::symbols::{Scope, Symbols};
 use rv_base::{NoMemory, cut_lines};
-use rv_source::{Line, LineFault, Statement, fault_spot, read_line, whole_line};
+use rv_source::{
+    LineFault, LineForm, Statement, fault_spot, read_line, read_line_form, whole_line,
+};
 use std::alloc::Global;
 
 /// Returns the diagnosis of a line by the place that its fault means.
@@ -57,14 +59,10 @@ fn append(found: Option<Diagnosis>, out: &mut Vec<Diagnosis>) -> Result<(), NoMe
 // ---- phase one
 
 /// Returns the fault of a line that can't be read.
-#[tactic(auto, using(crate::proofs::Reading::read_statement, crate::proofs::Judging::line_fails, crate::proofs::Judging::statement_fails))]
 fn unread(alloc: Global, text: &[u8]) -> Option<LineFault>
     ensures { IsUnreadBy (parsed text.now) result }
 {
-    match read_line(alloc, text) {
-        Ok(line) => line.statement().err(),
-        Err(fault) => Some(fault),
-    }
+    read_line(alloc, text).err()
 }
 
 /// Returns the place that a fault in phase one means.
@@ -125,7 +123,7 @@ fn judge(
     requires counted { number < 0xffffffffffffffff }
     ensures { IfOk result (Judges number text.now known.old known.new) }
 {
-    let Ok(line) = read_line(alloc, text) else {
+    let Ok(line) = read_line_form(alloc, text) else {
         return Err(NoMemory);
     };
     let Ok(statement) = line.statement() else {
@@ -181,7 +179,7 @@ fn value_finding(
     alloc: Global,
     scope: Scope,
     text: &[u8],
-    line: &Line,
+    line: &LineForm,
     statement: &Option<Statement>,
 ) -> Result<Finding, NoMemory>
     ensures { IfOk result (λ f. f.place.column + f.place.len ≤ length text.now) }
@@ -215,7 +213,7 @@ fn unwritten(
 }
 
 /// Lays out a line, and tries to write its bytes with all symbols of the source.
-#[tactic(auto, using(crate::proofs::Reading::read_statement, crate::proofs::Judging::tried))]
+#[tactic(auto, using(rv_source::proofs::Parsed::as_parsed, crate::proofs::Judging::tried))]
 fn try_line(
     alloc: Global,
     number: usize,
@@ -227,7 +225,7 @@ fn try_line(
     requires counted { number < 0xffffffffffffffff }
     ensures { IfOk result (Tries number text.now symbols.now known.old known.new) }
 {
-    let Ok(line) = read_line(alloc, text) else {
+    let Ok(line) = read_line_form(alloc, text) else {
         return Err(NoMemory);
     };
     let Ok(statement) = line.statement() else {

@@ -9,7 +9,7 @@ use crate::values::fits;
 use rv_base::NoMemory;
 use rv_isa::{Instr, Kind, Width};
 use rv_source::{
-    Form, Label, Line, Operand, Part, Statement, operand_place, token_place, word_index,
+    Form, Label, LineForm, Operand, Part, Statement, operand_place, token_place, word_index,
 };
 use rv_tokens::{Token, cut_line};
 use std::alloc::Global;
@@ -90,7 +90,7 @@ fn value_finding(
 }
 
 /// Returns the place of the word of a line.
-fn word_finding(text: &[u8], line: &Line, detail: Detail) -> Finding
+fn word_finding(text: &[u8], line: &LineForm, detail: Detail) -> Finding
     ensures { result.place.column + result.place.len ≤ length text.now }
 {
     Finding {
@@ -116,7 +116,7 @@ fn asked_finding(
     alloc: Global,
     scope: Scope,
     text: &[u8],
-    line: &Line,
+    line: &LineForm,
     statement: &Statement,
 ) -> Result<Finding, NoMemory>
     ensures { IfOk result (λ f. f.place.column + f.place.len ≤ length text.now) }
@@ -172,7 +172,7 @@ pub fn late_finding(
     alloc: Global,
     scope: Scope,
     text: &[u8],
-    line: &Line,
+    line: &LineForm,
     statement: &Statement,
 ) -> Result<Finding, NoMemory>
     ensures { IfOk result (λ f. f.place.column + f.place.len ≤ length text.now) }
@@ -208,7 +208,7 @@ pub fn early_finding(
     scope: Scope,
     origins: &Origins,
     text: &[u8],
-    line: &Line,
+    line: &LineForm,
     statement: &Statement,
     kind: FaultKind,
 ) -> Result<Finding, NoMemory>

@@ -16,7 +16,7 @@ use crate::assembler::assemble;
 use crate::layout::Known;
 use crate::{AsmFault, Program};
 use rv_base::{NoMemory, RAM_BASE, cut_lines};
-use rv_source::{Label, Name, read_line};
+use rv_source::{Label, Name, read_line_form};
 use std::alloc::Global;
 use std::marker::Model;
 
@@ -58,7 +58,7 @@ fn push_names(
 
 /// Lays out a line of an accepted source, and appends its labels. That such a line has no fault isn't used:
 /// one would be answered as out of memory.
-#[tactic(auto, using(crate::proofs::Reading::read_statement))]
+#[tactic(auto, using(rv_source::proofs::Parsed::as_parsed))]
 pub fn pass(
     alloc: Global,
     number: usize,
@@ -70,7 +70,7 @@ pub fn pass(
     requires counted { number < 0xffffffffffffffff }
     ensures { OnOk result (Lists number text.now known.old known.new labels.old.items labels.new.items) }
 {
-    let Ok(line) = read_line(alloc, text) else {
+    let Ok(line) = read_line_form(alloc, text) else {
         return Err(NoMemory);
     };
     let Ok(statement) = line.statement() else {

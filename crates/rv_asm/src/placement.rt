@@ -12,7 +12,7 @@ use crate::kept::{Kept, LineText};
 use crate::single::as_single;
 use crate::symbols::{Scope, Symbols};
 use crate::values::bits;
-use rv_source::{Form, Operand, Statement, read_line};
+use rv_source::{Form, Operand, Statement, read_line_form};
 use std::alloc::Global;
 use std::marker::Model;
 
@@ -47,7 +47,7 @@ fn write_line(
     ensures { KindBecomes out.new.items result (appended out.old.items (line_text_bytes scope.entry.symbols.now scope.entry.line scope.entry.here text.now)) }
 {
     // The line was read in phase one, so reading it again can only run out of memory.
-    let Ok(line) = read_line(alloc, text.bytes) else {
+    let Ok(line) = read_line_form(alloc, text.bytes) else {
         return Err(FaultKind::OutOfMemory);
     };
     match line.statement() {

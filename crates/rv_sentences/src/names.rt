@@ -1,6 +1,6 @@
 //! The names of a source, and names that are near to a word.
 use rv_base::cut_lines;
-use rv_source::{Label, Statement, read_line};
+use rv_source::{Label, Statement, read_line_form};
 use std::alloc::Global;
 use strsim::generic_levenshtein;
 
@@ -76,7 +76,7 @@ fn look<'a>(alloc: Global, name: &'a [u8], line: usize, is_label: bool, survey: 
 
 /// Looks at the names that a line defines.
 fn look_at_line<'a>(alloc: Global, text: &'a [u8], number: usize, survey: &mut Survey<'a>) {
-    let Ok(line) = read_line(alloc, text) else {
+    let Ok(line) = read_line_form(alloc, text) else {
         return;
     };
     for label in line.labels() {

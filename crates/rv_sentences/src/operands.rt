@@ -5,7 +5,7 @@ use crate::spot::{Spot, run_of, skip_blanks};
 use crate::text::{Draft, Text, in_words};
 use rv_base::look_up;
 use rv_isa::{operation_named, reg_named};
-use rv_source::{Body, Role, Shape, read_line, shape_of, word_at};
+use rv_source::{Body, Role, Shape, read_line_form, shape_of, word_at};
 use std::alloc::Global;
 
 /// The most shapes of a word.
@@ -202,7 +202,7 @@ pub(crate) fn bad_operands(
     wrong: usize,
     draft: &mut Draft,
 ) {
-    let Ok(read) = read_line(alloc, line) else {
+    let Ok(read) = read_line_form(alloc, line) else {
         return;
     };
     let Body::Word { word, operands } = read.body() else {

@@ -1,5 +1,6 @@
 mod Forms
 mod OneValue
+pub mod Parsed
 pub mod Pieces
 pub mod Ranges
 pub mod Sums

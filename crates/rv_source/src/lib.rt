@@ -18,10 +18,10 @@ mod terms;
 mod words;
 
 pub use expression::{Atom, Expression, Term};
-pub use line::{Body, Label, Line, Operands};
+pub use line::{Body, Label, Line, LineForm, Operands};
 pub use operand::{Form, Operand, Part};
 pub use place::{Spot, fault_spot, operand_place, token_place, whole_line, word_index};
-pub use reader::read_line;
+pub use reader::{read_line, read_line_form};
 pub use row::Role;
 pub use rv_base::{Cut, cut_lines};
 pub use rv_tokens::{Direction, LineFault, Name, Place, Text};

@@ -52,20 +52,21 @@ pub enum Body<'a> {
     },
 }
 
-/// The form of a line: its labels, a word and its operands. Its view is its labels and what follows them.
-pub struct Line<'a> {
+/// The form of a line: its labels, and a word with its operands, which may stand for nothing. Its view is its
+/// labels and what follows them.
+pub struct LineForm<'a> {
     pub(crate) labels: Vec<Label<'a>>,
     pub(crate) body: Body<'a>,
 }
 
 // Hand-written: a derived `Drop` would be proved anew at each exit (docs/PROVING.md).
-impl<'a> Drop for Line<'a> {
+impl<'a> Drop for LineForm<'a> {
     fn drop(self) {
-        let Line { labels: _, body: _ } = self;
+        let LineForm { labels: _, body: _ } = self;
     }
 }
 
-impl<'a> Model for Line<'a> {
+impl<'a> Model for LineForm<'a> {
     ghost use Rattle.std.specs.Prelude.{List};
     ghost use Rattle.rv_source.specs.declared.line.Label.{Label};
     ghost use Rattle.rv_source.specs.declared.line.Body.{Body};
@@ -75,7 +76,7 @@ impl<'a> Model for Line<'a> {
     ghost view = { λ l. (l.labels.items, l.body) };
 }
 
-impl<'a> Line<'a> {
+impl<'a> LineForm<'a> {
     ghost use Rattle.std.specs.Prelude.{◌≡◌};
     ghost use Rattle.rv_source.specs.Reading.{statement_of};
 
@@ -107,5 +108,37 @@ impl<'a> Line<'a> {
             Body::Marker => Ok(Some(Statement::Marker)),
             Body::Word { word, operands } => meaning(word.bytes(), operands.as_slice()).map(Some),
         }
+    }
+}
+
+/// A line as it is read: its labels and its statement. Its view is both.
+#[derive(Drop)]
+pub struct Line<'a>(pub(crate) LineForm<'a>);
+
+impl<'a> Model for Line<'a> {
+    ghost use Rattle.std.specs.Prelude.{None};
+    ghost use Rattle.std.specs.Result.{result_unwrap_or};
+    ghost use Rattle.rv_source.specs.Reading.{Parsed, statement_of};
+
+    ghost Value = { Parsed };
+
+    ghost view = { λ l. record { labels = l.0.0; statement = result_unwrap_or (statement_of l.0.1) None } };
+}
+
+impl<'a> Line<'a> {
+    ghost use Rattle.std.specs.Prelude.{◌≡◌};
+
+    /// Returns the labels, from left to right.
+    pub fn labels(&self) -> &[Label<'a>]
+        ensures { result.now ≡ self.now.labels }
+    {
+        self.0.labels()
+    }
+
+    /// Returns the statement, if the line has one. It takes no memory.
+    pub fn statement<'t>(&'t self) -> Option<Statement<'t, 'a>>
+        ensures { result ≡ self.now.statement }
+    {
+        self.0.statement().unwrap_or(None)
     }
 }

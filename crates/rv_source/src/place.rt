@@ -5,7 +5,7 @@ ghost use Rattle.rv_tokens.specs.Cuts.{places};
 
 use crate::misplaced::misplaced;
 use crate::shape::wrong_operand;
-use crate::{Body, Line, LineFault, Operand, read_line};
+use crate::{Body, LineFault, LineForm, Operand, read_line_form};
 use rv_base::LINE_LIMIT;
 use rv_tokens::{Place, cut_line, place_of, stuck_at};
 use std::alloc::{AllocError, Global};
@@ -65,7 +65,7 @@ pub fn operand_place(line: &[u8], operand: &Operand) -> Place
 }
 
 /// Returns the index of the word of a line, which follows its labels of two tokens each.
-pub fn word_index(line: &Line) -> usize {
+pub fn word_index(line: &LineForm) -> usize {
     line.labels().len().saturating_mul(2)
 }
 
@@ -102,7 +102,7 @@ fn syntax_place(alloc: Global, line: &[u8]) -> Result<Place, AllocError>
 }
 
 /// Returns the place of the operand that a word doesn't take, or of the word if operands are missing.
-fn operands_spot(text: &[u8], line: &Line) -> Spot
+fn operands_spot(text: &[u8], line: &LineForm) -> Spot
     ensures { result.place.column + result.place.len ≤ length text.now }
 {
     let word = token_place(text, word_index(line));
@@ -131,7 +131,7 @@ pub fn fault_spot(alloc: Global, text: &[u8], fault: LineFault) -> Result<Spot, 
         LineFault::BadByte => stuck_place(text),
         LineFault::LineTooLong => rest_place(text),
         LineFault::Syntax => syntax_place(alloc, text)?,
-        LineFault::UnknownWord | LineFault::BadOperands => match read_line(alloc, text) {
+        LineFault::UnknownWord | LineFault::BadOperands => match read_line_form(alloc, text) {
             Ok(line) => match fault {
                 LineFault::BadOperands => return Ok(operands_spot(text, &line)),
                 _ => token_place(text, word_index(&line)),

@@ -4,13 +4,13 @@ ghost use Rattle.rv_tokens.specs.Faults.{Gives};
 ghost use Rattle.rv_tokens.specs.Parts.{IsCutInto};
 ghost use Rattle.rv_tokens.specs.Cuts.{tokens};
 ghost use Rattle.rv_source.specs.Partial.{body_of, labels_of, left_after, with_labels};
-ghost use Rattle.rv_source.specs.Reading.{label_of, line_form};
+ghost use Rattle.rv_source.specs.Reading.{label_of, line_form, parsed};
 
 use crate::line::{Body, Operands};
 use crate::operand::read_operands;
 use crate::table::is_marker;
 use crate::terms::is_symbol;
-use crate::{Label, Line, LineFault};
+use crate::{Label, Line, LineFault, LineForm};
 use rv_tokens::{Token, cut_line};
 use std::alloc::{AllocError, Global};
 
@@ -71,14 +71,15 @@ fn read_body<'a>(
     Ok(Some(Body::Word { word, operands }))
 }
 
-/// Reads a line, without its line end. `Line::statement` says what its word and operands stand for.
+/// Reads the form of a line, without its line end. `LineForm::statement` says what its word and operands stand
+/// for.
 ///
 /// # Errors
 ///
 /// `LineTooLong`, `BadByte` or `Syntax` if the line can't be cut into tokens; else `Syntax` if they aren't
 /// labels and a statement. `OutOfMemory` may come in place of any result.
 #[tactic(auto, unfolding(crate::specs::Partial::form_by_parts), using(crate::proofs::Forms::as_line_form))]
-pub fn read_line<'a>(alloc: Global, text: &'a [u8]) -> Result<Line<'a>, LineFault>
+pub fn read_line_form<'a>(alloc: Global, text: &'a [u8]) -> Result<LineForm<'a>, LineFault>
     ensures cut { IsCutInto text.now (tokens text.now) }
     ensures form { Gives (λ l. l) result (line_form text.now) }
 {
@@ -86,5 +87,21 @@ pub fn read_line<'a>(alloc: Global, text: &'a [u8]) -> Result<Line<'a>, LineFaul
     let mut labels = Vec::new(alloc);
     let rest = read_labels(&mut labels, &tokens)?.ok_or(LineFault::Syntax)?;
     let body = read_body(alloc, tokens.len(), rest)?.ok_or(LineFault::Syntax)?;
-    Ok(Line { labels, body })
+    Ok(LineForm { labels, body })
+}
+
+/// Reads a line, without its line end: its labels and its statement.
+///
+/// # Errors
+///
+/// Those of `read_line_form`; else `UnknownWord` if the word is neither a mnemonic nor a directive, else
+/// `BadOperands` if it doesn't take the operands. `OutOfMemory` may come in place of any result.
+#[tactic(auto, using(crate::proofs::Parsed::form_fails, crate::proofs::Parsed::statement_fails, crate::proofs::Parsed::as_parsed))]
+pub fn read_line<'a>(alloc: Global, text: &'a [u8]) -> Result<Line<'a>, LineFault>
+    ensures cut { IsCutInto text.now (tokens text.now) }
+    ensures parsed { Gives (λ l. l) result (parsed text.now) }
+{
+    let form = read_line_form(alloc, text)?;
+    form.statement()?;
+    Ok(Line(form))
 }

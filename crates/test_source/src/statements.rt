@@ -16,17 +16,9 @@ fn line<'a>(alloc: Global, text: &'a [u8]) -> Result<Line<'a>, &'static str> {
     read(alloc, text).ok().ok_or("the line is refused")
 }
 
-/// Returns the fault of a line, as written or of its statement.
-fn fault_of(alloc: Global, text: &[u8]) -> Option<LineFault> {
-    match read(alloc, text) {
-        Ok(line) => line.statement().err(),
-        Err(fault) => Some(fault),
-    }
-}
-
 /// Checks the fault of a line.
 fn check_fault(rt: &impl Abort, alloc: Global, line: &[u8], fault: LineFault) {
-    assert!(rt; fault_of(alloc, line) == Some(fault));
+    assert!(rt; read(alloc, line).err() == Some(fault));
 }
 
 /// Checks that each line of the text has this fault.
@@ -57,10 +49,10 @@ fn labels_of(alloc: Global, line: &Line<'_>) -> Result<Vec<u8>, AllocError> {
 /// Returns the kind of statement of a line.
 fn statement_kind(line: &Line<'_>) -> &'static str {
     match line.statement() {
-        Ok(Some(Statement::Instruction(_))) => "an instruction",
-        Ok(Some(_)) => "something else",
-        Ok(None) => "nothing",
-        Err(_) => "a fault",
+        Some(Statement::Instruction(_)) => "an instruction",
+        Some(Statement::Marker) => "a marker",
+        Some(_) => "something else",
+        None => "nothing",
     }
 }
 
@@ -106,6 +98,14 @@ fn labels(rt: HostRuntime) -> Result<(), Fail> {
     check(&rt, rt.alloc(), b" \t# nothing", b"", "nothing")
 }
 
+#[test]
+fn statements(rt: HostRuntime) -> Result<(), Fail> {
+    let alloc = rt.alloc();
+    check(&rt, alloc, b"x: 1:", b" x 1", "nothing")?;
+    check(&rt, alloc, b"x: .globl 5,(", b" x", "a marker")?;
+    check(&rt, alloc, b"1: .word 5", b" 1", "something else")
+}
+
 const SYNTAX: &[u8] = b"\
 00: nop
 0x1: nop
@@ -117,6 +117,8 @@ addi a0,a0,
 addi a0,,1
 foo !
 foo ,
+.: foo
+x: foo a0,
 li a0,---1
 li a0,1+
 li a0,1---1
@@ -133,6 +135,8 @@ nop 1 2
 
 const UNKNOWN_WORDS: &[u8] = b"\
 foo
+foo a0
+x: 1: foo a0
 .
 . 5
 NOP
@@ -140,6 +144,8 @@ foo \"a\",%lo(x)
 ";
 
 const BAD_OPERANDS: &[u8] = b"\
+addi a0,a0
+x: addi a0,a0
 lw a0,4(.)
 lw a0,4(x)
 add a0,a1
@@ -171,6 +177,7 @@ nop nop
 const BAD_BYTES: &[u8] = b"\
 addi a0,,1 \x80
 foo \x01
+addi a0 \x80
 ";
 
 #[test]
@@ -187,7 +194,7 @@ fn faults(rt: HostRuntime) {
 fn place(alloc: Global, text: &[u8]) -> Option<(usize, usize)> {
     let line = read(alloc, text).ok()?;
     match line.statement() {
-        Ok(Some(Statement::WithValue { value, .. })) => {
+        Some(Statement::WithValue { value, .. }) => {
             let operand = value.operand();
             Some((operand.first, operand.count))
         }

@@ -1,7 +1,7 @@
 use Rattle.std.proofs.Common.{◌≡◌, ◌+◌, sym}
 use Rattle.std.specs.Prelude.{Ok}
 use Rattle.rv_source.specs.Reading.{Parsed, parsed}
-use Rattle.rv_asm.proofs.Reading.{read_statement}
+use Rattle.rv_source.proofs.Parsed.{as_parsed}
 use Rattle.rv_asm.proofs.Runs.{fault_at}
 use Rattle.rv_asm.proofs.Takes.{takes_nothing, takes_line, takes_fault}
 use Rattle.rv_asm.proofs.assembler.take.Goals.{in-Err-add, in_default}
@@ -10,7 +10,7 @@ use Rattle.rv_asm.proofs.assembler.take.Goals as goal
 pub returns-then-is_some-clause-ok : goal.returns-then-is_some-clause-ok
 returns-then-is_some-clause-ok c =
     takes_nothing c.args.number c.args.text.now _
-    (read_statement c.args.text.now c.in-Ok.line c.in-Ok-statement.statement c.in-Ok.ensures.form
+    (as_parsed c.args.text.now c.in-Ok.line c.in-Ok.ensures.form c.in-Ok-statement.statement
     c.in-Ok-statement.ensures)
     c.args.known.now c.args.items.now.items c.args.fault.now (sym c.if-is_some.ensures)
 
@@ -18,8 +18,8 @@ pub returns-clause-ok : goal.returns-clause-ok
 returns-clause-ok c =
     let line : Parsed = record { labels = c.labels.result.now; statement = c.in-Ok-statement.statement } in
     let read : parsed c.args.text.now ≡ Ok line =
-    rw c.labels.ensures (read_statement c.args.text.now c.in-Ok.line c.in-Ok-statement.statement
-    c.in-Ok.ensures.form c.in-Ok-statement.ensures) in
+    rw c.labels.ensures (as_parsed c.args.text.now c.in-Ok.line c.in-Ok.ensures.form
+    c.in-Ok-statement.statement c.in-Ok-statement.ensures) in
     elim c.match-add.branch [
       | in-Err-add w ↦ rw w.fault-is (takes_fault c.args.number c.args.text.now line read c.args.known.now
           c.args.items.now.items c.add.new.self c.add.new.items.items c.args.fault.now _ _

@@ -2,7 +2,7 @@ use Rattle.std.proofs.Common.{◌≡◌, ◌∙◌, ap, sym, refl, true, false}
 use Rattle.std.specs.Prelude.{is_some, Some, None, Ok}
 use Rattle.rv_source.specs.Reading.{Parsed, parsed}
 use Rattle.rv_asm.specs.Counted.{relabels}
-use Rattle.rv_asm.proofs.Reading.{read_statement}
+use Rattle.rv_source.proofs.Parsed.{as_parsed}
 use Rattle.rv_asm.proofs.Judging.{duplicate, unstated, stated_ok, stated_not}
 use Rattle.rv_asm.proofs.faults.judge.Goals as goal
 
@@ -10,8 +10,8 @@ pub returns-in-Some : goal.returns-in-Some
 returns-in-Some c =
     let old = c.args.known.now in
     let line : Parsed = record { labels = c.in-Ok.line.0; statement = c.in-Ok-statement.statement } in
-    let read : parsed c.args.text.now ≡ Ok line = read_statement c.args.text.now c.in-Ok.line
-    c.in-Ok-statement.statement c.in-Ok.ensures.form c.in-Ok-statement.ensures in
+    let read : parsed c.args.text.now ≡ Ok line = as_parsed c.args.text.now c.in-Ok.line
+    c.in-Ok.ensures.form c.in-Ok-statement.statement c.in-Ok-statement.ensures in
     let twice : relabels old line.labels ≡ true =
     sym (ap is_some (sym c.in-Some.is) ∙ c.in_ok-index.ensures.index ∙ ap (relabels old) c.labels.ensures) in
     let new = rw c.labels.ensures at c.in_ok-index.ensures.known in
@@ -22,8 +22,8 @@ pub returns-in_default-statement-2 : goal.returns-in_default-statement-2
 returns-in_default-statement-2 c =
     let old = c.args.known.now in
     let line : Parsed = record { labels = c.in-Ok.line.0; statement = c.in-Ok-statement.statement } in
-    let read : parsed c.args.text.now ≡ Ok line = read_statement c.args.text.now c.in-Ok.line
-    c.in-Ok-statement.statement c.in-Ok.ensures.form c.in-Ok-statement.ensures in
+    let read : parsed c.args.text.now ≡ Ok line = as_parsed c.args.text.now c.in-Ok.line
+    c.in-Ok.ensures.form c.in-Ok-statement.statement c.in-Ok-statement.ensures in
     let once : relabels old line.labels ≡ false =
     sym (ap is_some (sym c.in_default-2.is) ∙ c.in_ok-index.ensures.index ∙ ap (relabels old) c.labels.ensures) in
     let new = rw c.labels.ensures at c.in_ok-index.ensures.known in
@@ -34,8 +34,8 @@ pub returns-in-Ok-advance : goal.returns-in-Ok-advance
 returns-in-Ok-advance c =
     let old = c.args.known.now in
     let line : Parsed = record { labels = c.in-Ok.line.0; statement = c.in-Ok-statement.statement } in
-    let read : parsed c.args.text.now ≡ Ok line = read_statement c.args.text.now c.in-Ok.line
-    c.in-Ok-statement.statement c.in-Ok.ensures.form c.in-Ok-statement.ensures in
+    let read : parsed c.args.text.now ≡ Ok line = as_parsed c.args.text.now c.in-Ok.line
+    c.in-Ok.ensures.form c.in-Ok-statement.statement c.in-Ok-statement.ensures in
     let once : relabels old line.labels ≡ false =
     sym (ap is_some (sym c.in_default-2.is) ∙ c.in_ok-index.ensures.index ∙ ap (relabels old) c.labels.ensures) in
     let new = rw c.labels.ensures at c.in_ok-index.ensures.known in
@@ -46,8 +46,8 @@ pub returns : goal.returns
 returns c =
     let old = c.args.known.now in
     let line : Parsed = record { labels = c.in-Ok.line.0; statement = c.in-Ok-statement.statement } in
-    let read : parsed c.args.text.now ≡ Ok line = read_statement c.args.text.now c.in-Ok.line
-    c.in-Ok-statement.statement c.in-Ok.ensures.form c.in-Ok-statement.ensures in
+    let read : parsed c.args.text.now ≡ Ok line = as_parsed c.args.text.now c.in-Ok.line
+    c.in-Ok.ensures.form c.in-Ok-statement.statement c.in-Ok-statement.ensures in
     let once : relabels old line.labels ≡ false =
     sym (ap is_some (sym c.in_default-2.is) ∙ c.in_ok-index.ensures.index ∙ ap (relabels old) c.labels.ensures) in
     let new = rw c.labels.ensures at c.in_ok-index.ensures.known in

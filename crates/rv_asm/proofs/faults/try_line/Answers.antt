@@ -2,7 +2,7 @@ use Rattle.std.proofs.Common.{◌≡◌, ◌∙◌, sym}
 use Rattle.std.specs.Prelude.{Some, Ok}
 use Rattle.rv_source.specs.Reading.{Parsed, parsed}
 use Rattle.rv_asm.specs.Steps.{labelled}
-use Rattle.rv_asm.proofs.Reading.{read_statement}
+use Rattle.rv_source.proofs.Parsed.{as_parsed}
 use Rattle.rv_asm.proofs.Judging.{tried}
 use Rattle.rv_asm.proofs.faults.try_line.Goals as goal
 
@@ -10,8 +10,8 @@ pub returns : goal.returns
 returns c =
     let old = c.args.known.now in
     let line : Parsed = record { labels = c.in-Ok.line.0; statement = c.in-Ok-statement.statement } in
-    let read : parsed c.args.text.now ≡ Ok line = read_statement c.args.text.now c.in-Ok.line
-    c.in-Ok-statement.statement c.in-Ok.ensures.form c.in-Ok-statement.ensures in
+    let read : parsed c.args.text.now ≡ Ok line = as_parsed c.args.text.now c.in-Ok.line
+    c.in-Ok.ensures.form c.in-Ok-statement.statement c.in-Ok-statement.ensures in
     let adds = rw (c.labels.ensures, c.new-items.ensures.items) at c.in-Ok-add.ensures.items in
     let kind = sym c.in-Some.is ∙ (rw c.deref.ensures.value at c.in_ok-kind.ensures) in
     record {

@@ -2,7 +2,7 @@ use Rattle.std.proofs.Common.{rules, ◌≡◌}
 use Rattle.std.specs.Prelude.{Ok}
 use Rattle.rv_source.specs.Partial.{form_by_parts}
 use Rattle.rv_source.proofs.Forms.{as_read}
-use Rattle.rv_source.proofs.reader.read_line.Goals as goal
+use Rattle.rv_source.proofs.reader.read_line_form.Goals as goal
 
 pub returns-clause-form : goal.returns-clause-form
 unfolding form_by_parts
