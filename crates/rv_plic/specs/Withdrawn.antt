@@ -1,4 +1,4 @@
--- Not to audit: private contracts alone cite this. A public clause says that it undoes a forwarding.
+-- Not to audit: only the calls by which a forwarding is undone cite this, and a clause says what they restore.
 -- Requests that are taken back after they were forwarded.
 use Rattle.std.specs.FinSet.{difference}
 use Rattle.rv_plic.specs.Changes.{changed}

@@ -1,5 +1,5 @@
 //! Pending edges: rises of lines that have not been forwarded as requests yet.
-ghost use Rattle.std.specs.Prelude.{◌≡◌, ◌-◌, ◌^◌, ◌<◌, ◌≤◌, ℕ, false, IsFalse, All, slice_set};
+ghost use Rattle.std.specs.Prelude.{◌≡◌, ◌-◌, ◌^◌, ◌<◌, ◌≤◌, ◌↔◌, ℕ, false, IsFalse, All, slice_set};
 ghost use Rattle.std.specs.FinSet as set;
 ghost use Rattle.rv_plic.specs.Gateways.{is_by_edge, edges_of};
 ghost use Rattle.rv_plic.specs.GatewayState.{none_waits};
@@ -65,7 +65,7 @@ impl Edges {
 
     /// Returns whether the edges of any of these sources are counted: whether any is triggered by edges.
     pub fn counts_any(&self, sources: SourceSet) -> bool
-        ensures { IsFalse result → (q : ℕ) → 24 ≤ q → set.contains sources q ≡ false }
+        ensures { IsFalse result ↔ ((q : ℕ) → 24 ≤ q → set.contains sources q ≡ false) }
     {
         sources.has_edge_triggered()
     }

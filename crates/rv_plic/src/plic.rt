@@ -7,6 +7,7 @@ ghost use Rattle.rv_plic.specs.Gateways.{PlicState, edges_of, reset, with_line, 
 ghost use Rattle.rv_plic.specs.Gateways as spec;
 ghost use Rattle.rv_plic.specs.Plic.{best, is_notified, claimed, completed, at};
 ghost use Rattle.rv_plic.specs.Registers.{word_at, with_word};
+ghost use Rattle.rv_plic.specs.Withdrawn.{withdrawn};
 
 use crate::Source;
 use crate::gateway::Gateways;
@@ -155,11 +156,13 @@ impl Plic {
         self.ready = self.gateways.requests(self.pending);
     }
 
-    /// Undoes the forwarding of these sources' requests. Each count of pending edges before it had 32 bits,
-    /// which `ready` says of a state.
+    /// Undoes the forwarding of these sources' requests: they are neither pending nor outstanding then, and
+    /// each that is triggered by edges has one pending edge more. Each count of pending edges before the
+    /// forwarding had 32 bits, which `ready` says of a state.
     #[tactic(auto, using(crate::proofs::Forwarding::withdrawn_forwarded))]
     pub fn withdraw(&mut self, requests: SourceSet)
-        ensures { (before : PlicState) → All (λ n. n < 2 ^ 32) before.edges → self.old ≡ forwarded before
+        ensures after { self.new ≡ withdrawn self.old requests }
+        ensures undoes { (before : PlicState) → All (λ n. n < 2 ^ 32) before.edges → self.old ≡ forwarded before
             → requests ≡ spec.requests before → self.new ≡ before }
     {
         self.gateways.withdraw(requests);

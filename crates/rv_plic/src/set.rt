@@ -71,9 +71,9 @@ impl SourceSet {
     }
 
     /// Returns whether the set has any of the sources 24 to 31, which are triggered by edges.
-    #[tactic(auto, using(crate::proofs::AskingSources::none_from))]
+    #[tactic(auto, using(crate::proofs::AskingSources::none_from, crate::proofs::AskingSources::below_24))]
     pub fn has_edge_triggered(&self) -> bool
-        ensures { IsFalse result → (q : ℕ) → 24 ≤ q → set.contains self.now q ≡ false }
+        ensures { IsFalse result ↔ ((q : ℕ) → 24 ≤ q → set.contains self.now q ≡ false) }
     {
         self.word >> 24 != 0
     }
