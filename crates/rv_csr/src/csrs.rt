@@ -9,6 +9,7 @@ ghost use Rattle.rv_csr.specs.Traps as traps;
 ghost use Rattle.rv_isa.specs.Width.{bytes_of};
 ghost use Rattle.rv_isa.specs.declared.op.Width.{Width};
 ghost use Rattle.rv_isa.specs.declared.Lines.{Lines};
+ghost use Rattle.rv_pmp.specs.PermissionCache.{IsWidestOrNone};
 ghost use Rattle.rv_pmp.specs.Pmp.{grants};
 ghost use Rattle.rv_pmp.specs.declared.mode.Mode.{Mode};
 ghost use Rattle.rv_pmp.specs.declared.mode.Mode.TheVariants.{User};
@@ -331,12 +332,13 @@ impl Csrs {
         self.minstret = self.minstret.wrapping_add(steps);
     }
 
-    /// Returns bytes within which protection grants user mode all accesses of a kind: those round the last
-    /// one that was asked for.
+    /// Returns bytes within which protection grants user mode all accesses of a kind: those that its
+    /// permission cache keeps, the widest span round an access, or none.
     #[inline(always)]
     pub fn user_span(&self, access: Access) -> Span
-        ensures { (first : ℕ) (w : Width) → result.first ≤ first → first + bytes_of w ≤ result.end
+        ensures granted { (first : ℕ) (w : Width) → result.first ≤ first → first + bytes_of w ≤ result.end
             → grants self.now.pmp User access first (bytes_of w) ≡ true }
+        ensures widest { IsWidestOrNone self.now.pmp access result }
     {
         self.pmp.user_span(access)
     }

@@ -12,7 +12,7 @@ use Rattle.rv_pmp.specs.declared.access.Access.{Access}
 use Rattle.rv_pmp.specs.declared.mode.Mode.{Mode}
 use Rattle.rv_pmp.specs.Entry.{entry_grants}
 use Rattle.rv_pmp.specs.Span.{holds, meets, span_of}
-use Rattle.rv_pmp.specs.PermissionCache.{AreGranted}
+use Rattle.rv_pmp.specs.PermissionCache.{AreKept}
 
 -- whether an entry matches addresses
 abbrev pub is_matching : Matching → Bool
@@ -50,7 +50,7 @@ pub record IsConsistent (entries : List Entry) (actives : List ActiveEntry) (any
   pub on : any_on ≡ some_on entries
   pub locked : any_locked ≡ some_locked entries
   pub readable : AllReadable entries
-  pub granted : AreGranted (record { entries = entries }) permissions
+  pub kept : AreKept (record { entries = entries }) permissions
 
 -- ---- the decision by spans
 

@@ -8,7 +8,7 @@ ghost use Rattle.rv_pmp.specs.Pmp.{PmpState, entry_at, grants, lower_of, matches
 ghost use Rattle.rv_pmp.specs.Registers.{config_at, with_config, with_address, with_word, starts_locked};
 ghost use Rattle.rv_pmp.specs.Registers as spec;
 ghost use Rattle.rv_pmp.specs.WidestSpan.{AreForward, IsWidestSpan};
-ghost use Rattle.rv_pmp.specs.PermissionCache.{IsGranted, IsWidest};
+ghost use Rattle.rv_pmp.specs.PermissionCache.{IsGranted, IsWidest, IsWidestOrNone};
 ghost use Rattle.rv_pmp.specs.declared.access.Access.{Access};
 ghost use Rattle.rv_pmp.specs.declared.mode.Mode.{Mode};
 ghost use Rattle.rv_pmp.specs.declared.mode.Mode.TheVariants.{User};
@@ -244,12 +244,15 @@ impl Pmp {
     }
 
     /// Returns bytes within which user mode is granted all accesses of a kind: those that the permission
-    /// cache keeps.
+    /// cache keeps, the widest span round the last such access that `admits` computed one for. It has no
+    /// bytes where none was computed since a register was written, so it may always have none: a caller asks
+    /// `admits` of what is outside of it.
     #[inline(always)]
     #[tactic(auto, using(crate::proofs::Widest::within_granted))]
     pub fn user_span(&self, access: Access) -> Span
-        ensures { (first : ℕ) (w : Width) → result.first ≤ first → first + bytes_of w ≤ result.end
+        ensures granted { (first : ℕ) (w : Width) → result.first ≤ first → first + bytes_of w ≤ result.end
             → grants self.now User access first (bytes_of w) ≡ true }
+        ensures widest { IsWidestOrNone self.now access result }
     {
         self.permissions.span_for(access)
     }
