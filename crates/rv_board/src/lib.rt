@@ -9,4 +9,4 @@ mod laws;
 
 pub use board::{Board, BootedBoard};
 pub use event::{BootFault, Event, Stopped, TrapRecord};
-pub use laws::locked_entries_stay;
+pub use laws::{locked_entries_stay, room_is_written};

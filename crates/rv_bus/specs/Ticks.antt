@@ -5,6 +5,7 @@ use Rattle.rv_plic.specs.Gateways.{requests}
 use Rattle.rv_plic.specs.Plic.{PlicState}
 use Rattle.rv_plic.specs.Plic as plic
 use Rattle.rv_plic.specs.Sources.{Sources}
+use Rattle.rv_plic.specs.Withdrawn.{withdrawn}
 use Rattle.rv_mmio.specs.Timer.{TimerState}
 use Rattle.rv_mmio.specs.Timer as timer
 use Rattle.rv_bus.specs.State.{BusState}
@@ -22,6 +23,11 @@ pub record TickState : Type 0 where
 -- the part of the bus that the next tick changes
 abbrev pub next_tick : BusState → TickState
 next_tick b = record { time = b.timer.time; requests = requests b.plic }
+
+-- the timer and the interrupt controller before a tick, by the part that the tick changed
+abbrev pub mark_before : BusState → TickState → MarkState
+mark_before b tick =
+    record { timer = record b.timer { time = tick.time }; plic = withdrawn b.plic tick.requests }
 
 -- the bus after a tick
 abbrev pub ticked : BusState → BusState

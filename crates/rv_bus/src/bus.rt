@@ -13,7 +13,7 @@ ghost use Rattle.rv_bus.specs.Access.{load, store, writes, fetch, ram_byte, line
 ghost use Rattle.rv_bus.specs.AtLocation.{IsFor, location};
 ghost use Rattle.rv_bus.specs.Within.{IsWithin};
 ghost use Rattle.rv_bus.specs.Room.{wants_room};
-ghost use Rattle.rv_bus.specs.Ticks.{next_tick, ticked};
+ghost use Rattle.rv_bus.specs.Ticks.{mark_before, next_tick, ticked};
 ghost use Rattle.rv_bus.specs.declared.bus.StoreRefusal.TheVariants as refusal;
 
 use crate::locations::{Location, find_location};
@@ -351,9 +351,11 @@ impl<M: ByteMemory> Bus<M> {
         }
     }
 
-    /// Returns the snapshot before the last tick, where `tick` was `next_tick` before it.
+    /// Returns the snapshot before the last tick, where `tick` was `next_tick` before it: the time that `tick`
+    /// has, and the interrupt controller with its requests withdrawn.
     pub fn mark_before(&self, tick: Tick) -> Mark
-        ensures { (old : BusState) → All (λ n. n < 2 ^ 32) old.plic.edges → self.now ≡ ticked old
+        ensures value { result ≡ mark_before self.now tick }
+        ensures before { (old : BusState) → All (λ n. n < 2 ^ 32) old.plic.edges → self.now ≡ ticked old
             → tick ≡ next_tick old → result ≡ record { timer = old.timer; plic = old.plic } }
     {
         let mut plic = self.plic;

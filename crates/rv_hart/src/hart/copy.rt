@@ -9,8 +9,8 @@ use rv_ram::PagedRam;
 use std::alloc::Global;
 
 impl<C: Decoded> Hart<PagedRam, C> {
-    /// Returns a copy of the hart, with its memory and devices, over a decoded cache of its own that is
-    /// empty.
+    /// Returns a copy of the hart, with its memory and devices, over a decoded cache that is empty, which
+    /// becomes the copy's.
     ///
     /// # Errors
     ///
@@ -22,7 +22,8 @@ impl<C: Decoded> Hart<PagedRam, C> {
         cache: D,
     ) -> Result<Hart<PagedRam, D>, NoMemory>
         requires { (a : ℕ) → D.noted cache a ≡ None }
-        ensures { IfOk result (λ hart. hart.machine ≡ self.now.machine) }
+        ensures machine { IfOk result (λ hart. hart.machine ≡ self.now.machine) }
+        ensures cache { IfOk result (λ hart. hart.cache ≡ cache) }
     {
         Ok(Hart {
             registers: self.registers,
