@@ -247,8 +247,15 @@ impl<M: ByteMemory> Bus<M> {
         Ok(())
     }
 
+    /// Whether a write may be tried by `overwrite_ram` before `store`, by the memory's own word.
+    #[inline(always)]
+    pub fn has_overwrite(&self) -> bool {
+        self.ram.has_overwrite()
+    }
+
     /// Writes the low bytes of a value at an offset of the memory, where no room has to be made. Returns
-    /// whether it wrote: where it didn't, it changes nothing. It never allocates.
+    /// whether it wrote: where it didn't, it changes nothing. Over a memory that has an
+    /// `overwrite`, it never allocates.
     #[inline(always)]
     #[tactic(auto, using(crate::proofs::Others::fetch_put))]
     pub fn overwrite_ram(&mut self, off: u32, width: Width, value: u32) -> bool

@@ -71,6 +71,11 @@ impl ByteMemory for FlatMemory {
         Ok(())
     }
 
+    #[inline(always)]
+    fn has_overwrite(&self) -> bool {
+        true
+    }
+
     #[tactic(auto, using(crate::proofs::Put::length_put))]
     fn overwrite(&mut self, off: u32, width: Width, value: u32) -> bool {
         put_value(&mut self.bytes, off as usize, width, value);

@@ -26,15 +26,18 @@ pub const PAGE_BYTES: u32 = 4096;
 /// The bytes of a word stand low byte first (RISC-V Unprivileged ISA 20191213, section 1.4). A write may have
 /// to make room: it is refused where the allocator has none, and then leaves every byte as it was. Each
 /// memory says itself which writes those are.
+///
+/// A memory gives `bytes`, `size`, `read`, `read_word` and `write`. The rest makes a hart faster, or says more
+/// of refused writes, and its defaults are right for any memory.
 pub trait ByteMemory: Drop {
-    ghost use Rattle.std.specs.Prelude.{List, ℕ};
+    ghost use Rattle.std.specs.Prelude.{List, ℕ, true};
     ghost use Rattle.rv_ram.specs.Room.{RoomRule};
 
     /// The bytes, from offset 0 on.
     ghost bytes: { Self → List ℕ };
 
-    /// Which writes may have to make room, by the bytes before them.
-    ghost wants_room: { RoomRule };
+    /// Which writes may have to make room, by the bytes before them: by default any.
+    ghost wants_room: { RoomRule } = { λ bytes off width value. true };
 
     /// Returns the number of bytes: 4096 for each of 1 to 4096 pages. It never changes.
     fn size(&self) -> u32
@@ -63,12 +66,21 @@ pub trait ByteMemory: Drop {
         ensures err { OnErr result (bytes self.new ≡ bytes self.old) }
         ensures room { OnErr result (wants_room (bytes self.old) off width value ≡ true) };
 
+    /// Whether a write may be tried by `overwrite` first. By default it may not: then each store of a program
+    /// is one call of `write`, also where that is refused.
+    fn has_overwrite(&self) -> bool {
+        false
+    }
+
     /// Writes as `write` does where no room has to be made. Returns whether it wrote: where it didn't, it
-    /// leaves every byte as it was. It never allocates.
+    /// leaves every byte as it was. A memory that has an `overwrite` never allocates in it.
     fn overwrite(&mut self, off: u32, width: Width, value: u32) -> bool
         requires in_range { off + bytes_of width ≤ length (bytes self.old) }
         requires aligned { off % bytes_of width ≡ 0 }
         ensures written { result ≡ true → bytes self.new ≡ put (bytes self.old) off (bytes_of width) value }
         ensures refused { result ≡ false → bytes self.new ≡ bytes self.old }
-        ensures room { result ≡ false → wants_room (bytes self.old) off width value ≡ true };
+        ensures room { result ≡ false → wants_room (bytes self.old) off width value ≡ true }
+    {
+        self.write(off, width, value).is_ok()
+    }
 }

@@ -134,6 +134,11 @@ impl ByteMemory for PagedRam {
     }
 
     #[inline(always)]
+    fn has_overwrite(&self) -> bool {
+        true
+    }
+
+    #[inline(always)]
     #[tactic(auto, using(crate::proofs::Table::index_in, crate::proofs::Table::in_page, crate::proofs::Table::all_bytes_put, crate::proofs::Blank::blank_page))]
     fn overwrite(&mut self, off: u32, width: Width, value: u32) -> bool {
         let index = (off / PAGE_BYTES) as usize;

@@ -4,7 +4,7 @@ use crate::memory::RefusingMemory;
 use crate::programs::program;
 use rv_asm::Program;
 use rv_board::{Board, BootFault, BootedBoard, Event};
-use rv_cache::{Decoded, NoCache};
+use rv_cache::{DecodeCache, Decoded, NoCache};
 use rv_ram::{ByteMemory, FlatMemory};
 use std::alloc::Global;
 use std::process::Abort;
@@ -72,15 +72,20 @@ fn an_image_may_be_too_large_for_its_memory(rt: HostRuntime) -> Result<(), Fail>
     Ok(())
 }
 
-/// Returns a board of `STORES`, whose memory refuses `refusals` writes after those of the image.
-fn boot_refusing(alloc: Global, refusals: u32) -> Result<Board<RefusingMemory, NoCache>, Fail> {
+/// A board whose memory refuses writes.
+type RefusingBoard = Board<RefusingMemory, DecodeCache>;
+
+/// Returns a board of `STORES`, whose memory refuses `refusals` writes after those of the image. It has a
+/// decoded cache, with which a hart takes steps in bursts, but over this memory it takes none.
+fn boot_refusing(alloc: Global, refusals: u32) -> Result<RefusingBoard, Fail> {
     let memory = RefusingMemory {
         memory: FlatMemory::new(alloc, 2)?,
         good: 8,
         refusals,
     };
     let program = program(alloc, STORES)?;
-    let board = Board::with_parts(alloc, &program, memory, NoCache);
+    let cache = DecodeCache::new(alloc, 64)?;
+    let board = Board::with_parts(alloc, &program, memory, cache);
     Ok(board.ok().ok_or("the board doesn't boot")?)
 }
 
@@ -125,7 +130,7 @@ fn check_beside<M: ByteMemory, C: Decoded, N: ByteMemory, D: Decoded>(
 fn check_beside_pages(
     rt: &impl Abort,
     alloc: Global,
-    board: &mut Board<RefusingMemory, NoCache>,
+    board: &mut RefusingBoard,
 ) -> Result<(), Fail> {
     let mut other = boot_pages(alloc, STORES)?;
     check_beside(rt, board, &mut other);

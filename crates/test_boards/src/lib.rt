@@ -1,5 +1,5 @@
-//! Tests that cross crates: boards and sessions over a memory that refuses writes and over a cache that
-//! counts its calls, and sources that can't be rows of test_rows.
+//! Tests that cross crates: boards and sessions over a memory that refuses writes, boards and harts over a
+//! cache that counts its calls, and sources that can't be rows of test_rows.
 #![tactic(auto)]
 
 #[cfg(test)]
