@@ -49,7 +49,7 @@ impl From<NoMemory> for StoreRefusal {
     }
 }
 
-/// A snapshot of the timer and the interrupt controller, by which ticks are undone.
+/// A mark: copies of the timer and the interrupt controller, by which ticks are undone.
 #[derive(Clone, Copy)]
 pub struct Mark {
     timer: Timer,
@@ -327,7 +327,7 @@ impl<M: ByteMemory> Bus<M> {
         self.serial.receive(byte);
     }
 
-    /// Returns a snapshot of the timer and the interrupt controller.
+    /// Returns a mark: copies of the timer and the interrupt controller.
     pub fn mark(&self) -> Mark
         ensures { result ≡ record { timer = self.now.timer; plic = self.now.plic } }
     {
@@ -337,8 +337,7 @@ impl<M: ByteMemory> Bus<M> {
         }
     }
 
-    /// Undoes the ticks since a snapshot: sets the timer and the interrupt controller back to it, and nothing
-    /// else.
+    /// Undoes the ticks since a mark: sets the timer and the interrupt controller back to it, and nothing else.
     pub fn put_back(&mut self, mark: Mark)
         ensures { self.new ≡ record self.old { timer = mark.timer; plic = mark.plic } }
     {
@@ -346,7 +345,7 @@ impl<M: ByteMemory> Bus<M> {
         self.plic = mark.plic;
     }
 
-    /// Returns the part that the next tick changes. It is smaller than a snapshot, and one can be made of it
+    /// Returns the part that the next tick changes. It is smaller than a mark, and one can be made of it
     /// afterwards, since each count of pending edges has 32 bits.
     pub fn next_tick(&self) -> Tick
         ensures tick { result ≡ next_tick self.now }
@@ -358,7 +357,7 @@ impl<M: ByteMemory> Bus<M> {
         }
     }
 
-    /// Returns the snapshot before the last tick, where `tick` was `next_tick` before it: the time that `tick`
+    /// Returns the mark before the last tick, where `tick` was `next_tick` before it: the time that `tick`
     /// has, and the interrupt controller with its requests withdrawn.
     pub fn mark_before(&self, tick: Tick) -> Mark
         ensures value { result ≡ mark_before self.now tick }
