@@ -139,6 +139,7 @@ impl<'a> Line<'a> {
     pub fn statement<'t>(&'t self) -> Option<Statement<'t, 'a>>
         ensures { result ≡ self.now.statement }
     {
+        // `read_line` makes no line whose statement has a fault.
         self.0.statement().unwrap_or(None)
     }
 }
