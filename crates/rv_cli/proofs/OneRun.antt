@@ -1,6 +1,6 @@
 -- A command leaves one session, and commands one text.
 use Rattle.std.proofs.Common.{◌≡◌, ◌∙◌, ℕ, zero, suc, ◌+◌, ◌<◌, ◌≤◌, ◌⊎◌, inl, inr, List, [], ◌∷◌, ◌++◌, Option, Some, None, refl, sym, ap, subst, arith, below_more, ⊎_elim}
-use Rattle.std.specs.Prelude.{is_some}
+use Rattle.std.specs.Prelude.{IsSome, is_some}
 use Rattle.std.specs.FinSet as set
 use Rattle.std.proofs.lemmas.Bool.{cases_lt, false≢true}
 use Rattle.rv_commands.specs.declared.command.Command.{Command}
@@ -8,94 +8,67 @@ use Rattle.rv_commands.specs.declared.command.Command.TheVariants.{Step, Go, Set
 use Rattle.rv_monitor.specs.Answers.{next_of}
 use Rattle.rv_monitor.specs.Commands.{Leaves, Took, answer, command_in}
 use Rattle.rv_monitor.proofs.Silent.{more_of, not_quit, quit_is}
-use Rattle.rv_monitor.specs.State.{Addresses, SessionState, TimedState, after, with_break, without_break}
+use Rattle.rv_monitor.specs.State.{Addresses, SessionState, after, with_break, without_break}
 use Rattle.rv_monitor.specs.Stops.{stop_after}
-use Rattle.rv_monitor.specs.TimedCalls.{IsCount, going_for, most_of}
+use Rattle.rv_monitor.specs.TimedCalls.{going_for, most_of}
 use Rattle.rv_monitor.specs.declared.command.Next.{Next}
 use Rattle.rv_monitor.specs.declared.command.Next.TheVariants.{More, Quit}
 use Rattle.rv_monitor.specs.declared.stop.Stop.{Stop}
-use Rattle.rv_monitor.proofs.SessionCalls.{took_timed}
 use Rattle.rv_base.specs.Lines.{lines}
 use Rattle.rv_cli.specs.Output.{Does, Obeys, goes_on, none, quits}
 
 -- ---- steps
 
-module _ (breakpoints : Addresses) (s : TimedState) (most : ℕ) where
-  no_less : (i j : ℕ) → IsCount breakpoints s most i → IsCount breakpoints s most j → i < j → ⊥
-  no_less i j first other less =
-      let within : j ≤ most = other.within in
-      false≢true (ap is_some (sym (other.going i less)) ∙ first.least (omega arith))
+module _ (breakpoints : Addresses) (n : ℕ) (old : SessionState) where
+  no_less : (a b : SessionState) (one : Took breakpoints n old a) (two : Took breakpoints n old b)
+      → one.count < two.count → ⊥
+  no_less a b one two less =
+      false≢true (ap is_some (sym (two.going one.count less))
+      ∙ (ap (λ (s : SessionState). is_some (stop_after breakpoints s.timed.board one.count)) (sym one.state)
+      ∙ one.least (omega (arith, two.within))))
 
-  -- one number of steps
-  one_count : (i j : ℕ) → IsCount breakpoints s most i → IsCount breakpoints s most j → i ≡ j
-  one_count i j first other =
-      ⊎_elim (λ l. absurd (no_less i j first other l))
-      (λ ge. ⊎_elim (λ l. absurd (no_less j i other first l)) (λ le. omega arith) (cases_lt j i))
-      (cases_lt i j)
+  -- a call takes one number of steps
+  took_one : (a b : SessionState) → Took breakpoints n old a → Took breakpoints n old b → a ≡ b
+  took_one a b one two =
+      let count : one.count ≡ two.count =
+      ⊎_elim (λ l. absurd (no_less a b one two l))
+      (λ ge. ⊎_elim (λ l. absurd (no_less b a two one l)) (λ le. omega arith) (cases_lt two.count one.count))
+      (cases_lt one.count two.count) in
+      one.state ∙ (ap (λ (k : ℕ). record old { timed = after old.timed k }) count ∙ sym two.state)
+
+  abbrev stop_at : ℕ → Option Stop
+  stop_at i = stop_after breakpoints (after old.timed i).board i
 
   abbrev GoesOn : ℕ → Type 0
-  GoesOn n = (i : ℕ) → i < n → stop_after breakpoints (after s i).board i ≡ None
+  GoesOn k = (i : ℕ) → i < k → stop_at i ≡ None
 
-  counted_by : (n : ℕ) (stop : Option Stop) → stop_after breakpoints (after s n).board n ≡ stop → n ≤ most
-      → GoesOn n → GoesOn (n + 1) ⊎ ((k : ℕ) × IsCount breakpoints s most k)
-  counted_by n None is le going =
-      inl (below_more (λ i. stop_after breakpoints (after s i).board i ≡ None) n going is)
-  counted_by n (Some stop) is le going =
-      inr (n, record { within = le; going = going; least = λ less. ap is_some is })
+  abbrev Taken : Type 0
+  Taken = (new : SessionState) × Took breakpoints n old new
 
-  counted : (n : ℕ) → n ≤ most + 1 → GoesOn n ⊎ ((k : ℕ) × IsCount breakpoints s most k)
+  taken : (k : ℕ) → k ≤ most_of old n → GoesOn k → (k < most_of old n → IsSome (stop_at k)) → Taken
+  taken k within going least = (
+    record old { timed = after old.timed k },
+    record { count = k; within = within; going = going; least = least; state = refl },
+  )
+
+  counted_by : (k : ℕ) (stop : Option Stop) → stop_at k ≡ stop → k ≤ most_of old n → GoesOn k
+      → GoesOn (k + 1) ⊎ Taken
+  counted_by k None is le going = inl (below_more (λ i. stop_at i ≡ None) k going is)
+  counted_by k (Some stop) is le going = inr (taken k le going (λ less. ap is_some is))
+
+  counted : (k : ℕ) → k ≤ most_of old n + 1 → GoesOn k ⊎ Taken
   counted zero le = inl (λ i less. absurd (omega arith))
-  counted (suc n) le =
-      ⊎_elim (λ going. next going) (λ found. inr found) (counted n (omega arith))
-    where
-      at : n + 1 ≡ suc n
-      at = omega arith
-
-      next : GoesOn n → GoesOn (suc n) ⊎ ((k : ℕ) × IsCount breakpoints s most k)
-      next going =
-          subst (λ m. GoesOn m ⊎ ((k : ℕ) × IsCount breakpoints s most k)) at
-          (counted_by n (stop_after breakpoints (after s n).board n) refl (omega arith) going)
+  counted (suc k) le =
+      let next : k + 1 ≡ suc k = omega arith in
+      ⊎_elim
+      (λ going. subst (λ m. GoesOn m ⊎ Taken) next (counted_by k (stop_at k) refl (omega arith) going))
+      (λ found. inr found) (counted k (omega arith))
 
   -- which there is
-  some_count : (k : ℕ) × IsCount breakpoints s most k
-  some_count =
-      ⊎_elim
-      (λ going. (
-        most,
-        record { within = omega arith; going = λ i less. going i less; least = λ less. absurd (omega arith) },
-      ))
-      (λ found. found) (counted most (omega arith))
-
-took_count : (breakpoints : Addresses) (n : ℕ) (old new : SessionState) (t : Took breakpoints n old new)
-    → IsCount breakpoints old.timed (most_of old n) t.count
-took_count breakpoints n old new t = record {
-  within = t.within;
-  going = t.going;
-  least = λ less.
-      ap (λ u. is_some (stop_after breakpoints u.board t.count)) (sym (took_timed breakpoints n old new t))
-      ∙ t.least less;
-}
-
-took_one : (breakpoints : Addresses) (n : ℕ) (old a b : SessionState) → Took breakpoints n old a
-    → Took breakpoints n old b → a ≡ b
-took_one breakpoints n old a b one two =
-    let count = one_count breakpoints old.timed (most_of old n) one.count two.count
-    (took_count breakpoints n old a one) (took_count breakpoints n old b two) in
-    one.state ∙ (ap (λ (k : ℕ). record old { timed = after old.timed k }) count ∙ sym two.state)
-
-took_some : (breakpoints : Addresses) (n : ℕ) (old : SessionState)
-    → (new : SessionState) × Took breakpoints n old new
-took_some breakpoints n old =
-    let found = some_count breakpoints old.timed (most_of old n) in (
-      record old { timed = after old.timed found.0 },
-      record {
-        count = found.0;
-        within = found.1.within;
-        going = found.1.going;
-        least = found.1.least;
-        state = refl;
-      },
-    )
+  took_some : Taken
+  took_some =
+      ⊎_elim (λ going. taken (most_of old n) (omega arith) going (λ less. absurd (omega arith))) (λ found. found)
+      (counted (most_of old n) (omega arith))
 
 -- ---- commands
 
