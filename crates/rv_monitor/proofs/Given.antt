@@ -1,10 +1,9 @@
 -- Inputs that are given by hand, and states that a board comes to by its inputs and its steps.
 use Rattle.std.proofs.Common.{◌≡◌, ◌∙◌, ℕ, zero, suc, ◌+◌, ◌<◌, ◌≤◌, Bool, true, false, List, [], ◌∷◌, ◌++◌, length, drop, refl, sym, ap, subst, arith, inl, inr}
-use Rattle.std.specs.Prelude.{◌⊎◌, nat_eq, nat_le, nat_lt, ◌==◌, ◌&&◌, map, filter, None, Result, Ok, Err, OnOk, OnErr, IfOk}
-use Rattle.std.specs.FinSet as set
+use Rattle.std.specs.Prelude.{◌⊎◌, nat_eq, nat_le, nat_lt, ◌==◌, map, filter, None, Result, Ok, Err, OnOk, OnErr}
 use Rattle.rv_base.specs.declared.memory.NoMemory.{NoMemory}
 use Rattle.rv_hart.specs.declared.trap.Outcome.{Outcome}
-use Rattle.std.proofs.lemmas.Bool.Decides.{nat_tests}
+use Rattle.std.proofs.lemmas.Bool.{and_from, and_parts, eq-eqb, le-leb, le-ltb, lt-ltb, ltb-false, ltb-true, ne_eqb}
 use Rattle.std.proofs.lemmas.List.{map-append}
 use Rattle.rv_board.specs.State.{BoardState, halted_of}
 use Rattle.rv_board.specs.Move.{run}
@@ -14,47 +13,11 @@ use Rattle.rv_lists.specs.declared.input.TimedInput.{TimedInput}
 use Rattle.rv_lists.specs.Timed.{never_falls, inserted}
 use Rattle.rv_lists.proofs.Inserted.{rises}
 use Rattle.rv_monitor.specs.Events.{event_of, inputs_at, events_of}
-use Rattle.rv_monitor.specs.TimedCalls.{HasStopped, IsRefused}
-use Rattle.rv_monitor.specs.declared.stop.Stop.{Stop}
+use Rattle.rv_monitor.specs.TimedCalls.{IsRefused}
 use Rattle.rv_monitor.specs.State.{Addresses, TimedState, IsInTime, rest, count_before, begun, after, with_due, given}
-use Rattle.rv_monitor.specs.Joined.{GivenAsListed}
 use Rattle.rv_monitor.specs.Laws.{IsReached}
-use Rattle.rv_monitor.proofs.Times.{from, of, from_earlier, tail_rises, all_from, drop_from, late_from, late_count, none_of, none_before}
-use Rattle.rv_monitor.proofs.Steps.{inputs_late, none_due}
-
--- ---- comparisons as tests
-
-lt : (m n : ℕ) → m < n → nat_lt m n ≡ true
-lt m n h = grind (arith, nat_tests)
-
-lt_is : (m n : ℕ) → nat_lt m n ≡ true → m < n
-lt_is m n h = grind (arith, nat_tests)
-
-not_lt : (m n : ℕ) → n ≤ m → nat_lt m n ≡ false
-not_lt m n h = grind (arith, nat_tests)
-
-not_lt_is : (m n : ℕ) → nat_lt m n ≡ false → n ≤ m
-not_lt_is m n h = grind (arith, nat_tests)
-
-le : (m n : ℕ) → m ≤ n → nat_le m n ≡ true
-le m n h = grind (arith, nat_tests)
-
-ne_above : (m n : ℕ) → n < m → nat_eq m n ≡ false
-ne_above m n h = grind (arith, nat_tests)
-
-same_time : (n : ℕ) → nat_eq n n ≡ true
-same_time n = grind (arith, nat_tests)
-
-and_left : (a b : Bool) → (a && b) ≡ true → a ≡ true
-and_left true b h = refl
-and_left false b h = h
-
-and_right : (a b : Bool) → (a && b) ≡ true → b ≡ true
-and_right true b h = h
-and_right false b h = absurd cc
-
-both : (a b : Bool) → a ≡ true → b ≡ true → (a && b) ≡ true
-both a b p q = rw (p, q) refl
+use Rattle.rv_monitor.proofs.Times.{from, of, from_earlier, tail_from, tail_rises, all_from, drop_from, late_from, late_count, none_of, none_before}
+use Rattle.rv_monitor.proofs.Steps.{inputs_late, none_due, same}
 
 -- ---- a list with one input more
 
@@ -89,7 +52,7 @@ inserted_from_by : (t : ℕ) (y : TimedInput) (ys : List TimedInput) (x : TimedI
     → from t (drop n (inserted ys x)) ≡ true → from t (drop (suc n) (inserted (y ∷ ys) x)) ≡ true
 unfolding inserted
 inserted_from_by t y ys x n true e k h more =
-    let l : x.step < y.step = lt_is x.step y.step e in
+    let l : x.step < y.step = ltb-true x.step y.step e in
     rw e (drop_from t n (y ∷ ys) (all_from t y ys h (omega arith)))
 inserted_from_by t y ys x n false e k h more = rw e more
 
@@ -97,19 +60,19 @@ inserted_all_by : (t : ℕ) (y : TimedInput) (ys : List TimedInput) (x : TimedIn
     → nat_lt x.step y.step ≡ b → t ≤ x.step → from t (y ∷ ys) ≡ true → from t (inserted ys x) ≡ true
     → from t (inserted (y ∷ ys) x) ≡ true
 unfolding inserted
-inserted_all_by t y ys x true e k h more = rw e (both (nat_le t x.step) _ (le t x.step k) h)
+inserted_all_by t y ys x true e k h more = rw e (and_from (nat_le t x.step) _ (le-leb t x.step k) h)
 inserted_all_by t y ys x false e k h more =
-    rw e (both (nat_le t y.step) _ (and_left (nat_le t y.step) (from t ys) h) more)
+    rw e (and_from (nat_le t y.step) _ (and_parts (nat_le t y.step) (from t ys) h).0 more)
 
 inserted_from : (t : ℕ) (xs : List TimedInput) (x : TimedInput) (n : ℕ) → t ≤ x.step → never_falls xs ≡ true
     → from t (drop n xs) ≡ true → from t (drop n (inserted xs x)) ≡ true
 unfolding inserted
-inserted_from t [] x zero k h all = both (nat_le t x.step) true (le t x.step k) refl
+inserted_from t [] x zero k h all = and_from (nat_le t x.step) true (le-leb t x.step k) refl
 inserted_from t [] x (suc zero) k h all = refl
 inserted_from t [] x (suc (suc n)) k h all = refl
 inserted_from t (y ∷ ys) x zero k h all =
     inserted_all_by t y ys x (nat_lt x.step y.step) refl k all
-    (inserted_from t ys x zero k (tail_rises y ys h) (and_right (nat_le t y.step) (from t ys) all))
+    (inserted_from t ys x zero k (tail_rises y ys h) (tail_from t y ys all))
 inserted_from t (y ∷ ys) x (suc n) k h all =
     inserted_from_by t y ys x n (nat_lt x.step y.step) refl k h
     (inserted_from t ys x n k (tail_rises y ys h) all)
@@ -138,13 +101,13 @@ module _ (t : ℕ) (input : Input) where
       ≡ new ∷ drop (count_before (t + 1) (y ∷ ys)) (y ∷ ys)
   unfolding inserted
   here_by y ys true e h more =
-      let l : t < y.step = lt_is t y.step e in
+      let l : t < y.step = ltb-true t y.step e in
       let none : count_before (t + 1) (y ∷ ys) ≡ 0 =
       none_before (t + 1) (y ∷ ys) (all_from (t + 1) y ys h (omega arith)) in
       rw (none, e) refl
   here_by y ys false e h more =
-      let l : y.step ≤ t = not_lt_is t y.step e in
-      rw (lt y.step (t + 1) (omega arith), e) more
+      let l : y.step ≤ t = ltb-false t y.step e in
+      rw (lt-ltb y.step (t + 1) (omega arith), e) more
 
   here : (xs : List TimedInput) → never_falls xs ≡ true
       → drop (count_before (t + 1) xs) (inserted xs new) ≡ new ∷ drop (count_before (t + 1) xs) xs
@@ -157,29 +120,29 @@ module _ (t : ℕ) (input : Input) where
       → of t (inserted (y ∷ ys) new) ≡ of t (y ∷ ys) ++ new ∷ []
   unfolding inserted
   last_by y ys true c e f h more =
-      let l : t < y.step = lt_is t y.step e in
+      let l : t < y.step = ltb-true t y.step e in
       let none : of t (y ∷ ys) ≡ [] = none_of t (y ∷ ys) (all_from (t + 1) y ys h (omega arith)) in
-      rw (e, same_time t, none) refl
+      rw (e, eq-eqb t t refl, none) refl
   last_by y ys false true e f h more = rw (e, f, more) refl
   last_by y ys false false e f h more = rw (e, f, more) refl
 
   last : (xs : List TimedInput) → never_falls xs ≡ true → of t (inserted xs new) ≡ of t xs ++ new ∷ []
   unfolding inserted
-  last [] h = rw (same_time t) refl
+  last [] h = rw (eq-eqb t t refl) refl
   last (y ∷ ys) h = last_by y ys (nat_lt t y.step) (nat_eq y.step t) refl refl h (last ys (tail_rises y ys h))
 
   count_by : (y : TimedInput) (ys : List TimedInput) (b : Bool) → nat_lt t y.step ≡ b
       → count_before (t + 1) (inserted ys new) ≡ count_before (t + 1) ys + 1
       → count_before (t + 1) (inserted (y ∷ ys) new) ≡ count_before (t + 1) (y ∷ ys) + 1
   unfolding inserted
-  count_by y ys true e more = rw (e, lt t (t + 1) (omega arith)) (omega arith)
+  count_by y ys true e more = rw (e, lt-ltb t (t + 1) (omega arith)) (omega arith)
   count_by y ys false e more =
-      let l : y.step ≤ t = not_lt_is t y.step e in
-      rw (e, lt y.step (t + 1) (omega arith)) (omega (arith, more))
+      let l : y.step ≤ t = ltb-false t y.step e in
+      rw (e, lt-ltb y.step (t + 1) (omega arith)) (omega (arith, more))
 
   count_more : (xs : List TimedInput) → count_before (t + 1) (inserted xs new) ≡ count_before (t + 1) xs + 1
   unfolding inserted
-  count_more [] = rw (lt t (t + 1) (omega arith)) refl
+  count_more [] = rw (lt-ltb t (t + 1) (omega arith)) refl
   count_more (y ∷ ys) = count_by y ys (nat_lt t y.step) refl (count_more ys)
 
   module _ (xs : List TimedInput) (rising : never_falls xs ≡ true) where
@@ -187,7 +150,7 @@ module _ (t : ℕ) (input : Input) where
     before : (u : ℕ) → u < t → inputs_at (inserted xs new) u ≡ inputs_at xs u
     unfolding inputs_at
     before u k =
-        ap (map (λ x. event_of x.input)) (left_out (λ x. x.step == u) xs new (ne_above t u k))
+        ap (map (λ x. event_of x.input)) (left_out (λ x. x.step == u) xs new (ne_eqb t u (λ same. omega arith)))
 
     pub events_before : (k : ℕ) → k ≤ t → events_of (inserted xs new) 0 k ≡ events_of xs 0 k
     unfolding events_of
@@ -195,7 +158,7 @@ module _ (t : ℕ) (input : Input) where
     events_before (suc k) h = rw (events_before k (omega arith), before (0 + k) (omega arith)) refl
 
     count_same : (u : ℕ) → u ≤ t → count_before u (inserted xs new) ≡ count_before u xs
-    count_same u k = ap length (left_out (λ x. nat_lt x.step u) xs new (not_lt t u k))
+    count_same u k = ap length (left_out (λ x. nat_lt x.step u) xs new (le-ltb t u k))
 
     -- the event of the input comes last
     inputs_more : inputs_at (inserted xs new) t ≡ inputs_at xs t ++ event_of input ∷ []
@@ -212,20 +175,15 @@ module _ (t : ℕ) (input : Input) where
 
     one_left : inputs_at (drop (count_before (t + 1) xs) (inserted xs new)) t ≡ event_of input ∷ []
     unfolding inputs_at
-    one_left = rw (here xs rising, same_time t, no_more) refl
+    one_left = rw (here xs rising, eq-eqb t t refl, no_more) refl
 
     one_counted : count_before (t + 1) (drop (count_before (t + 1) xs) (inserted xs new)) ≡ 1
     one_counted =
         let none : count_before (t + 1) late ≡ 0 = none_before (t + 1) late (late_from (t + 1) xs rising) in
-        let now : nat_lt t (t + 1) ≡ true = lt t (t + 1) (omega arith) in
+        let now : nat_lt t (t + 1) ≡ true = lt-ltb t (t + 1) (omega arith) in
         rw (here xs rising, now, none) refl
 
 -- ---- states that are reached
-
-same : (b c : BoardState) (xs : List TimedInput) (p q t u : ℕ) → b ≡ c → p ≡ q → t ≡ u
-    → ◌≡◌ {A = TimedState} (record { board = b; inputs = xs; place = p; taken = t })
-    (record { board = c; inputs = xs; place = q; taken = u })
-same b c xs p q t u e f g = cc
 
 zero_more : (n : ℕ) → 0 + n ≡ n
 zero_more n = omega arith
@@ -348,7 +306,7 @@ reached_due board xs k s h e goes =
       running = λ i l. ap (λ ys. halted_of (after (begun board ys) i).board) from_here ∙ goes i (omega arith);
     }
 
-given_listed : (board : BoardState) (s : TimedState) (input : Input) → never_falls s.inputs ≡ true
+pub given_listed : (board : BoardState) (s : TimedState) (input : Input) → never_falls s.inputs ≡ true
     → (s ≡ after (begun board s.inputs) s.taken) ⊎ (s ≡ with_due (after (begun board s.inputs) s.taken))
     → given s input ≡ with_due (after (begun board (inserted s.inputs (new s.taken input))) s.taken)
 unfolding with_longer
@@ -362,10 +320,7 @@ given_stands board s input r =
     (rises s.inputs (new s.taken input) r.rising) (given_listed board s input r.rising r.state)
     (λ i l. running_before board s.inputs r.rising s.taken input i (omega arith) ∙ r.running i l)
 
-pub given_as_listed : GivenAsListed
-given_as_listed board s input r = (given_stands board s input r, given_listed board s input r.rising r.state)
-
--- ---- the calls that give an input, take a step and go back, by their fields
+-- ---- the calls that give an input, take a step and resume, by their fields
 
 pub grown_in_time : (b : BoardState) (xs ys : List TimedInput) (place t : ℕ) (x : TimedInput)
     → ys ≡ inserted xs x → t ≤ x.step
@@ -430,9 +385,3 @@ pub step_within : (r : Result Outcome NoMemory) (old new : TimedState) (limit : 
     → OnOk r (new ≡ after old 1) → OnErr r (new ≡ with_due old) → old.taken < limit → new.taken ≤ limit
 step_within (Ok u) old new limit ok err h = omega (arith, one_taken old new ok)
 step_within (Err e) old new limit ok err h = omega (arith, due_taken old new err)
-
-pub rewound_within : (r : Result Stop NoMemory) (old new : TimedState) (board : BoardState) (most limit : ℕ)
-    → IfOk r (HasStopped set.empty most (begun board old.inputs) new) → OnErr r (new ≡ old) → most ≤ limit
-    → old.taken ≤ limit → new.taken ≤ limit
-rewound_within (Ok stop) old new board most limit ok err k h = omega (arith, ok.count.within)
-rewound_within (Err e) old new board most limit ok err k h = omega (arith, ap (λ u. u.taken) err)

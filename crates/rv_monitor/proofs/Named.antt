@@ -1,5 +1,6 @@
 -- Each control register that has a name can be read.
-use Rattle.std.proofs.Common.{◌≡◌, ℕ, Bool, true, false, cond, List, [], ◌∷◌, refl, ◌∙◌, rules}
+use Rattle.std.proofs.Common.{◌≡◌, ℕ, Bool, true, false, cond, List, [], ◌∷◌, refl, ◌∙◌}
+use Rattle.std.proofs.lemmas.Bool.{and_parts}
 use Rattle.std.specs.Fmt.{digits}
 use Rattle.std.specs.List.{list_all}
 use Rattle.std.specs.Str.{bytes_eq}
@@ -38,20 +39,12 @@ all_are_read : (state : CsrState) (lines : Lines) →
     list_all (λ e. is_read state lines e.1) csr_names ≡ true
 all_are_read state lines = as_cases state lines csr_names ∙ all_by_cases state lines
 
-and_left : (a b : Bool) → (a && b) ≡ true → a ≡ true
-and_left true b h = refl
-and_left false b h = h
-
-and_right : (a b : Bool) → (a && b) ≡ true → b ≡ true
-and_right true b h = h
-and_right false b h = absurd cc
-
 found_by : (p : ℕ → Bool) (csr first : ℕ) (rest : Bool) (later : Option ℕ) (here : Bool) →
     (p first && rest) ≡ true
     → (rest ≡ true → later ≡ Some csr → p csr ≡ true) → cond here (Some first) later ≡ Some csr → p csr ≡ true
 found_by p csr first rest later true all more is =
-    let same : first ≡ csr = cc in rw (← same) (and_left (p first) rest all)
-found_by p csr first rest later false all more is = more (and_right (p first) rest all) is
+    let same : first ≡ csr = cc in rw (← same) (and_parts (p first) rest all).0
+found_by p csr first rest later false all more is = more (and_parts (p first) rest all).1 is
 
 found : (p : ℕ → Bool) (name : List ℕ) (csr : ℕ) (es : List (List ℕ × ℕ)) → list_all (λ e. p e.1) es ≡ true →
     lookup name es ≡ Some csr → p csr ≡ true
@@ -60,13 +53,8 @@ found p name csr (e ∷ es) all is =
     found_by p csr e.1 (list_all (λ e. p e.1) es) (lookup name es) (bytes_eq e.0 name) all
     (found p name csr es) is
 
-some_of : {A : Type 0} (o : Option A) → is_some o ≡ true → IsSome o
-some_of (Some x) h = search rules
-some_of None h = absurd cc
-
 pub named_is_read : (b : BoardState) (name : List ℕ) (csr : ℕ) → lookup name csr_names ≡ Some csr →
     IsSome (csr_of b csr)
 named_is_read b name csr is =
-    some_of (csr_of b csr)
-    (found (is_read b.machine.csrs (lines_of b.machine.bus)) name csr csr_names
-    (all_are_read b.machine.csrs (lines_of b.machine.bus)) is)
+    found (is_read b.machine.csrs (lines_of b.machine.bus)) name csr csr_names
+    (all_are_read b.machine.csrs (lines_of b.machine.bus)) is

@@ -1,26 +1,16 @@
 -- The room for breakpoints after one was set or removed.
-use Rattle.std.proofs.Common.{◌≡◌, ◌∙◌, ℕ, ◌+◌, ◌-◌, ◌<◌, ◌≤◌, Bool, true, false, cond, sym, refl, ap, arith}
-use Rattle.std.proofs.lemmas.Bool.{false≢true}
-use Rattle.std.proofs.lemmas.Bool.Decides.{nat_tests}
+use Rattle.std.proofs.Common.{◌≡◌, ◌∙◌, ℕ, ◌+◌, ◌-◌, ◌<◌, ◌≤◌, Bool, true, false, cond, sym, ap, arith}
+use Rattle.std.proofs.lemmas.Bool.{cond-false, cond-true, le-ltb, lt-ltb}
 use Rattle.std.specs.Prelude.{◌==◌, if◌then◌else◌, nat_lt}
 use Rattle.std.specs.Cmp.{nat_cmp_total}
 use Rattle.std.specs.FinSet.{contains, insert, remove, len, len-insert, len-remove}
 use Rattle.rv_monitor.specs.Breaks.{Breaks, room_after}
 
--- one of two numbers, by a test whose answer is known
-first_of : (c : Bool) (a b : ℕ) → c ≡ true → (if c then a else b) ≡ a
-first_of true a b e = refl
-first_of false a b e = absurd (false≢true e)
-
-second_of : (c : Bool) (a b : ℕ) → c ≡ false → (if c then a else b) ≡ b
-second_of true a b e = absurd (false≢true (sym e))
-second_of false a b e = refl
-
 where_less : (n m a b : ℕ) → n < m → (if nat_lt n m then a else b) ≡ a
-where_less n m a b h = first_of (nat_lt n m) a b (grind (arith, nat_tests))
+where_less n m a b h = cond-true (nat_lt n m) a b (lt-ltb n m h)
 
 where_not : (n m a b : ℕ) → m ≤ n → (if nat_lt n m then a else b) ≡ b
-where_not n m a b h = second_of (nat_lt n m) a b (grind (arith, nat_tests))
+where_not n m a b h = cond-false (nat_lt n m) a b (le-ltb n m h)
 
 -- the number of addresses after one was set, which was there or wasn't
 same_count : (b : Breaks) (x : ℕ) → contains b.addresses x ≡ true

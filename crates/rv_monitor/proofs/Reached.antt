@@ -1,35 +1,18 @@
 -- States that a board comes to by its inputs and its steps: what calls leave is one.
-use Rattle.std.proofs.Common.{◌≡◌, ◌∙◌, ℕ, zero, suc, ◌+◌, ◌-◌, ◌<◌, ◌≤◌, Bool, true, false, cond, List, refl, sym, ap, subst, arith, inl, inr, ⊎_elim}
-use Rattle.std.specs.Prelude.{◌⊎◌, Option, Some, None, is_some, nat_lt, ◌&&◌}
-use Rattle.std.specs.FinSet as set
-use Rattle.std.proofs.lemmas.Bool.{cases_lt, false≢true}
-use Rattle.rv_board.specs.State.{BoardState, halted_of, pc_of}
+use Rattle.std.proofs.Common.{◌≡◌, ◌∙◌, ℕ, zero, suc, ◌+◌, ◌-◌, ◌<◌, true, List, sym, ap, subst, arith, inl, inr, ⊎_elim}
+use Rattle.std.specs.Prelude.{◌⊎◌, None}
+use Rattle.std.proofs.lemmas.Bool.{cases_lt}
+use Rattle.rv_board.specs.State.{BoardState, halted_of}
 use Rattle.rv_lists.specs.declared.input.TimedInput.{TimedInput}
 use Rattle.rv_lists.specs.Timed.{never_falls}
 use Rattle.rv_monitor.specs.declared.stop.Stop.{Stop}
-use Rattle.rv_monitor.specs.declared.stop.Stop.TheVariants.{Halted, Breakpoint}
 use Rattle.rv_monitor.specs.State.{Addresses, TimedState, IsInTime, begun, after, with_due}
-use Rattle.rv_monitor.specs.Stops.{stop_after}
 use Rattle.rv_monitor.specs.TimedCalls.{HasStopped, IsRefused}
 use Rattle.rv_monitor.specs.Laws.{IsReached}
-use Rattle.rv_monitor.proofs.Sets.{no_member}
 use Rattle.rv_monitor.proofs.Times.{from_first}
 use Rattle.rv_monitor.proofs.Steps.{after_none, after_more, after_due, after_rises, halted_due, in_time_due, in_time_after}
+use Rattle.rv_monitor.proofs.Stopping.{running}
 use Rattle.rv_monitor.proofs.Given.{reached_steps, reached_due, due_twice}
-
--- ---- a call that goes on has not halted
-
-running_by : (breakpoints : Addresses) (b : BoardState) (count : ℕ) (h : Option ℕ)
-    → cond (is_some h) (Some Halted)
-    (cond (nat_lt 0 count && set.contains breakpoints (pc_of b)) (Some Breakpoint) None) ≡ None
-    → h ≡ None
-running_by breakpoints b count None e = refl
-running_by breakpoints b count (Some code) e = absurd cc
-
-running : (breakpoints : Addresses) (b : BoardState) (count : ℕ) → stop_after breakpoints b count ≡ None
-    → halted_of b ≡ None
-unfolding stop_after
-running breakpoints b count e = running_by breakpoints b count (halted_of b) e
 
 -- ---- more steps
 
@@ -125,16 +108,14 @@ module _ (board : BoardState) (old new : TimedState) (r : IsReached board old) w
   pub stopped_stands : (a : Addresses) (most : ℕ) (stop : Stop) → HasStopped a most old new stop
       → IsReached board new
   stopped_stands a most stop s =
-      let n = new.taken - old.taken in
       subst (IsReached board) (sym s.state)
-      (after_stands board old r n (λ j l. running a (after old j).board j (s.count.going j l)))
+      (after_stands board old r s.count (λ j l. running a (after old j).board j (s.going j l)))
 
   pub refused_stands : (a : Addresses) (most : ℕ) → IsRefused a most old new → IsReached board new
   refused_stands a most s =
-      let n = new.taken - old.taken in
       subst (IsReached board) (sym s.state)
-      (due_stands board (after old n)
-      (after_stands board old r n (λ j l. running a (after old j).board j (s.going j (omega arith)))))
+      (due_stands board (after old s.count)
+      (after_stands board old r s.count (λ j l. running a (after old j).board j (s.going j (omega arith)))))
 
   pub step_stands : halted_of old.board ≡ None → new ≡ after old 1 → IsReached board new
   step_stands halt is =
@@ -145,24 +126,3 @@ module _ (board : BoardState) (old new : TimedState) (r : IsReached board old) w
 
   pub due_is_reached : new ≡ with_due old → IsReached board new
   due_is_reached is = subst (IsReached board) (sym is) (due_stands board old r)
-
--- ---- going back
-
-and_false : (t : Bool) → cond (t && false) (Some Breakpoint) None ≡ None
-and_false true = refl
-and_false false = refl
-
-pub goes_without : (b : BoardState) (n : ℕ) → halted_of b ≡ None → stop_after set.empty b n ≡ None
-unfolding stop_after
-goes_without b n e = rw (e, ← no_member (pc_of b)) (and_false (nat_lt 0 n))
-
--- the first n steps are taken again, since the board hadn't halted before any of them
-pub rewound : (board : BoardState) (old new : TimedState) (n : ℕ) (stop : Stop) → IsReached board old
-    → n ≤ old.taken → HasStopped set.empty n (begun board old.inputs) new stop → new.taken ≡ n
-rewound board old new n stop r below s = ⊎_elim
-    (λ less.
-    let k = new.taken - 0 in
-    let none = goes_without (after (begun board old.inputs) k).board k (r.running k (omega arith)) in
-    absurd (false≢true (ap is_some (sym none) ∙ s.count.least (omega arith))))
-    (λ enough. omega (arith, s.count.within))
-    (cases_lt new.taken n)

@@ -1,11 +1,10 @@
 -- Boards that go on after some of their steps.
 use Rattle.std.proofs.Common.{◌≡◌, ◌∙◌, ℕ, zero, suc, ◌+◌, ◌-◌, ◌<◌, ◌≤◌, Bool, true, false, cond, List, [], ◌∷◌, length, get_or, drop, refl, sym, ap, subst, arith, zero-add, inl, inr, ⊎_elim}
-use Rattle.std.specs.Prelude.{◌⊎◌, nat_eq, nat_lt, ◌==◌, map, filter, is_some, Result, Ok, Err, OnErr, IfOk, None}
+use Rattle.std.specs.Prelude.{◌⊎◌, nat_eq, nat_lt, map, filter, is_some, Result, Ok, Err, OnErr, IfOk}
 use Rattle.std.specs.FinSet as set
-use Rattle.std.proofs.lemmas.Bool.{cases_lt, false≢true}
-use Rattle.std.proofs.lemmas.Bool.Decides.{nat_tests}
+use Rattle.std.proofs.lemmas.Bool.{cases_lt, eqb-true, false≢true, lt-ltb}
 use Rattle.rv_base.specs.declared.memory.NoMemory.{NoMemory}
-use Rattle.rv_board.specs.State.{BoardState, halted_of}
+use Rattle.rv_board.specs.State.{BoardState, halted_of, pc_of}
 use Rattle.rv_board.specs.Move.{run}
 use Rattle.rv_lists.specs.declared.input.TimedInput.{TimedInput}
 use Rattle.rv_lists.specs.Timed.{never_falls}
@@ -17,9 +16,9 @@ use Rattle.rv_monitor.specs.State.{TimedState, IsInTime, count_before, begun, af
 use Rattle.rv_monitor.specs.TimedCalls.{HasStopped}
 use Rattle.rv_monitor.proofs.Times.{from, of, from_first, from_place, from_earlier, none_before, late_from, late_of, late_count, count_most}
 use Rattle.rv_monitor.proofs.Steps.{after_more}
-use Rattle.rv_monitor.proofs.Stopping.{taken_is}
+use Rattle.rv_monitor.proofs.Sets.{no_member}
+use Rattle.rv_monitor.proofs.Stopping.{no_reason, taken_is}
 use Rattle.rv_monitor.proofs.Given.{after_begun, due_begun}
-use Rattle.rv_monitor.proofs.Reached.{goes_without}
 
 -- ---- the number of inputs before a step, one after another
 
@@ -27,13 +26,10 @@ module _ (t : ℕ) where
   pub counted_first : (xs : List TimedInput) → 0 + count_before t (drop 0 xs) ≡ count_before t xs
   counted_first xs = zero-add (count_before t xs)
 
-  lt : (m n : ℕ) → m < n → nat_lt m n ≡ true
-  lt m n h = grind (arith, nat_tests)
-
   one_less : (xs : List TimedInput) (i : ℕ) (d : TimedInput) → i < length xs → (get_or xs i d).step < t
       → count_before t (drop i xs) ≡ suc (count_before t (drop (suc i) xs))
   one_less [] i d h k = absurd (omega arith)
-  one_less (x ∷ xs) zero d h k = rw (lt x.step t k) refl
+  one_less (x ∷ xs) zero d h k = rw (lt-ltb x.step t k) refl
   one_less (x ∷ xs) (suc i) d h k = one_less xs i d (omega arith) k
 
   pub counted_more : (xs : List TimedInput) (i : ℕ) (x d : TimedInput) → i < length xs → x ≡ get_or xs i d
@@ -77,24 +73,14 @@ resumed_in_time b xs t place rising e = (
   from_first (drop place xs),
 )
 
--- from no step on it is a board before its first step
-first_is : (b : BoardState) (xs : List TimedInput) → resumed b xs 0 ≡ begun b xs
-first_is b xs = rw (none_before 0 xs (from_first xs)) refl
-
-pub from_reset : (r : Result Stop NoMemory) (b : BoardState) (xs : List TimedInput) (new : TimedState) (most : ℕ)
-    → IfOk r (HasStopped set.empty most (resumed b xs 0) new) → IfOk r (HasStopped set.empty most (begun b xs) new)
-from_reset r b xs new most h = subst (λ (s : TimedState). IfOk r (HasStopped set.empty most s new)) (first_is b xs) h
-
 pub resumed_within : (r : Result Stop NoMemory) (old new : TimedState) (b : BoardState) (taken most limit : ℕ)
     → IfOk r (HasStopped set.empty most (resumed b old.inputs taken) new) → OnErr r (new ≡ old)
     → taken + most ≤ limit → old.taken ≤ limit → new.taken ≤ limit
-resumed_within (Ok stop) old new b taken most limit ok err k h = omega (arith, ok.count.within)
+resumed_within (Ok stop) old new b taken most limit ok err k h =
+    omega (arith, ok.within, taken_is (resumed b old.inputs taken) new ok.count ok.state)
 resumed_within (Err e) old new b taken most limit ok err k h = omega (arith, ap (λ u. u.taken) err)
 
 -- ---- where no input of the next step was given, the board is what the steps taken left
-
-lt_more : (m n : ℕ) → nat_eq m n ≡ true → nat_lt m (n + 1) ≡ true
-lt_more m n h = grind (arith, nat_tests)
 
 none_counted_by : (t : ℕ) (x : TimedInput) (xs : List TimedInput) (b c : Bool) → nat_eq x.step t ≡ b
     → nat_lt x.step (t + 1) ≡ c → (count_before (t + 1) xs ≡ 0 → of t xs ≡ [])
@@ -103,7 +89,7 @@ none_counted_by t x xs true c e f more h =
     absurd (omega (
       arith,
       subst (λ (b : Bool). length (cond b (x ∷ filter (λ y. nat_lt y.step (t + 1)) xs)
-          (filter (λ y. nat_lt y.step (t + 1)) xs)) ≡ 0) (lt_more x.step t e) h,
+          (filter (λ y. nat_lt y.step (t + 1)) xs)) ≡ 0) (lt-ltb x.step (t + 1) (omega (arith, eqb-true x.step t e))) h,
     ))
 none_counted_by t x xs false true e f more h =
     absurd (omega (
@@ -156,20 +142,15 @@ module _ (first : BoardState) (s : TimedState) (r : IsReached first s) where
     on : (j : ℕ) → after (resumed b s.inputs k) j ≡ after from_reset_on (k + j)
     on j = ap (λ u. after u j) resumed_is ∙ after_more from_reset_on k j r.rising
 
-    taken_on : new.taken ≡ k + (new.taken - k)
-    taken_on = taken_is (resumed b s.inputs k) new (new.taken - k) st.state
-
-    pub resumed_taken : new.taken ≡ n
-    resumed_taken = ⊎_elim
+    -- the board hadn't halted before any of them
+    all_taken : k + st.count ≡ n
+    all_taken = ⊎_elim
         (λ less.
-        let j = new.taken - k in
-        let halt = ap (λ u. halted_of u.board) (on j) ∙ r.running (k + j) (omega (arith, taken_on)) in
-        let none = goes_without (after (resumed b s.inputs k) j).board j halt in
-        absurd (false≢true (ap is_some (sym none) ∙ st.count.least (omega (arith, taken_on)))))
-        (λ enough. omega (arith, taken_on, st.count.within))
-        (cases_lt new.taken n)
+        let halt = ap (λ u. halted_of u.board) (st.state ∙ on st.count) ∙ r.running (k + st.count) (omega arith) in
+        let none = no_reason set.empty new.board st.count halt (λ above. sym (no_member (pc_of new.board))) in
+        absurd (false≢true (ap is_some (sym none) ∙ st.least (omega arith))))
+        (λ enough. omega (arith, st.within))
+        (cases_lt (k + st.count) n)
 
     pub resumed_back : new ≡ after from_reset_on n
-    resumed_back =
-        let sum : k + (new.taken - k) ≡ n = omega (arith, taken_on, resumed_taken) in
-        st.state ∙ (on (new.taken - k) ∙ ap (after from_reset_on) sum)
+    resumed_back = st.state ∙ (on st.count ∙ ap (after from_reset_on) all_taken)

@@ -1,13 +1,14 @@
 -- Steps with the inputs of their times.
-use Rattle.std.proofs.Common.{◌≡◌, ◌∙◌, ℕ, zero, suc, ◌+◌, ◌<◌, ◌≤◌, true, false, List, [], ◌∷◌, ◌++◌, length, get_or, take, drop, refl, sym, ap, arith, append-nil, append_assoc, add_assoc}
+use Rattle.std.proofs.Common.{◌≡◌, ◌∙◌, ℕ, zero, suc, ◌+◌, ◌<◌, ◌≤◌, true, false, List, [], ◌∷◌, ◌++◌, length, get_or, take, drop, replicate, refl, sym, ap, arith, append-nil, append_assoc, add_assoc}
 use Rattle.std.specs.Prelude.{nat_eq, nat_lt, map, Option, Some, None}
-use Rattle.std.proofs.lemmas.List.{map-append, length-drop, drop-drop}
+use Rattle.std.proofs.lemmas.List.{map-append, length-drop, drop-drop, replicate_more}
 use Rattle.std.proofs.lemmas.List.Elements.{filter_more}
 use Rattle.std.proofs.lemmas.List.Filters.{length-filter_more}
-use Rattle.std.proofs.lemmas.Bool.Decides.{nat_tests}
+use Rattle.std.proofs.lemmas.Bool.{eq-eqb, lt-ltb}
 use Rattle.rv_board.specs.State.{BoardState, halted_of}
 use Rattle.rv_board.specs.Move.{moved, run, writes}
 use Rattle.rv_board.specs.MoveParts.{happens}
+use Rattle.rv_board.specs.PlainSteps.{after_steps}
 use Rattle.rv_board.specs.declared.event.Event.TheVariants.{Step}
 use Rattle.rv_board.proofs.Runs.{run_append, run_more}
 use Rattle.rv_lists.specs.declared.input.Input.{Input}
@@ -16,8 +17,6 @@ use Rattle.rv_lists.specs.declared.input.TimedInput.{TimedInput}
 use Rattle.rv_lists.specs.Timed.{never_falls}
 use Rattle.rv_monitor.specs.Events.{event_of, inputs_at, events_of}
 use Rattle.rv_monitor.specs.State.{TimedState, IsInTime, rest, count_before, after, with_due}
-use Rattle.rv_monitor.specs.WithoutInputs.{without_inputs}
-use Rattle.rv_monitor.specs.Joined.{RunsJoin, CallsJoin}
 use Rattle.rv_monitor.proofs.Times.{from, of, from_earlier, late_from, late_of, late_count, drop_rises, drop_from, none_before, due_step, later_of, later_count, none_of, count_most}
 
 -- ---- no input runs out of memory
@@ -104,7 +103,7 @@ run_due b xs t j h =
 
 -- ---- states
 
-same : (b c : BoardState) (xs : List TimedInput) (p q t u : ℕ) → b ≡ c → p ≡ q → t ≡ u
+pub same : (b c : BoardState) (xs : List TimedInput) (p q t u : ℕ) → b ≡ c → p ≡ q → t ≡ u
     → ◌≡◌ {A = TimedState} (record { board = b; inputs = xs; place = p; taken = t })
     (record { board = c; inputs = xs; place = q; taken = u })
 same b c xs p q t u e f g = cc
@@ -166,34 +165,21 @@ pub after_step : (s : TimedState) → after s 1 ≡ record (with_due s) {
 unfolding after with_due
 after_step s = same _ _ s.inputs _ _ _ _ (run_step s.board (rest s) s.taken) refl refl
 
--- ---- a board without inputs
-pub no_input_in_time : (b : BoardState) → IsInTime (without_inputs b 0)
-unfolding never_falls
-no_input_in_time b = record { within = omega arith; rising = refl; ahead = refl }
-
-pub no_input_due : (b : BoardState) (t : ℕ) → without_inputs b t ≡ with_due (without_inputs b t)
-unfolding with_due inputs_at
-no_input_due b t = refl
-
-pub step_without_inputs : (b new : BoardState) (t : ℕ) → new ≡ moved b Step →
-    without_inputs new (t + 1) ≡ after (without_inputs b t) 1
-unfolding with_due inputs_at
-step_without_inputs b new t h = ap (λ c. without_inputs c (t + 1)) h ∙ sym (after_step (without_inputs b t))
-
 -- ---- steps before which no input comes
 
-events_quiet : (xs : List TimedInput) (t n : ℕ) → from (t + n) xs ≡ true → events_of xs t n ≡ events_of [] 0 n
+events_quiet : (xs : List TimedInput) (t n : ℕ) → from (t + n) xs ≡ true → events_of xs t n ≡ replicate n Step
 unfolding events_of inputs_at
 events_quiet xs t zero h = refl
 events_quiet xs t (suc n) h =
     let e : (t + n) + 1 ≡ t + suc n = omega arith in
+    let next : n + 1 ≡ suc n = omega arith in
     let none : of (t + n) xs ≡ [] = none_of (t + n) xs (ap (λ u. from u xs) e ∙ h) in
     let before : from (t + n) xs ≡ true = from_earlier (t + n) (t + suc n) xs h (omega arith) in
-    rw (none, events_quiet xs t n before) refl
+    rw (none, events_quiet xs t n before) (replicate_more n Step ∙ ap (λ k. replicate k Step) next)
 
--- such steps with a timed list, by the same steps without one
+-- such steps with a timed list are the same steps without one
 pub after_quiet : (s : TimedState) (n : ℕ) → from (s.taken + n) (rest s) ≡ true →
-    after s n ≡ record s { board = (after (without_inputs s.board 0) n).board; taken = s.taken + n }
+    after s n ≡ record s { board = after_steps s.board n; taken = s.taken + n }
 unfolding after
 after_quiet s n h =
     let none : count_before (s.taken + n) (rest s) ≡ 0 = none_before (s.taken + n) (rest s) h in
@@ -294,12 +280,6 @@ module _ (b : BoardState) (xs more : List TimedInput) (place t n : ℕ) (is : mo
 
 -- ---- the inputs of a time are given one after another
 
-now : (t : ℕ) (x : TimedInput) → t ≤ x.step → x.step ≤ t → nat_eq x.step t ≡ true
-now t x h k = grind (arith, nat_tests)
-
-soon : (t : ℕ) (x : TimedInput) → x.step ≤ t → nat_lt x.step (t + 1) ≡ true
-soon t x h = grind (arith, nat_tests)
-
 inputs_more : (xs : List TimedInput) (t i : ℕ) (d : TimedInput) → i < length xs →
     nat_eq (get_or xs i d).step t ≡ true
     → inputs_at (take (i + 1) xs) t ≡ inputs_at (take i xs) t ++ event_of (get_or xs i d).input ∷ []
@@ -313,7 +293,8 @@ pub ran_more : (b s new : BoardState) (xs : List TimedInput) (t i : ℕ) (x d : 
     new ≡ moved s (event_of x.input) → new ≡ run b (inputs_at (take (i + 1) xs) t)
 ran_more b s new xs t i x d h lt at le was is =
     let here : (get_or xs i d).step ≤ t = rw (← at) le in
-    let due = now t (get_or xs i d) (due_step t xs i d h lt) here in
+    let reached = due_step t xs i d h lt in
+    let due = eq-eqb (get_or xs i d).step t (omega (arith, here, reached)) in
     is ∙ (ap (λ y. moved s (event_of y.input)) at ∙ (ap (λ c. moved c (event_of (get_or xs i d).input)) was
     ∙ (sym (run_more b (inputs_at (take i xs) t) (event_of (get_or xs i d).input))
     ∙ ap (run b) (sym (inputs_more xs t i d lt due)))))
@@ -323,7 +304,7 @@ pub count_more : (xs : List TimedInput) (t i : ℕ) (x d : TimedInput) → i < l
     → count_before (t + 1) (take i xs) ≡ i → count_before (t + 1) (take (i + 1) xs) ≡ i + 1
 count_more xs t i x d lt at le was =
     let here : (get_or xs i d).step ≤ t = rw (← at) le in
-    length-filter_more (λ y. nat_lt y.step (t + 1)) xs i d lt ∙ rw (soon t (get_or xs i d) here, was) refl
+    length-filter_more (λ y. nat_lt y.step (t + 1)) xs i d lt ∙ rw (lt-ltb (get_or xs i d).step (t + 1) (omega arith), was) refl
 
 -- at an input of a later time all inputs of this time are given
 pub ran_all : (b s : BoardState) (xs : List TimedInput) (t i : ℕ) (x d : TimedInput) → never_falls xs ≡ true →
@@ -342,15 +323,14 @@ count_all xs t i x d h lt at later was =
 
 -- ---- the laws
 
-pub runs_join : RunsJoin
+pub runs_join : (b : BoardState) (timed : List TimedInput) (k j : ℕ) → never_falls timed ≡ true
+    → run (run b (events_of timed 0 k)) (events_of (drop (count_before k timed) timed) k j)
+    ≡ run b (events_of timed 0 (k + j))
 runs_join b timed k j h =
     let z : 0 + k ≡ k = omega arith in
     let joined = run_join b timed 0 k j h in
     rw z at joined
 
-pub calls_join : (s : TimedState) → IsInTime s → CallsJoin s
-calls_join s h = record {
-  none = after_none s h;
-  more = λ k j. after_more s k j h.rising;
-  again = λ k j. after_due (after s k) j (after_rises s k h.rising) ∙ after_more s k (1 + j) h.rising;
-}
+pub again : (s : TimedState) → IsInTime s → (k j : ℕ)
+    → after (with_due (after s k)) (1 + j) ≡ after s (k + (1 + j))
+again s h k j = after_due (after s k) j (after_rises s k h.rising) ∙ after_more s k (1 + j) h.rising

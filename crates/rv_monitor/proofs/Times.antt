@@ -1,50 +1,12 @@
 -- Lists of inputs whose times never fall.
 use Rattle.std.proofs.Common.{◌≡◌, ◌∙◌, ℕ, suc, ◌+◌, ◌<◌, ◌≤◌, Bool, true, false, cond, List, [], ◌∷◌, length, get_or, take, drop, refl, ap, arith, zero-add, zero}
-use Rattle.std.specs.Prelude.{nat_le, nat_lt, nat_eq, ◌==◌, ◌&&◌, filter}
+use Rattle.std.specs.Prelude.{nat_le, nat_lt, nat_eq, ◌==◌, filter}
 use Rattle.std.specs.List.{list_all}
 use Rattle.std.proofs.lemmas.List.Sums.{length-filter, count_by-le-length}
-use Rattle.std.proofs.lemmas.Bool.Decides.{nat_tests}
-use Rattle.std.proofs.lemmas.Bool.{false≢true}
+use Rattle.std.proofs.lemmas.Bool.{and_parts, leb-true, ltb-true, ltb-false, le-leb, le-ltb, lt-ltb, ne_eqb}
 use Rattle.rv_lists.specs.declared.input.TimedInput.{TimedInput}
 use Rattle.rv_lists.specs.Timed.{never_falls}
 use Rattle.rv_monitor.specs.State.{count_before}
-
--- ---- comparisons as tests
-
-le : (m n : ℕ) → m ≤ n → nat_le m n ≡ true
-le m n h = grind (arith, nat_tests)
-
-le_is : (m n : ℕ) → nat_le m n ≡ true → m ≤ n
-le_is m n h = grind (arith, nat_tests)
-
-lt : (m n : ℕ) → m < n → nat_lt m n ≡ true
-lt m n h = grind (arith, nat_tests)
-
-not_lt : (m n : ℕ) → n ≤ m → nat_lt m n ≡ false
-not_lt m n h = grind (arith, nat_tests)
-
-not_lt_is : (m n : ℕ) → nat_lt m n ≡ false → n ≤ m
-not_lt_is m n h = grind (arith, nat_tests)
-
-lt_is : (m n : ℕ) → nat_lt m n ≡ true → m < n
-lt_is m n h = grind (arith, nat_tests)
-
-ne : (m n : ℕ) → m < n → nat_eq m n ≡ false
-ne m n h = grind (arith, nat_tests)
-
-ne_above : (m n : ℕ) → n < m → nat_eq m n ≡ false
-ne_above m n h = grind (arith, nat_tests)
-
-eq : (m n : ℕ) → m ≤ n → n ≤ m → nat_eq m n ≡ true
-eq m n h k = grind (arith, nat_tests)
-
-and_left : (a b : Bool) → (a && b) ≡ true → a ≡ true
-and_left true b h = refl
-and_left false b h = h
-
-and_right : (a b : Bool) → (a && b) ≡ true → b ≡ true
-and_right true b h = h
-and_right false b h = absurd (false≢true h)
 
 suc_sum : (a b c : ℕ) → a + b ≡ c → suc a + b ≡ suc c
 suc_sum a b c h = omega arith
@@ -55,6 +17,12 @@ suc_sum a b c h = omega arith
 abbrev pub from : ℕ → List TimedInput → Bool
 from t xs = list_all (λ x. nat_le t x.step) xs
 
+pub head_from : (t : ℕ) (x : TimedInput) (xs : List TimedInput) → from t (x ∷ xs) ≡ true → t ≤ x.step
+head_from t x xs h = leb-true t x.step (and_parts (nat_le t x.step) (from t xs) h).0
+
+pub tail_from : (t : ℕ) (x : TimedInput) (xs : List TimedInput) → from t (x ∷ xs) ≡ true → from t xs ≡ true
+tail_from t x xs h = (and_parts (nat_le t x.step) (from t xs) h).1
+
 -- the inputs of time t
 abbrev pub of : ℕ → List TimedInput → List TimedInput
 of t xs = filter (λ x. x.step == t) xs
@@ -62,18 +30,18 @@ of t xs = filter (λ x. x.step == t) xs
 pub tail_rises : (x : TimedInput) (xs : List TimedInput) → never_falls (x ∷ xs) ≡ true → never_falls xs ≡ true
 unfolding never_falls
 tail_rises x [] h = refl
-tail_rises x (y ∷ ys) h = and_right (nat_le x.step y.step) (never_falls (y ∷ ys)) h
+tail_rises x (y ∷ ys) h = (and_parts (nat_le x.step y.step) (never_falls (y ∷ ys)) h).1
 
 head_least : (x y : TimedInput) (ys : List TimedInput) → never_falls (x ∷ y ∷ ys) ≡ true → x.step ≤ y.step
 unfolding never_falls
-head_least x y ys h = le_is x.step y.step (and_left (nat_le x.step y.step) (never_falls (y ∷ ys)) h)
+head_least x y ys h = leb-true x.step y.step (and_parts (nat_le x.step y.step) (never_falls (y ∷ ys)) h).0
 
 pub all_from : (t : ℕ) (x : TimedInput) (xs : List TimedInput) → never_falls (x ∷ xs) ≡ true → t ≤ x.step →
     from t (x ∷ xs) ≡ true
-all_from t x [] h k = rw (le t x.step k) refl
+all_from t x [] h k = rw (le-leb t x.step k) refl
 all_from t x (y ∷ ys) h k =
     let m : x.step ≤ y.step = head_least x y ys h in
-    rw (le t x.step k) (all_from t y ys (tail_rises x (y ∷ ys) h) (omega arith))
+    rw (le-leb t x.step k) (all_from t y ys (tail_rises x (y ∷ ys) h) (omega arith))
 
 pub drop_rises : (n : ℕ) (xs : List TimedInput) → never_falls xs ≡ true → never_falls (drop n xs) ≡ true
 drop_rises zero xs h = h
@@ -97,31 +65,31 @@ from_end t (suc n) (x ∷ xs) h = from_end t n xs (omega arith)
 pub place_from : (xs : List TimedInput) (n : ℕ) (d : TimedInput) (t : ℕ) → n < length xs →
     from t (drop n xs) ≡ true → t ≤ (get_or xs n d).step
 place_from [] n d t k h = absurd (omega arith)
-place_from (x ∷ xs) zero d t k h = le_is t x.step (and_left (nat_le t x.step) (from t xs) h)
+place_from (x ∷ xs) zero d t k h = head_from t x xs h
 place_from (x ∷ xs) (suc n) d t k h = place_from xs n d t (omega arith) h
 
 -- and all of them have reached each earlier time
 pub from_earlier : (t u : ℕ) (xs : List TimedInput) → from u xs ≡ true → t ≤ u → from t xs ≡ true
 from_earlier t u [] h k = refl
 from_earlier t u (x ∷ xs) h k =
-    let m : u ≤ x.step = le_is u x.step (and_left (nat_le u x.step) (from u xs) h) in
-    rw (le t x.step (omega arith)) (from_earlier t u xs (and_right (nat_le u x.step) (from u xs) h) k)
+    let m : u ≤ x.step = head_from u x xs h in
+    rw (le-leb t x.step (omega arith)) (from_earlier t u xs (tail_from u x xs h) k)
 
 pub drop_from : (t n : ℕ) (xs : List TimedInput) → from t xs ≡ true → from t (drop n xs) ≡ true
 drop_from t zero xs h = h
 drop_from t (suc n) [] h = h
-drop_from t (suc n) (x ∷ xs) h = drop_from t n xs (and_right (nat_le t x.step) (from t xs) h)
+drop_from t (suc n) (x ∷ xs) h = drop_from t n xs (tail_from t x xs h)
 
 -- no input is before a time that all have reached
 pub none_before : (t : ℕ) (xs : List TimedInput) → from t xs ≡ true → count_before t xs ≡ 0
 none_before t [] h = refl
 none_before t (x ∷ xs) h =
-    let m : t ≤ x.step = le_is t x.step (and_left (nat_le t x.step) (from t xs) h) in
-    rw (not_lt x.step t m, none_before t xs (and_right (nat_le t x.step) (from t xs) h)) refl
+    let m : t ≤ x.step = head_from t x xs h in
+    rw (le-ltb x.step t m, none_before t xs (tail_from t x xs h)) refl
 
 pub from_first : (xs : List TimedInput) → from 0 xs ≡ true
 from_first [] = refl
-from_first (x ∷ xs) = rw (le 0 x.step (omega arith)) (from_first xs)
+from_first (x ∷ xs) = rw (le-leb 0 x.step (omega arith)) (from_first xs)
 
 pub count_most : (t : ℕ) (xs : List TimedInput) → count_before t xs ≤ length xs
 count_most t xs =
@@ -135,7 +103,7 @@ module _ (t : ℕ) where
   -- an input that is not before t, as those after it are not
   late_all : (x : TimedInput) (xs : List TimedInput) → never_falls (x ∷ xs) ≡ true → nat_lt x.step t ≡ false →
       count_before t (x ∷ xs) ≡ 0
-  late_all x xs h e = none_before t (x ∷ xs) (all_from t x xs h (not_lt_is x.step t e))
+  late_all x xs h e = none_before t (x ∷ xs) (all_from t x xs h (ltb-false x.step t e))
 
   late_rest : (x : TimedInput) (xs : List TimedInput) → nat_lt x.step t ≡ true → late (x ∷ xs) ≡ late xs
   late_rest x xs e = rw e refl
@@ -144,7 +112,7 @@ module _ (t : ℕ) where
       never_falls (x ∷ xs) ≡ true → from t (late xs) ≡ true → from t (late (x ∷ xs)) ≡ true
   late_from_by x xs true e h more = ap (from t) (late_rest x xs e) ∙ more
   late_from_by x xs false e h more =
-      ap (λ n. from t (drop n (x ∷ xs))) (late_all x xs h e) ∙ all_from t x xs h (not_lt_is x.step t e)
+      ap (λ n. from t (drop n (x ∷ xs))) (late_all x xs h e) ∙ all_from t x xs h (ltb-false x.step t e)
 
   pub late_from : (xs : List TimedInput) → never_falls xs ≡ true → from t (late xs) ≡ true
   late_from [] h = refl
@@ -155,7 +123,7 @@ module _ (t : ℕ) where
         never_falls (x ∷ xs) ≡ true → of u (late xs) ≡ of u xs → of u (late (x ∷ xs)) ≡ of u (x ∷ xs)
     late_of_by x xs true e h more =
         let m : nat_eq x.step u ≡ false =
-        let l : x.step < t = lt_is x.step t e in ne x.step u (omega arith) in
+        let l : x.step < t = ltb-true x.step t e in ne_eqb x.step u (λ same. omega arith) in
         ap (of u) (late_rest x xs e) ∙ (more ∙ rw m refl)
     late_of_by x xs false e h more = ap (λ n. of u (drop n (x ∷ xs))) (late_all x xs h e)
 
@@ -167,7 +135,7 @@ module _ (t : ℕ) where
         never_falls (x ∷ xs) ≡ true → count_before t xs + count_before u (late xs) ≡ count_before u xs
         → count_before t (x ∷ xs) + count_before u (late (x ∷ xs)) ≡ count_before u (x ∷ xs)
     late_count_by x xs true e h more =
-        let m : nat_lt x.step u ≡ true = let l : x.step < t = lt_is x.step t e in lt x.step u (omega arith) in
+        let m : nat_lt x.step u ≡ true = let l : x.step < t = ltb-true x.step t e in lt-ltb x.step u (omega arith) in
         rw (e, m) (suc_sum (count_before t xs) (count_before u (late xs)) (count_before u xs) more)
     late_count_by x xs false e h more =
         let n : count_before t (x ∷ xs) ≡ 0 = late_all x xs h e in
@@ -184,18 +152,17 @@ module _ (t : ℕ) where
 pub due_step : (t : ℕ) (xs : List TimedInput) (i : ℕ) (d : TimedInput) → from t xs ≡ true → i < length xs →
     t ≤ (get_or xs i d).step
 due_step t [] i d h k = absurd (omega arith)
-due_step t (x ∷ xs) zero d h k = le_is t x.step (and_left (nat_le t x.step) (from t xs) h)
+due_step t (x ∷ xs) zero d h k = head_from t x xs h
 due_step t (x ∷ xs) (suc i) d h k =
-    due_step t xs i d (and_right (nat_le t x.step) (from t xs) h) (omega arith)
+    due_step t xs i d (tail_from t x xs h) (omega arith)
 
 -- no input after one of a later time is of time t
 module _ (t : ℕ) where
   pub none_of : (xs : List TimedInput) → from (t + 1) xs ≡ true → of t xs ≡ []
   none_of [] h = refl
   none_of (x ∷ xs) h =
-      let m : t + 1 ≤ x.step = le_is (t + 1) x.step (and_left (nat_le (t + 1) x.step) (from (t + 1) xs) h) in
-      rw (ne_above x.step t (omega arith)) (none_of xs
-      (and_right (nat_le (t + 1) x.step) (from (t + 1) xs) h))
+      let m : t + 1 ≤ x.step = head_from (t + 1) x xs h in
+      rw (ne_eqb x.step t (λ same. omega arith)) (none_of xs (tail_from (t + 1) x xs h))
 
   pub later_of : (xs : List TimedInput) (i : ℕ) (d : TimedInput) → never_falls xs ≡ true → i < length xs →
       t < (get_or xs i d).step → of t xs ≡ of t (take i xs)

@@ -4,11 +4,9 @@ pub mod State
 pub mod Stops
 pub mod TimedCalls
 pub mod Laws
-pub mod Joined
 pub mod Commands
 pub mod Answers
 pub mod Filter
-pub mod WithoutInputs
 pub mod Numbers
 pub mod Room
 pub mod Views

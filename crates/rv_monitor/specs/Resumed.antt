@@ -1,5 +1,5 @@
--- Not to audit: only `Session::resume` cites this, a shorter way to what `rewind` and `Recording::go_back`
--- promise. A session that goes on from a board which has taken some of its steps.
+-- Not to audit: only `Session::resume` cites this, the way to what `Recording::go_back` promises.
+-- A session that goes on from a board which has taken some of its steps.
 use Rattle.std.specs.Prelude.{ℕ, List}
 use Rattle.rv_board.specs.State.{BoardState}
 use Rattle.rv_lists.specs.declared.input.TimedInput.{TimedInput}

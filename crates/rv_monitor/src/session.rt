@@ -223,32 +223,14 @@ impl<M: ByteMemory, C: Decoded> Session<M, C> {
         self.timed.give(input)
     }
 
-    /// Puts the session back to where `n` steps end that are taken from a board on, with all of its inputs:
-    /// as [`step`](Session::step) would leave a new session over that board. The breakpoints stay.
-    ///
-    /// # Errors
-    ///
-    /// `NoMemory` if memory runs out at one of these steps. Nothing changes then.
-    #[tactic(auto, using(crate::proofs::SessionCalls::took_again, crate::proofs::SessionCalls::word_again))]
-    pub fn rewind(&mut self, board: Board<M, C>, n: u64) -> Result<Stop, NoMemory>
-        ensures took { OnOk result
-            (Took set.empty n (record self.old { timed = begun board self.old.timed.inputs }) self.new) }
-        ensures stop { IfOk result (λ stop. stop
-            ≡ stop_of set.empty (record self.old { timed = begun board self.old.timed.inputs }) self.new) }
-        ensures err { OnErr result (self.new ≡ self.old) }
-    {
-        let most = n.min(self.limit);
-        self.timed.rewind(board, most)
-    }
-
     /// Puts the session to where `n` steps end that are taken from a board on, with all of its inputs: from
-    /// one that has taken the first `taken` steps of this session and was given no input of the next step.
-    /// That comes to what [`rewind`](Session::rewind) comes to, in fewer steps. The breakpoints stay.
+    /// one that has taken the first `taken` steps of this session and was given no input of the next step. A
+    /// board at reset has taken none of them. The breakpoints stay.
     ///
     /// # Errors
     ///
     /// `NoMemory` if memory runs out at one of these steps. Nothing changes then.
-    #[tactic(auto, using(crate::proofs::SessionCalls::took_on, crate::proofs::SessionCalls::word_on))]
+    #[tactic(auto, using(crate::proofs::SessionCalls::took, crate::proofs::SessionCalls::word))]
     pub fn resume(&mut self, board: Board<M, C>, taken: u64, n: u64) -> Result<Stop, NoMemory>
         requires { taken ≤ self.old.limit }
         ensures took { OnOk result (Took set.empty n (resumed_at self.old board taken) self.new) }
@@ -296,7 +278,6 @@ pub fn breakpoints_are_a_set()
 {}
 
 /// Law: an input that is given by hand is the same as one that stood in the list from the start.
-#[tactic(auto, using(crate::proofs::Given::given_as_listed))]
 pub fn given_as_listed()
     ensures reached { (board : BoardState) (s : TimedState) (input : Input) → IsReached board s
         → IsReached board (given s input) }
