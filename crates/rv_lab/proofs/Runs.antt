@@ -223,7 +223,7 @@ single : (old new : LabState) → IsInTime (timed old)
     → new ≡ record (begun (record old { count = 1; plan = None })) { recording = stepped old.recording }
     → Steps 1 old new
 single old new h e =
-    goes_over (record { goal = goal.Count; left = 1 }) 1 (begun (record old { count = 1 })) new (omega arith)
+    goes_over (record { goal = goal.Count; left = 1; is_monitored = false }) 1 (begun (record old { count = 1 })) new (omega arith)
     (ap (λ (l : LabState). l.plan) e) (traced_runs 1 (begun (record old { count = 1; plan = None })) new h e)
 
 pub single_step : (n : ℕ) (old mid new : LabState) → n ≡ 1 → IsInTime (timed old)

@@ -1,16 +1,14 @@
 -- Calls that stopped short, for memory, of what they do.
 use Rattle.std.proofs.Common.{◌≡◌, ◌≢◌, ◌∙◌, ℕ, zero, suc, ◌+◌, ◌-◌, ◌<◌, ◌≤◌, true, List, [], ◌∷◌, length, take, drop, get_or, refl, sym, ap, subst, arith, inl, inr}
 use Rattle.std.proofs.lemmas.List.{take_all}
-use Rattle.std.specs.Prelude.{◌⊎◌, ◌==◌, min, fold, Bool, false, if◌then◌else◌, Option, Some, None, Result, Ok, Err, OnErr, OnOk, max, unwrap_or}
+use Rattle.std.specs.Prelude.{◌⊎◌, ◌==◌, min, fold, Bool, false, if◌then◌else◌, Option, Some, None, Result, Ok, Err, OnErr, OnOk, MatchOption, max, unwrap_or}
 use Rattle.std.specs.FinSet as set
 use Rattle.rv_base.specs.declared.memory.NoMemory.{NoMemory}
-use Rattle.rv_commands.specs.declared.command.Command as commands
-use Rattle.rv_commands.specs.declared.command.Command.TheVariants as monitored_by
 use Rattle.rv_lists.specs.Timed.{never_falls}
 use Rattle.rv_lists.specs.declared.input.Input.{Input}
 use Rattle.rv_monitor.specs.Commands as monitor
-use Rattle.rv_monitor.specs.Commands.{LeavesRefused, command_in}
-use Rattle.rv_monitor.specs.State.{Addresses, IsInTime, SessionState, TimedState, after, given, with_due, with_break, without_break}
+use Rattle.rv_monitor.specs.Commands.{command_in}
+use Rattle.rv_monitor.specs.State.{Addresses, IsInTime, SessionState, TimedState, after, given, with_due}
 use Rattle.rv_monitor.specs.TimedCalls.{most_of}
 use Rattle.rv_monitor.specs.Stops.{TakesStep, WasRefused, may_step, steps_between}
 use Rattle.rv_monitor.specs.Stops as stops
@@ -23,9 +21,9 @@ use Rattle.rv_recording.specs.declared.until.Condition.{Condition}
 use Rattle.rv_recording.specs.declared.until.End.{End}
 use Rattle.rv_recording.proofs.Ahead.{runs_from, takes_from}
 use Rattle.rv_lab.specs.Commands as lab
-use Rattle.rv_lab.specs.Commands.{Begins, InSession, Repeats, RunsFor, Steps, With, begun, ready, with_inputs, with_session}
+use Rattle.rv_lab.specs.Commands.{Begins, InSession, Repeats, RunsFor, Starts, Steps, With, begun, monitored_run, ready, with_inputs, with_session}
 use Rattle.rv_lab.specs.Refusals.{Leads, RunsOut, StopsShort, by_hand, due, nowhere, steps}
-use Rattle.rv_lab.specs.Short.{Changes, Gives, IsObeyedShort, IsOnWay, IsShort, RunsShort, Traced, stepped, stepped_by}
+use Rattle.rv_lab.specs.Short.{Changes, Gives, IsOnWay, IsShort, RunsShort, Traced, stepped, stepped_by}
 use Rattle.rv_lab.specs.State.{LabState, timed}
 use Rattle.rv_lab.specs.Words.{line_command}
 use Rattle.rv_operands.specs.Operands.{bytes_inputs, operand_text}
@@ -190,12 +188,23 @@ piece_err r p n old mid new most is s others =
     on_err r (StopsShort (lab.GoesOn p) old new)
     (piece_short p old new runs (others ∙ ap (λ (l : LabState). with_session l new.recording.session) is))
 
-pub begins_short : {A : Type 0} (r : Result A NoMemory) (g : Goal) (most : ℕ) (old mid new : LabState)
-    → mid ≡ begun old → OnErr r (StopsShort (lab.GoesOn (record { goal = g; left = most })) mid new)
-    → OnErr r (StopsShort (Begins g most) old new)
-begins_short (Ok a) g most old mid new is s = tt
-begins_short (Err why) g most old mid new is s =
-    subst (λ (l : LabState). StopsShort (lab.GoesOn (record { goal = g; left = most })) l new) is s
+pub starts_short : {A : Type 0} (r : Result A NoMemory) (p : Plan) (old mid new : LabState) → mid ≡ begun old
+    → OnErr r (StopsShort (lab.GoesOn p) mid new) → OnErr r (StopsShort (Starts p) old new)
+starts_short (Ok a) p old mid new is s = tt
+starts_short (Err why) p old mid new is s = subst (λ (l : LabState). StopsShort (lab.GoesOn p) l new) is s
+
+-- a run that a line of the monitor asks for
+starts_as : (line : List ℕ) (p : Plan) (old done : LabState) → Some p ≡ monitored_run line old.recording.session
+    → Starts p old done → lab.Leaves Monitor line old done
+starts_as line p old done e s =
+    subst (λ (o : Option Plan). MatchOption o
+    (InSession (monitor.Leaves (command_in line old.recording.session)) old done) (λ q. Starts q old done)) e s
+
+pub monitor_short : {A : Type 0} (r : Result A NoMemory) (line : List ℕ) (p : Plan) (old new : LabState)
+    → Some p ≡ monitored_run line old.recording.session → OnErr r (StopsShort (Starts p) old new)
+    → OnErr r (RunsOut (lab.Leaves Monitor line) old new)
+monitor_short (Ok a) line p old new e s = tt
+monitor_short (Err why) line p old new e s = inr (inr (s.0, starts_as line p old s.0 e s.1, s.2, s.3, s.4))
 
 pub continued : {A : Type 0} (r : Result A NoMemory) (plan : Option Plan) (p : Plan) (old new : LabState)
     → plan ≡ Some p → StopsShort (lab.GoesOn p) old new → OnErr r (RunsOut (With plan lab.GoesOn) old new)
@@ -222,13 +231,6 @@ pub changed : {A : Type 0} (r : Result A NoMemory) (command known : Command) (op
     → OnErr r (RunsOut (Changes command operands) old new)
 changed r command known operands old new e s =
     subst (λ (c : Command). OnErr r (RunsOut (Changes c operands) old new)) (sym e) s
-
-pub monitored : {A : Type 0} (r : Result A NoMemory) (command : Command) (operands : List ℕ)
-    (old new : LabState) → command ≡ Monitor → OnErr r (StopsShort (lab.Leaves Monitor operands) old new)
-    → OnErr r (RunsOut (Changes command operands) old new)
-monitored (Ok a) command operands old new e s = tt
-monitored (Err why) command operands old new e s =
-    subst (λ (c : Command). RunsOut (Changes c operands) old new) (sym e) (inr (inr s))
 
 -- where operands were read as inputs
 pub received : {A : Type 0} (r : Result A NoMemory) (inputs : List Input) (operands : List ℕ)
@@ -476,57 +478,3 @@ gave_rest r old mid new [] input h is e s = absurd (omega (arith, h))
 gave_rest r old mid new (x ∷ more) input h is e s =
     let same : take (length (x ∷ more) - 1) more ≡ more = take_all (length (x ∷ more) - 1) more (omega arith) in
     gave_some r old mid new x more (e ∙ ap (λ (i : Input). with_inputs old (i ∷ [])) is) (rw same at s)
-
--- ---- a command of the monitor
-
-module _ (s new : SessionState) (rising : never_falls s.timed.inputs ≡ true) where
-  -- the session after the command, were there memory
-  abbrev Would : Option commands.Command → Type 0
-  Would c = IsShort (monitor.Leaves c) s new
-
-  unchanged : (c : Option commands.Command) (d : SessionState) → monitor.Leaves c s d → Leads s.timed d.timed
-      → new ≡ s → Would c
-  unchanged c d leaves leads e =
-      let is = ap (λ (u : SessionState). u.timed) e in (
-        d,
-        leaves,
-        subst (Leads s.timed) (sym is) nowhere,
-        subst (λ (t : TimedState). Leads t d.timed) (sym is) leads,
-        e ∙ ap (λ (t : TimedState). record s { timed = t }) (sym is),
-      )
-
-  would : (c : Option commands.Command) → LeavesRefused c s new → Would c
-  would None e = unchanged None s refl nowhere e
-  would (Some (monitored_by.Step n)) r = taken set.empty n s new rising r
-  would (Some (monitored_by.Go n)) r = taken s.breakpoints.addresses (unwrap_or n s.limit) s new rising r
-  would (Some (monitored_by.SetBreak addr)) e = unchanged (Some (monitored_by.SetBreak addr)) (with_break s addr) refl nowhere e
-  would (Some (monitored_by.ClearBreak addr)) e =
-      unchanged (Some (monitored_by.ClearBreak addr)) (without_break s addr) refl nowhere e
-  would (Some monitored_by.Registers) e = unchanged (Some monitored_by.Registers) s refl nowhere e
-  would (Some (monitored_by.ControlRegister name csr)) e =
-      unchanged (Some (monitored_by.ControlRegister name csr)) s refl nowhere e
-  would (Some (monitored_by.Memory addr count)) e = unchanged (Some (monitored_by.Memory addr count)) s refl nowhere e
-  would (Some (monitored_by.Instruction addr)) e = unchanged (Some (monitored_by.Instruction addr)) s refl nowhere e
-  would (Some monitored_by.Traps) e = unchanged (Some monitored_by.Traps) s refl nowhere e
-  would (Some (monitored_by.Edges source)) e = unchanged (Some (monitored_by.Edges source)) s refl nowhere e
-  would (Some monitored_by.Quit) e = unchanged (Some monitored_by.Quit) s refl nowhere e
-  would (Some monitored_by.Nothing) e = unchanged (Some monitored_by.Nothing) s refl nowhere e
-
-pub obeyed_short : {A : Type 0} (r : Result A NoMemory) (line : List ℕ) (inside old new : SessionState)
-    → inside ≡ old → never_falls inside.timed.inputs ≡ true
-    → OnErr r (LeavesRefused (command_in line inside) inside new) → OnErr r (IsObeyedShort line old new)
-obeyed_short (Ok a) line inside old new e rising refused = tt
-obeyed_short (Err why) line inside old new e rising refused =
-    subst (λ (s : SessionState). IsObeyedShort line s new) e
-    (would inside new rising (command_in line inside) refused)
-
-pub monitor_short : (line : List ℕ) (old new : LabState)
-    → IsObeyedShort line old.recording.session new.recording.session
-    → new ≡ with_session (begun old) new.recording.session → StopsShort (lab.Leaves Monitor line) old new
-monitor_short line old new w others = (
-  with_session (begun old) w.0,
-  (refl, w.1),
-  w.2,
-  w.3,
-  others ∙ ap (λ (s : SessionState). with_session (begun old) s) w.4,
-)

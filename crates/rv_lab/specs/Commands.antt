@@ -1,12 +1,14 @@
 -- To audit: public contracts cite this.
 -- What each command leaves of a lab (this project's own: docs/LAB.md).
-use Rattle.std.specs.Prelude.{◌≡◌, ℕ, ◌-◌, ◌<◌, ◌==◌, max, min, List, [], fold, Option, None, IfSome, MatchOption, unwrap_or}
+use Rattle.std.specs.Prelude.{◌≡◌, ℕ, ◌+◌, ◌-◌, ◌<◌, ◌≤◌, ◌==◌, true, false, max, min, List, [], fold, Option, Some, None, IfSome, MatchOption, unwrap_or}
 use Rattle.std.specs.FinSet as set
 use Rattle.rv_base.specs.Words.{words}
 use Rattle.rv_lists.specs.Timed.{driven}
 use Rattle.rv_lists.specs.declared.input.Input.{Input}
 use Rattle.rv_monitor.specs.Commands.{command_in}
 use Rattle.rv_monitor.specs.Commands as monitor
+use Rattle.rv_commands.specs.declared.command.Command as commands
+use Rattle.rv_commands.specs.declared.command.Command.TheVariants as monitored
 use Rattle.rv_monitor.specs.State.{SessionState, TimedState, given, with_break, without_break}
 use Rattle.rv_monitor.specs.Stops.{Took, steps_between}
 use Rattle.rv_recording.specs.Recording.{gone_back, last_step, with_timed}
@@ -56,7 +58,8 @@ abbrev pub GoesOn : Plan → LabState → LabState → Type 0
 GoesOn p old new =
     let n = steps_between (timed old) (timed new) in
     InSession (RunsFor p.goal (min p.left (max old.piece 1))) (record old { plan = new.plan }) new
-    × IfSome new.plan (λ q. (1 < p.left) × (q.left ≡ p.left - n) × (q.goal ≡ goal_after p.goal (timed old) n))
+    × IfSome new.plan (λ q. (1 < p.left) × (q.left ≡ p.left - n) × (q.goal ≡ goal_after p.goal (timed old) n)
+    × (q.is_monitored ≡ p.is_monitored))
 
 -- ---- commands that move the board
 
@@ -65,8 +68,11 @@ abbrev pub begun : LabState → LabState
 begun l = record l { registers = registers_of (board l); before = (timed l).taken }
 
 -- a run that begins, with its first call
+abbrev pub Starts : Plan → LabState → LabState → Type 0
+Starts p old new = GoesOn p (begun old) new
+
 abbrev pub Begins : Goal → ℕ → LabState → LabState → Type 0
-Begins goal most old new = GoesOn (record { goal = goal; left = most }) (begun old) new
+Begins goal most old new = Starts (record { goal = goal; left = most; is_monitored = false }) old new
 
 -- `s`
 abbrev pub Steps : ℕ → LabState → LabState → Type 0
@@ -81,6 +87,22 @@ with_inputs l inputs = record l { recording = with_timed l.recording (fold given
 -- this was done with what there may be, and nothing where there is none
 abbrev pub With : {A : Type 0} → Option A → (A → LabState → LabState → Type 0) → LabState → LabState → Type 0
 With meaning Does old new = MatchOption meaning (new ≡ old) (λ x. Does x old new)
+
+-- the run of a command of the monitor that takes steps, of a session that takes at most so many in all
+abbrev pub run_of : Option commands.Command → ℕ → Option Plan
+run_of (Some (monitored.Step n)) limit = Some (record { goal = goal.Count; left = n; is_monitored = true })
+run_of (Some (monitored.Go n)) limit =
+    Some (record { goal = goal.Break; left = unwrap_or n limit; is_monitored = true })
+run_of _ limit = None
+
+-- the run that a line of the monitor asks for, if it does
+abbrev pub monitored_run : List ℕ → SessionState → Option Plan
+monitored_run line s = run_of (command_in line s) s.limit
+
+-- `monitor`: a run goes on as the lab's do; any other command is no command that moves the board
+abbrev pub Monitors : List ℕ → LabState → LabState → Type 0
+Monitors line old new = MatchOption (monitored_run line old.recording.session)
+    (InSession (monitor.Leaves (command_in line old.recording.session)) old new) (λ p. Starts p old new)
 
 -- breakpoints changed at the address of some operands
 abbrev pub Breaks : (SessionState → ℕ → SessionState) → List ℕ → LabState → LabState → Type 0
@@ -116,8 +138,7 @@ Leaves Break text old new = Breaks with_break text old new
 Leaves Clear text old new = Breaks without_break text old new
 Leaves Receive text old new = new ≡ with_inputs old (unwrap_or (bytes_inputs text) [])
 Leaves Line text old new = new ≡ with_inputs old (unwrap_or (driven (words text)) [])
-Leaves Monitor text old new =
-    InSession (monitor.Leaves (command_in text old.recording.session)) (begun old) new
+Leaves Monitor text old new = Monitors text old new
 Leaves _ text old new = new ≡ old
 
 -- the lab before a command: it ends the run that isn't over
@@ -127,3 +148,14 @@ ready command l = record l { plan = None; again = repeated command l.again }
 -- the lab that a line leaves
 abbrev pub Obeys : List ℕ → LabState → LabState → Type 0
 Obeys line old new = Leaves (line_command line) (operand_text line) (ready (line_command line) old) new
+
+-- ---- the steps of a call
+
+-- the most steps of a call for a command, of a lab with pieces of so many: a piece, or for `trace` its 1,000
+abbrev pub call_limit : Command → ℕ → ℕ
+call_limit (Moves Trace) piece = 1000
+call_limit command piece = max piece 1
+
+-- a call took at most so many steps
+abbrev pub IsWithin : ℕ → LabState → LabState → Type 0
+IsWithin n old new = (timed new).taken ≤ (timed old).taken + n

@@ -27,6 +27,8 @@ use Rattle.rv_answers.specs.Answer.{Written, Appended, padded}
 use Rattle.rv_answers.specs.Control.{bits_told}
 use Rattle.rv_answers.specs.Forms.{filled}
 use Rattle.rv_answers.specs.Places.{instruction_text}
+use Rattle.rv_recording.specs.declared.until.End.{End}
+use Rattle.rv_recording.specs.declared.until.End.TheVariants as ends
 use Rattle.std.specs.Fmt.{decimal}
 use Rattle.rv_lab.specs.Lines.{bytes_at, excerpt, line_at, line_count, line_row, next_excerpt, rows_or}
 use Rattle.rv_lab.specs.Looks.{place, told, trap_rows}
@@ -125,6 +127,14 @@ unfoldable pub break_row : LabState → ℕ → List ℕ
 break_row l k =
     let a = (ram_base + 4 * k) % 2 ^ 32 in
     if set.contains l.recording.session.breakpoints.addresses a then place l a ++ codes "\n" else []
+
+-- ---- runs of the monitor
+
+-- its word for why a run is over
+abbrev pub stop_word : End → List ℕ
+stop_word ends.Halted = codes "halted"
+stop_word ends.Breakpoint = codes "break"
+stop_word _ = codes "limit"
 
 -- ---- `p` and `e`
 

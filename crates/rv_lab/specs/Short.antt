@@ -2,8 +2,6 @@
 -- Calls of parts of a lab, and those that stopped short.
 use Rattle.std.specs.Prelude.{◌≡◌, ℕ, zero, suc, List, if◌then◌else◌}
 use Rattle.rv_lists.specs.declared.input.Input.{Input}
-use Rattle.rv_monitor.specs.Commands as monitor
-use Rattle.rv_monitor.specs.Commands.{command_in}
 use Rattle.rv_monitor.specs.State.{SessionState, after}
 use Rattle.rv_monitor.specs.Stops.{may_step}
 use Rattle.rv_recording.specs.Recording.{RecordingState, gone_back, with_timed}
@@ -64,7 +62,3 @@ IsShort Does old new =
 -- a call of a run stopped short
 abbrev pub RunsShort : Goal → ℕ → SessionState → SessionState → Type 0
 RunsShort goal n old new = IsShort (RunsFor goal n) old new
-
--- a session was to do a command of the monitor
-abbrev pub IsObeyedShort : List ℕ → SessionState → SessionState → Type 0
-IsObeyedShort line old new = IsShort (monitor.Leaves (command_in line old)) old new

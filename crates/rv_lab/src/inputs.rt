@@ -1,9 +1,9 @@
 //! Inputs by hand, and what was done as texts for rvboard.
 ghost use Rattle.std.specs.Prelude.{◌≡◌, [], ◌∷◌, OnErr, OnOk};
 ghost use Rattle.rv_lab.specs.declared.command.Command.TheVariants as command;
-ghost use Rattle.rv_lab.specs.Commands.{Leaves, begun, with_inputs, with_session};
+ghost use Rattle.rv_lab.specs.Commands.{Leaves, with_inputs};
 ghost use Rattle.rv_lab.specs.Refusals.{RunsOut, StopsShort};
-ghost use Rattle.rv_lab.specs.Short.{Gives, IsObeyedShort};
+ghost use Rattle.rv_lab.specs.Short.{Gives};
 ghost use Rattle.rv_lab.specs.State.{setup};
 ghost use Rattle.rv_answers.specs.Answer.{Appended};
 ghost use Rattle.rv_lab.specs.Saved.{steps_text};
@@ -13,7 +13,6 @@ use crate::lab::{Lab, Next};
 use rv_answers::Answer;
 use rv_base::{NoMemory, first_word, has_word};
 use rv_lists::{Input, line_input};
-use rv_monitor::Next as Monitored;
 use rv_operands::{only_word, read_bytes_inputs};
 
 /// The most steps of a command of the monitor.
@@ -113,40 +112,6 @@ impl Lab {
         self.give(input)?;
         self.tell_given(1, answer);
         Ok(Next::More)
-    }
-
-    /// Executes a command of the monitor, and appends its answer to `text`.
-    fn monitor(&mut self, line: &[u8], text: &mut Vec<u8>) -> Result<Monitored, NoMemory>
-        ensures setup { setup self.new ≡ setup self.old }
-        ensures leaves { OnOk result (Leaves command.Monitor line.now self.old self.new) }
-        ensures err { OnErr result
-            (IsObeyedShort line.now self.old.recording.session self.new.recording.session) }
-        ensures others { self.new ≡ with_session (begun self.old) self.new.recording.session }
-    {
-        self.begin();
-        // It tells that the steps of the inputs never fall.
-        let _inputs = self.recording.inputs();
-        self.recording.command(line, text)
-    }
-
-    /// Executes `monitor`.
-    pub(crate) fn monitor_command(
-        &mut self,
-        operands: &[u8],
-        answer: &mut Answer,
-    ) -> Result<Next, NoMemory>
-        ensures setup { setup self.new ≡ setup self.old }
-        ensures leaves { OnOk result (Leaves command.Monitor operands.now self.old self.new) }
-        ensures err { OnErr result (StopsShort (Leaves command.Monitor operands.now) self.old self.new) }
-    {
-        let mut text = Vec::new(self.alloc);
-        let next = self.monitor(operands, &mut text)?;
-        answer.put(text.as_slice());
-        self.tell_console(answer);
-        Ok(match next {
-            Monitored::More => Next::More,
-            Monitored::Quit => Next::Quit,
-        })
     }
 
     /// Appends the inputs so far as a timed list of rvboard.

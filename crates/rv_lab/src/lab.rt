@@ -7,7 +7,7 @@ ghost use Rattle.rv_recording.specs.Recording.{first_board, last_step};
 ghost use Rattle.rv_lab.specs.State.{setup, registers_of};
 ghost use Rattle.rv_operands.specs.Operands.{operand_text};
 ghost use Rattle.rv_lab.specs.declared.command.Command.TheVariants.{StepOnce};
-ghost use Rattle.rv_lab.specs.Commands.{Leaves, Obeys, ready};
+ghost use Rattle.rv_lab.specs.Commands.{IsWithin, Leaves, Obeys, call_limit, ready};
 ghost use Rattle.rv_lab.specs.Refusals.{RunsOut};
 ghost use Rattle.rv_lab.specs.Looks.{told};
 ghost use Rattle.rv_lab.specs.Words.{line_command};
@@ -203,7 +203,8 @@ impl Lab {
         self.last.command = command.if_repeated(again);
     }
 
-    /// Executes a command line, and appends its answer.
+    /// Executes a command line, and appends its answer. It takes at most a piece of steps, or for `trace` at
+    /// most 1,000: a longer run goes on by `go_on`.
     ///
     /// # Errors
     ///
@@ -215,6 +216,7 @@ impl Lab {
             (λ text. answer.new.bytes ≡ answer.old.bytes ++ text)) }
         ensures err { OnErr result (RunsOut (Leaves (line_command line.now) (operand_text line.now))
             (ready (line_command line.now) self.old) self.new) }
+        ensures bound { IsWithin (call_limit (line_command line.now) self.old.piece) self.old self.new }
     {
         let CommandLine { command, operands } = read_command(line, self.alloc, answer);
         self.make_ready(command);

@@ -12,6 +12,7 @@ mod help;
 mod inputs;
 mod lab;
 mod memory;
+mod monitor;
 mod nearest;
 mod operands;
 mod places;

@@ -21,4 +21,6 @@ pub(crate) struct Plan {
     pub(crate) goal: Goal,
     /// The most steps that are left.
     pub(crate) left: u64,
+    /// Whether a command of the monitor asked for it, which then tells its end.
+    pub(crate) is_monitored: bool,
 }

@@ -1,9 +1,9 @@
 //! Commands that move the board.
-ghost use Rattle.std.specs.Prelude.{◌≡◌, ◌≤◌, Ok, Some, None, true, false, IfOk, OnErr, OnOk, ℕ};
+ghost use Rattle.std.specs.Prelude.{◌≡◌, ◌≤◌, Ok, Some, None, true, false, IfOk, OnErr, OnOk, ℕ, max};
 ghost use Rattle.rv_lab.specs.declared.command.Command.TheVariants as command;
 ghost use Rattle.rv_lab.specs.declared.command.Move.TheVariants as moves;
 ghost use Rattle.rv_lab.specs.declared.plan.Goal.TheVariants as goal;
-ghost use Rattle.rv_lab.specs.Commands.{Begins, GoesOn, Leaves, RunsFor, Steps, With, begun, goal_after, with_session};
+ghost use Rattle.rv_lab.specs.Commands.{Begins, GoesOn, IsWithin, Leaves, RunsFor, Starts, Steps, With, begun, goal_after, with_session};
 ghost use Rattle.rv_lab.specs.Refusals.{RunsOut, StopsShort};
 ghost use Rattle.rv_lab.specs.Short.{IsOnWay, RunsShort, Traced, backed, stepped};
 ghost use Rattle.rv_monitor.specs.Stops.{may_step, steps_between};
@@ -87,15 +87,17 @@ impl Lab {
         self.last.plan = None;
     }
 
-    /// Goes on with the run that isn't over, if there is one.
+    /// Goes on with the run that isn't over, if there is one, by at most a piece of steps.
     ///
     /// # Errors
     ///
     /// `NoMemory` if memory runs out. The lab is as after some of the run's steps then.
+    #[tactic(auto, using(crate::proofs::Bounds::unmoved))]
     pub fn go_on(&mut self, answer: &mut Answer) -> Result<Next, NoMemory>
         ensures setup { setup self.new ≡ setup self.old }
         ensures continues { OnOk result (With self.old.plan GoesOn self.old self.new) }
         ensures err { OnErr result (RunsOut (With self.old.plan GoesOn) self.old self.new) }
+        ensures bound { IsWithin (max self.old.piece 1) self.old self.new }
     {
         let Some(plan) = self.last.plan else {
             return Ok(Next::More);
@@ -117,13 +119,28 @@ impl Lab {
         let end = self.run_piece(&mut goal, most)?;
         let done = self.recording.steps().saturating_sub(before);
         let left = plan.left.saturating_sub(done);
+        let is_monitored = plan.is_monitored;
         if matches!(end, End::Limit) && left > 0 && done > 0 {
-            self.last.plan = Some(Plan { goal, left });
-            self.tell_console(answer);
+            self.last.plan = Some(Plan {
+                goal,
+                left,
+                is_monitored,
+            });
+            self.tell_piece(is_monitored, answer);
             return Ok(Next::Running);
         }
-        self.tell_end(goal, end, answer);
+        self.tell_end(is_monitored, goal, end, answer);
         Ok(Next::More)
+    }
+
+    /// Begins a run of a plan.
+    pub(crate) fn start(&mut self, plan: Plan, answer: &mut Answer) -> Result<Next, NoMemory>
+        ensures setup { setup self.new ≡ setup self.old }
+        ensures runs { OnOk result (Starts plan self.old self.new) }
+        ensures err { OnErr result (StopsShort (Starts plan) self.old self.new) }
+    {
+        self.begin();
+        self.go_on_with(plan, answer)
     }
 
     /// Begins a run.
@@ -132,8 +149,12 @@ impl Lab {
         ensures runs { OnOk result (Begins goal most self.old self.new) }
         ensures err { OnErr result (StopsShort (Begins goal most) self.old self.new) }
     {
-        self.begin();
-        self.go_on_with(Plan { goal, left: most }, answer)
+        let plan = Plan {
+            goal,
+            left: most,
+            is_monitored: false,
+        };
+        self.start(plan, answer)
     }
 
     /// Keeps the number of steps that an empty line repeats.

@@ -4,7 +4,8 @@ ghost use Rattle.std.specs.Option.{option_map_or};
 ghost use Rattle.rv_answers.specs.Answer.{Appended};
 ghost use Rattle.rv_lab.specs.Lines.{label_text};
 ghost use Rattle.rv_lab.specs.Looks.{place, short_place, where_told};
-ghost use Rattle.rv_lab.specs.Rows.{halted_text, line_or_instruction};
+ghost use Rattle.rv_lab.specs.Rows.{halted_text, line_or_instruction, stop_word};
+ghost use Rattle.rv_monitor.specs.Views.{stop_text};
 ghost use Rattle.rv_lab.specs.State.{board};
 
 use crate::lab::Lab;
@@ -16,8 +17,9 @@ use rv_answers::{
     Answer, Registers, append_cause, append_changes, append_escaped, append_halted,
     append_line_number, append_register, append_step, append_value, line_text,
 };
+use rv_base::NoMemory;
 use rv_hart::Outcome;
-use rv_monitor::word_at;
+use rv_monitor::{word_at, write_stop};
 use rv_recording::{Condition, End, Watched};
 
 impl Lab {
@@ -197,8 +199,40 @@ impl Lab {
         }
     }
 
+    /// Appends what the console got in a piece of a run. The monitor tells nothing before the end.
+    pub(crate) fn tell_piece(&mut self, is_monitored: bool, answer: &mut Answer)
+        ensures { self.new ≡ self.old }
+    {
+        if !is_monitored {
+            self.tell_console(answer);
+        }
+    }
+
+    /// Appends why a run is over, as the lab or as the monitor does.
+    pub(crate) fn tell_end(&mut self, is_monitored: bool, goal: Goal, end: End, answer: &mut Answer)
+        ensures { self.new ≡ self.old }
+    {
+        if is_monitored {
+            self.append_stop(end, answer);
+            return self.tell_console(answer);
+        }
+        self.tell_goal_end(goal, end, answer);
+    }
+
+    /// Appends why a run is over as the monitor does.
+    #[tactic(auto, using(rv_answers::proofs::Pieces::then))]
+    fn append_stop(&self, end: End, answer: &mut Answer)
+        ensures { Appended answer.old answer.new (stop_text (board self.now) (stop_word end)) }
+    {
+        let mut text = Vec::new(self.alloc);
+        match write_stop(self.board(), stop_word(end), &mut text) {
+            Ok(()) => answer.put(text.as_slice()),
+            Err(NoMemory) => answer.cut(),
+        }
+    }
+
     /// Appends why a run is over, what it changed, and where the program is.
-    pub(crate) fn tell_end(&mut self, goal: Goal, end: End, answer: &mut Answer)
+    fn tell_goal_end(&mut self, goal: Goal, end: End, answer: &mut Answer)
         ensures { self.new ≡ self.old }
     {
         self.tell_console(answer);
@@ -240,12 +274,25 @@ impl Lab {
     }
 }
 
+/// Returns the monitor's word for why a run is over.
+fn stop_word(end: End) -> &'static str
+    ensures { result.now ≡ stop_word end }
+{
+    match end {
+        End::Halted => "halted",
+        End::Breakpoint => "break",
+        _ => "limit",
+    }
+}
+
 /// Returns how it is told that as many steps were taken as were asked for.
 fn limit_form(goal: Goal) -> &'static str {
     match goal {
         Goal::Count => "stopped after %d step%{s||s}\n",
         Goal::Break => "still running after %d step%{s||s}; c goes on\n",
-        _ => "not reached after %d step%{s||s}; c goes on\n",
+        Goal::Until(_) =>
+            "not reached after %d step%{s||s}; c goes on without the condition, `until` again with it\n",
+        Goal::Out(_) => "not returned after %d step%{s||s}; c goes on, and past the return\n",
     }
 }
 

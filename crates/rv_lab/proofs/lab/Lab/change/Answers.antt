@@ -1,5 +1,5 @@
 use Rattle.rv_lab.specs.declared.command.Command.TheVariants as command
-use Rattle.rv_lab.proofs.Short.{changed, monitored}
+use Rattle.rv_lab.proofs.Short.{changed}
 use Rattle.rv_lab.proofs.lab.Lab.change.Goals as goal
 
 pub returns-in-Receive-clause-err : goal.returns-in-Receive-clause-err
@@ -14,5 +14,5 @@ returns-in-Line-clause-err c =
 
 pub returns-in-Monitor-clause-err : goal.returns-in-Monitor-clause-err
 returns-in-Monitor-clause-err c =
-    monitored c.monitor_command.result c.args.command c.args.operands.now c.args.self.now
+    changed c.monitor_command.result c.args.command command.Monitor c.args.operands.now c.args.self.now
     c.monitor_command.new.self c.in-Monitor.is c.monitor_command.ensures.err

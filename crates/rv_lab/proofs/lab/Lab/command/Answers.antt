@@ -3,6 +3,7 @@ use Rattle.std.specs.Prelude.{IfSome}
 use Rattle.rv_operands.specs.Operands.{operand_text}
 use Rattle.rv_lab.specs.Looks.{told}
 use Rattle.rv_lab.specs.declared.command.Command.{Command}
+use Rattle.rv_lab.proofs.Bounds.{line_short, line_within}
 use Rattle.rv_lab.proofs.Short.{line_refused}
 use Rattle.rv_lab.proofs.Told.{on_ok, told_whole}
 use Rattle.rv_lab.proofs.lab.Lab.command.Goals as goal
@@ -24,3 +25,15 @@ returns-in_err-next-clause-err c =
     c.read_command-command.result.operands.now c.args.self.now c.make_ready.new.self c.execute.new.self
     c.read_command-command.ensures.command c.read_command-command.ensures.operands c.make_ready.ensures
     c.in_err-next.ensures.err
+
+pub returns-clause-bound : goal.returns-clause-bound
+returns-clause-bound c =
+    line_within c.args.line.now c.read_command-command.result.command c.read_command-command.result.operands.now
+    c.args.self.now c.make_ready.new.self c.execute.new.self c.read_command-command.ensures.command
+    c.make_ready.ensures c.in_ok-next.ensures.leaves
+
+pub returns-in_err-next-clause-bound : goal.returns-in_err-next-clause-bound
+returns-in_err-next-clause-bound c =
+    line_short c.args.line.now c.read_command-command.result.command c.read_command-command.result.operands.now
+    c.args.self.now c.make_ready.new.self c.execute.new.self c.read_command-command.ensures.command
+    c.make_ready.ensures c.in_err-next.ensures.err

@@ -1,11 +1,8 @@
-use Rattle.rv_lab.specs.Commands.{Leaves}
-use Rattle.rv_lab.specs.declared.command.Command.TheVariants as command
-use Rattle.rv_lab.specs.Refusals.{StopsShort}
-use Rattle.rv_lab.proofs.Short.{monitor_short, on_err}
+use Rattle.std.proofs.Common.{◌∙◌, sym}
+use Rattle.rv_lab.proofs.Short.{monitor_short}
 use Rattle.rv_lab.proofs.lab.Lab.monitor_command.Goals as goal
 
-pub returns-in_err-next-clause-err : goal.returns-in_err-next-clause-err
-returns-in_err-next-clause-err c =
-    on_err c.from_residual.result (StopsShort (Leaves command.Monitor c.args.operands.now) c.args.self.now c.monitor.new.self)
-    (monitor_short c.args.operands.now c.args.self.now c.monitor.new.self c.in_err-next.ensures.err
-    c.in_err-next.ensures.others)
+pub returns-in-Some-clause-err : goal.returns-in-Some-clause-err
+returns-in-Some-clause-err c =
+    monitor_short c.start.result c.args.operands.now c.in-Some.plan c.args.self.now c.start.new.self
+    (sym c.in-Some.is ∙ c.monitored_run.ensures) c.start.ensures.err

@@ -1,7 +1,0 @@
-use Rattle.rv_lab.proofs.Short.{begins_short}
-use Rattle.rv_lab.proofs.lab.Lab.run.Goals as goal
-
-pub returns-clause-err : goal.returns-clause-err
-returns-clause-err c =
-    begins_short c.go_on_with.result c.args.goal c.args.most c.args.self.now c.begin.new.self
-    c.go_on_with.new.self c.begin.ensures c.go_on_with.ensures.err

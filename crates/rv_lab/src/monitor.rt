@@ -1,0 +1,94 @@
+//! Commands of the monitor.
+ghost use Rattle.std.specs.Prelude.{◌≡◌, true, None, OnErr, OnOk};
+ghost use Rattle.rv_lab.specs.declared.command.Command.TheVariants as command;
+ghost use Rattle.rv_lab.specs.Commands.{InSession, Leaves, monitored_run};
+ghost use Rattle.rv_lab.specs.Refusals.{RunsOut};
+ghost use Rattle.rv_lab.specs.State.{setup};
+ghost use Rattle.rv_answers.specs.Answer.{Appended};
+ghost use Rattle.rv_monitor.specs.Commands as monitor;
+ghost use Rattle.rv_monitor.specs.Commands.{command_in};
+ghost use Rattle.rv_program.specs.Program.{value_of};
+
+use crate::lab::{Lab, Next};
+use crate::plan::{Goal, Plan};
+use rv_answers::Answer;
+use rv_base::NoMemory;
+use rv_commands::{Command, SymbolLookup, read_command};
+use rv_monitor::Next as Monitored;
+use rv_program::Program;
+
+/// The symbols of a program, for the addresses in commands.
+#[derive(Drop)]
+struct ProgramSymbols<'a>(&'a Program);
+
+impl<'a> SymbolLookup for ProgramSymbols<'a> {
+    ghost symbols = { λ symbols. value_of symbols.0.now.symbols };
+
+    fn symbol(&self, name: &[u8]) -> Option<i64> {
+        self.0.symbol(name)
+    }
+}
+
+/// Returns the plan of a run whose end the monitor tells.
+fn monitored(goal: Goal, left: u64) -> Plan
+    ensures { result ≡ record { goal = goal; left = left; is_monitored = true } }
+{
+    Plan {
+        goal,
+        left,
+        is_monitored: true,
+    }
+}
+
+impl Lab {
+    /// Returns the run that a line of the monitor asks for, if it does.
+    #[tactic(auto, using(crate::proofs::Monitored::no_run))]
+    fn monitored_run(&self, line: &[u8]) -> Option<Plan>
+        ensures { result ≡ monitored_run line.now self.now.recording.session }
+    {
+        let session = self.recording.session();
+        let limit = session.limit();
+        match read_command(line, &ProgramSymbols(session.program()))? {
+            Command::Step { count } => Some(monitored(Goal::Count, count)),
+            Command::Go { count } => Some(monitored(Goal::Break, count.unwrap_or(limit))),
+            _ => None,
+        }
+    }
+
+    /// Executes a command of the monitor that takes no step, and appends its answer.
+    #[tactic(auto, using(crate::proofs::Monitored::looks_refused))]
+    fn monitor_look(&mut self, line: &[u8], answer: &mut Answer) -> Result<Next, NoMemory>
+        requires { monitored_run line.now self.old.recording.session ≡ None }
+        ensures setup { setup self.new ≡ setup self.old }
+        ensures leaves { OnOk result
+            (InSession (monitor.Leaves (command_in line.now self.old.recording.session)) self.old self.new) }
+        ensures tells { OnOk result (Appended answer.old answer.new
+            (monitor.answer (command_in line.now self.old.recording.session) self.old.recording.session
+            self.new.recording.session)) }
+        ensures err { OnErr result (self.new ≡ self.old) }
+    {
+        let mut text = Vec::new(self.alloc);
+        let next = self.recording.command(line, &mut text)?;
+        answer.put(text.as_slice());
+        Ok(match next {
+            Monitored::More => Next::More,
+            Monitored::Quit => Next::Quit,
+        })
+    }
+
+    /// Executes `monitor`: a run goes in pieces, as the lab's do.
+    pub(crate) fn monitor_command(
+        &mut self,
+        operands: &[u8],
+        answer: &mut Answer,
+    ) -> Result<Next, NoMemory>
+        ensures setup { setup self.new ≡ setup self.old }
+        ensures leaves { OnOk result (Leaves command.Monitor operands.now self.old self.new) }
+        ensures err { OnErr result (RunsOut (Leaves command.Monitor operands.now) self.old self.new) }
+    {
+        match self.monitored_run(operands) {
+            Some(plan) => self.start(plan, answer),
+            None => self.monitor_look(operands, answer),
+        }
+    }
+}
