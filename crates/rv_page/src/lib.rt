@@ -4,9 +4,10 @@
 //! A handle lends its state to each call, so what is only read takes no memory.
 #![tactic(auto)]
 
-ghost use Rattle.std.specs.Prelude.{◌≡◌, ◌≤◌, ◌==◌, ◌⊎◌, ◌++◌, true, false, not, drop, length, [], Some, IfSome, is_some};
+ghost use Rattle.std.specs.Prelude.{◌≡◌, ◌≤◌, ◌==◌, ◌⊎◌, ◌++◌, true, false, not, drop, length, max, [], Some, IfSome, is_some};
 ghost use Rattle.rv_lab.specs.State.{setup};
-ghost use Rattle.rv_lab.specs.Commands.{GoesOn, Obeys, With};
+ghost use Rattle.rv_lab.specs.Commands.{GoesOn, IsWithin, Obeys, With, call_limit};
+ghost use Rattle.rv_lab.specs.Words.{line_command};
 ghost use Rattle.rv_page.specs.Pages.{IsOpened, IsRefused, OfLabs, copied, empty, in_pieces, sent, taken};
 
 mod copying;
@@ -56,10 +57,10 @@ pub extern "C" fn page_load(
         .load(alloc, source, inputs, Sizes { pages, slots })
 }
 
-/// Executes a command line of the lab, and the text is its answer. It takes at most `most` steps: a longer
-/// run goes on by `page_go_on`. The code is 0 if another command follows, 1 if the run goes on, 2 if what was
-/// done is to be saved under the line's name, 3 if no command follows, 4 if memory ran out, and 5 if there is
-/// no lab.
+/// Executes a command line of the lab, and the text is its answer. It takes at most `most` steps, or one, and
+/// for `trace` at most 1,000: a longer run goes on by `page_go_on`. The code is 0 if another command follows,
+/// 1 if the run goes on, 2 if what was done is to be saved under the line's name, 3 if no command follows, 4 if
+/// memory ran out, and 5 if there is no lab.
 #[unsafe(no_mangle)]
 pub extern "C" fn page_command(handle: &mut Handle, line: &[u8], most: u64) -> u32
     ensures code { result ≤ 5 }
@@ -68,6 +69,7 @@ pub extern "C" fn page_command(handle: &mut Handle, line: &[u8], most: u64) -> u
     ensures setup { OfLabs handle.old.value handle.new.value (λ l m. setup m ≡ setup (in_pieces most l)) }
     ensures obeys { result ≤ 3 → OfLabs handle.old.value handle.new.value
         (λ l. Obeys line.now (in_pieces most l)) }
+    ensures bound { OfLabs handle.old.value handle.new.value (IsWithin (call_limit (line_command line.now) most)) }
 {
     handle.state().command(line, most)
 }
@@ -82,6 +84,7 @@ pub extern "C" fn page_go_on(handle: &mut Handle, most: u64) -> u32
     ensures setup { OfLabs handle.old.value handle.new.value (λ l m. setup m ≡ setup (in_pieces most l)) }
     ensures continues { result ≤ 3 → OfLabs handle.old.value handle.new.value
         (λ l. With l.plan GoesOn (in_pieces most l)) }
+    ensures bound { OfLabs handle.old.value handle.new.value (IsWithin (max most 1)) }
 {
     handle.state().go_on(most)
 }

@@ -1,7 +1,8 @@
 //! What the page keeps between two calls.
-ghost use Rattle.std.specs.Prelude.{◌≡◌, ◌≤◌, ◌==◌, ◌⊎◌, not, [], IfErr, IfSome, is_some};
+ghost use Rattle.std.specs.Prelude.{◌≡◌, ◌≤◌, ◌==◌, ◌⊎◌, not, max, [], IfErr, IfSome, is_some};
 ghost use Rattle.rv_lab.specs.State.{setup};
-ghost use Rattle.rv_lab.specs.Commands.{GoesOn, Obeys, With};
+ghost use Rattle.rv_lab.specs.Commands.{GoesOn, IsWithin, Obeys, With, call_limit};
+ghost use Rattle.rv_lab.specs.Words.{line_command};
 ghost use Rattle.rv_page.specs.Pages.{IsOpened, IsRefused, OfLabs, empty, in_pieces, sent, taken};
 
 use rv_base::NoMemory;
@@ -83,12 +84,14 @@ impl State {
     }
 
     /// Executes a command line, in at most `most` steps.
+    #[tactic(auto, using(crate::proofs::Bounds::command_within))]
     pub(crate) fn command(&mut self, line: &[u8], most: u64) -> u32
         ensures code { result ≤ 5 }
         ensures none { is_some self.old.lab ≡ not (result == 5) }
         ensures lab { is_some self.new.lab ≡ is_some self.old.lab }
         ensures setup { OfLabs self.old self.new (λ l m. setup m ≡ setup (in_pieces most l)) }
         ensures obeys { result ≤ 3 → OfLabs self.old self.new (λ l. Obeys line.now (in_pieces most l)) }
+        ensures bound { OfLabs self.old self.new (IsWithin (call_limit (line_command line.now) most)) }
     {
         self.answer.clear();
         match &mut self.lab {
@@ -101,6 +104,7 @@ impl State {
     }
 
     /// Goes on with a run, by at most `most` steps.
+    #[tactic(auto, using(crate::proofs::Bounds::piece_within))]
     pub(crate) fn go_on(&mut self, most: u64) -> u32
         ensures code { result ≤ 5 }
         ensures none { is_some self.old.lab ≡ not (result == 5) }
@@ -108,6 +112,7 @@ impl State {
         ensures setup { OfLabs self.old self.new (λ l m. setup m ≡ setup (in_pieces most l)) }
         ensures continues { result ≤ 3 → OfLabs self.old self.new
             (λ l. With l.plan GoesOn (in_pieces most l)) }
+        ensures bound { OfLabs self.old self.new (IsWithin (max most 1)) }
     {
         self.answer.clear();
         match &mut self.lab {
