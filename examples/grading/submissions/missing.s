@@ -1,0 +1,3 @@
+# Ida: has the function by another name.
+total:  li      a0,0
+        ret
