@@ -1,11 +1,12 @@
 // A lab in an instance of board.wasm: the calls of rv_page. Texts go in and out as bytes. The page's worker
 // and the tests in Node use it.
+import { encode, joinBytes } from "./lines.mjs";
+
 export const MORE = 0, RUNNING = 1, SAVE = 2, QUIT = 3;
 const REFUSED = 1, NO_MEMORY = 4, NO_LAB = 5;
 const ROOM = 1 << 16;
 const PIECE = 100000; // the most steps of the first call
 
-export const encode = (text) => new TextEncoder().encode(text);
 export const decode = (bytes) => new TextDecoder().decode(bytes);
 
 export class Board {
@@ -44,9 +45,7 @@ export class Board {
             pieces.push(this.bytes(this.room, count).slice());
             from += count;
         } while (count === ROOM);
-        const all = new Uint8Array(pieces.reduce((sum, piece) => sum + piece.length, 0));
-        pieces.reduce((place, piece) => (all.set(piece, place), place + piece.length), 0);
-        return all;
+        return joinBytes(pieces);
     }
 
     // The text of the last answer.

@@ -1,11 +1,19 @@
-// The page's side of the worker: each call is answered once, and a long run tells its progress.
+// The page's side of the worker: each call is answered once, and a long run tells its progress. A worker that ends, or
+// doesn't heed a pause, is replaced by a new one.
+const PATIENCE = 10000; // milliseconds in which a pause has to be heeded
 const script = document.getElementById("worker").textContent;
-const worker = new Worker(URL.createObjectURL(new Blob([script], { type: "text/javascript" })));
+const address = URL.createObjectURL(new Blob([script], { type: "text/javascript" }));
 const waiting = new Map(); // by number: what waits for the answer
 let calls = 0;
+let worker, program; // the worker, and board.wasm, which it runs
+let show, tellLost; // tell the page of a run's progress, and of a board that is lost
 
 // The error of a call after which the board is another one, without a program.
-export class BoardLost extends Error {}
+export class BoardLost extends Error {
+    constructor(why) {
+        super(`The board was lost by an error (${why}) and made anew: assemble again.`);
+    }
+}
 
 export function call(act, ...words) {
     return new Promise((resolve, reject) => {
@@ -14,17 +22,47 @@ export function call(act, ...words) {
     });
 }
 
-// Ends a run between two of its pieces.
-export const pauseRun = () => worker.postMessage({ act: "pause" });
+function receive({ data: { id, result, failed, lost, steps, sent } }) {
+    if (steps !== undefined) return show(steps, sent);
+    const { resolve, reject } = waiting.get(id);
+    waiting.delete(id);
+    if (failed === undefined) return resolve(result);
+    reject(lost ? new BoardLost(failed) : new Error(failed));
+}
 
-// Has the progress of each long run shown: its steps so far, and what the program has sent since the last time.
-export function onProgress(show) {
-    worker.onmessage = ({ data: { id, result, failed, lost, steps, sent } }) => {
-        if (steps !== undefined) return show(steps, sent);
-        const { resolve, reject } = waiting.get(id);
-        waiting.delete(id);
-        if (failed === undefined) return resolve(result);
-        const renewed = `The board was lost by an error (${failed}) and made anew: assemble again.`;
-        reject(lost ? new BoardLost(renewed) : new Error(failed));
+// Begins a worker that runs board.wasm.
+function begin() {
+    worker = new Worker(address);
+    worker.onmessage = receive;
+    worker.onerror = (event) => {
+        event.preventDefault();
+        replace(event.message || "it ended");
     };
+    return call("start", program);
+}
+
+// Ends the worker, and all calls that wait for it, and begins another.
+function replace(why) {
+    worker.terminate();
+    const lost = [...waiting.values()];
+    waiting.clear();
+    begin().catch(() => {}); // each later call fails, too, and says why
+    for (const { reject } of lost) reject(new BoardLost(why));
+    tellLost(new BoardLost(why));
+}
+
+// Begins the board; `onProgress` gets, for each long run, its steps so far and what the program has sent since the last
+// time, and `onLost` the error of a worker that was replaced.
+export function startBoard(bytes, { onProgress, onLost }) {
+    [program, show, tellLost] = [bytes, onProgress, onLost];
+    return begin();
+}
+
+// Ends a run between two of its pieces. If what is under way goes on for long all the same, the worker is replaced.
+export function pauseRun() {
+    const asked = [...waiting.keys()];
+    worker.postMessage({ act: "pause" });
+    setTimeout(() => {
+        if (asked.some((id) => waiting.has(id))) replace("it didn't pause");
+    }, PATIENCE);
 }

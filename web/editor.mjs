@@ -1,13 +1,13 @@
 // The editor: a text area over its coloured lines, and a gutter with the numbers and the marks of lines. Only
 // the lines in sight are drawn, so a long source costs no more than a short one.
 import { colourLine, escaped } from "./language.mjs";
+import { decodeAll, encode, sameLines } from "./lines.mjs";
 
 const BEYOND = 20; // lines that are drawn above and below those in sight
 
 // A line as what precedes the place of a fault, and the place.
 function cutAt(line, { before, length }) {
-    const bytes = new TextEncoder().encode(line);
-    const text = new TextDecoder().decode(bytes.slice(0, before));
+    const text = decodeAll(encode(line).slice(0, before));
     return [text, [...line.slice(text.length)].slice(0, length).join("")];
 }
 
@@ -51,14 +51,10 @@ export class Editor {
     moveBreakpoints(before) {
         const now = this.lines, more = now.length - before.length;
         if (!more || !this.breakpoints.size) return;
-        const least = Math.min(now.length, before.length);
-        const differs = (line, i) => line !== before[i];
-        const first = now.slice(0, least).findIndex(differs), same = first < 0 ? least : first;
-        let after = 0; // lines at the end that are the same
-        while (after < least - same && now.at(-1 - after) === before.at(-1 - after)) after++;
-        const [old, cut] = [before[same], now[same]];
-        const last = same + (old && cut && (old.startsWith(cut) || cut.startsWith(old)) ? 1 : 0); // that stays
-        const stays = [...this.breakpoints].filter((line) => line <= last || line > before.length - after);
+        const same = sameLines(before, now), [old, cut] = [before[same.first], now[same.first]];
+        const isCut = old && cut && (old.startsWith(cut) || cut.startsWith(old));
+        const last = same.first + (isCut ? 1 : 0); // that stays
+        const stays = [...this.breakpoints].filter((line) => line <= last || line > before.length - same.last);
         this.breakpoints = new Set(stays.map((line) => (line <= last ? line : line + more)));
     }
 

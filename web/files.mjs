@@ -1,9 +1,12 @@
-// Examples, files that are opened and saved, and links.
+// Examples, files that are opened and saved, links, and what is restored when the page is opened again.
 import { $, say } from "./dom.mjs";
+import { Kept } from "./kept.mjs";
+import { asShown, decodeAll, encode, withEndsOf } from "./lines.mjs";
 import { download, readFragment, writeFragment } from "./links.mjs";
 
 const EXAMPLES = JSON.parse($("examples").textContent);
 const NAME = "program.s"; // of a source that has none
+const LARGEST = 16777216; // bytes of a source that rvboard reads
 
 const isLesson = (name) => name.startsWith("lab/");
 
@@ -11,10 +14,15 @@ function groupHtml(title, names) {
     return `<optgroup label="${title}">${names.map((name) => `<option>${name}</option>`).join("")}</optgroup>`;
 }
 
+// Says something below what was said last.
+const sayMore = (text) => say(`${$("answer").textContent}\n${text}`);
+
 export class Files {
-    // `source` and `state` tell what is in the page; `load` puts a state there, and returns whether it did.
-    constructor({ source, state, load }) {
-        Object.assign(this, { source, state, load, kept: "", name: NAME });
+    // `texts` tells what is typed in the page, and `state` what a link of it holds; `load` puts a state there, and returns
+    // whether it did.
+    constructor({ texts, state, load }) {
+        Object.assign(this, { texts, state, load, kept: new Kept() });
+        this.note({ source: "", inputs: "" });
         const names = Object.keys(EXAMPLES);
         const lessons = groupHtml("Lessons: find the fault", names.filter(isLesson));
         $("example").innerHTML = groupHtml("Examples", names.filter((name) => !isLesson(name))) + lessons;
@@ -24,35 +32,70 @@ export class Files {
         $("save").addEventListener("click", () => this.save());
         $("link").addEventListener("click", () => this.copyLink());
         addEventListener("hashchange", () => this.mayReplace() && this.loadLink());
+        addEventListener("pagehide", () => this.keep());
+        addEventListener("beforeunload", (event) => {
+            if (!this.keep() && this.isEdited()) event.preventDefault(); // the browser asks
+        });
+    }
+
+    // Notes what the page has: its texts as they are kept elsewhere, its name, and the file's text.
+    note({ source, inputs }, { name = NAME, file = source } = {}) {
+        Object.assign(this, { saved: { source, inputs }, name, file });
+    }
+
+    // Whether something is typed that is kept nowhere else.
+    isEdited() {
+        const { source, inputs } = this.texts();
+        return source !== this.saved.source || inputs !== this.saved.inputs;
+    }
+
+    // Keeps what is typed for when the page is opened again; returns whether there was room.
+    keep() {
+        const texts = this.texts(), { name, file } = this, edited = this.isEdited();
+        const ends = file.includes("\r") ? { file } : {}; // the line ends that no text area has
+        return this.kept.write({ ...texts, name, edited, link: location.hash, ...ends });
     }
 
     // Whether the source may be replaced: it is kept elsewhere, or the user agrees.
     mayReplace() {
-        return this.source() === this.kept || confirm("The source has changes that aren't saved. Replace it?");
+        const isSaved = this.texts().source === this.saved.source;
+        return isSaved || confirm("The source has changes that aren't saved. Replace it?");
     }
 
-    // Puts a state into the page; one with a name is none of the page's link.
-    async put(state, name) {
-        if (!(await this.load(state))) return;
-        Object.assign(this, { kept: state.source, name: name ?? NAME });
-        if (name) history.replaceState(null, "", location.href.split("#")[0]);
+    // Puts a state into the page.
+    async put(state, names) {
+        if (!(await this.load(state))) return false;
+        this.note(state, names);
+        this.keep();
+        return true;
+    }
+
+    // Puts a state into the page that is none of its link.
+    async putOwn(state, names) {
+        if (await this.put(state, names)) history.replaceState(null, "", location.href.split("#")[0]);
     }
 
     example(name) {
         $("example").value = name;
-        return this.put(EXAMPLES[name], `${name.split("/").at(-1)}.s`);
+        return this.putOwn(EXAMPLES[name], { name: `${name.split("/").at(-1)}.s` });
     }
 
     // Reads the file that was chosen.
     async read() {
         const [file] = $("file").files;
-        if (file) await this.put({ source: await file.text(), inputs: "" }, file.name);
         $("file").value = "";
+        if (!file) return;
+        if (file.size > LARGEST) return say(`${file.name} has ${file.size} bytes: rvboard reads at most ${LARGEST}.`);
+        const text = decodeAll(new Uint8Array(await file.arrayBuffer()));
+        await this.putOwn({ source: asShown(text), inputs: "" }, { name: file.name, file: text });
     }
 
     save() {
-        download(this.name, this.source());
-        this.kept = this.source();
+        const { source } = this.texts();
+        this.file = withEndsOf(source, this.file);
+        this.saved.source = source;
+        download(this.name, encode(this.file));
+        this.keep();
         say(`Saved as ${this.name}, where the browser puts files.`);
     }
 
@@ -69,5 +112,17 @@ export class Files {
         const linked = fragment ? await readFragment(fragment).catch(() => null) : null;
         await (linked ? this.put(linked) : this.example("hello"));
         if (fragment && !linked) say("The link holds no program that can be read.");
+    }
+
+    // Loads what was typed when the page was left, or what its link holds, or an example.
+    async begin() {
+        const entry = await this.kept.open(location.hash);
+        if (!entry) return this.loadLink();
+        const { name, source, file = source } = entry;
+        this.note(entry.edited ? {} : entry, { name, file });
+        await this.load(entry);
+        const where = entry.closed ? "a tab that was closed" : "this tab";
+        if (entry.edited) sayMore(`Restored: ${name} as it was typed in ${where}, and not saved.`);
+        this.keep();
     }
 }

@@ -12,7 +12,8 @@ web = top / "web"
 
 
 # The modules of the page, each after those that it imports.
-PAGE = ["dom", "client", "language", "links", "texts", "views", "editor", "files", "tabs", "page"]
+PAGE = ["dom", "client", "language", "lines", "links", "kept", "texts", "marks", "views", "editor", "files"]
+PAGE += ["tabs", "controls", "page"]
 
 
 def script(*names):
@@ -35,7 +36,7 @@ def examples():
 
 parts = {
     "style": (web / "style.css").read_text(),
-    "worker": script("board", "worker"),
+    "worker": script("lines", "board", "worker"),
     "page": script(*PAGE),
     "examples": examples(),
     "wasm": base64.b64encode((out / "board.wasm").read_bytes()).decode(),

@@ -1,10 +1,11 @@
 // Files that are saved, and links that hold a state.
+import { asShown } from "./lines.mjs";
 
 const KEPT = 10000; // milliseconds for which a saved file can be fetched
 
-export function download(name, text) {
+export function download(name, bytes) {
     const link = document.createElement("a");
-    link.href = URL.createObjectURL(new Blob([text], { type: "text/plain" }));
+    link.href = URL.createObjectURL(new Blob([bytes], { type: "text/plain" }));
     link.download = name;
     link.click();
     setTimeout(() => URL.revokeObjectURL(link.href), KEPT);
@@ -30,5 +31,5 @@ export async function readFragment(fragment) {
     const { source, inputs = "", breakpoints = [], pages } = JSON.parse(text);
     if (typeof source !== "string") throw new Error("no source");
     const marks = breakpoints.filter(Number.isInteger), size = Number.isInteger(pages) ? { pages } : {};
-    return { source, inputs: String(inputs), breakpoints: marks, ...size };
+    return { source: asShown(source), inputs: asShown(String(inputs)), breakpoints: marks, ...size };
 }

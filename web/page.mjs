@@ -1,12 +1,15 @@
 // The page: what is on the board, the commands that change it, and the controls that give them.
-import { BoardLost, call, onProgress, pauseRun } from "./client.mjs";
+import { BoardLost, call, pauseRun, startBoard } from "./client.mjs";
+import { makeControls, markControls } from "./controls.mjs";
 import { $, say } from "./dom.mjs";
 import { Editor } from "./editor.mjs";
 import { Files } from "./files.mjs";
 import { escaped } from "./language.mjs";
+import { encode } from "./lines.mjs";
 import { download } from "./links.mjs";
+import { countLines, readLines, readMarks } from "./marks.mjs";
 import { Tabs } from "./tabs.mjs";
-import { readFaults, readLevels, readListing, readRegisters, readSaved } from "./texts.mjs";
+import { readFaults, readLevels, readRegisters, readSaved } from "./texts.mjs";
 import { registersHtml } from "./views.mjs";
 
 const TYPED = 200; // milliseconds without a key before what is typed is assembled
@@ -53,25 +56,20 @@ function setRunning(is) {
 
 // ---- The board
 
-// The lines of a source of up to 1000 lines, and else those round pc: `l` lists no more.
-async function readLines() {
-    const all = assembled.split("\n").length <= 1000 ? "l 500 1000" : "l pc 500";
-    return readListing((await call("ask", [all]))[0]);
-}
-
 // Asks for all that is in sight, and shows it.
 async function refresh() {
     if (assembled === null) return;
     steps = await call("steps");
     const [registers, save, ...answers] = await call("ask", ["r", "save", ...tabs.lines({ steps })]);
-    const board = { ...readRegisters(registers), listing: await readLines() };
+    const listing = await readLines(assembled), marks = await readMarks(assembled, listing, editor.breakpoints);
+    const board = { ...readRegisters(registers), listing };
     saved = readSaved(save);
     $("registers").innerHTML = registersHtml(board.registers);
     const label = board.label ? ` <${board.label}>` : "";
     $("where").textContent = `pc ${board.pc}${label}, ${board.mode} mode, step ${steps.toLocaleString("en")}`;
     tabs.show(answers, { ...board, pages, labels, saved, done, levels: readLevels(saved.inputs, steps) });
     showConsole(await call("console"));
-    markLines(board.listing);
+    markLines(listing, marks);
 }
 
 // Shows the board once more, unless a command is at work, which will.
@@ -86,11 +84,11 @@ function showConsole(text) {
 }
 
 // Marks pc's line and the breakpoints, if the source is still the one on the board.
-function markLines(listing) {
+function markLines(listing, marks) {
     const isSame = editor.source === assembled;
     $("stale").hidden = isSame;
     editor.here = isSame ? (listing.find(({ here }) => here)?.number ?? 0) : 0;
-    if (isSame) for (const { number, marked } of listing) editor.breakpoints[marked ? "add" : "delete"](number);
+    if (isSame) editor.breakpoints = new Set(marks);
     if (editor.here) editor.show(editor.here);
     else editor.draw();
 }
@@ -155,10 +153,10 @@ function assemble() {
         done = [];
         undone = 0;
         if (fault) return say(fault.trimEnd());
-        for (const line of lines) await call("command", `b ${line}`);
+        await call("ask", lines.map((line) => `b ${line}`));
         labels = await readLabels(source);
         await refresh();
-        say(`Assembled: ${source.split("\n").length} lines. The board is at reset.`);
+        say(`Assembled: ${countLines(source)} lines. The board is at reset.`);
     });
 }
 
@@ -198,12 +196,17 @@ function checkSoon() {
 }
 
 async function checkSource() {
+    files.keep();
     showFaults(readFaults(await call("check", editor.source, $("inputs").value, readPages())));
 }
 
 async function toggleBreakpoint(line) {
     if (editor.source !== assembled) await assemble();
-    if (assembled !== null) await command(`${editor.breakpoints.has(line) ? "d" : "b"} ${line}`);
+    if (assembled === null) return;
+    const word = editor.breakpoints.has(line) ? "d" : "b";
+    editor.breakpoints.add(line); // so that it is looked at
+    await command(`${word} ${line}`);
+    files.keep();
 }
 
 // Whether the last command left a run that may go on.
@@ -246,10 +249,16 @@ async function between(act) {
     return true;
 }
 
+// What is typed in the page.
+function readTexts() {
+    const inputs = $("inputs").value;
+    return { source: editor.source, inputs, breakpoints: [...editor.breakpoints], pages: readPages() };
+}
+
 // What a link holds of the page. Where the timed list is the one on the board, what was given by hand is in it.
 function readState() {
-    const inputs = $("inputs").value === given ? saved.inputs : $("inputs").value;
-    return { source: editor.source, inputs, breakpoints: [...editor.breakpoints], pages: readPages() };
+    const texts = readTexts();
+    return { ...texts, inputs: texts.inputs === given ? saved.inputs : texts.inputs };
 }
 
 // Puts a source, a timed list, breakpoints and a size of memory into the page, and assembles them; returns
@@ -269,77 +278,44 @@ async function loadState({ source, inputs, breakpoints = [], pages = PAGES }) {
 
 // ---- Controls
 
-const CONTROLS = [
-    { id: "assemble", title: "Assemble", key: "A", act: assemble, always: true },
-    { id: "run", title: "Run", key: "R", act: run },
-    { id: "pause", title: "Pause", key: "P", act: pause, whileRunning: true },
-    { id: "step", title: "Step", key: "S", act: () => command("s") },
-    { id: "over", title: "Over", key: "O", act: () => command("next") },
-    { id: "out", title: "Out", key: "U", act: () => command("finish") },
-    { id: "back", title: "Back", key: "B", act: () => goBack(Math.max(0, steps - 1)) },
-    { id: "undo", title: "Undo", key: "Z", act: () => goBack(undone) },
-    { id: "reset", title: "Reset", key: "0", act: () => goBack(0) },
-    { id: "trap", title: "To trap", key: "T", act: () => command("until trap") },
-    { id: "why", title: "Why?", key: "Y", act: () => command("why") },
-    { id: "break", title: "Breakpoint", key: "K", act: () => toggleBreakpoint(editor.line), always: true },
-];
-// What each does, for those who point at it.
-const DOES = {
-    assemble: "Assembles the source, and boots the board",
-    run: "Runs up to a breakpoint, the end, or a pause",
-    pause: "Pauses the run",
-    step: "Takes a step",
-    over: "Takes a step, and a call with all it does as one",
-    out: "Runs until the present function or handler has returned",
-    back: "Goes back a step",
-    undo: "Goes back to before the last command that took steps",
-    reset: "Goes back to the start",
-    trap: "Runs up to a trap",
-    why: "Explains the first trap without a handler, or else the last one",
-    break: "Sets or clears a breakpoint at the line of the caret",
+// What each control does, by its id: `always` also without a program, and `whileRunning` only then.
+const ACTS = {
+    assemble: { act: assemble, always: true },
+    run: { act: run },
+    pause: { act: pause, whileRunning: true },
+    step: { act: () => command("s") },
+    over: { act: () => command("next") },
+    out: { act: () => command("finish") },
+    back: { act: () => goBack(Math.max(0, steps - 1)) },
+    undo: { act: () => goBack(undone) },
+    reset: { act: () => goBack(0) },
+    trap: { act: () => command("until trap") },
+    why: { act: () => command("why") },
+    break: { act: () => toggleBreakpoint(editor.line), always: true },
 };
-const SPEEDS = { 0: "full", 50: "50 steps a second", 10: "10 steps a second", 2: "2 steps a second" };
 
-function isOn({ always, whileRunning }) {
-    if (running || turn) return whileRunning;
-    return !whileRunning && (always || assembled !== null);
+function isOn(id) {
+    const { always, whileRunning } = ACTS[id];
+    if (running || turn) return whileRunning === true;
+    return !whileRunning && (always === true || assembled !== null);
 }
 
-// A control that is off stays in the order of focus, so that the focus isn't lost while the board runs.
 // What happens during a run isn't read out before its end.
 function showControls() {
-    for (const control of CONTROLS) $(control.id).setAttribute("aria-disabled", !isOn(control));
+    markControls(isOn);
     $("answer").setAttribute("aria-busy", turn > 0);
 }
 
-function press(control) {
-    if (isOn(control)) return control.act();
+function press(id) {
+    if (isOn(id)) return ACTS[id].act();
     if (running || turn) return say("The board runs: pause it first.");
-    say(control.whileRunning ? "Nothing runs." : "No program is on the board: assemble one.");
-}
-
-function makeControls() {
-    const buttons = CONTROLS.map(({ id, title, key }) => {
-        const keys = `title="${DOES[id]} (Alt+${key})" aria-keyshortcuts="Alt+${key}"`;
-        return `<button id="${id}" ${keys}>${title} <kbd>${key}</kbd></button>`;
-    });
-    const speeds = Object.entries(SPEEDS).map(([value, title]) => `<option value=${value}>${title}</option>`);
-    const speed = `<label>Speed <select id="speed">${speeds.join("")}</select></label>`;
-    $("controls").innerHTML = ['<span class="hint">Alt +</span>', ...buttons, speed].join(" ");
-    for (const control of CONTROLS) $(control.id).addEventListener("click", () => press(control));
-    document.addEventListener("keydown", (event) => {
-        if (!event.altKey || event.ctrlKey || event.metaKey) return;
-        const control = CONTROLS.find(({ key }) => event.code === (key === "0" ? "Digit0" : `Key${key}`));
-        if (!control) return;
-        event.preventDefault();
-        press(control);
-    });
+    say(ACTS[id].whileRunning ? "Nothing runs." : "No program is on the board: assemble one.");
 }
 
 // Sends a text to the serial port, as bytes in hexadecimal, some in each command.
 async function send(text) {
     const line = text + ($("send-line").checked ? "\n" : "");
-    const bytes = [...new TextEncoder().encode(line)].map((byte) => byte.toString(16).padStart(2, "0"));
+    const bytes = [...encode(line)].map((byte) => byte.toString(16).padStart(2, "0"));
     for (let at = 0; at < bytes.length; at += 300) await command(`rx ${bytes.slice(at, at + 300).join(" ")}`);
 }
 
@@ -374,13 +350,13 @@ async function start() {
     const parts = { text: $("text"), colours: $("colours"), gutter: $("gutter") };
     editor = new Editor(parts, { onChange: typed, onBreakpoint: (line) => between(() => toggleBreakpoint(line)) });
     tabs = new Tabs(refreshIdle);
-    files = new Files({ source: () => editor.source, state: readState, load: loadState });
-    makeControls();
+    files = new Files({ texts: readTexts, state: readState, load: loadState });
+    makeControls(press);
     makeForms();
     showControls();
-    onProgress(showProgress);
-    await call("start", Uint8Array.from(atob($("wasm").textContent.trim()), (it) => it.charCodeAt(0)));
-    await files.loadLink();
+    const program = Uint8Array.from(atob($("wasm").textContent.trim()), (it) => it.charCodeAt(0));
+    await startBoard(program, { onProgress: showProgress, onLost: fail });
+    await files.begin();
     document.body.dataset.ready = "yes";
 }
 

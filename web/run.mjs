@@ -1,7 +1,8 @@
-// node web/run.mjs SOURCE [--input F] [--commands F] [--steps N] [--pages P]: prints what rvboard prints for
-// these words, by the lab in out/web/board.wasm. For comparisons.
+// node web/run.mjs SOURCE [--input F] [--commands F] [--steps N] [--pages P] [--piece N]: prints what rvboard prints for
+// these words, by the lab in out/web/board.wasm, in calls of at most as many steps as a piece has. For comparisons.
 import fs from "node:fs";
-import { Board, RUNNING, encode } from "./board.mjs";
+import { Board, RUNNING } from "./board.mjs";
+import { encode } from "./lines.mjs";
 
 // The lines of a text, as the program cuts them.
 export function cutLines(bytes) {
@@ -14,12 +15,22 @@ export function cutLines(bytes) {
     return lines;
 }
 
-// The monitor's answer to a line: that of the lab, without the console's lines which follow.
-export function monitor(board, line) {
-    const { text, next } = board.command(Buffer.concat([encode("monitor "), line]));
+// A text of the lab up to the console's lines in it.
+function beforeConsole(text) {
     const all = Buffer.from(text).toString("latin1");
     const end = all.startsWith("| ") ? 0 : all.indexOf("\n| ") + 1 || all.length;
-    return { text: Buffer.from(all.slice(0, end), "latin1"), next };
+    return Buffer.from(all.slice(0, end), "latin1");
+}
+
+// The monitor's answer to a line: that of the lab, in as many pieces as it takes.
+export function monitor(board, line) {
+    let { text, next } = board.command(Buffer.concat([encode("monitor "), line]));
+    const pieces = [beforeConsole(text)];
+    while (next === RUNNING) {
+        ({ text, next } = board.goOn());
+        pieces.push(beforeConsole(text));
+    }
+    return { text: Buffer.concat(pieces), next };
 }
 
 // How the board stands, as rvboard's last line says it.
@@ -34,10 +45,10 @@ export function runAll(board, steps) {
     for (let answer = board.command(encode(`s ${steps}`)); answer.next === RUNNING; ) answer = board.goOn();
 }
 
-export function open(source, inputs, pages) {
+export function open(source, inputs, pages, piece) {
     const file = new URL("../out/web/board.wasm", import.meta.url);
     const board = new Board(new WebAssembly.Module(fs.readFileSync(file)));
-    board.piece = 1000000;
+    board.piece = piece;
     return { board, fault: board.load(source, inputs, pages) };
 }
 
@@ -49,7 +60,8 @@ function main(words) {
         options[name.slice(2)] = value;
     }
     const input = options.input ? fs.readFileSync(options.input) : new Uint8Array();
-    const { board, fault } = open(fs.readFileSync(words[0]), input, Number(options.pages ?? 256));
+    const { pages = 256, piece = 1000000 } = options;
+    const { board, fault } = open(fs.readFileSync(words[0]), input, Number(pages), Number(piece));
     if (fault) {
         process.stderr.write(fault);
         process.exitCode = 3;

@@ -49,6 +49,12 @@ export function readListing(text) {
     return text.split("\n").filter((line) => /^[> ][* ].{20}\d+:/.test(line)).map(readListed);
 }
 
+// The lines at which `b` tells a breakpoint: those of rows with an address, a label or none, and a line's number.
+export function readBreakLines(text) {
+    const rows = text.split("\n").map((row) => row.match(/^[0-9a-f]{8}(?: <.*?>)? +(\d+):/));
+    return rows.filter(Boolean).map(([, line]) => Number(line));
+}
+
 const SOURCE = new RegExp(
     /^ {2}source (?<number>\d+): (?:line \w+, )?/.source +
         /(?<request>pending|not pending|claimed and not completed), /.source +

@@ -1,6 +1,7 @@
 // The page's worker: one lab that is run and asked, and one that only assembles what is typed. A long run
 // goes in pieces, between which the pause and the page's questions come through.
-import { Board, RUNNING, encode, decode } from "./board.mjs";
+import { Board, RUNNING, decode } from "./board.mjs";
+import { encode } from "./lines.mjs";
 
 const PROGRESS = 100; // milliseconds between two reports of a long run
 const TURN = 12; // milliseconds that a piece of a run shall take
@@ -100,10 +101,11 @@ async function answer({ id, act, words }) {
     }
 }
 
-let last = Promise.resolve();
+let last = Promise.resolve(), started;
 
 onmessage = ({ data }) => {
     if (data.act === "pause") paused = true;
-    else if (data.act === "check") answer(data);
+    else if (data.act === "check") started.then(() => answer(data));
     else last = last.then(() => answer(data));
+    if (data.act === "start") started = last;
 };

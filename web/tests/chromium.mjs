@@ -4,36 +4,30 @@ import fs from "node:fs";
 import os from "node:os";
 import path from "node:path";
 
+const ANSWERED = 30000; // milliseconds in which a call is answered
 const TRIES = 400, PAUSE = 25; // how often, and how many milliseconds apart, a condition is tried
 
 const textOf = ({ exception, text }) => exception?.description ?? text;
 const wait = (milliseconds) => new Promise((done) => setTimeout(done, milliseconds));
 
-export async function openPage(url, { width = 1280, height = 720, dark = false } = {}) {
+// A browser with a profile of its own: what it is asked, and what its tabs say to `hear`, by their sessions.
+async function openBrowser(hear) {
     const home = fs.mkdtempSync(path.join(os.tmpdir(), "rv-page-"));
     const words = ["--headless", "--no-sandbox", "--disable-gpu", "--remote-debugging-pipe"];
-    const browser = spawn("chromium", [...words, `--user-data-dir=${home}`, "about:blank"], {
+    const process = spawn("chromium", [...words, `--user-data-dir=${home}`, "about:blank"], {
         stdio: ["ignore", "ignore", "ignore", "pipe", "pipe"],
     });
-    const waiting = new Map(), errors = [], asked = []; // what dialogs asked
-    let calls = 0, rest = "", worker = null; // the session of the page's worker
-    let choosing; // is called when the page wants a file
+    const waiting = new Map();
+    let calls = 0, rest = "";
 
-    function receive({ id, error, result, method, params }) {
-        if (method === "Target.attachedToTarget") worker = params.sessionId;
-        if (method === "Runtime.exceptionThrown") errors.push(textOf(params.exceptionDetails));
-        if (method === "Page.javascriptDialogOpening") {
-            asked.push(params.message);
-            call("Page.handleJavaScriptDialog", { accept: true });
-        }
-        if (method === "Page.fileChooserOpened") choosing(params.backendNodeId);
-        if (!id) return;
+    function receive({ id, error, result, ...event }) {
+        if (!id) return hear(event);
         const { resolve, reject } = waiting.get(id);
         waiting.delete(id);
         if (error) reject(new Error(error.message));
         else resolve(result);
     }
-    browser.stdio[4].on("data", (data) => {
+    process.stdio[4].on("data", (data) => {
         rest += data;
         const whole = rest.split("\0");
         rest = whole.pop();
@@ -41,11 +35,45 @@ export async function openPage(url, { width = 1280, height = 720, dark = false }
     });
     const send = (method, params = {}, sessionId) => new Promise((resolve, reject) => {
         waiting.set(++calls, { resolve, reject });
-        browser.stdio[3].write(`${JSON.stringify({ id: calls, method, params, sessionId })}\0`);
+        setTimeout(() => reject(new Error(`${method} isn't answered`)), ANSWERED).unref();
+        process.stdio[3].write(`${JSON.stringify({ id: calls, method, params, sessionId })}\0`);
     });
+    await send("Browser.setDownloadBehavior", { behavior: "allow", downloadPath: home });
 
+    async function close() {
+        await send("Browser.close").catch(() => {});
+        await new Promise((done) => process.on("exit", done));
+        fs.rmSync(home, { recursive: true, force: true });
+    }
+    return { home, send, close };
+}
+
+// Opens a page in a browser of its own.
+export async function openPage(url, options) {
+    const tabs = new Map(); // by session
+    const browser = await openBrowser(({ sessionId, ...event }) => tabs.get(sessionId)?.hear(event));
+    return openTab(browser, tabs, url, options);
+}
+
+// Opens a page in another tab of a browser.
+async function openTab(browser, tabs, url, { width = 1280, height = 720, dark = false } = {}) {
+    const { home, send } = browser;
+    const errors = [], asked = []; // what dialogs asked
+    let worker = null; // the session of the page's worker
+    let choosing; // is called when the page wants a file
+
+    function hear({ method, params }) {
+        if (method === "Target.attachedToTarget") worker = params.sessionId;
+        if (method === "Runtime.exceptionThrown") errors.push(textOf(params.exceptionDetails));
+        if (method === "Page.javascriptDialogOpening") {
+            asked.push(params.message || params.type);
+            call("Page.handleJavaScriptDialog", { accept: true });
+        }
+        if (method === "Page.fileChooserOpened") choosing(params.backendNodeId);
+    }
     const { targetId } = await send("Target.createTarget", { url: "about:blank" });
     const { sessionId } = await send("Target.attachToTarget", { targetId, flatten: true });
+    tabs.set(sessionId, { hear });
     const call = (method, params) => send(method, params, sessionId);
     await call("Runtime.enable");
     await call("Page.enable");
@@ -54,7 +82,6 @@ export async function openPage(url, { width = 1280, height = 720, dark = false }
     const features = [{ name: "prefers-color-scheme", value: dark ? "dark" : "light" }];
     await call("Emulation.setEmulatedMedia", { features });
     await call("Page.setInterceptFileChooserDialog", { enabled: true });
-    await send("Browser.setDownloadBehavior", { behavior: "allow", downloadPath: home });
     await call("Page.navigate", { url });
 
     const page = {
@@ -105,14 +132,16 @@ export async function openPage(url, { width = 1280, height = 720, dark = false }
             await call("DOM.setFileInputFiles", { files: [file], backendNodeId: await wanted });
         },
 
-        // The text of a file that the page has saved.
-        async saved(name) {
+        // The bytes of a file that the page has saved.
+        async savedBytes(name) {
             const file = path.join(home, name);
             for (let i = 0; i < TRIES && !fs.existsSync(file); i++) await wait(PAUSE);
-            const text = fs.readFileSync(file, "utf8");
+            const bytes = fs.readFileSync(file);
             fs.rmSync(file);
-            return text;
+            return bytes;
         },
+
+        saved: async (name) => (await page.savedBytes(name)).toString(),
 
         // Presses a key: its name, its code, and whether Alt is held.
         async press(key, code = key, alt = false) {
@@ -130,11 +159,31 @@ export async function openPage(url, { width = 1280, height = 720, dark = false }
             fs.writeFileSync(file, Buffer.from(data, "base64"));
         },
 
-        async close() {
-            await send("Browser.close").catch(() => {});
-            await new Promise((done) => browser.on("exit", done));
-            fs.rmSync(home, { recursive: true, force: true });
+        // Waits until the page is ready.
+        ready: () => page.until(`!window.isOld && document.body.dataset.ready === "yes"`, 2),
+
+        // Loads the page anew.
+        async reload() {
+            await page.run("window.isOld = true");
+            call("Page.reload").catch(() => {});
+            await page.ready();
         },
+
+        // Leaves the page, and goes to an address.
+        async visit(url) {
+            call("Page.navigate", { url: "about:blank" }).catch(() => {});
+            await page.until(`location.href === "about:blank"`);
+            call("Page.navigate", { url }).catch(() => {});
+            await page.ready();
+        },
+
+        // Opens a page in another tab of the same browser.
+        beside: (url) => openTab(browser, tabs, url),
+
+        // Closes the tab, as a browser that asks nobody.
+        leave: () => send("Target.closeTarget", { targetId }),
+
+        close: browser.close,
     };
     return page;
 }

@@ -121,6 +121,39 @@ async function breakpointsStay() {
     await press("R", "breakpoint after 4 steps");
 }
 
+// Scrolls to a line, and returns the mark beside it.
+const markAt = (line) => page.run(`(async () => {
+    const text = document.getElementById("text");
+    text.scrollTop = (${line} - 3) * parseFloat(getComputedStyle(text).lineHeight);
+    await new Promise((done) => setTimeout(done, 50));
+    return document.querySelector('#gutter li[value="${line}"] i').textContent;
+})()`);
+
+// A source of more lines than the lab lists at once, with bytes at odd addresses, too.
+async function longSource() {
+    const lines = Array.from({ length: 2990 }, (_, i) => `        addi t0,t0,${i % 100}`);
+    await open([...lines, "1:      j 1b", "        .byte 1", "        .byte 2"].join("\n"));
+    for (const line of [1400, 2993]) {
+        await markAt(line);
+        await page.click(`#gutter li[value="${line}"]`);
+        await answers(`breakpoint at line ${line}`);
+        await idle();
+        same(`line ${line} of a long source has its mark`, await markAt(line), "●");
+    }
+    await lab("b 2600", "breakpoint at line 2600");
+    same("also by a command", await markAt(2600), "●");
+    await press("A", "Assembled");
+    same("Assemble keeps it", [await markAt(1400), await markAt(2600), await markAt(2993)].join(""), "●●●");
+    await press("R", "breakpoint after 1399 steps");
+    same("a run stops there", await markAt(1400), "◉");
+    await page.click('#gutter li[value="1400"]');
+    await answers("no more breakpoint");
+    await idle();
+    same("a click clears it", await markAt(1400), "➤");
+    await lab("d 2993", "no more breakpoint");
+    same("and so does a command", [await markAt(2600), await markAt(2993)].join(""), "●");
+}
+
 const inPanel = (name, part) => `document.getElementById("panel-${name}").querySelector(${quoted(part)})`;
 const panelHas = (name, text) => page.until(`${inPanel(name, "*")}.parentElement.textContent.includes(${quoted(text)})`);
 
@@ -197,4 +230,4 @@ async function refused() {
     check("a control that can do nothing says why", true);
 }
 
-await learn(overAndOut, files, inputWhileRunning, backFromFar, speeds, breakpointsStay, views, stack, refused);
+await learn(overAndOut, files, inputWhileRunning, backFromFar, speeds, breakpointsStay, longSource, views, stack, refused);

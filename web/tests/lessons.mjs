@@ -181,10 +181,7 @@ async function link() {
     await page.click("#link");
     await page.until(`location.hash.length > 10`);
     const address = await page.run("location.href");
-    await page.run(`document.body.dataset.ready = ""`);
-    await page.call("Page.navigate", { url: "about:blank" });
-    await page.call("Page.navigate", { url: address });
-    await page.until(`document.body.dataset.ready === "yes"`);
+    await page.visit(address);
     same("a link holds the source", await page.run(`document.getElementById("text").value`), sourceOf("lab/task"));
     contains("and the breakpoint", await page.text("#gutter"), /◉/);
     same("and the size of memory", await page.run(`document.getElementById("pages").value`), "512");

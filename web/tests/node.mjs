@@ -16,9 +16,9 @@ function run(...words) {
     return { stdout, stderr, seconds: Number(stderr.toString().trim().split("\n").at(-1)) };
 }
 
-// Compares a run of the program with that in Node, byte for byte.
-function compare(name, words) {
-    const native = run(program, ...words), node = run("node", "web/run.mjs", ...words);
+// Compares a run of the program with that in Node, which may have more words, byte for byte.
+function compare(name, words, more = []) {
+    const native = run(program, ...words), node = run("node", "web/run.mjs", ...words, ...more);
     const both = `\n  native ${native.stdout}${native.stderr}\n  node   ${node.stdout}${node.stderr}`;
     check(name, native.stdout.length > 0 && native.stdout.equals(node.stdout), both);
     return `${name}: ${node.seconds} s in Node, ${native.seconds} s natively`;
@@ -32,6 +32,7 @@ function wordsOf(file) {
 
 const examples = fs.readdirSync(`${top}/examples`).filter((it) => it.endsWith(".s"));
 for (const file of examples) compare(file, wordsOf(file));
+for (const file of examples) compare(`${file}, 7 steps a call`, wordsOf(file), ["--piece", "7"]);
 const long = ["--steps", "1000000000", "--pages", "1024"];
 const programs = ["bench/solver.s", "bench/lisp.s", "bench/loop.s"];
 const times = programs.map((file) => compare(file, [file, ...long]));

@@ -11,12 +11,13 @@ import { openPage } from "./chromium.mjs";
 const program = path.resolve(process.argv[2]);
 export const top = fileURLToPath(new URL("../..", import.meta.url));
 export const room = fs.mkdtempSync(path.join(os.tmpdir(), "rv-lessons-"));
-export const page = await openPage(`file://${top}/out/web/index.html`);
+export const url = `file://${top}/out/web/index.html`;
+export const page = await openPage(url);
 
 export const sourceOf = (name) => fs.readFileSync(`${top}/examples/${name}.s`, "utf8");
 
-// What the built program prints for a source, a timed list and commands.
-export function native(source, { inputs, commands, words = [] }) {
+// What the built program prints, also on standard error, for a source, a timed list and commands.
+export function native(source, { inputs, commands, words = [] } = {}) {
     const all = [`${room}/source.s`, ...words];
     fs.writeFileSync(all[0], source);
     for (const [name, text] of Object.entries({ input: inputs, commands })) {
@@ -24,7 +25,8 @@ export function native(source, { inputs, commands, words = [] }) {
         fs.writeFileSync(`${room}/${name}`, text);
         all.push(`--${name}`, `${room}/${name}`);
     }
-    return spawnSync(program, all, { maxBuffer: 1 << 28 }).stdout.toString();
+    const { stdout, stderr } = spawnSync(program, all, { maxBuffer: 1 << 28 });
+    return `${stdout}${stderr}`;
 }
 
 export const quoted = (text) => JSON.stringify(text);
@@ -116,7 +118,7 @@ export async function printed() {
 
 // Goes through lessons one by one: one that can't be ended is a check that failed.
 export async function learn(...lessons) {
-    await page.until(`document.body.dataset.ready === "yes"`);
+    await page.ready();
     for (const lesson of lessons) await lesson().catch((error) => check(lesson.name, false, error.message));
     same("the page has no error", page.errors.join("\n"), "");
     await page.close();

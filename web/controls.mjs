@@ -1,0 +1,42 @@
+// The controls: what each is named, its key, and what it does in words for those who point at it.
+import { $ } from "./dom.mjs";
+
+const CONTROLS = [
+    { id: "assemble", title: "Assemble", key: "A", does: "Assembles the source, and boots the board" },
+    { id: "run", title: "Run", key: "R", does: "Runs up to a breakpoint, the end, or a pause" },
+    { id: "pause", title: "Pause", key: "P", does: "Pauses the run" },
+    { id: "step", title: "Step", key: "S", does: "Takes a step" },
+    { id: "over", title: "Over", key: "O", does: "Takes a step, and a call with all it does as one" },
+    { id: "out", title: "Out", key: "U", does: "Runs until the present function or handler has returned" },
+    { id: "back", title: "Back", key: "B", does: "Goes back a step" },
+    { id: "undo", title: "Undo", key: "Z", does: "Goes back to before the last command that took steps" },
+    { id: "reset", title: "Reset", key: "0", does: "Goes back to the start" },
+    { id: "trap", title: "To trap", key: "T", does: "Runs up to a trap" },
+    { id: "why", title: "Why?", key: "Y", does: "Explains the first trap without a handler, or else the last one" },
+    { id: "break", title: "Breakpoint", key: "K", does: "Sets or clears a breakpoint at the line of the caret" },
+];
+const SPEEDS = { 0: "full", 50: "50 steps a second", 10: "10 steps a second", 2: "2 steps a second" };
+
+// Makes the controls; a click, or Alt and its key, presses one.
+export function makeControls(press) {
+    const buttons = CONTROLS.map(({ id, title, key, does }) => {
+        const keys = `title="${does} (Alt+${key})" aria-keyshortcuts="Alt+${key}"`;
+        return `<button id="${id}" ${keys}>${title} <kbd>${key}</kbd></button>`;
+    });
+    const speeds = Object.entries(SPEEDS).map(([value, title]) => `<option value=${value}>${title}</option>`);
+    const speed = `<label>Speed <select id="speed">${speeds.join("")}</select></label>`;
+    $("controls").innerHTML = ['<span class="hint">Alt +</span>', ...buttons, speed].join(" ");
+    for (const { id } of CONTROLS) $(id).addEventListener("click", () => press(id));
+    document.addEventListener("keydown", (event) => {
+        if (!event.altKey || event.ctrlKey || event.metaKey) return;
+        const control = CONTROLS.find(({ key }) => event.code === (key === "0" ? "Digit0" : `Key${key}`));
+        if (!control) return;
+        event.preventDefault();
+        press(control.id);
+    });
+}
+
+// A control that is off stays in the order of focus, so that the focus isn't lost while the board runs.
+export function markControls(isOn) {
+    for (const { id } of CONTROLS) $(id).setAttribute("aria-disabled", !isOn(id));
+}
