@@ -182,6 +182,7 @@ def compile_all(job: Job, room: str) -> int:
         (given, file, os.path.join(room, f"{i}.o")) for i, file in enumerate(job.files)
     ]
     if job.with_start:
+        base += [word for word in job.words if "-prefix-map=" in word]
         own = [(base, "start.S"), ([*base, "-Os"], "board.c")]
         tasks = [
             (words, os.path.join(LIB, name), os.path.join(room, name + ".o"))
@@ -269,6 +270,8 @@ def hide_lines(path: str) -> None:
         r"^\t\.section\t\.debug.*\Z", "", text, flags=re.MULTILINE | re.DOTALL
     )
     text = re.sub(r"^\t\.(loc|file)[ \t]", r"#\1 ", text, flags=re.MULTILINE)
+    # nor are the places that gcc gives inline assembly lines of this text
+    text = re.sub(r"^# (\d+ \")", r"#at \1", text, flags=re.MULTILINE)
     with open(path, "w", encoding="latin-1") as file:
         file.write(text)
 

@@ -114,7 +114,8 @@ class Data:
             zeros = self.zeros(at, stop)
             if at + zeros < stop:
                 zeros -= zeros % 4
-            if (zeros >= ZEROS or at + zeros == end > at) and not (row and zeros < row):
+            is_padding = element == 0 and at + zeros == end
+            if zeros and (zeros >= ZEROS or is_padding) and not (row and zeros < row):
                 rows.flush()
                 rows.lines.append(directive(".space", str(zeros)))
                 at += zeros

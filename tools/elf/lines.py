@@ -111,23 +111,17 @@ def read_lines(program: Program, table: str, prefix: str, files: Files) -> Lines
             if path.endswith(".s")
         }
         for row in rows:
-            note = noted.get(row.file, {}).get(row.line)
-            place = (
-                Place(known[row.file], row.line)
-                if row.line and row.file in known
-                else None
-            )
-            if note:
-                place = (
-                    Place(note.path, note.line)
-                    if files.text(note.path) is not None
-                    else None
-                )
+            notes = noted.get(row.file, {})
+            note = notes.get(row.line)
+            place = None
+            if row.line and row.file in known and not notes:
+                place = Place(known[row.file], row.line)
+            if note and files.text(note.path) is not None:
+                place = Place(note.path, note.line)
                 lines.notes[row.address] = note.variables
+                begun = (Place(*one) for one in note.begun)
                 statements[row.address] += [
-                    Place(*begun)
-                    for begun in note.begun
-                    if files.text(begun[0]) is not None
+                    one for one in begun if files.text(one.path) is not None
                 ]
             elif place and row.is_statement and not place.is_assembly:
                 statements[row.address].append(place)

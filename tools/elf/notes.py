@@ -7,6 +7,12 @@ import re
 from typing import NamedTuple
 
 
+# comments, directives, bodies of macros, labels and empty lines
+NO_INSTRUCTION = re.compile(r"\s*(#|\.|\\|[\w.$]+:\s*(#|$)|$)")
+# values that have no name in the source
+NAMELESS = re.compile(r"(tmp\d+|\*?_\d+|iftmp\.\w+)?")
+
+
 class Note(NamedTuple):
     """What is said of an instruction: its line of C, its variables, and the statements that begin there."""
 
@@ -36,7 +42,7 @@ def read_notes(text: list[str]) -> dict[int, Note]:
                 is_statement = words[words.index("is_stmt") + 1] == "1"
             if is_statement:
                 begun.append((path, line))
-        elif path and row.startswith("\t") and not row.startswith("\t."):
+        elif path and not NO_INSTRUCTION.match(row):
             names = (variable(word) for word in row.partition("#")[2].split(","))
             notes[number] = Note(
                 path,
@@ -51,11 +57,10 @@ def read_notes(text: list[str]) -> dict[int, Note]:
 def variable(operand: str) -> str:
     """An operand as gcc names it, without what only gcc understands."""
     operand = operand.strip()
-    if re.fullmatch(r"(tmp\d+|_\d+|iftmp\.\w+)?", operand):
-        return ""
     operand = re.sub(
         r"MEM\[\([^)]*\)(\d+)B\]", lambda match: f"[{int(match[1]):#x}]", operand
     )
     operand = re.sub(r"MEM <[^>]*> \[\([^)]*\)&(\w+)\]", r"\1", operand)
     operand = re.sub(r"MEM(?: <[^>]*>)?\[\([^)]*\)(\w+)(?:\(D\))?\]", r"*\1", operand)
-    return re.sub(r"\b([A-Za-z]\w*?)(\.\d+)?_\d+(\(D\))?", r"\1", operand)
+    operand = re.sub(r"\b([A-Za-z]\w*?)(\.\d+)?_\d+(\(D\))?", r"\1", operand)
+    return "" if NAMELESS.fullmatch(operand) else operand
