@@ -179,24 +179,24 @@ kill.110:               # board.c:110  WEAK int kill(int process, int signal) { 
         jal     _exit
 
 operator_new_unsigned_int_:
-operator_new_unsigned_int_.132:# board.c:132  {
-operator_new_unsigned_int_.133:# board.c:133      void *room = malloc(size ? size : 1);
+operator_new_unsigned_int_.132: # board.c:132  {
+operator_new_unsigned_int_.133: # board.c:133      void *room = malloc(size ? size : 1);
         addi    sp,sp,-16
         sw      ra,12(sp)
         bnez    a0,operator_new_unsigned_int_.133.2
         li      a0,1
 operator_new_unsigned_int_.133.2:
         jal     malloc
-operator_new_unsigned_int_.134:# board.c:134      if (!room) abort();
+operator_new_unsigned_int_.134: # board.c:134      if (!room) abort();
         bnez    a0,operator_new_unsigned_int_.136
         jal     abort
-operator_new_unsigned_int_.136:# board.c:136  }
+operator_new_unsigned_int_.136: # board.c:136  }
         lw      ra,12(sp)
         addi    sp,sp,16
         ret
 
 operator_delete_void___unsigned_int_:
-operator_delete_void___unsigned_int_.140:# board.c:140  WEAK void _ZdlPvj(void *room, size_t size) { (void)size; free(room); }
+operator_delete_void___unsigned_int_.140: # board.c:140  WEAK void _ZdlPvj(void *room, size_t size) { (void)size; free(room); }
         j       cfree
 
 __cxa_pure_virtual:
@@ -206,18 +206,18 @@ __cxa_pure_virtual.143: # board.c:143  WEAK void __cxa_pure_virtual(void) { abor
         jal     abort
 
 geometry.Square.area___const:
-geometry.Square.area___const.16:# shapes.cc:16      int area() const override { return side * side; }
+geometry.Square.area___const.16: # shapes.cc:16      int area() const override { return side * side; }
         lw      a0,8(a0)
         mul     a0,a0,a0
         ret
 
 geometry.Strip.area___const:
-geometry.Strip.area___const.22:# shapes.cc:22      int area() const override { return length; }
+geometry.Strip.area___const.22: # shapes.cc:22      int area() const override { return length; }
         lw      a0,8(a0)
         ret
 
 geometry.Strip._Strip__:
-geometry.Strip._Strip__.19:# shapes.cc:19  struct Strip : Shape {
+geometry.Strip._Strip__.19: # shapes.cc:19  struct Strip : Shape {
         lui     a5,%hi(vtable_for_geometry.Strip+8)
         addi    a5,a5,%lo(vtable_for_geometry.Strip+8)
         sw      a5,0(a0)
@@ -227,7 +227,7 @@ geometry.Strip._Strip__.19:# shapes.cc:19  struct Strip : Shape {
         ret
 
 geometry.Square._Square__:
-geometry.Square._Square__.13:# shapes.cc:13  struct Square : Shape {
+geometry.Square._Square__.13: # shapes.cc:13  struct Square : Shape {
         lui     a5,%hi(vtable_for_geometry.Square+8)
         addi    a5,a5,%lo(vtable_for_geometry.Square+8)
         sw      a5,0(a0)
@@ -237,7 +237,7 @@ geometry.Square._Square__.13:# shapes.cc:13  struct Square : Shape {
         ret
 
 __static_initialization_and_destruction_0_int__int_:
-__static_initialization_and_destruction_0_int__int_.48:# shapes.cc:48  }
+__static_initialization_and_destruction_0_int__int_.48: # shapes.cc:48  }
         li      a5,1
         beq     a0,a5,__static_initialization_and_destruction_0_int__int_.48.3
 __static_initialization_and_destruction_0_int__int_.48.2:
@@ -251,7 +251,7 @@ __static_initialization_and_destruction_0_int__int_.48.3:
         j       __static_initialization_and_destruction_0_int__int_.48.2
 
 geometry.Square._Square__.2:
-geometry.Square._Square__.2.13:# shapes.cc:13  struct Square : Shape {
+geometry.Square._Square__.2.13: # shapes.cc:13  struct Square : Shape {
         addi    sp,sp,-16
         sw      ra,12(sp)
         lui     a4,%hi(vtable_for_geometry.Square+8)
@@ -267,7 +267,7 @@ geometry.Square._Square__.2.13:# shapes.cc:13  struct Square : Shape {
         ret
 
 geometry.Strip._Strip__.2:
-geometry.Strip._Strip__.2.19:# shapes.cc:19  struct Strip : Shape {
+geometry.Strip._Strip__.2.19: # shapes.cc:19  struct Strip : Shape {
         addi    sp,sp,-16
         sw      ra,12(sp)
         lui     a4,%hi(vtable_for_geometry.Strip+8)
@@ -283,7 +283,7 @@ geometry.Strip._Strip__.2.19:# shapes.cc:19  struct Strip : Shape {
         ret
 
 int_larger_int__int__int_:
-int_larger_int__int__int_.27:# shapes.cc:27  template <typename T> T larger(T a, T b) { return a < b ? b : a; }
+int_larger_int__int__int_.27: # shapes.cc:27  template <typename T> T larger(T a, T b) { return a < b ? b : a; }
         bge     a0,a1,int_larger_int__int__int_.27.2
         mv      a0,a1
 int_larger_int__int__int_.27.2:

@@ -7,7 +7,7 @@ from collections import defaultdict
 from dataclasses import dataclass, field
 from typing import NamedTuple
 
-from elf.notes import read_notes
+from elf.notes import Note, read_notes
 from elf.program import Program
 from elf.asking import output_of
 
@@ -95,44 +95,61 @@ class Lines:
 
 def read_lines(program: Program, table: str, prefix: str, files: Files) -> Lines:
     """Reads the lines of a program from objdump's table of them; it may have none."""
-    lines = Lines(files)
-    units = units_of(table)
-    found: dict[int, Place | None] = {}
-    statements: dict[int, list[Place]] = defaultdict(list)
+    units = [
+        [row for row in rows if program.holds(row.address)] for rows in units_of(table)
+    ]
+    reader = Reader(files)
     for rows, paths in zip(units, paths_of(units, program.path, prefix)):
-        known = {
-            name: path for name, path in paths.items() if files.text(path) is not None
-        }
-        if not any(program.holds(row.address) for row in rows) or not known:
-            continue
-        noted = {
-            name: read_notes(files.text(path) or [])
-            for name, path in known.items()
-            if path.endswith(".s")
-        }
         for row in rows:
-            notes = noted.get(row.file, {})
-            note = notes.get(row.line)
-            place = None
-            if row.line and row.file in known and not notes:
-                place = Place(known[row.file], row.line)
-            if note and files.text(note.path) is not None:
-                place = Place(note.path, note.line)
-                lines.notes[row.address] = note.variables
-                begun = (Place(*one) for one in note.begun)
-                statements[row.address] += [
-                    one for one in begun if files.text(one.path) is not None
-                ]
-            elif place and row.is_statement and not place.is_assembly:
-                statements[row.address].append(place)
-            if row.line or row.address not in found:
-                found[row.address] = place
-    lines.starts = sorted(found)
-    lines.places = [found[address] for address in lines.starts]
-    lines.statements = {
-        address: list(dict.fromkeys(places)) for address, places in statements.items()
-    }
+            reader.read(row, path_of(row, paths))
+    lines = reader.lines
+    lines.starts = sorted(reader.found)
+    lines.places = [reader.found[address] for address in lines.starts]
+    for address, places in lines.statements.items():
+        lines.statements[address] = list(dict.fromkeys(places))
     return lines
+
+
+class Reader:
+    """Reads rows of the table of lines, of files that can be read."""
+
+    def __init__(self, files: Files) -> None:
+        self.lines = Lines(files, statements=defaultdict(list))
+        self.found: dict[int, Place | None] = {}
+        self.noted: dict[str, dict[int, Note]] = {}
+
+    def read(self, row: Row, path: str) -> None:
+        """Reads a row: the last line of a place counts, and all statements that begin there."""
+        place = self.noted_place(row, path) if path.endswith(".s") else None
+        if (
+            place is None
+            and row.line
+            and not self.noted.get(path)
+            and self.is_there(path)
+        ):
+            place = Place(path, row.line)
+            if row.is_statement and not place.is_assembly:
+                self.lines.statements[row.address].append(place)
+        if row.line or row.address not in self.found:
+            self.found[row.address] = place
+
+    def noted_place(self, row: Row, path: str) -> Place | None:
+        """The line of C of a row of a text with notes, which are kept."""
+        if path not in self.noted:
+            self.noted[path] = read_notes(self.lines.files.text(path) or [])
+        note = self.noted[path].get(row.line)
+        if note is None or not self.is_there(note.path):
+            return None
+        self.lines.notes[row.address] = note.variables
+        begun = (Place(*one) for one in note.begun)
+        self.lines.statements[row.address] += [
+            one for one in begun if self.is_there(one.path)
+        ]
+        return Place(note.path, note.line)
+
+    def is_there(self, path: str) -> bool:
+        """Whether a file can be read."""
+        return self.lines.files.text(path) is not None
 
 
 def units_of(text: str) -> list[list[Row]]:
@@ -157,33 +174,33 @@ def units_of(text: str) -> list[list[Row]]:
     return units
 
 
-def paths_of(units: list[list[Row]], program: str, prefix: str) -> list[dict[str, str]]:
-    """The path of each file of each unit, as addr2line tells it of places of the file."""
-    asked: list[tuple[int, str]] = []
-    for unit, rows in enumerate(units):
-        samples: dict[str, list[int]] = defaultdict(list)
-        for row, next_row in zip(rows, rows[1:]):
-            if (
-                row.line
-                and next_row.address > row.address
-                and len(samples[row.file]) < 3
-            ):
-                samples[row.file].append(row.address)
-        asked += [
-            (unit, f"{address:x}")
-            for addresses in samples.values()
-            for address in addresses
-        ]
-    paths: list[dict[str, str]] = [{} for _ in units]
-    if asked:
-        answers = []
-        for i in range(0, len(asked), AT_ONCE):
-            places = [text for _, text in asked[i : i + AT_ONCE]]
-            answers += output_of(
-                [prefix + "addr2line", "-e", program, *places]
-            ).splitlines()
-        for (unit, _), answer in zip(asked, answers):
-            path = answer.split(" (")[0].rpartition(":")[0]
+def paths_of(
+    units: list[list[Row]], program: str, prefix: str
+) -> list[dict[int | str, str]]:
+    """The paths of each unit's files: by the places that addr2line tells them of, and by
+    their names for rows that another row of the place hides."""
+    places = [sorted({row.address for row in rows if row.line} - {0}) for rows in units]
+    asked = [f"{place:x}" for each in places for place in each]
+    answers = []
+    for i in range(0, len(asked), AT_ONCE):
+        command = [prefix + "addr2line", "-e", program, *asked[i : i + AT_ONCE]]
+        answers += output_of(command).splitlines()
+    paths: list[dict[int | str, str]] = []
+    following = iter(answers)
+    for each in places:
+        found: dict[int | str, str] = {}
+        for place in each:
+            path = next(following).split(" (")[0].rpartition(":")[0]
             if path != "??":
-                paths[unit].setdefault(os.path.basename(path), os.path.normpath(path))
+                found[place] = path
+                found.setdefault(path.rpartition("/")[2], path)
+        paths.append(found)
     return paths
+
+
+def path_of(row: Row, paths: dict[int | str, str]) -> str:
+    """The path of a row's file, or its name where nothing tells it."""
+    path = paths.get(row.address, "")
+    if path.rpartition("/")[2] != row.file:
+        path = paths.get(row.file, row.file)
+    return os.path.normpath(path)

@@ -46,26 +46,27 @@ class Names:
         lines: Lines,
     ) -> None:
         self.program, self.words, self.lines = program, words, lines
-        self.labels: dict[int, list[str]] = defaultdict(
-            list
-        )  # by place, in the order in which they are written
-        self.best: dict[int, str] = {}  # by place: the name that stands for it
-        self.values: dict[str, int] = {}  # by name, also of constants
+        # by place: all labels, in the order in which they are written
+        self.labels: dict[int, list[str]] = defaultdict(list)
+        # by place: the label that stands for it
+        self.best: dict[int, str] = {}
+        # by place: the labels of the statements of C that begin there
+        self.steps: dict[int, dict[Place, str]] = defaultdict(dict)
+        # by name: its value, also of constants
+        self.values: dict[str, int] = {}
+        # by a symbol's name and value: how it is written
+        self.spelled: dict[tuple[str, int], str] = {}
         self.constants: set[str] = set()  # the constants that are used
-        self.spelled: dict[
-            tuple[str, int], str
-        ] = {}  # by a symbol's name and value: how it is written
         self.functions: list[Part] = []
         self.variables: list[Part] = []
-        self.steps: dict[int, dict[Place, str]] = defaultdict(
-            dict
-        )  # by place: labels of statements of C
-        self.files: dict[int, str | None] = {}
+        self.files: dict[int, str | None] = {}  # by function: its file
         self.name_symbols()
         self.targets = self.find_targets()
         self.name_statements()
         self.name_targets()
         self.name_data()
+        self.places = sorted(self.labels)
+        self.inside = {address & ~3 for address in self.places if address % 4}
 
     # ---- what others ask
 
@@ -74,7 +75,9 @@ class Names:
         by = self.program.symbols[symbol] if symbol is not None else None
         if value in self.best:
             spelled = self.spelled.get((by.name, value)) if by else None
-            return spelled if spelled in self.labels[value] else self.best[value]
+            return (
+                spelled if spelled in self.labels.get(value, []) else self.best[value]
+            )
         if by:
             constant = self.spelled.get((by.name, by.value))
             if constant and not self.program.holds(by.value):
@@ -159,7 +162,7 @@ class Names:
             return
         shown = self.unique(name, value)
         self.spelled.setdefault((symbol.name, value), shown)
-        if shown in self.labels[value]:
+        if shown in self.labels.get(value, []):
             return
         self.labels[value].append(shown)
         self.best.setdefault(value, shown)
@@ -337,10 +340,6 @@ class Names:
 
     def next_label(self, address: int, end: int) -> int:
         """The next place after an address that has a label, or the end."""
-        if not hasattr(self, "places"):
-            self.places = sorted(
-                address for address, names in self.labels.items() if names
-            )
         i = bisect_left(self.places, address + 1)
         return self.places[i] if i < len(self.places) and self.places[i] < end else end
 

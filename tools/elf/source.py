@@ -111,12 +111,13 @@ class Source:
         at = start
         while at < end:
             rows += self.beginning(at)
-            statement = self.text.at(at) if at + 4 <= end else None
+            is_word = at + 4 <= end and at not in self.names.inside
+            statement = self.text.at(at) if is_word else None
             if statement:
                 note = statement.note or self.notes(at, statement.size)
                 rows.append(directive(statement.word, statement.operands, note))
                 at += statement.size
-            elif at in self.words and at + 4 <= end:
+            elif is_word and at in self.words:
                 mnemonic, operands = self.words[at]
                 rows.append(
                     directive(
@@ -190,7 +191,7 @@ def commented(label: str, place: Place, files: Files) -> str:
     comment = (
         f"# {os.path.basename(place.path)}:{place.line}  {files.line(place)}".rstrip()
     )
-    return f"{label + ':' if label else '':24}{comment}"
+    return f"{label + ':' if label else '':23} {comment}"
 
 
 def pages_of(program: Program) -> int:

@@ -218,6 +218,7 @@ class Text:
         return not (
             names.labels.get(address)
             or names.lines.statements.get(address)
+            or address in names.inside
             or address in self.beginnings
         )
 

@@ -299,29 +299,32 @@ main.38:                # harness.c:38      return n == 4 ? 0 : 1;
         ret
 
 largest_gap:
-        lw      a3,0(a0)
+largest_gap.3:          # ann.c:3  {
+largest_gap.4:          # ann.c:4      int low = t[0], high = t[0];
+        lw      a3,0(a0)                # low, *t
+largest_gap.5:          # ann.c:5      for (int i = 1; i < n; i++) {
         li      a5,1
-        bge     a5,a1,largest_gap.4
-        addi    a5,a0,4
-        slli    a1,a1,2
-        add     a2,a0,a1
-        mv      a0,a3
-        j       largest_gap.2
-largest_gap.1:
-        addi    a5,a5,4
-        beq     a5,a2,largest_gap.5
-largest_gap.2:
+        bge     a5,a1,largest_gap.4.2   # n
+        addi    a5,a0,4                 # ivtmp.10, t
+        slli    a1,a1,2                 # n
+        add     a2,a0,a1                # t
+        mv      a0,a3                   # high, low
+        j       largest_gap.6
+largest_gap.5.2:        # ann.c:5      for (int i = 1; i < n; i++) {
+        addi    a5,a5,4                 # ivtmp.10
+        beq     a5,a2,largest_gap.9     # ivtmp.10
+largest_gap.6:          # ann.c:6          if (t[i] < low) low = t[i];
         lw      a4,0(a5)
-        bge     a4,a3,largest_gap.3
-        mv      a3,a4
-largest_gap.3:
-        bge     a0,a4,largest_gap.1
-        mv      a0,a4
-        j       largest_gap.1
-largest_gap.4:
-        mv      a0,a3
-largest_gap.5:
-        sub     a0,a0,a3
+        bge     a4,a3,largest_gap.7     # low
+        mv      a3,a4                   # low
+largest_gap.7:          # ann.c:7          if (t[i] > high) high = t[i];
+        bge     a0,a4,largest_gap.5.2   # high
+        mv      a0,a4                   # high
+        j       largest_gap.5.2
+largest_gap.4.2:        # ann.c:4      int low = t[0], high = t[0];
+        mv      a0,a3                   # high, low
+largest_gap.9:          # ann.c:9      return high - low;
+        sub     a0,a0,a3                # high, low
         ret
 
 exit:

@@ -299,32 +299,35 @@ main.38:                # harness.c:38      return n == 4 ? 0 : 1;
         ret
 
 largest_gap:
-        mv      a6,a0
-        blez    a1,largest_gap.5
-        slli    a3,a1,2
-        add     a3,a0,a3
-        mv      a1,a0
-        li      a0,0
-        j       largest_gap.4
-largest_gap.1:
-        addi    a4,a4,4
-        beq     a4,a3,largest_gap.3
-largest_gap.2:
+largest_gap.3:          # bob.c:3  {
+        mv      a6,a0                   # t
+largest_gap.4:          # bob.c:4      int best = 0;
+largest_gap.5:          # bob.c:5      for (int i = 0; i < n; i++)
+        blez    a1,largest_gap.4.2      # n
+        slli    a3,a1,2                 # n
+        add     a3,a0,a3                # t
+        mv      a1,a0                   # ivtmp.14, t
+        li      a0,0                    # <retval>
+        j       largest_gap.7.2
+largest_gap.6:          # bob.c:6          for (int k = 0; k < n; k++)
+        addi    a4,a4,4                 # ivtmp.10
+        beq     a4,a3,largest_gap.5.2   # ivtmp.10
+largest_gap.7:          # bob.c:7              if (t[i] - t[k] > best) best = t[i] - t[k];
         lw      a5,0(a4)
         sub     a5,a2,a5
-        bge     a0,a5,largest_gap.1
-        mv      a0,a5
-        j       largest_gap.1
-largest_gap.3:
-        addi    a1,a1,4
-        beq     a1,a3,largest_gap.6
-largest_gap.4:
+        bge     a0,a5,largest_gap.6     # <retval>
+        mv      a0,a5                   # <retval>
+        j       largest_gap.6
+largest_gap.5.2:        # bob.c:5      for (int i = 0; i < n; i++)
+        addi    a1,a1,4                 # ivtmp.14
+        beq     a1,a3,largest_gap.8     # ivtmp.14
+largest_gap.7.2:        # bob.c:6          for (int k = 0; k < n; k++)
         lw      a2,0(a1)
-        mv      a4,a6
-        j       largest_gap.2
-largest_gap.5:
-        li      a0,0
-largest_gap.6:
+        mv      a4,a6                   # ivtmp.10, t
+        j       largest_gap.7
+largest_gap.4.2:        # bob.c:4      int best = 0;
+        li      a0,0                    # <retval>
+largest_gap.8:          # bob.c:8      return best;
         ret
 
 exit:

@@ -299,27 +299,31 @@ main.38:                # harness.c:38      return n == 4 ? 0 : 1;
         ret
 
 largest_gap:
-        bltz    a1,largest_gap.4
-        mv      a5,a0
-        addi    a0,a0,4
-        slli    a1,a1,2
+largest_gap.3:          # cid.c:3  {
+largest_gap.4:          # cid.c:4      int best = 0;
+largest_gap.5:          # cid.c:5      for (int i = 0; i <= n; i++)
+        bltz    a1,largest_gap.4.2      # n
+        mv      a5,a0                   # ivtmp.9, t
+        addi    a0,a0,4                 # t
+        slli    a1,a1,2                 # n
         add     a2,a0,a1
-        li      a0,0
-        j       largest_gap.2
-largest_gap.1:
-        addi    a5,a5,4
-        beq     a5,a2,largest_gap.3
-largest_gap.2:
-        lw      a4,4(a5)
+        li      a0,0                    # <retval>
+        j       largest_gap.6
+largest_gap.5.2:        # cid.c:5      for (int i = 0; i <= n; i++)
+        addi    a5,a5,4                 # ivtmp.9
+        beq     a5,a2,largest_gap.6.2   # ivtmp.9
+largest_gap.6:          # cid.c:6          if (t[i + 1] - t[i] > best) best = t[i + 1] - t[i];
+        lw      a4,4(a5)                # MEM[(const int *)_28 + 4B]
         lw      a3,0(a5)
-        sub     a4,a4,a3
-        bge     a0,a4,largest_gap.1
-        mv      a0,a4
-        j       largest_gap.1
-largest_gap.3:
+        sub     a4,a4,a3                # MEM[(const int *)_28 + 4B]
+        bge     a0,a4,largest_gap.5.2   # <retval>
+        mv      a0,a4                   # <retval>
+        j       largest_gap.5.2
+largest_gap.6.2:
         ret
-largest_gap.4:
-        li      a0,0
+largest_gap.4.2:        # cid.c:4      int best = 0;
+        li      a0,0                    # <retval>
+largest_gap.7:          # cid.c:7      return best;
         ret
 
 exit:
