@@ -105,7 +105,13 @@ class Board:
             rows, "".join(f"m {at:#x} {AT_ONCE}\n" for at in range(BASE, end, AT_ONCE))
         )
         lines = re.findall(rb"^[0-9a-f]{8}:((?: [0-9a-f]{2})+)$", answers, re.MULTILINE)
-        return bytes.fromhex(b"".join(lines).decode()), fault
+        shown = bytes.fromhex(b"".join(lines).decode())
+        if fault is None and len(shown) != self.pages * PAGE:
+            raise Refused(
+                f"{self.rvboard} shows {len(shown)} bytes of memory, and not"
+                f" {self.pages * PAGE}: name the built rvboard"
+            )
+        return shown, fault
 
     def place_of(self, rows: list[str], index: int) -> int | None:
         """The address of a line, by a label before it."""

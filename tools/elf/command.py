@@ -72,7 +72,8 @@ def main() -> int:
     except Refused as refused:
         print(f"elf2s: {words.elf}: {refused}", file=sys.stderr)
     except OSError as fault:
-        print(f"elf2s: {fault.filename}: {fault.strerror}", file=sys.stderr)
+        where = fault.filename or "standard output"
+        print(f"elf2s: {where}: {fault.strerror}", file=sys.stderr)
     return 1
 
 
