@@ -2,7 +2,6 @@
 
 import os
 import subprocess
-import sys
 
 from elf.refusal import Refused
 
@@ -11,20 +10,16 @@ LIB = os.path.join(TOP, "lib")
 
 
 def proved_program(name: str, variable: str) -> str:
-    """The path of a proved program: what the variable of the environment says, or the one that its script builds."""
+    """The path of a proved program: what the variable of the environment says, or the built one."""
     named = os.environ.get(variable)
     if named:
         return named
     script, built = os.path.join(TOP, name), os.path.join(TOP, "out", name)
-    # its script builds it on first use and where its sources have changed, and tells that on standard error
-    done = subprocess.run([script, "--help"], stdout=subprocess.DEVNULL, check=False)
-    if done.returncode or not os.path.exists(built):
+    if not os.path.exists(built):
+        # its script proves and builds it, and tells that on standard error
+        subprocess.run([script, "--help"], stdout=subprocess.DEVNULL, check=False)
+    if not os.path.exists(built):
         raise Refused(
             f"{name} can't be built here: build it elsewhere, and name it by {variable}=PATH"
         )
     return built
-
-
-def progress(text: str) -> None:
-    """Tells what takes a while, on standard error."""
-    print(text, file=sys.stderr, flush=True)

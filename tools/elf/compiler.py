@@ -28,7 +28,7 @@ Makes a source of the board (docs/C.md) of files in C (.c), C++ (.cc, .cpp, .cxx
   --stack N   bytes that the heap leaves to the stack, 16384 without it
   --notes     beside instructions the variables that they work on
   --clang     compile by clang; the libraries and the linker stay GNU's
-  --no-check  don't compare the source with the program by rvboard (RVBOARD names another one than ./rvboard)
+  --no-check  don't compare the source with the program by rvboard (RVBOARD names another one than out/rvboard)
   -T SCRIPT   another linker script than lib/board.ld
 
 Every other word is the compiler's. -nostartfiles leaves out lib/start.S and lib/board.c, -nostdlib the library too;

@@ -24,7 +24,7 @@ class Place(NamedTuple):
     @property
     def is_assembly(self) -> bool:
         """Whether the file is assembly."""
-        return self.path.lower().endswith((".s", ".sx", ".inc"))
+        return self.path.endswith((".s", ".S", ".sx", ".inc"))
 
 
 class Row(NamedTuple):
@@ -86,6 +86,11 @@ class Lines:
     notes: dict[int, str] = field(
         default_factory=dict
     )  # the variables that an instruction works on
+
+    @property
+    def has_assembly(self) -> bool:
+        """Whether some line is of assembly."""
+        return any(place and place.is_assembly for place in set(self.places))
 
     def at(self, address: int) -> Place | None:
         """The line that the code at an address is of."""

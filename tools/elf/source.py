@@ -65,6 +65,7 @@ class Source:
         self.names = Names(program, self.words, self.lines)
         self.text = Text(program, self.words, self.names)
         self.data = Data(program, self.names, shapes)
+        self.has_assembly = self.lines.has_assembly
         self.shown: Place | None = None  # the line that was shown last
 
     def write(self) -> str:
@@ -139,6 +140,8 @@ class Source:
 
     def notes(self, start: int, size: int) -> str:
         """The variables that the instructions of a statement work on."""
+        if not self.lines.notes:
+            return ""
         notes = (self.lines.notes.get(at, "") for at in range(start, start + size, 4))
         return "; ".join(dict.fromkeys(note for note in notes if note))[:WIDEST_NOTE]
 
@@ -147,7 +150,7 @@ class Source:
         names = self.names
         labels = names.labels.get(address, [])
         if not labels and address not in self.lines.statements:
-            return self.assembly(address)
+            return self.assembly(address) if self.has_assembly else []
         function = names.function_at(address)
         is_function = function is not None and function.start == address
         steps = names.steps.get(address, {})
