@@ -7,7 +7,7 @@ from elf.notes import read_notes, variable
 from elf.program import BASE
 from elf.refusal import Refused
 from elf.variables import Shape, read_variables
-from elf.words import Word, read_words
+from elf.words import Word, read_words, word_of
 from programs import program_of
 
 TABLE = """
@@ -67,6 +67,12 @@ class Tables(unittest.TestCase):
         self.assertEqual(
             read_words(program_of(), listing), {BASE: Word("add", ("a0", "a0", "a1"))}
         )
+
+    def test_an_address_that_objdump_tells(self) -> None:
+        text = "a0,8(gp) # 80001008 <table+0x8>"
+        self.assertEqual(word_of("lw", text), Word("lw", ("a0", "8(gp)"), "table+0x8"))
+        text = "a0,0(a5) # 10000000 <table-0x70001000>"
+        self.assertEqual(word_of("lw", text), Word("lw", ("a0", "0(a5)")))
 
     def test_compressed_code_is_refused(self) -> None:
         program = program_of()

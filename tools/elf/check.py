@@ -62,7 +62,9 @@ class Board:
     """The proved program, as it is asked what a source is in memory."""
 
     def __init__(self, rvboard: str, pages: int) -> None:
-        self.rvboard, self.pages = rvboard, pages
+        # (a file in this folder, too, by its name alone)
+        self.rvboard = os.path.abspath(rvboard) if os.path.exists(rvboard) else rvboard
+        self.pages = pages
 
     def ask(
         self, rows: list[str], commands: str

@@ -209,7 +209,7 @@ class Names:
         """The places that instructions and data name."""
         program = self.program
         targets = set()
-        for address, (mnemonic, operands) in self.words.items():
+        for address, (mnemonic, operands, _) in self.words.items():
             if mnemonic in BRANCHES:
                 targets.add(int(operands[-1], 16) & 0xFFFF_FFFF)
             elif mnemonic == "auipc" and address not in program.relocations:
@@ -226,7 +226,7 @@ class Names:
 
     def pair_target(self, address: int, operands: tuple[str, ...]) -> int:
         """What the pair of `auipc` and the next word names where no relocation says it; 0 for another pair."""
-        mnemonic, others = self.words.get(address + 4, Word("", ()))
+        mnemonic, others, _ = self.words.get(address + 4, Word("", ()))
         high = address + (int(operands[1], 16) << 12)
         if mnemonic == "jalr" and others[1].endswith(f"({operands[0]})"):
             target = high + int(others[1].partition("(")[0]) & 0xFFFF_FFFF

@@ -119,7 +119,7 @@ class Source:
                 rows.append(directive(statement.word, statement.operands, note))
                 at += statement.size
             elif is_word and at in self.words:
-                mnemonic, operands = self.words[at]
+                mnemonic, operands, _ = self.words[at]
                 rows.append(
                     directive(
                         ".word",

@@ -91,7 +91,12 @@ class Text:
         """The statement at a place, or nothing where the language has none."""
         word = self.words.get(address)
         form = self.forms.get(word.mnemonic) if word else None
-        return form(address, word) if form and word else None
+        if word is None or form is None:
+            return None
+        made = form(address, word)
+        if made and word.place and not made.note and not self.program.relocations:
+            made = made._replace(note=word.place)
+        return made
 
     # ---- what relocations say
 
@@ -182,7 +187,7 @@ class Text:
         name: str | None,
     ) -> Statement | None:
         """The statement for `auipc` and this second word, where the language has one."""
-        mnemonic, operands = second
+        mnemonic, operands, _ = second
         if mnemonic == "addi" and operands[0] == operands[1] == register:
             offset = int(operands[2])
         elif (
@@ -243,7 +248,7 @@ class Text:
 
     def immediate(self, address: int, word: Word) -> Statement:
         """An instruction with an immediate, and its pseudo-instructions."""
-        mnemonic, (to, by, text) = word
+        mnemonic, (to, by, text), _ = word
         offset = int(text, 0)
         shown, note = self.low_part(address, offset)
         if shown.startswith("%"):
@@ -263,13 +268,13 @@ class Text:
 
     def shift(self, address: int, word: Word) -> Statement | None:
         """A shift by a number below 32."""
-        mnemonic, (to, by, text) = word
+        mnemonic, (to, by, text), _ = word
         count = int(text, 0)
         return Statement(mnemonic, f"{to},{by},{count}") if count < 32 else None
 
     def registers(self, address: int, word: Word) -> Statement:
         """An instruction on registers alone, and its pseudo-instructions."""
-        mnemonic, operands = word
+        mnemonic, operands, _ = word
         to, one, two = operands[:3]
         if one == "zero" and mnemonic in ("sub", "sltu", "slt"):
             return Statement(
@@ -296,7 +301,7 @@ class Text:
 
     def branch(self, address: int, word: Word) -> Statement:
         """A branch, and its pseudo-instructions."""
-        mnemonic, (one, two, _) = word
+        mnemonic, (one, two, _), _ = word
         target = self.target(address, word)
         if two == "zero" and mnemonic in ("beq", "bne", "blt", "bge"):
             return Statement(mnemonic + "z", f"{one},{target}")
@@ -308,7 +313,7 @@ class Text:
 
     def control(self, address: int, word: Word) -> Statement:
         """An instruction for control registers, and its pseudo-instructions; a nameless register has its number."""
-        mnemonic, (to, _, source) = word
+        mnemonic, (to, _, source), _ = word
         at = self.program.word(address) >> 20
         register = CONTROL_REGISTERS.get(at, hex(at))
         if mnemonic == "csrrs" and source == "zero":

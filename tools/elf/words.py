@@ -13,10 +13,12 @@ READING = ["-z", "-M", "no-aliases"]
 
 
 class Word(NamedTuple):
-    """A word that is an instruction of some RISC-V: its mnemonic and its operands."""
+    """A word that is an instruction of some RISC-V: its mnemonic, its operands, and what
+    objdump says of the address that it makes."""
 
     mnemonic: str
     operands: tuple[str, ...]
+    place: str = ""
 
 
 def read_words(program: Program, listing: str) -> dict[int, Word]:
@@ -49,12 +51,20 @@ def read_words(program: Program, listing: str) -> dict[int, Word]:
         if len(bits) == 8 and address % 4 == 0:
             key = mnemonic, cells[3] if len(cells) > 3 else ""
             if key not in seen:
-                operands = re.split("[<#]", key[1])[0].strip()
-                seen[key] = Word(
-                    mnemonic, tuple(operands.split(",")) if operands else ()
-                )
+                seen[key] = word_of(*key)
             words[address] = seen[key]
     return words
+
+
+def word_of(mnemonic: str, text: str) -> Word:
+    """A word by its mnemonic and what follows it: `a0,8(gp) # 80001008 <table+0x8>`."""
+    operands = re.split("[<#]", text)[0].strip()
+    place = re.search(r"# 80[0-9a-f]{6} <([^.>][^>]*)>", text)
+    return Word(
+        mnemonic,
+        tuple(operands.split(",")) if operands else (),
+        place[1] if place else "",
+    )
 
 
 def ask_for_listing(program: Program, prefix: str) -> list[Question]:
