@@ -3,7 +3,7 @@
 from elf.lines import Files, Lines
 from elf.names import Names
 from elf.program import BASE, Kind, Program, Relocation, Section, Symbol, SymbolKind
-from elf.words import Word, read_words
+from elf.words import Word, word_of
 
 CODE = Section(BASE, BASE + 0x100, ".text", True, True)
 DATA = Section(BASE + 0x100, BASE + 0x200, ".data", False, True)
@@ -39,11 +39,7 @@ def relocate(
 
 def words_of(rows: list[tuple[int, str, str]]) -> dict[int, Word]:
     """The words of rows of (offset, mnemonic, operands), as objdump lists them."""
-    listing = "".join(
-        f"{BASE + at:x}:\t00000013          \t{word}\t{operands}\n"
-        for at, word, operands in rows
-    )
-    return read_words(program_of(), listing)
+    return {BASE + at: word_of(word, operands) for at, word, operands in rows}
 
 
 def names_of(

@@ -64,9 +64,14 @@ class Tables(unittest.TestCase):
 
     def test_words(self) -> None:
         listing = "80000000:\t00b50533          \tadd\ta0,a0,a1\n80000004:\t00000000          \t.word\t0x0\n"
+        program = program_of(0x00B50533.to_bytes(4, "little"))
         self.assertEqual(
-            read_words(program_of(), listing), {BASE: Word("add", ("a0", "a0", "a1"))}
+            read_words(program, listing), {BASE: Word("add", ("a0", "a0", "a1"))}
         )
+
+    def test_a_word_that_is_not_loaded(self) -> None:
+        listing = "80000000:\t00b50533          \tadd\ta0,a0,a1\n"
+        self.assertEqual(read_words(program_of(), listing), {})
 
     def test_an_address_that_objdump_tells(self) -> None:
         text = "a0,8(gp) # 80001008 <table+0x8>"

@@ -48,7 +48,12 @@ def read_words(program: Program, listing: str) -> dict[int, Word]:
                 f"it has compressed instructions, which the board doesn't ({mnemonic} at {address:#x}): compile"
                 " everything that is linked with -march=rv32im"
             )
-        if len(bits) == 8 and address % 4 == 0:
+        # (a damaged file may have other bytes in a section than in its segment)
+        if (
+            len(bits) == 8
+            and address % 4 == 0
+            and int(bits, 16) == program.word(address)
+        ):
             key = mnemonic, cells[3] if len(cells) > 3 else ""
             if key not in seen:
                 seen[key] = word_of(*key)
