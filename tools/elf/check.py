@@ -5,8 +5,10 @@ import re
 import subprocess
 import tempfile
 
-from elf.program import BASE, PAGE, Program
+from elf.program import BASE, LIMIT, PAGE, Program
 from elf.refusal import Refused
+
+Fault = re.Match[str] | None  # the line and the fault of a source that isn't accepted
 
 HERE = "elf2s.here"  # a label that is put before a line to learn the line's address
 AT_ONCE = 256  # bytes that the monitor shows by a command
@@ -14,22 +16,29 @@ MOST_FAULTS = 20  # lines that are taken out to learn where a faulty one stands
 
 
 def check(rvboard: str, path: str, program: Program) -> str | None:
-    """The first difference between a source and a program, with its line and address; nothing where there is none."""
+    """The first difference between a source and a program, with its line and address;
+    nothing where there is none."""
     with open(path, encoding="latin-1") as file:
         rows = file.read().split("\n")
     board = Board(rvboard, program.pages)
-    shown, fault = board.memory(rows)
+    shown, end, fault = board.memory(rows)
     if fault:
         line = int(fault.group(1))
         address = address_of_fault(board, rows, line)
-        return f"{path}:{line}: {f'{address:08x}: ' if address is not None else ''}{fault.group(2)}"
+        place = f"{address:08x}: " if address is not None else ""
+        return f"{path}:{line}: {place}{fault.group(2)}"
     wanted = bytes(program.image).ljust(program.pages * PAGE, b"\0")
-    if shown == wanted:
-        return None
-    at = next(i for i, (one, other) in enumerate(zip(shown, wanted)) if one != other)
-    line = line_of(board, rows, BASE + at)
     name = os.path.basename(program.path)
-    return f"{path}:{line}: {BASE + at:08x} has {shown[at]:02x}, and {name} has {wanted[at]:02x} there"
+    if shown != wanted:
+        at = next(i for i, pair in enumerate(zip(shown, wanted)) if pair[0] != pair[1])
+        line = line_of(board, rows, BASE + at)
+        bytes_of = f"has {shown[at]:02x}, and {name} has {wanted[at]:02x} there"
+        return f"{path}:{line}: {BASE + at:08x} {bytes_of}"
+    last = BASE + len(wanted)
+    if end > last:
+        line = line_of(board, rows, last)
+        return f"{path}:{line}: the image ends at {end:08x}, and {name} at {program.end:08x}"
+    return None
 
 
 def line_of(board: "Board", rows: list[str], address: int) -> int:
@@ -51,7 +60,7 @@ def address_of_fault(board: "Board", rows: list[str], line: int) -> int | None:
     faulty = line
     for _ in range(MOST_FAULTS):
         rows[faulty - 1] = ""
-        _, fault = board.memory(rows)
+        _, _, fault = board.memory(rows)
         if fault is None:
             return board.place_of(rows, line - 1)
         faulty = int(fault.group(1))
@@ -66,28 +75,17 @@ class Board:
         self.rvboard = os.path.abspath(rvboard) if os.path.exists(rvboard) else rvboard
         self.pages = pages
 
-    def ask(
-        self, rows: list[str], commands: str
-    ) -> tuple[bytes, "re.Match[str] | None"]:
-        """What the monitor answers to commands before the first step, or the fault of the source."""
+    def ask(self, rows: list[str], commands: str) -> tuple[bytes, Fault]:
+        """What the monitor answers before the first step, or the fault of the source."""
         with tempfile.TemporaryDirectory(prefix="elf2s") as folder:
-            source, asked = os.path.join(folder, "made.s"), os.path.join(
-                folder, "commands"
-            )
+            source = os.path.join(folder, "made.s")
+            asked = os.path.join(folder, "commands")
             with open(source, "w", encoding="latin-1") as file:
                 file.write("\n".join(rows))
             with open(asked, "w", encoding="ascii") as file:
                 file.write(commands)
-            command = [
-                self.rvboard,
-                source,
-                "--steps",
-                "0",
-                "--pages",
-                str(self.pages),
-                "--commands",
-                asked,
-            ]
+            sizes = ["--steps", "0", "--pages", str(LIMIT // PAGE)]
+            command = [self.rvboard, source, *sizes, "--commands", asked]
             try:
                 done = subprocess.run(command, capture_output=True, check=False)
             except OSError as fault:
@@ -100,23 +98,30 @@ class Board:
             raise Refused(f"{self.rvboard} answers: {said or done.returncode}")
         return done.stdout, fault_of_source
 
-    def memory(self, rows: list[str]) -> tuple[bytes, "re.Match[str] | None"]:
-        """All the memory before the first step, or the fault of the source."""
-        end = BASE + self.pages * PAGE
-        answers, fault = self.ask(
-            rows, "".join(f"m {at:#x} {AT_ONCE}\n" for at in range(BASE, end, AT_ONCE))
-        )
+    def memory(self, rows: list[str]) -> tuple[bytes, int, Fault]:
+        """The memory before the first step and the end of the image, or the fault of the
+        source."""
+        size = self.pages * PAGE
+        places = range(BASE, BASE + size, AT_ONCE)
+        commands = f"b {HERE}\n" + "".join(f"m {at:#x} {AT_ONCE}\n" for at in places)
+        answers, fault = self.ask([*rows, HERE + ":"], commands)
         lines = re.findall(rb"^[0-9a-f]{8}:((?: [0-9a-f]{2})+)$", answers, re.MULTILINE)
         shown = bytes.fromhex(b"".join(lines).decode())
-        if fault is None and len(shown) != self.pages * PAGE:
+        end = break_of(answers)
+        if fault is None and (len(shown) != size or end is None):
             raise Refused(
-                f"{self.rvboard} shows {len(shown)} bytes of memory, and not"
-                f" {self.pages * PAGE}: name the built rvboard"
+                f"{self.rvboard} shows {len(shown)} bytes of memory, and not {size}: name"
+                " the built rvboard"
             )
-        return shown, fault
+        return shown, end or 0, fault
 
     def place_of(self, rows: list[str], index: int) -> int | None:
         """The address of a line, by a label before it."""
         answers, _ = self.ask([*rows[:index], HERE + ":", *rows[index:]], f"b {HERE}\n")
-        match = re.match(rb"break ([0-9a-f]{8})", answers)
-        return int(match[1], 16) if match else None
+        return break_of(answers)
+
+
+def break_of(answers: bytes) -> int | None:
+    """The address of a breakpoint that the monitor has set."""
+    match = re.match(rb"break ([0-9a-f]{8})\n", answers)
+    return int(match[1], 16) if match else None

@@ -10,11 +10,11 @@ from collections.abc import Callable, Iterable
 from concurrent.futures import ThreadPoolExecutor
 from dataclasses import dataclass, field
 
+from elf.asking import not_installed, output_of
 from elf.board import LIB, proved_program
 from elf.check import check
 from elf.command import PREFIX
 from elf.program import read_program
-from elf.asking import not_installed, output_of
 from elf.refusal import Refused
 from elf.source import Source
 

@@ -7,9 +7,9 @@ from collections import defaultdict
 from dataclasses import dataclass, field
 from typing import NamedTuple
 
+from elf.asking import output_of
 from elf.notes import Note, read_notes
 from elf.program import Program
-from elf.asking import output_of
 
 WIDEST = 160  # of a line of C in a comment
 AT_ONCE = 10000  # places that addr2line is asked for in a call

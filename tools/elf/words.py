@@ -4,8 +4,8 @@ import re
 import tempfile
 from typing import NamedTuple
 
-from elf.program import BASE, Program
 from elf.asking import Question
+from elf.program import BASE, Program
 from elf.refusal import Refused
 
 # As instructions and not as aliases, and zeros too; with aliases objdump prints `add` for `addi`.
