@@ -1122,8 +1122,7 @@ __preinit_array_start:
 
         .data
 serial:
-        .word   0,3,put,get
-        .space  4
+        .word   0,3,put,get,0
         .space  4
 
         .bss

@@ -1203,8 +1203,7 @@ __init_array_end:
 __preinit_array_end:
 __init_array_start:
 __preinit_array_start:
-        .word   0,3,put,get
-        .space  4
+        .word   0,3,put,get,0
 secret:
         .asciz  "*"
         .space  2

@@ -1310,7 +1310,6 @@ __init_array_end:
 __preinit_array_end:
 __init_array_start:
 __preinit_array_start:
-        .word   0,3,put,get
-        .space  4
+        .word   0,3,put,get,0
 table:
         .word   3,1,4,1,5,9,2,6

@@ -1430,8 +1430,7 @@ __init_array_end:
 
         .data
 serial:
-        .word   0,3,put,get
-        .space  4
+        .word   0,3,put,get,0
 brk:
         .word   __heap_start
 

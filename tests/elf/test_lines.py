@@ -31,12 +31,12 @@ TYPES = """\
  <1><30>: Abbrev Number: 2 (DW_TAG_array_type)
     <31>   DW_AT_type        : <0x20>
  <1><40>: Abbrev Number: 3 (DW_TAG_structure_type)
-    <41>   DW_AT_byte_size   : 12
+    <41>   DW_AT_byte_size   : (data1) 12
  <1><50>: Abbrev Number: 4 (DW_TAG_variable)
     <51>   DW_AT_type        : <0x30>
     <52>   DW_AT_location    : 5 byte block: 3 0 1 0 80 \t(DW_OP_addr: 80000100)
  <1><60>: Abbrev Number: 4 (DW_TAG_variable)
-    <61>   DW_AT_type        : <0x40>
+    <61>   DW_AT_type        : (ref4) <0x40>, rec
     <62>   DW_AT_location    : 5 byte block: 3 0 2 0 80 \t(DW_OP_addr: 80000200)
  <1><70>: Abbrev Number: 4 (DW_TAG_variable)
     <71>   DW_AT_type        : <0x99>

@@ -12,8 +12,9 @@ ENTRY = re.compile(
     r"((?: {4}<.*\n)*)",
     re.MULTILINE,
 )
-TYPE = re.compile(r"DW_AT_(?:type|specification) *: <0x([0-9a-f]+)>")
-SIZE = re.compile(r"DW_AT_byte_size *: (\d+)")
+FORM = r" *: (?:\(\w+\) )?"  # of an attribute, which objdump tells in wide lines
+TYPE = re.compile(r"DW_AT_(?:type|specification)" + FORM + r"<0x([0-9a-f]+)>")
+SIZE = re.compile(r"DW_AT_byte_size" + FORM + r"(\d+)")
 PLACE = re.compile(r"DW_AT_location *:.*\(DW_OP_addr: ([0-9a-f]+)\)")
 
 

@@ -1084,8 +1084,7 @@ __init_array_end:
 __preinit_array_end:
 __init_array_start:
 __preinit_array_start:
-        .word   0,3,put,get
-        .space  4
+        .word   0,3,put,get,0
         .space  4
 
         .bss
