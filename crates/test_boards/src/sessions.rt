@@ -66,7 +66,10 @@ fn go_back(
     n: u64,
 ) -> Result<(), Fail> {
     let board = boot(alloc, session.program(), 0)?;
-    session.resume(board, 0, n).ok().ok_or("there is no memory")?;
+    session
+        .resume(board, 0, n)
+        .ok()
+        .ok_or("there is no memory")?;
     Ok(())
 }
 
