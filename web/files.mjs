@@ -1,7 +1,7 @@
 // Examples, files that are opened and saved, links, and what is restored when the page is opened again.
 import { $, say } from "./dom.mjs";
 import { Kept } from "./kept.mjs";
-import { asShown, decodeAll, encode, withEndsOf } from "./lines.mjs";
+import { asShown, decodeAll, encode, standIns, withEndsOf } from "./lines.mjs";
 import { download, readFragment, writeFragment } from "./links.mjs";
 
 const EXAMPLES = JSON.parse($("examples").textContent);
@@ -86,8 +86,12 @@ export class Files {
         $("file").value = "";
         if (!file) return;
         if (file.size > LARGEST) return say(`${file.name} has ${file.size} bytes: rvboard reads at most ${LARGEST}.`);
-        const text = decodeAll(new Uint8Array(await file.arrayBuffer()));
-        await this.putOwn({ source: asShown(text), inputs: "" }, { name: file.name, file: text });
+        const text = decodeAll(new Uint8Array(await file.arrayBuffer())), source = asShown(text);
+        await this.putOwn({ source, inputs: "" }, { name: file.name, file: text });
+        const { count, line, column } = standIns(source);
+        if (!count) return;
+        const what = `no text, the first in line ${line}, column ${column}`;
+        sayMore(`Bytes that are ${what}: ${count}. They are shown as marks, and run and saved as they are.`);
     }
 
     save() {

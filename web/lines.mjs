@@ -72,6 +72,13 @@ export function asShown(text) {
     return text.replace(/\r\n|\r$/g, "\n").replaceAll("\r", String.fromCharCode(STAND_IN + 13));
 }
 
+// How many stand-ins a text has, and the line and the column of the first one.
+export function standIns(text) {
+    const found = [...text.matchAll(/[\udc00-\udcff]/gu)];
+    const before = text.slice(0, found[0]?.index).split("\n");
+    return { count: found.length, line: before.length, column: [...before.at(-1)].length + 1 };
+}
+
 // How many lines at the beginning and at the end of two lists are the same.
 export function sameLines(before, now) {
     const least = Math.min(now.length, before.length);

@@ -28,9 +28,10 @@ async function saves(name, all) {
 
 async function latin1() {
     const all = bytes(SEND, HALT, 'text:   .asciz "d', [0xe9], 'j', [0xe0], '"   # ', [0xfc], "\n");
-    await openBytes(all, "Assembled");
+    await openBytes(all, "Bytes that are no text");
+    contains("bytes that are no UTF-8 are told, with their place", await answer(), /line 12, column 18: 3\./);
     await press("R", "halted with code");
-    same("bytes that are no UTF-8 are sent as they are", await printed(), native(all));
+    same("they are sent as they are", await printed(), native(all));
     await saves("and saved", all);
     await typeOver("# ", "# more ");
     await saves("also with a change", bytes(SEND, HALT, 'text:   .asciz "d', [0xe9], 'j', [0xe0], '"   # more ', [0xfc], "\n"));
