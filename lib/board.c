@@ -142,3 +142,10 @@ WEAK void _ZdaPv(void *room) { free(room); }
 WEAK void _ZdaPvj(void *room, size_t size) { (void)size; free(room); }
 WEAK void __cxa_pure_virtual(void) { abort(); }
 WEAK void *__dso_handle;
+
+/* ---- what else programs of other systems name: there are no processes and no alarms */
+
+WEAK unsigned alarm(unsigned seconds) { (void)seconds; return 0; }
+WEAK int system(const char *command) { (void)command; return command ? -1 : 0; }
+WEAK FILE *popen(const char *command, const char *how) { (void)command; (void)how; errno = ENOSYS; return NULL; }
+WEAK int pclose(FILE *file) { (void)file; return -1; }
