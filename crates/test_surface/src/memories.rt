@@ -61,9 +61,11 @@ impl Decoded for OwnCache {
 
 /// Returns the size of a memory, its first byte and its first word once a word was written there.
 fn used<M: ByteMemory>(memory: &mut M) -> Result<(u32, u8, u32), NoMemory> {
-    let size: u32 = memory.size();
+    // Called for its postcondition: there is a first word.
+    let _size: u32 = memory.size();
     let written: Result<(), NoMemory> = memory.write(0, Width::Four, 0x0403_0201);
     written?;
+    let size: u32 = memory.size();
     let byte: u8 = memory.read(0);
     let word: u32 = memory.read_word(0);
     Ok((size, byte, word))
