@@ -1,4 +1,4 @@
-# Made by elf2s of kernel.elf: 4540 bytes, entry _start.
+# Made by elf2s of kernel.elf: 4560 bytes, entry _start.
         .equ    __stack_top,0x80100000
 
         .text
@@ -9,8 +9,8 @@ _start:
         la      sp,__stack_top
         la      tp,__tls_base
         call    board_init
-        li      a0,0
-        li      a1,0
+        li      a0,1
+        addi    a1,tp,-8
         call    main
         tail    exit
 
@@ -753,7 +753,7 @@ vfprintf.4:
         mv      a1,s7
         j       vfprintf.1
 vfprintf.5:
-        lui     a4,%hi(rodata.90)
+        lui     a4,%hi(rodata.98)
         li      s11,0
         li      s3,0
         li      s0,0
@@ -769,7 +769,7 @@ vfprintf.5:
         li      t5,127
         li      t6,16
         li      t0,9
-        addi    a4,a4,%lo(rodata.90)
+        addi    a4,a4,%lo(rodata.98)
 vfprintf.6:
         bltu    a2,s0,vfprintf.15
         addi    a5,s9,-32
@@ -909,9 +909,9 @@ vfprintf.33:
         andi    a5,a5,255
         li      a3,18
         bltu    a3,a5,vfprintf.59
-        lui     a3,%hi(rodata.d4)
+        lui     a3,%hi(rodata.dc)
         slli    a5,a5,2
-        addi    a3,a3,%lo(rodata.d4)
+        addi    a3,a3,%lo(rodata.dc)
         add     a5,a5,a3
         lw      a5,0(a5)
         jr      a5
@@ -1354,6 +1354,8 @@ __riscv_restore_1:
         ret
 
         .rodata
+name:
+        .asciz  "program"
 text.0123456789abcdef:
         .asciz  "0123456789abcdef"
         .space  3
@@ -1390,13 +1392,13 @@ text.null:
         .space  1
 text.float:
         .asciz  "*float*"
-rodata.90:
+rodata.98:
         .word   vfprintf.12,vfprintf.7,vfprintf.7,vfprintf.14
         .word   vfprintf.7,vfprintf.7,vfprintf.7,vfprintf.10
         .word   vfprintf.7,vfprintf.7,vfprintf.7,vfprintf.11
         .word   vfprintf.7,vfprintf.13,vfprintf.7,vfprintf.7
         .word   vfprintf.9
-rodata.d4:
+rodata.dc:
         .word   vfprintf.34,vfprintf.44,vfprintf.59,vfprintf.59
         .word   vfprintf.59,vfprintf.59,vfprintf.44,vfprintf.59
         .word   vfprintf.59,vfprintf.59,vfprintf.59,vfprintf.59
@@ -1410,6 +1412,10 @@ __preinit_array_end:
 __init_array_start:
 __preinit_array_start:
         .word   0,3,put,get,0
+        .space  4
+
+        .section .arguments
+        .word   name
         .space  4
 
         .bss

@@ -1,4 +1,4 @@
-# Made by elf2s of trap.elf: 3340 bytes, entry _start.
+# Made by elf2s of trap.elf: 3360 bytes, entry _start.
         .equ    __stack_top,0x80100000
 
         .text
@@ -9,8 +9,8 @@ _start:
         la      sp,__stack_top
         la      tp,__tls_base
         call    board_init
-        li      a0,0
-        li      a1,0
+        li      a0,1
+        addi    a1,tp,-8
         call    main
         tail    exit
 
@@ -386,7 +386,7 @@ vfprintf.4:
         mv      a1,s7
         j       vfprintf.1
 vfprintf.5:
-        lui     a4,%hi(rodata.6c)
+        lui     a4,%hi(rodata.74)
         li      s11,0
         li      s3,0
         li      s0,0
@@ -402,7 +402,7 @@ vfprintf.5:
         li      t5,127
         li      t6,16
         li      t0,9
-        addi    a4,a4,%lo(rodata.6c)
+        addi    a4,a4,%lo(rodata.74)
 vfprintf.6:
         bltu    a2,s0,vfprintf.15
         addi    a5,s9,-32
@@ -542,9 +542,9 @@ vfprintf.33:
         andi    a5,a5,255
         li      a3,18
         bltu    a3,a5,vfprintf.59
-        lui     a3,%hi(rodata.b0)
+        lui     a3,%hi(rodata.b8)
         slli    a5,a5,2
-        addi    a3,a3,%lo(rodata.b0)
+        addi    a3,a3,%lo(rodata.b8)
         add     a5,a5,a3
         lw      a5,0(a5)
         jr      a5
@@ -988,6 +988,8 @@ __riscv_restore_1:
         .space  4
 
         .rodata
+name:
+        .asciz  "program"
 text.0123456789abcdef:
         .asciz  "0123456789abcdef"
         .space  3
@@ -1012,13 +1014,13 @@ text.null:
         .space  1
 text.float:
         .asciz  "*float*"
-rodata.6c:
+rodata.74:
         .word   vfprintf.12,vfprintf.7,vfprintf.7,vfprintf.14
         .word   vfprintf.7,vfprintf.7,vfprintf.7,vfprintf.10
         .word   vfprintf.7,vfprintf.7,vfprintf.7,vfprintf.11
         .word   vfprintf.7,vfprintf.13,vfprintf.7,vfprintf.7
         .word   vfprintf.9
-rodata.b0:
+rodata.b8:
         .word   vfprintf.34,vfprintf.44,vfprintf.59,vfprintf.59
         .word   vfprintf.59,vfprintf.59,vfprintf.44,vfprintf.59
         .word   vfprintf.59,vfprintf.59,vfprintf.59,vfprintf.59
@@ -1033,6 +1035,10 @@ __preinit_array_start:
         .data
 serial:
         .word   0,3,put,get,0
+        .space  4
+
+        .section .arguments
+        .word   name
         .space  4
 
         .bss

@@ -1,6 +1,5 @@
-# Made by elf2s of hello.elf: 4260 bytes, entry _start.
+# Made by elf2s of hello.elf: 4280 bytes, entry _start.
         .equ    __stack_top,0x80100000
-        .equ    __tls_base,0x800010a8
 
         .text
 
@@ -10,8 +9,8 @@ _start:
         la      sp,__stack_top
         la      tp,__tls_base
         call    board_init
-        li      a0,0
-        li      a1,0
+        li      a0,1
+        addi    a1,tp,-8
         call    main
         tail    exit
 
@@ -658,7 +657,7 @@ vfprintf.4:
         mv      a1,s7
         j       vfprintf.1
 vfprintf.5:
-        lui     a4,%hi(rodata.68)
+        lui     a4,%hi(rodata.70)
         li      s11,0
         li      s3,0
         li      s0,0
@@ -674,7 +673,7 @@ vfprintf.5:
         li      t5,127
         li      t6,16
         li      t0,9
-        addi    a4,a4,%lo(rodata.68)
+        addi    a4,a4,%lo(rodata.70)
 vfprintf.6:
         bltu    a2,s0,vfprintf.15
         addi    a5,s9,-32
@@ -814,9 +813,9 @@ vfprintf.33:
         andi    a5,a5,255
         li      a3,18
         bltu    a3,a5,vfprintf.59
-        lui     a3,%hi(rodata.ac)
+        lui     a3,%hi(rodata.b4)
         slli    a5,a5,2
-        addi    a3,a3,%lo(rodata.ac)
+        addi    a3,a3,%lo(rodata.b4)
         add     a5,a5,a3
         lw      a5,0(a5)
         jr      a5
@@ -1260,6 +1259,8 @@ __riscv_restore_1:
         .space  4
 
         .rodata
+name:
+        .asciz  "program"
 text.0123456789abcdef:
         .asciz  "0123456789abcdef"
         .space  3
@@ -1291,13 +1292,13 @@ text.null:
         .space  1
 text.float:
         .asciz  "*float*"
-rodata.68:
+rodata.70:
         .word   vfprintf.12,vfprintf.7,vfprintf.7,vfprintf.14
         .word   vfprintf.7,vfprintf.7,vfprintf.7,vfprintf.10
         .word   vfprintf.7,vfprintf.7,vfprintf.7,vfprintf.11
         .word   vfprintf.7,vfprintf.13,vfprintf.7,vfprintf.7
         .word   vfprintf.9
-rodata.ac:
+rodata.b4:
         .word   vfprintf.34,vfprintf.44,vfprintf.59,vfprintf.59
         .word   vfprintf.59,vfprintf.59,vfprintf.44,vfprintf.59
         .word   vfprintf.59,vfprintf.59,vfprintf.59,vfprintf.59
@@ -1313,3 +1314,12 @@ __preinit_array_start:
         .word   0,3,put,get,0
 table:
         .word   3,1,4,1,5,9,2,6
+        .space  4
+
+        .section .arguments
+        .word   name
+        .space  4
+__tls_base:
+__bss_end:
+__bss_start:
+__heap_start:

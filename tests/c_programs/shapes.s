@@ -1,4 +1,4 @@
-# Made by elf2s of shapes.elf: 4544 bytes, entry _start.
+# Made by elf2s of shapes.elf: 4560 bytes, entry _start.
         .equ    __heap_end,0x800fc000
         .equ    __stack_top,0x80100000
 
@@ -10,8 +10,8 @@ _start:
         la      sp,__stack_top
         la      tp,counter
         call    board_init
-        li      a0,0
-        li      a1,0
+        li      a0,1
+        addi    a1,tp,-8
         call    main
         tail    exit
 
@@ -714,7 +714,7 @@ vfprintf.4:
         mv      a1,s7
         j       vfprintf.1
 vfprintf.5:
-        lui     a4,%hi(rodata.a8)
+        lui     a4,%hi(rodata.b0)
         li      s11,0
         li      s3,0
         li      s0,0
@@ -730,7 +730,7 @@ vfprintf.5:
         li      t5,127
         li      t6,16
         li      t0,9
-        addi    a4,a4,%lo(rodata.a8)
+        addi    a4,a4,%lo(rodata.b0)
 vfprintf.6:
         bltu    a2,s0,vfprintf.15
         addi    a5,s9,-32
@@ -870,9 +870,9 @@ vfprintf.33:
         andi    a5,a5,255
         li      a3,18
         bltu    a3,a5,vfprintf.59
-        lui     a3,%hi(rodata.ec)
+        lui     a3,%hi(rodata.f4)
         slli    a5,a5,2
-        addi    a3,a3,%lo(rodata.ec)
+        addi    a3,a3,%lo(rodata.f4)
         add     a5,a5,a3
         lw      a5,0(a5)
         jr      a5
@@ -1364,6 +1364,8 @@ __riscv_restore_1:
         ret
 
         .rodata
+name:
+        .asciz  "program"
 text.0123456789abcdef:
         .asciz  "0123456789abcdef"
         .space  3
@@ -1407,13 +1409,13 @@ text.null:
         .space  1
 text.float:
         .asciz  "*float*"
-rodata.a8:
+rodata.b0:
         .word   vfprintf.12,vfprintf.7,vfprintf.7,vfprintf.14
         .word   vfprintf.7,vfprintf.7,vfprintf.7,vfprintf.10
         .word   vfprintf.7,vfprintf.7,vfprintf.7,vfprintf.11
         .word   vfprintf.7,vfprintf.13,vfprintf.7,vfprintf.7
         .word   vfprintf.9
-rodata.ec:
+rodata.f4:
         .word   vfprintf.34,vfprintf.44,vfprintf.59,vfprintf.59
         .word   vfprintf.59,vfprintf.59,vfprintf.44,vfprintf.59
         .word   vfprintf.59,vfprintf.59,vfprintf.59,vfprintf.59
@@ -1433,6 +1435,10 @@ serial:
         .word   0,3,put,get,0
 brk:
         .word   __heap_start
+
+        .section .arguments
+        .word   name
+        .space  4
 
         .bss
 counter:
