@@ -167,8 +167,10 @@ abbrev pub in_user_mode : Interrupts → ℕ
 in_user_mode i = truth (not (is_machine i.mode))
 
 -- what comes of an interrupt
-abbrev pub outcome : (line enabled let_in : ℕ) → ℕ
-outcome line enabled let_in = if line == 0 then 0 else (if enabled == 0 then 1 else 2 + let_in)
+abbrev pub outcome : (line enabled : ℕ) → Option ℕ → ℕ → ℕ
+outcome line enabled first place =
+    if line == 0 then 0
+    else (if enabled == 0 then 1 else option_map_or (λ f. if f == place then 3 else 4) first 2)
 
 -- ---- protection
 

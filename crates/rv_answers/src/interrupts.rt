@@ -1,5 +1,5 @@
 //! The interrupts of the hart.
-ghost use Rattle.std.specs.Prelude.{◌≡◌, ◌<◌, [], ◌∷◌, codes};
+ghost use Rattle.std.specs.Prelude.{◌≡◌, ◌<◌, ◌&&◌, [], ◌∷◌, codes};
 ghost use Rattle.rv_isa.specs.Number as number;
 ghost use Rattle.rv_answers.specs.Answer.{Appended};
 ghost use Rattle.rv_answers.specs.Forms.{filled};
@@ -9,7 +9,7 @@ ghost use Rattle.rv_answers.specs.Parts.{in_user_mode};
 ghost use Rattle.rv_answers.specs.Parts as parts;
 
 use crate::Answer;
-use crate::control::bit;
+use crate::control::{bit, has_bit};
 use rv_pmp::Mode;
 
 /// The mode of a hart, and the words of the control registers that say which interrupts it takes.
@@ -29,19 +29,38 @@ impl Interrupts {
         matches!(self.mode, Mode::User) as u64
     }
 
-    /// Returns 1 if interrupts are let in: in user mode always, in machine mode if mstatus.MIE is 1.
-    fn let_in(self) -> u64
-        ensures { result ≡ spec.let_in self }
+    /// Returns whether an interrupt is pending: its bit is 1 in mip and in mie.
+    fn is_pending(self, place: u32) -> bool
+        requires { place < 32 }
+        ensures { result ≡ (number.flag self.mip place && number.flag self.mie place) }
     {
-        self.in_user_mode().max(bit(self.mstatus, 3))
+        has_bit(self.mip, place) && has_bit(self.mie, place)
+    }
+
+    /// Returns the interrupt that is taken first, if any is, by its bit.
+    #[tactic(auto, unfolding(crate::specs::Interrupts::first_taken))]
+    fn first_taken(self) -> Option<u32>
+        ensures { result ≡ spec.first_taken self }
+    {
+        if self.mode.is_machine() && !has_bit(self.mstatus, 3) {
+            return None;
+        }
+        if self.is_pending(11) {
+            Some(11)
+        } else if self.is_pending(3) {
+            Some(3)
+        } else if self.is_pending(7) {
+            Some(7)
+        } else {
+            None
+        }
     }
 }
 
-/// Returns what comes of an interrupt, counted from 0: nothing, it is never taken as it stands, it waits, or
-/// it is taken.
-fn outcome(line: u64, enabled: u64, let_in: u64) -> u64
-    requires { let_in < 2 }
-    ensures { result ≡ parts.outcome line enabled let_in }
+/// Returns what comes of an interrupt, counted from 0: nothing, it is never taken as it stands, it waits, it
+/// is taken, or the first that is taken is another.
+fn outcome(line: u64, enabled: u64, first: Option<u32>, place: u32) -> u64
+    ensures { result ≡ parts.outcome line enabled first place }
 {
     if line == 0 {
         return 0;
@@ -49,12 +68,21 @@ fn outcome(line: u64, enabled: u64, let_in: u64) -> u64
     if enabled == 0 {
         return 1;
     }
-    2 + let_in
+    match first {
+        Some(first) => {
+            if first == place {
+                3
+            } else {
+                4
+            }
+        }
+        None => 2,
+    }
 }
 
 /// How what comes of an interrupt is told.
-const OUTCOMES: &str = "%{|: never taken as it stands|: waits, \
-    since mstatus.MIE is 0 in machine mode|: taken at the next step}\n";
+const OUTCOMES: &str = "%{|: never taken as it stands|: waits, since mstatus.MIE is 0 in machine mode|: \
+    taken at the next step|: waits for the one before it}\n";
 
 /// Appends an interrupt: its line and its bit of mie, in this form, and what comes of it.
 #[tactic(auto, using(crate::proofs::Pieces::then), unfolding(crate::specs::Interrupts::interrupt_row))]
@@ -65,7 +93,8 @@ fn append_interrupt(form: &str, place: u32, interrupts: Interrupts, answer: &mut
     let line = bit(interrupts.mip, place);
     let enabled = bit(interrupts.mie, place);
     answer.fill(form, &[line, enabled]);
-    answer.fill(OUTCOMES, &[outcome(line, enabled, interrupts.let_in())]);
+    let outcome = outcome(line, enabled, interrupts.first_taken(), place);
+    answer.fill(OUTCOMES, &[outcome]);
 }
 
 /// Appends whether interrupts are let in.
