@@ -9,3 +9,4 @@ pub mod Devices
 pub mod Interrupts
 pub mod Protection
 pub mod Parts
+pub mod Shown

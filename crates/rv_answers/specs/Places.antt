@@ -8,6 +8,7 @@ use Rattle.rv_base.specs.Digits.{hex}
 use Rattle.rv_isa.specs.Meaning.{means}
 use Rattle.rv_isa.specs.Text.{text}
 use Rattle.rv_answers.specs.Answer.{padded}
+use Rattle.rv_answers.specs.Shown.{shown}
 use Rattle.rv_answers.specs.declared.rows.Row.{Row}
 
 -- a row of a list of the source: `>` where pc is, `*` where a breakpoint is, its address, its first word if
@@ -17,7 +18,7 @@ row_text row number text =
     (if row.is_here then codes ">" else codes " ") ++ (if row.is_marked then codes "*" else codes " ")
     ++ option_map_or (λ at. hex 8 at ++ codes "  " ++ option_map_or (hex 8) row.word (codes "        ")
     ++ (if row.has_more then codes "+" else codes " ") ++ codes " ") row.address (replicate 20 32)
-    ++ padded 6 (decimal number ++ codes ":") ++ text ++ codes "\n"
+    ++ padded 6 (decimal number ++ codes ":") ++ shown text ++ codes "\n"
 
 -- a word of memory and its instruction
 unfoldable pub instruction_text : Option ℕ → List ℕ

@@ -69,19 +69,14 @@ fn outcome(line: u64, enabled: u64, first: Option<u32>, place: u32) -> u64
         return 1;
     }
     match first {
-        Some(first) => {
-            if first == place {
-                3
-            } else {
-                4
-            }
-        }
+        Some(first) => { if first == place { 3 } else { 4 } }
         None => 2,
     }
 }
 
 /// How what comes of an interrupt is told.
-const OUTCOMES: &str = "%{|: never taken as it stands|: waits, since mstatus.MIE is 0 in machine mode|: \
+const OUTCOMES: &str =
+    "%{|: never taken as it stands|: waits, since mstatus.MIE is 0 in machine mode|: \
     taken at the next step|: waits for the one before it}\n";
 
 /// Appends an interrupt: its line and its bit of mie, in this form, and what comes of it.

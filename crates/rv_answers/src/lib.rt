@@ -13,6 +13,7 @@ mod places;
 mod protection;
 mod registers;
 mod rows;
+mod shown;
 mod standing;
 mod traps;
 
@@ -28,5 +29,6 @@ pub use registers::{
     Registers, append_changes, append_register, append_registers, append_value, register_name,
 };
 pub use rows::{Row, append_length, append_row};
+pub use shown::append_shown;
 pub use standing::{append_halted, append_mode, append_step};
 pub use traps::{append_cause, append_times, append_trap, cause_name};

@@ -8,6 +8,7 @@ ghost use Rattle.rv_answers.specs.Forms.{filled};
 ghost use Rattle.rv_answers.specs.Parts.{cell_text, mark};
 
 use crate::Answer;
+use crate::shown::append_shown;
 use crate::standing::append_plural;
 
 /// What a row of a list says of a line of the source beside its number and its text.
@@ -74,7 +75,7 @@ pub fn append_row(row: Row, number: usize, text: &[u8], answer: &mut Answer)
     append_mark(row.is_marked, "*", answer);
     append_cell(row, answer);
     answer.line_number(number);
-    answer.put(text);
+    append_shown(text, answer);
     answer.say("\n");
 }
 

@@ -1,11 +1,11 @@
 -- What commands that look answer.
-use Rattle.std.proofs.Common.{◌≡◌, ◌∙◌, ◌≢◌, ℕ, suc, ◌*◌, ◌==◌, true, false, List, [], ◌∷◌, ◌++◌, cond, length, refl, sym, ap, append-nil, codes, nat_lt, slice_index, subst, arith}
+use Rattle.std.proofs.Common.{◌≡◌, ◌∙◌, ◌≢◌, ℕ, suc, ◌^◌, ◌==◌, true, false, List, [], ◌∷◌, ◌++◌, cond, length, refl, sym, ap, append-nil, codes, nat_lt, slice_index, subst, arith}
 use Rattle.std.specs.Prelude.{Option, Some, None, IfSome, Result, Ok, Err, OnOk}
-use Rattle.std.specs.List.{flat_map, range_with_len}
 use Rattle.std.specs.Option.{option_map}
 use Rattle.std.proofs.lemmas.Bool.Decides.{nat_tests}
 use Rattle.std.proofs.lemmas.List.{length-append}
 use Rattle.rv_asm.specs.Lines.{Listed}
+use Rattle.rv_base.specs.Words.{words}
 use Rattle.rv_board.specs.BoardState.{BoardState}
 use Rattle.rv_operands.specs.Operands.{break_address}
 use Rattle.rv_answers.specs.Answer.{Written, Appended}
@@ -15,8 +15,8 @@ use Rattle.rv_lab.specs.State.{LabState, board}
 use Rattle.rv_lab.specs.Commands.{ready}
 use Rattle.rv_lab.specs.Devices.{csr_told, devices_told, edges_told}
 use Rattle.rv_lab.specs.Lines.{instruction_at, instruction_told, line_row, row_of, excerpt}
-use Rattle.rv_lab.specs.Looks.{all_registers, breaks_told, memory_told, place, registers_told, short_place, told, told_again, trap_rows, where_told}
-use Rattle.rv_lab.specs.Rows.{IsQuiet, Tells, alone, break_row, register_of}
+use Rattle.rv_lab.specs.Looks.{all_registers, break_rows, breaks_told, memory_told, place, registers_told, short_place, told, told_again, trap_rows, where_told}
+use Rattle.rv_lab.specs.Rows.{IsQuiet, Tells, alone, register_of}
 use Rattle.rv_lab.specs.declared.command.Command.{Command}
 use Rattle.rv_lab.specs.declared.command.Command.TheVariants.{Where, Break, Registers, ControlRegister, Memory, Instruction, Traps, Edges, Again, Nothing}
 use Rattle.rv_lab.specs.declared.command.Command.TheVariants as command
@@ -33,11 +33,23 @@ unfolding line_row row_of
 again_ready command.List l = refl
 again_ready _ l = refl
 
+-- the same of breakpoints
+break_rows_ready : (l : LabState) (n : ℕ) → break_rows (ready Break l) n ≡ break_rows l n
+unfolding break_rows place
+break_rows_ready l n = refl
+
+breaks_ready : (l : LabState) → breaks_told (ready Break l) ≡ breaks_told l
+unfolding breaks_told
+breaks_ready l =
+    ap (λ (rows : List ℕ). cond (length rows == 0) (codes "no breakpoints; `help b` shows how to set one\n") rows)
+    (break_rows_ready l (2 ^ 32))
+
 -- what is told of a lab that is ready is told of the lab
 told_ready : (c : Command) (operands : List ℕ) (l : LabState) → told c operands (ready c l) ≡ told c operands l
-unfolding where_told place breaks_told all_registers registers_told csr_told devices_told memory_told trap_rows short_place edges_told instruction_at instruction_told line_row row_of excerpt
+unfolding where_told place all_registers registers_told csr_told devices_told memory_told trap_rows short_place edges_told instruction_at instruction_told line_row row_of excerpt
 told_ready Where operands l = refl
-told_ready Break operands l = refl
+told_ready Break operands l =
+    ap (λ (text : List ℕ). cond (length (words operands) == 0) (Some text) None) (breaks_ready l)
 told_ready Registers operands l = refl
 told_ready ControlRegister operands l = refl
 told_ready Memory operands l = refl
@@ -136,16 +148,13 @@ some_so_far a b (x ∷ xs) none e h =
     subst (λ t. Appended a b (cond t none (x ∷ xs))) (sym (not_none (length xs))) e
 
 module _ (l : LabState) where
-  abbrev rows : List ℕ
-  rows = flat_map (break_row l) (range_with_len 0 (1024 * l.recording.pages))
-
-  pub no_breaks : (a b c : Written) → Appended a b rows
+  pub no_breaks : (a b c : Written) → Appended a b (break_rows l (2 ^ 32))
       → Appended b c (codes "no breakpoints; `help b` shows how to set one\n") → length b.bytes ≡ length a.bytes
       → Appended a c (breaks_told l)
-  unfolding breaks_told break_row
-  no_breaks a b c e f h = none_so_far a b c rows _ e f h
+  unfolding breaks_told
+  no_breaks a b c e f h = none_so_far a b c (break_rows l (2 ^ 32)) _ e f h
 
-  pub some_breaks : (a b : Written) → Appended a b rows → length b.bytes ≢ length a.bytes
+  pub some_breaks : (a b : Written) → Appended a b (break_rows l (2 ^ 32)) → length b.bytes ≢ length a.bytes
       → Appended a b (breaks_told l)
-  unfolding breaks_told break_row
-  some_breaks a b e h = some_so_far a b rows _ e h
+  unfolding breaks_told
+  some_breaks a b e h = some_so_far a b (break_rows l (2 ^ 32)) _ e h

@@ -21,6 +21,7 @@ use Rattle.rv_operands.specs.Operands.{address}
 use Rattle.rv_answers.specs.Answer.{padded}
 use Rattle.rv_answers.specs.Forms.{filled}
 use Rattle.rv_answers.specs.Places.{instruction_text}
+use Rattle.rv_answers.specs.Shown.{shown}
 use Rattle.rv_answers.specs.Registers.{register_text, registers_text}
 use Rattle.rv_answers.specs.Memory.{bytes_row, escaped, extent, words_row}
 use Rattle.rv_answers.specs.Traps.{trap_text}
@@ -40,7 +41,7 @@ use Rattle.rv_lab.specs.declared.command.Command.TheVariants as command
 unfoldable pub place : LabState → ℕ → List ℕ
 place l a =
     hex 8 a ++ label_text l.listing a ++ codes "  "
-    ++ option_map_or (λ n. padded 6 (decimal n ++ codes ":") ++ get_or (lines l.source) (n - 1) [])
+    ++ option_map_or (λ n. padded 6 (decimal n ++ codes ":") ++ shown (get_or (lines l.source) (n - 1) []))
     (line_at l.listing a) (instruction_text (word_at (board l) a))
 
 -- the number of its line, its label, and the address
@@ -61,12 +62,17 @@ where_told l =
 
 -- ---- `b` alone
 
--- the words of memory at which a breakpoint is
+-- the rows of those of the first n addresses at which a breakpoint is
+unfoldable pub break_rows : LabState → ℕ → List ℕ
+break_rows l n =
+    let row : ℕ → List ℕ = λ a.
+    if set.contains l.recording.session.breakpoints.addresses a then place l a ++ codes "\n" else [] in
+    flat_map row (range_with_len 0 n)
+
+-- all breakpoints, in the order of their addresses
 unfoldable pub breaks_told : LabState → List ℕ
 breaks_told l =
-    let row : ℕ → List ℕ = λ k. let a = (ram_base + 4 * k) % 2 ^ 32 in
-    if set.contains l.recording.session.breakpoints.addresses a then place l a ++ codes "\n" else [] in
-    let rows = flat_map row (range_with_len 0 (1024 * l.recording.pages)) in
+    let rows = break_rows l (2 ^ 32) in
     if length rows == 0 then codes "no breakpoints; `help b` shows how to set one\n" else rows
 
 -- ---- `r`
@@ -99,15 +105,15 @@ text_row b a n =
     let count = position_or_len (λ i. char i == 0) (range_with_len 0 n) in
     hex 8 a ++ codes ": \"" ++ flat_map (λ i. escaped (char i)) (range_with_len 0 count) ++ codes "\"\n"
 
-abbrev pub shown : BoardState → ℕ → ℕ → Format → List ℕ
-shown b a n Bytes = dump bytes_row (byte_at_offset b) 16 a n
-shown b a n Words = dump words_row (λ at i. word_at b ((at + 4 * i) % 2 ^ 32)) 4 a n
-shown b a n Text = text_row b a n
+abbrev pub memory_shown : BoardState → ℕ → ℕ → Format → List ℕ
+memory_shown b a n Bytes = dump bytes_row (byte_at_offset b) 16 a n
+memory_shown b a n Words = dump words_row (λ at i. word_at b ((at + 4 * i) % 2 ^ 32)) 4 a n
+memory_shown b a n Text = text_row b a n
 
 unfoldable pub memory_told : LabState → List (List ℕ) → Option (List ℕ)
 memory_told l [] = None
 memory_told l (word ∷ more) =
-    option_and_then (λ a. option_map (λ e. shown (board l) a e.count e.format) (extent more))
+    option_and_then (λ a. option_map (λ e. memory_shown (board l) a e.count e.format) (extent more))
     (address l.listing (board l) word)
 
 -- ---- `t`

@@ -27,6 +27,7 @@ use Rattle.rv_answers.specs.Answer.{Written, Appended, padded}
 use Rattle.rv_answers.specs.Control.{bits_told}
 use Rattle.rv_answers.specs.Forms.{filled}
 use Rattle.rv_answers.specs.Places.{instruction_text}
+use Rattle.rv_answers.specs.Shown.{shown}
 use Rattle.rv_recording.specs.declared.until.End.{End}
 use Rattle.rv_recording.specs.declared.until.End.TheVariants as ends
 use Rattle.std.specs.Fmt.{decimal}
@@ -63,7 +64,7 @@ register_of names = option_and_then (λ name. lookup name register_names) (only_
 -- what stands of a line in a place: its number and its text, or the instruction at an address
 abbrev pub line_or_instruction : LabState → ℕ → List ℕ
 line_or_instruction l a =
-    option_map_or (λ n. padded 6 (decimal n ++ codes ":") ++ get_or (lines l.source) (n - 1) [])
+    option_map_or (λ n. padded 6 (decimal n ++ codes ":") ++ shown (get_or (lines l.source) (n - 1) []))
     (line_at l.listing a) (instruction_text (word_at (board l) a))
 
 -- the last label at an address of the image or before it, with the distance from it
@@ -122,10 +123,9 @@ pc_text pc label mode = codes "  pc   " ++ hex 8 pc ++ label ++ codes "  "
 
 -- ---- `b` alone
 
--- the row of a word of memory, if a breakpoint is there
+-- the row of an address, if a breakpoint is there
 unfoldable pub break_row : LabState → ℕ → List ℕ
-break_row l k =
-    let a = (ram_base + 4 * k) % 2 ^ 32 in
+break_row l a =
     if set.contains l.recording.session.breakpoints.addresses a then place l a ++ codes "\n" else []
 
 -- ---- runs of the monitor

@@ -1,18 +1,17 @@
 //! Breakpoints.
-ghost use Rattle.std.specs.Prelude.{◌≡◌, ◌<◌, ◌*◌, ◌^◌, OnOk, OnErr};
-ghost use Rattle.std.specs.List.{flat_map, range_with_len};
+ghost use Rattle.std.specs.Prelude.{◌≡◌, ◌++◌, ◌^◌, codes, OnOk, OnErr};
 ghost use Rattle.rv_base.specs.Words.{words};
 ghost use Rattle.rv_lab.specs.declared.command.Command.TheVariants as command;
 ghost use Rattle.rv_operands.specs.Operands.{break_address};
 ghost use Rattle.rv_lab.specs.Commands.{Leaves};
 ghost use Rattle.rv_answers.specs.Answer.{Appended};
 ghost use Rattle.rv_lab.specs.State.{board, setup};
-ghost use Rattle.rv_lab.specs.Looks.{breaks_told};
-ghost use Rattle.rv_lab.specs.Rows.{Tells, break_row};
+ghost use Rattle.rv_lab.specs.Looks.{break_rows, breaks_told, place};
+ghost use Rattle.rv_lab.specs.Rows.{Tells};
 
 use crate::lab::{Lab, Next};
 use rv_answers::Answer;
-use rv_base::{NoMemory, RAM_BASE, has_word, low_word};
+use rv_base::{NoMemory, has_word};
 use rv_operands::{line_number, only_word};
 
 impl Lab {
@@ -85,31 +84,34 @@ impl Lab {
         answer.end();
     }
 
-    /// Appends the row of a word of memory, if a breakpoint is there.
-    #[tactic(auto, using(rv_answers::proofs::Pieces::then, rv_answers::proofs::Pieces::nothing), unfolding(crate::specs::Rows::break_row))]
-    fn append_break(&self, word: u64, answer: &mut Answer)
-        requires { word < 2 ^ 42 }
-        ensures { Appended answer.old answer.new (break_row self.now word) }
+    /// Appends the row of a breakpoint.
+    #[tactic(auto, using(rv_answers::proofs::Pieces::then))]
+    fn append_break(&self, address: u32, answer: &mut Answer)
+        ensures { Appended answer.old answer.new (place self.now address ++ codes "\n") }
     {
-        let address = low_word(u64::from(RAM_BASE) + 4 * word);
-        if self.recording.session().has_break(address) {
-            self.append_place(address, answer);
-            answer.end();
-        }
+        self.append_place(address, answer);
+        answer.end();
     }
 
-    /// Appends the rows of the breakpoints in memory.
-    #[tactic(auto, using(rv_answers::proofs::Pieces::nothing))]
+    /// Appends the rows of the breakpoints.
+    #[tactic(auto, using(crate::proofs::BreakRows::no_rows_yet))]
     fn append_breaks(&self, answer: &mut Answer)
-        ensures { Appended answer.old answer.new (flat_map (break_row self.now)
-            (range_with_len 0 (1024 * self.now.recording.pages))) }
+        ensures { Appended answer.old answer.new (break_rows self.now (2 ^ 32)) }
     {
-        for word in 0..1024 * u64::from(self.recording.pages()) {
-            self.append_break(word, answer);
+        let mut from = 0;
+        loop {
+            let Some(address) = self.recording.next_break(from) else {
+                return;
+            };
+            self.append_break(address, answer);
+            if address == u32::MAX {
+                return;
+            }
+            from = address + 1;
         }
     }
 
-    /// Appends the breakpoints in memory.
+    /// Appends the breakpoints, or that there are none.
     #[tactic(auto, using(crate::proofs::Told::no_breaks, crate::proofs::Told::some_breaks))]
     fn list_breaks(&self, answer: &mut Answer)
         ensures { Appended answer.old answer.new (breaks_told self.now) }

@@ -3,7 +3,7 @@ ghost use Rattle.std.specs.Prelude.{◌≡◌, ◌*◌, ◌<◌, ◌≤◌, map}
 ghost use Rattle.std.specs.List.{flat_map, range_with_len};
 ghost use Rattle.rv_answers.specs.Answer.{Appended};
 ghost use Rattle.rv_answers.specs.Memory.{bytes_row, escaped, words_row};
-ghost use Rattle.rv_lab.specs.Looks.{dump, shown, text_row};
+ghost use Rattle.rv_lab.specs.Looks.{dump, memory_shown, text_row};
 ghost use Rattle.rv_lab.specs.Rows.{char_at, dump_row, text_length, word_cell};
 ghost use Rattle.rv_answers.specs.Places.{instruction_text};
 ghost use Rattle.rv_monitor.specs.Views.{byte_at_offset, word_at};
@@ -148,7 +148,7 @@ fn append_text(board: &BootedBoard, address: u32, most: u32, answer: &mut Answer
 /// Appends memory from an address on.
 pub(crate) fn append_memory(board: &BootedBoard, address: u32, extent: Extent, answer: &mut Answer)
     requires { extent.count ≤ 4096 }
-    ensures { Appended answer.old answer.new (shown board.now address extent.count extent.format) }
+    ensures { Appended answer.old answer.new (memory_shown board.now address extent.count extent.format) }
 {
     let count = low_word(extent.count);
     match extent.format {

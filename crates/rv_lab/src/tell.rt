@@ -15,7 +15,7 @@ use crate::plan::Goal;
 use crate::registers::registers_of;
 use rv_answers::{
     Answer, Registers, append_cause, append_changes, append_escaped, append_halted,
-    append_line_number, append_register, append_step, append_value, line_text,
+    append_line_number, append_register, append_shown, append_step, append_value, line_text,
 };
 use rv_base::NoMemory;
 use rv_hart::Outcome;
@@ -50,7 +50,7 @@ impl Lab {
         match line_at(&self.listing, address) {
             Some(line) => {
                 answer.line_number(line);
-                answer.put(line_text(&self.source, line));
+                append_shown(line_text(&self.source, line), answer);
             }
             None => append_instruction_at(self.board(), address, answer),
         }

@@ -126,6 +126,13 @@ impl<M: ByteMemory, C: Decoded> Session<M, C> {
         self.breakpoints.contains(address)
     }
 
+    /// Returns the addresses of the breakpoints, each once, in an order that isn't specified.
+    pub fn breakpoints(&self) -> &[u32]
+        ensures { set.from_list result.now ≡ self.now.breakpoints.addresses }
+    {
+        self.breakpoints.as_slice()
+    }
+
     /// Makes an address a breakpoint. Room is made for nine breakpoints at a time.
     ///
     /// # Errors

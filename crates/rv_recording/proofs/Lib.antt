@@ -3,3 +3,4 @@ pub mod Running
 pub mod Outward
 pub mod Keeping
 pub mod Ahead
+pub mod NextBreak

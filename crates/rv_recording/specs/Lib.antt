@@ -5,3 +5,5 @@ pub mod Out
 pub mod Steps
 pub mod Recorded
 pub mod Kept
+pub mod Breaks
+pub mod Nearer

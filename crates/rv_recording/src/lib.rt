@@ -2,6 +2,7 @@
 //! were given by hand, and the board is always the run of the recorded events from reset on.
 #![tactic(auto)]
 
+mod breaks;
 mod kept;
 mod out;
 mod recording;

@@ -1,8 +1,14 @@
-use Rattle.std.specs.List.{flat_map, range_with_len}
+use Rattle.std.proofs.Common.{◌<◌, ◌-◌, ◌^◌}
 use Rattle.rv_answers.specs.Answer.{Appended}
-use Rattle.rv_lab.specs.Rows.{break_row}
+use Rattle.rv_lab.specs.Looks.{break_rows}
 use Rattle.rv_lab.proofs.lab.Lab.append_breaks.Given as goal
 
--- the rows of the words so far were appended
-abbrev pub invariant-loop-word : goal.invariant-loop-word
-invariant-loop-word l = Appended l.fn.answer l.answer (flat_map (break_row l.self) (range_with_len 0 l.word))
+-- the rows of the breakpoints so far were appended
+abbrev pub invariant-loop-address : goal.invariant-loop-address
+invariant-loop-address l = record {
+  below : l.from < 2 ^ 32;
+  rows : Appended l.fn.answer l.answer (break_rows l.self l.from);
+}
+
+abbrev pub decreases-loop-address : goal.decreases-loop-address
+decreases-loop-address l = 2 ^ 32 - l.from

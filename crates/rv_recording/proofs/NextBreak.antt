@@ -1,0 +1,123 @@
+-- The first breakpoint from an address on.
+use Rattle.std.proofs.Common.{◌≡◌, ◌∙◌, ℕ, ◌<◌, ◌≤◌, Bool, true, false, List, [], ◌∷◌, fold, refl, sym, ap, subst, arith}
+use Rattle.std.proofs.lemmas.Bool.{false≢true}
+use Rattle.std.proofs.lemmas.Bool.Decides.{nat_tests}
+use Rattle.std.specs.Prelude.{◌||◌, if◌then◌else◌, min, nat_eq, nat_lt, Option, Some, None}
+use Rattle.std.specs.List.{list_any}
+use Rattle.std.specs.FinSet as set
+use Rattle.std.specs.Ordering.{nat_cmp}
+use Rattle.rv_monitor.specs.State.{Addresses}
+use Rattle.rv_monitor.proofs.Sets.{has}
+use Rattle.rv_recording.specs.Breaks.{IsNext}
+use Rattle.rv_recording.specs.Nearer.{lesser, nearer}
+
+-- the first number that passes a test, at `from` or above it
+abbrev IsFirst : (ℕ → Bool) → ℕ → Option ℕ → Type 0
+IsFirst p from None = (a : ℕ) → from ≤ a → p a ≡ false
+IsFirst p from (Some n) = (from ≤ n) × (p n ≡ true) × ((a : ℕ) → from ≤ a → a < n → p a ≡ false)
+
+itself : (n : ℕ) (t : Bool) → (nat_eq n n || t) ≡ true
+itself n t = let same : nat_eq n n ≡ true = grind (arith, nat_tests) in rw same refl
+
+only : (c t : Bool) → (c || t) ≡ false → t ≡ false
+only false t e = e
+only true t e = absurd (false≢true (sym e))
+
+other : (c t : Bool) → c ≡ false → t ≡ false → (c || t) ≡ false
+other c t e f = rw e f
+
+-- ---- of two numbers the lesser was kept
+
+module _ (b x : ℕ) (t : ℕ → Bool) where
+  passes : (n : ℕ) (d e : Bool) → nat_eq n b ≡ d → nat_eq n x ≡ e → (nat_eq n (min b x) || t n) ≡ true
+      → (d || (e || t n)) ≡ true
+  passes n true e g h p = refl
+  passes n false true g h p = refl
+  passes n false false g h p =
+      let none : nat_eq n (min b x) ≡ false = grind (arith, nat_tests) in
+      sym (ap (λ c. c || t n) none) ∙ p
+
+  module _ (from : ℕ) (n : ℕ) (least : (a : ℕ) → from ≤ a → a < n → (nat_eq a (min b x) || t a) ≡ false)
+      (l : from ≤ min b x) where
+    within : (c : Bool) → nat_lt (min b x) n ≡ c → n ≤ min b x
+    within true e =
+        let below : min b x < n = grind (arith, nat_tests) in
+        absurd (false≢true (sym (least (min b x) l below) ∙ itself (min b x) (t (min b x))))
+    within false e = grind (arith, nat_tests)
+
+    fails : (a : ℕ) → from ≤ a → a < n → (nat_eq a b || (nat_eq a x || t a)) ≡ false
+    fails a f h =
+        let high : n ≤ min b x = within (nat_lt (min b x) n) refl in
+        let low : a < min b x = omega (arith, h, high) in
+        let not_b : nat_eq a b ≡ false = grind (arith, nat_tests) in
+        let not_x : nat_eq a x ≡ false = grind (arith, nat_tests) in
+        other (nat_eq a b) _ not_b (other (nat_eq a x) (t a) not_x (only (nat_eq a (min b x)) (t a) (least a f h)))
+
+  lesser_is : (from : ℕ) (r : Option ℕ) → from ≤ b → from ≤ x
+      → IsFirst (λ a. nat_eq a (min b x) || t a) from r → IsFirst (λ a. nat_eq a b || (nat_eq a x || t a)) from r
+  lesser_is from None f g h =
+      absurd (false≢true (sym (h (min b x) (omega (arith, f, g))) ∙ itself (min b x) (t (min b x))))
+  lesser_is from (Some n) f g h = (
+    h.0,
+    passes n (nat_eq n b) (nat_eq n x) refl refl h.1,
+    fails from n h.2 (omega (arith, f, g)),
+  )
+
+-- ---- a number below was left
+
+module _ (x from : ℕ) (c t : ℕ → Bool) (below : x < from) where
+  same : (a : ℕ) → from ≤ a → (c a || t a) ≡ (c a || (nat_eq a x || t a))
+  same a l =
+      let not_x : nat_eq a x ≡ false = grind (arith, nat_tests) in
+      ap (λ (u : Bool). c a || (u || t a)) (sym not_x)
+
+  left : (r : Option ℕ) → IsFirst (λ a. c a || t a) from r → IsFirst (λ a. c a || (nat_eq a x || t a)) from r
+  left None h = λ a l. sym (same a l) ∙ h a l
+  left (Some n) h = (h.0, sym (same n h.0) ∙ h.1, λ a l b. sym (same a l) ∙ h.2 a l b)
+
+-- ---- all of them
+
+-- the number that was found so far
+abbrev found : Option ℕ → ℕ → Bool
+found None a = false
+found (Some b) a = nat_eq a b
+
+abbrev IsHigh : ℕ → Option ℕ → Type 0
+IsHigh from None = Unit
+IsHigh from (Some b) = from ≤ b
+
+none_left : (from : ℕ) (o : Option ℕ) → IsHigh from o → IsFirst (λ a. found o a || false) from o
+none_left from None h = λ a l. refl
+none_left from (Some b) h = (
+  h,
+  itself b false,
+  λ a l below. let not_b : nat_eq a b ≡ false = grind (arith, nat_tests) in rw not_b refl,
+)
+
+module _ (from x : ℕ) (xs : List ℕ)
+    (rest : (o : Option ℕ) → IsHigh from o → IsFirst (λ a. found o a || list_any (nat_eq a) xs) from (fold (nearer from) o xs)) where
+  by_case : (o : Option ℕ) → IsHigh from o → (c : Bool) → nat_lt x from ≡ c
+      → IsFirst (λ a. found o a || (nat_eq a x || list_any (nat_eq a) xs)) from
+      (fold (nearer from) (if c then o else lesser o x) xs)
+  by_case o h true e = left x from (found o) (λ a. list_any (nat_eq a) xs) (grind (arith, nat_tests)) _ (rest o h)
+  by_case None h false e = rest (Some x) (grind (arith, nat_tests))
+  by_case (Some b) h false e =
+      let high : from ≤ x = grind (arith, nat_tests) in
+      lesser_is b x (λ a. list_any (nat_eq a) xs) from _ h high (rest (Some (min b x)) (omega (arith, h, high)))
+
+first : (from : ℕ) (xs : List ℕ) (o : Option ℕ) → IsHigh from o
+    → IsFirst (λ a. found o a || list_any (nat_eq a) xs) from (fold (nearer from) o xs)
+first from [] o h = none_left from o h
+first from (x ∷ xs) o h = by_case from x xs (λ p g. first from xs p g) o h (nat_lt x from) refl
+
+as_set : (s : Addresses) (p : ℕ → Bool) (from : ℕ) (r : Option ℕ) → ((a : ℕ) → set.contains s a ≡ p a)
+    → IsFirst p from r → IsNext s from r
+as_set s p from None same h = λ a l. same a ∙ h a l
+as_set s p from (Some n) same h = (h.0, same n ∙ h.1, λ a l b. same a ∙ h.2 a l b)
+
+pub is_next : (from : ℕ) (xs : List ℕ) (s : Addresses) (r : Option ℕ) → set.from_list xs ≡ s
+    → r ≡ fold (nearer from) None xs → IsNext s from r
+is_next from xs s r e f =
+    subst (λ (o : Option ℕ). IsNext s from o) (sym f)
+    (as_set s (λ a. list_any (nat_eq a) xs) from _
+    (λ a. ap (λ (u : Addresses). set.contains u a) (sym e) ∙ has xs a) (first from xs None tt))
