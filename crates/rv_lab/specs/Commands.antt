@@ -156,6 +156,6 @@ abbrev pub call_limit : Command → ℕ → ℕ
 call_limit (Moves Trace) piece = 1000
 call_limit command piece = max piece 1
 
--- a call took at most so many steps
+-- a call took n steps at most
 abbrev pub IsWithin : ℕ → LabState → LabState → Type 0
 IsWithin n old new = (timed new).taken ≤ (timed old).taken + n
