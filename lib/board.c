@@ -39,10 +39,13 @@ FILE *const stderr = &serial;
 typedef void constructor(void);
 extern constructor *__preinit_array_start[], *__preinit_array_end[], *__init_array_start[], *__init_array_end[];
 
-void board_init(void)
+/* Calls the constructors, and returns what main finds in argv: a name, and no words. */
+char **board_init(void)
 {
+    static char name[] = "program", *arguments[] = { name, NULL };
     for (constructor **it = __preinit_array_start; it != __preinit_array_end; it++) (*it)();
     for (constructor **it = __init_array_start; it != __init_array_end; it++) (*it)();
+    return arguments;
 }
 
 void _exit(int code)

@@ -9,8 +9,8 @@ _start:
         la      sp, __stack_top
         la      tp, __tls_base
         call    board_init
+        mv      a1, a0
         li      a0, 1
-        addi    a1, tp, -8              # lib/board.ld places the arguments before __tls_base
         call    main
         tail    exit
 
@@ -22,10 +22,3 @@ first_trap:
         csrr    a1, mepc
         csrr    a2, mtval
         tail    board_trap
-
-# What main finds in argv: a name, and no words.
-        .section .arguments, "aw"
-        .word   name
-        .word   0
-        .section .rodata.name, "a"
-name:   .asciz  "program"

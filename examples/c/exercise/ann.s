@@ -1,4 +1,4 @@
-# Made by elf2s of ann.elf: 3560 bytes, entry _start.
+# Made by elf2s of ann.elf: 3564 bytes, entry _start.
         .equ    __stack_top,0x80100000
 
         .text
@@ -9,8 +9,8 @@ _start:
         la      sp,__stack_top
         la      tp,__tls_base
         call    board_init
+        mv      a1,a0
         li      a0,1
-        addi    a1,tp,-8
         call    main
         tail    exit
 
@@ -46,35 +46,36 @@ get.30:                 # board.c:30  }
         ret
 
 put_word:
-put_word.59:            # board.c:59  {
-put_word.60:            # board.c:60      put_text(name);
-put_word.55:            # board.c:55      while (*text) SERIAL_TRANSMIT = (uint8_t)*text++;
+put_word.62:            # board.c:62  {
+put_word.63:            # board.c:63      put_text(name);
+put_word.58:            # board.c:58      while (*text) SERIAL_TRANSMIT = (uint8_t)*text++;
         li      a4,0x10000000
-put_word.55.2:          # board.c:55      while (*text) SERIAL_TRANSMIT = (uint8_t)*text++;
+put_word.58.2:          # board.c:58      while (*text) SERIAL_TRANSMIT = (uint8_t)*text++;
         lbu     a5,0(a0)
-        bnez    a5,put_word.55.3
+        bnez    a5,put_word.58.3
         lui     a3,%hi(text.0123456789abcdef)
         li      a4,28
         addi    a3,a3,%lo(text.0123456789abcdef)
         li      a0,0x10000000
         li      a2,-4
-put_word.61:            # board.c:61      for (int shift = 28; shift >= 0; shift -= 4) SERIAL_TRANSMIT = (uint8_t)"0123456789abcdef"[word >> shift & 15];
+put_word.64:            # board.c:64      for (int shift = 28; shift >= 0; shift -= 4) SERIAL_TRANSMIT = (uint8_t)"0123456789abcdef"[word >> shift & 15];
         srl     a5,a1,a4
         andi    a5,a5,15
         add     a5,a3,a5
         lbu     a5,0(a5)
         addi    a4,a4,-4
         sb      a5,0(a0)
-        bne     a4,a2,put_word.61
+        bne     a4,a2,put_word.64
         ret
-put_word.55.3:          # board.c:55      while (*text) SERIAL_TRANSMIT = (uint8_t)*text++;
+put_word.58.3:          # board.c:58      while (*text) SERIAL_TRANSMIT = (uint8_t)*text++;
         addi    a0,a0,1
         sb      a5,0(a4)
-        j       put_word.55.2
+        j       put_word.58.2
 
 board_init:
-board_init.43:          # board.c:43  {
-board_init.44:          # board.c:44      for (constructor **it = __preinit_array_start; it != __preinit_array_end; it++) (*it)();
+board_init.44:          # board.c:44  {
+board_init.45:          # board.c:45      static char name[] = "program", *arguments[] = { name, NULL };
+board_init.46:          # board.c:46      for (constructor **it = __preinit_array_start; it != __preinit_array_end; it++) (*it)();
         addi    sp,sp,-16
         sw      s0,8(sp)
         sw      s1,4(sp)
@@ -83,49 +84,52 @@ board_init.44:          # board.c:44      for (constructor **it = __preinit_arra
         sw      ra,12(sp)
         addi    s0,s0,%lo(__preinit_array_start)
         addi    s1,s1,%lo(__preinit_array_end)
-board_init.44.2:        # board.c:44      for (constructor **it = __preinit_array_start; it != __preinit_array_end; it++) (*it)();
-        bne     s0,s1,board_init.44.3
+board_init.46.2:        # board.c:46      for (constructor **it = __preinit_array_start; it != __preinit_array_end; it++) (*it)();
+        bne     s0,s1,board_init.46.3
         lui     s0,%hi(__init_array_start)
         lui     s1,%hi(__init_array_end)
         addi    s0,s0,%lo(__init_array_start)
         addi    s1,s1,%lo(__init_array_end)
-board_init.45:          # board.c:45      for (constructor **it = __init_array_start; it != __init_array_end; it++) (*it)();
-        bne     s0,s1,board_init.45.2
+board_init.47:          # board.c:47      for (constructor **it = __init_array_start; it != __init_array_end; it++) (*it)();
+        bne     s0,s1,board_init.47.2
+board_init.48:          # board.c:48      return arguments;
         lw      ra,12(sp)
         lw      s0,8(sp)
+        lui     a0,%hi(arguments.1)
         lw      s1,4(sp)
+        addi    a0,a0,%lo(arguments.1)
         addi    sp,sp,16
         ret
-board_init.44.3:        # board.c:44      for (constructor **it = __preinit_array_start; it != __preinit_array_end; it++) (*it)();
+board_init.46.3:        # board.c:46      for (constructor **it = __preinit_array_start; it != __preinit_array_end; it++) (*it)();
         lw      a5,0(s0)
         addi    s0,s0,4
         jalr    a5
-        j       board_init.44.2
-board_init.45.2:        # board.c:45      for (constructor **it = __init_array_start; it != __init_array_end; it++) (*it)();
+        j       board_init.46.2
+board_init.47.2:        # board.c:47      for (constructor **it = __init_array_start; it != __init_array_end; it++) (*it)();
         lw      a5,0(s0)
         addi    s0,s0,4
         jalr    a5
-        j       board_init.45
+        j       board_init.47
 
 _exit:
-_exit.49:               # board.c:49  {
-        beqz    a0,_exit.50.3
+_exit.52:               # board.c:52  {
+        beqz    a0,_exit.53.3
         li      a5,0x3000
         slli    a0,a0,16
         addi    a5,a5,819
         or      a0,a0,a5
-_exit.50.2:             # board.c:50      for (;;) HALT = code ? (uint32_t)code << 16 | 0x3333 : 0x5555;
+_exit.53.2:             # board.c:53      for (;;) HALT = code ? (uint32_t)code << 16 | 0x3333 : 0x5555;
         li      a5,0x100000
-_exit.50:               # board.c:50      for (;;) HALT = code ? (uint32_t)code << 16 | 0x3333 : 0x5555;
+_exit.53:               # board.c:53      for (;;) HALT = code ? (uint32_t)code << 16 | 0x3333 : 0x5555;
         sw      a0,0(a5)
-        j       _exit.50
-_exit.50.3:
+        j       _exit.53
+_exit.53.3:
         li      a0,0x5555
-        j       _exit.50.2
+        j       _exit.53.2
 
 board_trap:
-board_trap.65:          # board.c:65  {
-board_trap.66:          # board.c:66      put_word("\ntrap cause=", cause);
+board_trap.68:          # board.c:68  {
+board_trap.69:          # board.c:69      put_word("\ntrap cause=", cause);
         addi    sp,sp,-16
         sw      s0,8(sp)
         sw      s2,0(sp)
@@ -138,32 +142,32 @@ board_trap.66:          # board.c:66      put_word("\ntrap cause=", cause);
         sw      s1,4(sp)
         mv      s1,a2
         jal     put_word
-board_trap.67:          # board.c:67      put_word(" epc=", epc);
+board_trap.70:          # board.c:70      put_word(" epc=", epc);
         lui     a0,%hi(text.epc)
         mv      a1,s2
         addi    a0,a0,%lo(text.epc)
         jal     put_word
-board_trap.68:          # board.c:68      put_word(" tval=", tval);
+board_trap.71:          # board.c:71      put_word(" tval=", tval);
         lui     a0,%hi(text.tval)
         mv      a1,s1
         addi    a0,a0,%lo(text.tval)
         jal     put_word
-board_trap.69:          # board.c:69      put_text("\n");
-board_trap.55:          # board.c:55      while (*text) SERIAL_TRANSMIT = (uint8_t)*text++;
+board_trap.72:          # board.c:72      put_text("\n");
+board_trap.58:          # board.c:58      while (*text) SERIAL_TRANSMIT = (uint8_t)*text++;
         lui     a5,%hi(text)
         addi    a5,a5,%lo(text)
         li      a3,0x10000000
-board_trap.55.2:        # board.c:55      while (*text) SERIAL_TRANSMIT = (uint8_t)*text++;
+board_trap.58.2:        # board.c:58      while (*text) SERIAL_TRANSMIT = (uint8_t)*text++;
         lbu     a4,0(a5)
-        bnez    a4,board_trap.55.3
-board_trap.70:          # board.c:70      _exit(128 + (int)(cause & 31));
+        bnez    a4,board_trap.58.3
+board_trap.73:          # board.c:73      _exit(128 + (int)(cause & 31));
         andi    a0,s0,31
         addi    a0,a0,128
         jal     _exit
-board_trap.55.3:        # board.c:55      while (*text) SERIAL_TRANSMIT = (uint8_t)*text++;
+board_trap.58.3:        # board.c:58      while (*text) SERIAL_TRANSMIT = (uint8_t)*text++;
         addi    a5,a5,1
         sb      a4,0(a3)
-        j       board_trap.55.2
+        j       board_trap.58.2
 
 try:
 try.13:                 # harness.c:13  {
@@ -416,7 +420,7 @@ vfprintf.4:
         mv      a1,s7
         j       vfprintf.1
 vfprintf.5:
-        lui     a4,%hi(rodata.e8)
+        lui     a4,%hi(rodata.e0)
         li      s11,0
         li      s3,0
         li      s0,0
@@ -432,7 +436,7 @@ vfprintf.5:
         li      t5,127
         li      t6,16
         li      t0,9
-        addi    a4,a4,%lo(rodata.e8)
+        addi    a4,a4,%lo(rodata.e0)
 vfprintf.6:
         bltu    a2,s0,vfprintf.15
         addi    a5,s9,-32
@@ -572,9 +576,9 @@ vfprintf.33:
         andi    a5,a5,255
         li      a3,18
         bltu    a3,a5,vfprintf.59
-        lui     a3,%hi(rodata.12c)
+        lui     a3,%hi(rodata.124)
         slli    a5,a5,2
-        addi    a3,a3,%lo(rodata.12c)
+        addi    a3,a3,%lo(rodata.124)
         add     a5,a5,a3
         lw      a5,0(a5)
         jr      a5
@@ -1017,8 +1021,6 @@ __riscv_restore_1:
         ret
 
         .rodata
-name:
-        .asciz  "program"
 text.0123456789abcdef:
         .asciz  "0123456789abcdef"
         .space  3
@@ -1067,13 +1069,13 @@ text.null:
         .space  1
 text.float:
         .asciz  "*float*"
-rodata.e8:
+rodata.e0:
         .word   vfprintf.12,vfprintf.7,vfprintf.7,vfprintf.14
         .word   vfprintf.7,vfprintf.7,vfprintf.7,vfprintf.10
         .word   vfprintf.7,vfprintf.7,vfprintf.7,vfprintf.11
         .word   vfprintf.7,vfprintf.13,vfprintf.7,vfprintf.7
         .word   vfprintf.9
-rodata.12c:
+rodata.124:
         .word   vfprintf.34,vfprintf.44,vfprintf.59,vfprintf.59
         .word   vfprintf.59,vfprintf.59,vfprintf.44,vfprintf.59
         .word   vfprintf.59,vfprintf.59,vfprintf.59,vfprintf.59
@@ -1081,16 +1083,16 @@ rodata.12c:
         .word   vfprintf.35,vfprintf.59,vfprintf.53
 
         .data
-serial:
+name.0:
 __init_array_end:
 __preinit_array_end:
 __init_array_start:
 __preinit_array_start:
+        .asciz  "program"
+arguments.1:
+        .word   name.0,0
+serial:
         .word   0,3,put,get,0
-        .space  4
-
-        .section .arguments
-        .word   name
         .space  4
 
         .bss
