@@ -12,13 +12,27 @@ const MOST: usize = 20;
 /// How many bytes are shown of a line that is too long.
 const SHOWN: usize = 72;
 
-/// Appends a part of a line, in which control bytes but tabs are shown as question marks.
+/// Appends a part of a line, in which control characters but tabs are shown as question marks, and so is each
+/// byte above ASCII where the part isn't UTF-8.
 fn append_shown(part: &[u8], out: &mut Text) {
+    let Ok(text) = str::from_utf8(part) else {
+        return append_ascii(part, out);
+    };
+    for character in text.chars() {
+        if character != '\t' && character.is_control() {
+            out.put(b"?");
+        } else {
+            out.say(character.encode_utf8(&mut [0; 4]));
+        }
+    }
+}
+
+/// Appends a part of a line, in which bytes that aren't printing ASCII are shown as question marks, but tabs.
+fn append_ascii(part: &[u8], out: &mut Text) {
     for byte in part {
         match *byte {
-            b'\t' => out.put(b"\t"),
-            0..=31 | 127 => out.put(b"?"),
-            byte => out.put(&[byte]),
+            b'\t' | b' '..=b'~' => out.put(&[*byte]),
+            _ => out.put(b"?"),
         }
     }
 }
