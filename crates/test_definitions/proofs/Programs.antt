@@ -1,0 +1,59 @@
+-- The programs of src/runs.rt, run.
+use Rattle.std.proofs.Common.{◌≡◌, refl, true, ℕ}
+use Rattle.std.specs.Prelude.{[], ◌∷◌, replicate}
+use Rattle.std.specs.Fmt.{digits}
+use Rattle.rv_isa.specs.Alu.{alu_value, is_taken}
+use Rattle.rv_isa.specs.Fields.{kind_of}
+use Rattle.rv_isa.specs.Names.{csr_names}
+use Rattle.rv_isa.specs.Word.{OneMeaning}
+use Rattle.rv_pmp.specs.Pmp.{grants, read_register, write_register, is_locked_tor}
+use Rattle.rv_pmp.specs.Entry.{config_byte, configured, addressed}
+use Rattle.rv_csr.specs.Registers.{read, write, table, number_of, row_at, status_word, with_status, lines_word, word_lines}
+use Rattle.rv_csr.specs.Traps.{entered, left, trap_pc, pending}
+use Rattle.rv_plic.specs.Gateways.{asking_sources}
+use Rattle.rv_plic.specs.Sources.{sources}
+use Rattle.rv_plic.specs.Plic.{is_notified}
+use Rattle.rv_ram.specs.Bytes.{value_at, put, zeros}
+use Rattle.rv_bus.specs.Access.{load, store, fetch}
+use Rattle.rv_hart.specs.Effect.{execute, csr_written}
+use Rattle.rv_hart.specs.Step.{counts, enter}
+use Rattle.rv_board.specs.Boot.{reset}
+use Rattle.rv_board.specs.declared.event.Event.TheVariants.{Step}
+use Rattle.test_definitions.specs.Runs.{is_at, ran_for, image}
+use Rattle.test_definitions.specs.declared.runs.TheConstants.{HELLO, HELLO_ENDS, TRAP, TRAP_ENDS, USER, USER_ENDS, TIMER, TIMER_ENDS, CHANGES, CHANGES_ENDS}
+use Rattle.test_definitions.proofs.Running.{run_is}
+
+-- what a run computes by
+computes : ℕ
+unfolding alu_value is_taken kind_of csr_names grants read_register write_register is_locked_tor config_byte configured addressed read write table number_of row_at status_word with_status lines_word word_lines entered left trap_pc pending asking_sources sources is_notified value_at put zeros load store fetch execute csr_written counts enter reset digits
+computes = 0
+
+pub hello : OneMeaning → is_at 0x8000001c HELLO_ENDS (72 ∷ []) (ran_for HELLO 7) ≡ true
+unfolding computes
+hello one =
+    run_is HELLO (is_at 0x8000001c HELLO_ENDS (72 ∷ [])) (replicate 7 Step) (reset (image HELLO) 4096) one
+    refl refl
+
+pub trap : OneMeaning → is_at 0x80000018 TRAP_ENDS ([]) (ran_for TRAP 16) ≡ true
+unfolding computes
+trap one =
+    run_is TRAP (is_at 0x80000018 TRAP_ENDS ([])) (replicate 16 Step) (reset (image TRAP) 4096) one
+    refl refl
+
+pub user : OneMeaning → is_at 0x8000003c USER_ENDS ([]) (ran_for USER 16) ≡ true
+unfolding computes
+user one =
+    run_is USER (is_at 0x8000003c USER_ENDS ([])) (replicate 16 Step) (reset (image USER) 4096) one
+    refl refl
+
+pub timer : OneMeaning → is_at 0x8000003c TIMER_ENDS ([]) (ran_for TIMER 17) ≡ true
+unfolding computes
+timer one =
+    run_is TIMER (is_at 0x8000003c TIMER_ENDS ([])) (replicate 17 Step) (reset (image TIMER) 4096) one
+    refl refl
+
+pub changes : OneMeaning → is_at 0x80000014 CHANGES_ENDS ([]) (ran_for CHANGES 5) ≡ true
+unfolding computes
+changes one =
+    run_is CHANGES (is_at 0x80000014 CHANGES_ENDS ([])) (replicate 5 Step) (reset (image CHANGES) 4096) one
+    refl refl

@@ -1,0 +1,5 @@
+pub mod Devices
+pub mod Instructions
+pub mod Registers
+pub mod Runs
+pub mod Traps

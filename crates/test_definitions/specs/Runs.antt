@@ -1,0 +1,35 @@
+-- What the rows of src/runs.rt say of the definition of a run.
+use Rattle.std.specs.Prelude.{ℕ, ℤ, Bool, ◌==◌, ◌&&◌, List, flat_map, replicate, slice_index}
+use Rattle.std.specs.Int.{to_le_bytes, w32}
+use Rattle.std.specs.List.{list_all}
+use Rattle.std.specs.Str.{bytes_eq}
+use Rattle.rv_isa.specs.declared.op.Operation.{Operation}
+use Rattle.rv_isa.specs.declared.fields.Fields.{Fields}
+use Rattle.rv_isa.specs.Fields.{with_fields}
+use Rattle.rv_board.specs.BoardState.{BoardState}
+use Rattle.rv_board.specs.Boot.{reset}
+use Rattle.rv_board.specs.Move.{run}
+use Rattle.rv_board.specs.declared.event.Event.TheVariants.{Step}
+
+-- a row of a program: an operation; rd, rs1 and rs2; the immediate; and the word
+abbrev pub Row : Type 0
+Row = Operation × List ℕ × ℤ × ℕ
+
+abbrev pub fields : Row → Fields
+fields row = with_fields row.0 (slice_index row.1 0) (slice_index row.1 1) (slice_index row.1 2) row.2
+
+-- the bytes of a program's words
+abbrev pub image : List Row → List ℕ
+image rows = flat_map (λ row. to_le_bytes w32 row.3) rows
+
+-- a board with a page of memory, after it ran a program for a number of steps from its reset on
+abbrev pub ran_for : List Row → ℕ → BoardState
+ran_for rows steps = run (reset (image rows) 4096) (replicate steps Step)
+
+-- a register has a value
+abbrev pub has : BoardState → ℕ × ℕ → Bool
+has b row = slice_index b.machine.registers row.0 == row.1
+
+-- a board stands at an address, with values in registers, and has sent a text
+abbrev pub is_at : ℕ → List (ℕ × ℕ) → List ℕ → BoardState → Bool
+is_at pc values sent b = (b.machine.pc == pc) && list_all (has b) values && bytes_eq b.machine.bus.serial.sent sent

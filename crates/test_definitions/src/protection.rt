@@ -1,0 +1,404 @@
+//! Accesses that physical memory protection grants.
+ghost use Rattle.std.specs.Prelude.{◌≡◌, true};
+ghost use Rattle.std.specs.List.{list_all};
+ghost use Rattle.test_definitions.specs.Registers.{is_granted};
+
+use Access::{Execute, Read, Write};
+use Mode::{Machine, User};
+use Width::{Four, One, Two};
+use rv_isa::Width;
+use rv_pmp::{Access, Mode};
+
+/// Whether accesses are granted (Privileged Architecture 20211203, section 3.7.1). A row has pmpaddr0 to pmpaddr3,
+/// which are written first, then pmpcfg0; the mode and the access with its address and width; and the answer.
+///
+/// The configurations: 08 TOR, 10 NA4, 18 NAPOT, with 1 for R, 2 for W, 4 for X, and 80 for a locked entry. NAPOT
+/// with k ones at the end of its address has 2^(k+3) bytes.
+pub const ACCESSES: [([u32; 4], u32, Mode, Access, u32, Width, bool); 40] = [
+    // without a matching entry machine mode may do all, user mode nothing
+    ([0, 0, 0, 0], 0, Machine, Execute, 0x8000_0000, Four, true),
+    ([0, 0, 0, 0], 0, User, Read, 0x8000_0000, Four, false),
+    // NA4 at 0x80000010
+    (
+        [0x2000_0004, 0, 0, 0],
+        0x11,
+        User,
+        Read,
+        0x8000_0010,
+        Four,
+        true,
+    ),
+    (
+        [0x2000_0004, 0, 0, 0],
+        0x11,
+        User,
+        Read,
+        0x8000_0013,
+        One,
+        true,
+    ),
+    (
+        [0x2000_0004, 0, 0, 0],
+        0x11,
+        User,
+        Read,
+        0x8000_000f,
+        One,
+        false,
+    ),
+    (
+        [0x2000_0004, 0, 0, 0],
+        0x11,
+        User,
+        Read,
+        0x8000_0014,
+        One,
+        false,
+    ),
+    (
+        [0x2000_0004, 0, 0, 0],
+        0x11,
+        User,
+        Write,
+        0x8000_0010,
+        Four,
+        false,
+    ),
+    // NAPOT of 8 bytes, 0x80000018 to 0x8000001f
+    (
+        [0x2000_0006, 0, 0, 0],
+        0x1b,
+        User,
+        Write,
+        0x8000_0018,
+        Four,
+        true,
+    ),
+    (
+        [0x2000_0006, 0, 0, 0],
+        0x1b,
+        User,
+        Write,
+        0x8000_001f,
+        One,
+        true,
+    ),
+    (
+        [0x2000_0006, 0, 0, 0],
+        0x1b,
+        User,
+        Write,
+        0x8000_0020,
+        One,
+        false,
+    ),
+    (
+        [0x2000_0006, 0, 0, 0],
+        0x1b,
+        User,
+        Write,
+        0x8000_0017,
+        One,
+        false,
+    ),
+    // NAPOT of 4096 bytes, 0x80001000 to 0x80001fff
+    (
+        [0x2000_05ff, 0, 0, 0],
+        0x1c,
+        User,
+        Execute,
+        0x8000_1000,
+        Four,
+        true,
+    ),
+    (
+        [0x2000_05ff, 0, 0, 0],
+        0x1c,
+        User,
+        Execute,
+        0x8000_1ffc,
+        Four,
+        true,
+    ),
+    (
+        [0x2000_05ff, 0, 0, 0],
+        0x1c,
+        User,
+        Execute,
+        0x8000_2000,
+        Four,
+        false,
+    ),
+    (
+        [0x2000_05ff, 0, 0, 0],
+        0x1c,
+        User,
+        Execute,
+        0x8000_0ffc,
+        Four,
+        false,
+    ),
+    // NAPOT of all ones: every byte
+    ([0xffff_ffff, 0, 0, 0], 0x19, User, Read, 0, One, true),
+    (
+        [0xffff_ffff, 0, 0, 0],
+        0x19,
+        User,
+        Read,
+        0xffff_fffc,
+        Four,
+        true,
+    ),
+    // TOR of entry 0 begins at 0, of entry 1 at the address of entry 0
+    ([0x2000_0400, 0, 0, 0], 0x09, User, Read, 0, One, true),
+    (
+        [0x2000_0400, 0, 0, 0],
+        0x09,
+        User,
+        Read,
+        0x8000_0fff,
+        One,
+        true,
+    ),
+    (
+        [0x2000_0400, 0, 0, 0],
+        0x09,
+        User,
+        Read,
+        0x8000_1000,
+        One,
+        false,
+    ),
+    (
+        [0x2000_0400, 0x2000_0800, 0, 0],
+        0x0900,
+        User,
+        Read,
+        0x8000_1000,
+        Four,
+        true,
+    ),
+    (
+        [0x2000_0400, 0x2000_0800, 0, 0],
+        0x0900,
+        User,
+        Read,
+        0x8000_1ffe,
+        Two,
+        true,
+    ),
+    (
+        [0x2000_0400, 0x2000_0800, 0, 0],
+        0x0900,
+        User,
+        Read,
+        0x8000_2000,
+        Two,
+        false,
+    ),
+    (
+        [0x2000_0400, 0x2000_0800, 0, 0],
+        0x0900,
+        User,
+        Read,
+        0x8000_0fff,
+        One,
+        false,
+    ),
+    // TOR whose end isn't above its begin has no byte
+    (
+        [0x2000_0800, 0x2000_0800, 0, 0],
+        0x0900,
+        User,
+        Read,
+        0x8000_2000,
+        One,
+        false,
+    ),
+    // the lowest entry that matches any byte decides
+    (
+        [0x2000_0004, 0xffff_ffff, 0, 0],
+        0x1f10,
+        User,
+        Read,
+        0x8000_0010,
+        Four,
+        false,
+    ),
+    (
+        [0x2000_0004, 0xffff_ffff, 0, 0],
+        0x1f10,
+        User,
+        Read,
+        0x8000_0014,
+        Four,
+        true,
+    ),
+    (
+        [0xffff_ffff, 0x2000_0004, 0, 0],
+        0x101f,
+        User,
+        Read,
+        0x8000_0010,
+        Four,
+        true,
+    ),
+    // and has to match all of them
+    (
+        [0x2000_0004, 0xffff_ffff, 0, 0],
+        0x1f17,
+        User,
+        Read,
+        0x8000_0012,
+        Four,
+        false,
+    ),
+    (
+        [0x2000_0004, 0, 0, 0],
+        0x17,
+        User,
+        Read,
+        0x8000_000e,
+        Four,
+        false,
+    ),
+    // W without R is kept as neither
+    (
+        [0xffff_ffff, 0, 0, 0],
+        0x1a,
+        User,
+        Write,
+        0x8000_0000,
+        Four,
+        false,
+    ),
+    // an entry binds machine mode only where it is locked
+    (
+        [0x2000_0004, 0, 0, 0],
+        0x10,
+        Machine,
+        Write,
+        0x8000_0010,
+        Four,
+        true,
+    ),
+    (
+        [0x2000_0004, 0, 0, 0],
+        0x90,
+        Machine,
+        Write,
+        0x8000_0010,
+        Four,
+        false,
+    ),
+    (
+        [0x2000_0004, 0, 0, 0],
+        0x91,
+        Machine,
+        Read,
+        0x8000_0010,
+        Four,
+        true,
+    ),
+    (
+        [0x2000_0004, 0, 0, 0],
+        0x91,
+        Machine,
+        Execute,
+        0x8000_0010,
+        Four,
+        false,
+    ),
+    (
+        [0x2000_0004, 0, 0, 0],
+        0x91,
+        Machine,
+        Execute,
+        0x8000_0014,
+        Four,
+        true,
+    ),
+    // entries 2 and 3, and one that is off
+    (
+        [0, 0, 0x2000_0004, 0],
+        0x0013_0000,
+        User,
+        Write,
+        0x8000_0010,
+        Four,
+        true,
+    ),
+    (
+        [0, 0, 0, 0x2000_0004],
+        0x1400_0000,
+        User,
+        Execute,
+        0x8000_0010,
+        Four,
+        true,
+    ),
+    (
+        [0, 0, 0, 0x2000_0004],
+        0x1400_0000,
+        User,
+        Read,
+        0x8000_0010,
+        Four,
+        false,
+    ),
+    (
+        [0xffff_ffff, 0, 0, 0],
+        0x07,
+        User,
+        Read,
+        0x8000_0010,
+        Four,
+        false,
+    ),
+];
+
+/// Law: the definition of protection gives each row of `ACCESSES`.
+#[tactic(auto, using(crate::proofs::Machine::each_access))]
+pub fn accesses_are_defined()
+    ensures { list_all is_granted ACCESSES ≡ true }
+{}
+
+#[cfg(test)]
+mod tests {
+    use super::ACCESSES;
+    use rv_isa::Width;
+    use rv_pmp::{Access, Mode, Pmp};
+
+    /// Returns protection with these addresses and configurations.
+    fn protection(addresses: [u32; 4], config: u32) -> Option<Pmp> {
+        let mut pmp = Pmp::new();
+        pmp.write_csr(0x3b0, addresses[0])?;
+        pmp.write_csr(0x3b1, addresses[1])?;
+        pmp.write_csr(0x3b2, addresses[2])?;
+        pmp.write_csr(0x3b3, addresses[3])?;
+        pmp.write_csr(0x3a0, config)?;
+        Some(pmp)
+    }
+
+    /// Whether such protection allows an access.
+    fn allows(
+        pmp: Option<Pmp>,
+        mode: Mode,
+        access: Access,
+        addr: u32,
+        width: Width,
+    ) -> Option<bool> {
+        Some(pmp?.allowed(mode, access, addr, width))
+    }
+
+    #[test]
+    fn accesses(rt: HostRuntime) {
+        for &(addresses, config, mode, access, addr, width, answer) in ACCESSES.iter() {
+            let pmp = protection(addresses, config);
+            assert!(rt;
+                allows(pmp, mode, access, addr, width) == Some(answer),
+                "{config:x} {addr:x}"
+            );
+        }
+    }
+}

@@ -1,0 +1,235 @@
+//! Whole runs: programs by their words, and what they leave.
+ghost use Rattle.std.specs.Prelude.{◌≡◌, true, ◌∷◌, []};
+ghost use Rattle.test_definitions.specs.Runs.{ran_for, is_at};
+
+use rv_isa::{Operation, one_meaning};
+
+// A program is a list of words, the first at 0x80000000, each with its operation, its rd, rs1 and rs2, and its
+// immediate. The words are those of GNU's assembler.
+
+/// Sends `H`, and halts the board with code 0.
+pub const HELLO: [(Operation, [u8; 3], i32, u32); 7] = [
+    // lui x5,0x10000
+    (Operation::Lui, [5, 0, 0], 65536, 0x100002b7),
+    // addi x10,x0,72
+    (Operation::Addi, [10, 0, 0], 72, 0x04800513),
+    // sw x10,0(x5)
+    (Operation::Sw, [0, 5, 10], 0, 0x00a2a023),
+    // lui x6,0x100
+    (Operation::Lui, [6, 0, 0], 256, 0x00100337),
+    // lui x7,0x5
+    (Operation::Lui, [7, 0, 0], 5, 0x000053b7),
+    // addi x7,x7,1365
+    (Operation::Addi, [7, 7, 0], 1365, 0x55538393),
+    // sw x7,0(x6)
+    (Operation::Sw, [0, 6, 7], 0, 0x00732023),
+];
+
+/// Registers after 7 steps of it, each with its value.
+pub const HELLO_ENDS: [(u8, u32); 2] = [(10, 72), (7, 0x5555)];
+
+/// A handler that keeps mcause in x10 and goes on behind the instruction that trapped: once behind an ECALL of
+/// machine mode, whose cause is 11, and once behind an EBREAK, whose cause is 3.
+pub const TRAP: [(Operation, [u8; 3], i32, u32); 12] = [
+    // auipc x5,0x0
+    (Operation::Auipc, [5, 0, 0], 0, 0x00000297),
+    // addi x5,x5,28
+    (Operation::Addi, [5, 5, 0], 28, 0x01c28293),
+    // csrrw x0,mtvec,x5
+    (Operation::Csrrw, [0, 5, 0], 773, 0x30529073),
+    // ecall
+    (Operation::Ecall, [0, 0, 0], 0, 0x00000073),
+    // addi x11,x0,5
+    (Operation::Addi, [11, 0, 0], 5, 0x00500593),
+    // ebreak
+    (Operation::Ebreak, [0, 0, 0], 0, 0x00100073),
+    // jal x0,18
+    (Operation::Jal, [0, 0, 0], 0, 0x0000006f),
+    // csrrs x10,mcause,x0
+    (Operation::Csrrs, [10, 0, 0], 834, 0x34202573),
+    // csrrs x6,mepc,x0
+    (Operation::Csrrs, [6, 0, 0], 833, 0x34102373),
+    // addi x6,x6,4
+    (Operation::Addi, [6, 6, 0], 4, 0x00430313),
+    // csrrw x0,mepc,x6
+    (Operation::Csrrw, [0, 6, 0], 833, 0x34131073),
+    // mret
+    (Operation::Mret, [0, 0, 0], 0, 0x30200073),
+];
+
+/// Registers after 16 steps of it, each with its value.
+pub const TRAP_ENDS: [(u8, u32); 3] = [(10, 3), (11, 5), (6, 0x80000018)];
+
+/// A user task that may read and execute the 32 bytes from 0x80000040 on (NAPOT with two ones at its end). Its load
+/// gives the second word there, and its store to the third is refused: cause 7, with the address in mtval.
+pub const USER: [(Operation, [u8; 3], i32, u32); 20] = [
+    // auipc x5,0x0
+    (Operation::Auipc, [5, 0, 0], 0, 0x00000297),
+    // addi x6,x5,52
+    (Operation::Addi, [6, 5, 0], 52, 0x03428313),
+    // csrrw x0,mtvec,x6
+    (Operation::Csrrw, [0, 6, 0], 773, 0x30531073),
+    // lui x7,0x20000
+    (Operation::Lui, [7, 0, 0], 131072, 0x200003b7),
+    // addi x7,x7,19
+    (Operation::Addi, [7, 7, 0], 19, 0x01338393),
+    // csrrw x0,pmpaddr0,x7
+    (Operation::Csrrw, [0, 7, 0], 944, 0x3b039073),
+    // addi x7,x0,29
+    (Operation::Addi, [7, 0, 0], 29, 0x01d00393),
+    // csrrw x0,pmpcfg0,x7
+    (Operation::Csrrw, [0, 7, 0], 928, 0x3a039073),
+    // addi x6,x5,64
+    (Operation::Addi, [6, 5, 0], 64, 0x04028313),
+    // csrrw x0,mepc,x6
+    (Operation::Csrrw, [0, 6, 0], 833, 0x34131073),
+    // mret
+    (Operation::Mret, [0, 0, 0], 0, 0x30200073),
+    // addi x0,x0,0
+    (Operation::Addi, [0, 0, 0], 0, 0x00000013),
+    // addi x0,x0,0
+    (Operation::Addi, [0, 0, 0], 0, 0x00000013),
+    // csrrs x10,mcause,x0
+    (Operation::Csrrs, [10, 0, 0], 834, 0x34202573),
+    // csrrs x11,mtval,x0
+    (Operation::Csrrs, [11, 0, 0], 835, 0x343025f3),
+    // jal x0,3c
+    (Operation::Jal, [0, 0, 0], 0, 0x0000006f),
+    // lw x12,4(x6)
+    (Operation::Lw, [12, 6, 0], 4, 0x00432603),
+    // addi x13,x0,7
+    (Operation::Addi, [13, 0, 0], 7, 0x00700693),
+    // sw x13,8(x6)
+    (Operation::Sw, [0, 6, 13], 8, 0x00d32423),
+    // addi x13,x0,9
+    (Operation::Addi, [13, 0, 0], 9, 0x00900693),
+];
+
+/// Registers after 16 steps of it, each with its value.
+pub const USER_ENDS: [(u8, u32); 4] = [(10, 7), (11, 0x80000048), (12, 0x700693), (13, 7)];
+
+/// A timer interrupt: the time to compare with is 14, so step 14 takes it in place of the second jump, where x11 was
+/// counted up twice. The handler reads mcause and the time, which is 17 in step 17.
+pub const TIMER: [(Operation, [u8; 3], i32, u32); 16] = [
+    // auipc x5,0x0
+    (Operation::Auipc, [5, 0, 0], 0, 0x00000297),
+    // addi x5,x5,48
+    (Operation::Addi, [5, 5, 0], 48, 0x03028293),
+    // csrrw x0,mtvec,x5
+    (Operation::Csrrw, [0, 5, 0], 773, 0x30529073),
+    // lui x6,0x2004
+    (Operation::Lui, [6, 0, 0], 8196, 0x02004337),
+    // addi x7,x0,14
+    (Operation::Addi, [7, 0, 0], 14, 0x00e00393),
+    // sw x7,0(x6)
+    (Operation::Sw, [0, 6, 7], 0, 0x00732023),
+    // sw x0,4(x6)
+    (Operation::Sw, [0, 6, 0], 4, 0x00032223),
+    // addi x7,x0,128
+    (Operation::Addi, [7, 0, 0], 128, 0x08000393),
+    // csrrw x0,mie,x7
+    (Operation::Csrrw, [0, 7, 0], 772, 0x30439073),
+    // csrrsi x0,mstatus,8
+    (Operation::Csrrsi, [0, 8, 0], 768, 0x30046073),
+    // addi x11,x11,1
+    (Operation::Addi, [11, 11, 0], 1, 0x00158593),
+    // jal x0,28
+    (Operation::Jal, [0, 0, 0], -4, 0xffdff06f),
+    // csrrs x10,mcause,x0
+    (Operation::Csrrs, [10, 0, 0], 834, 0x34202573),
+    // lui x7,0x200c
+    (Operation::Lui, [7, 0, 0], 8204, 0x0200c3b7),
+    // lw x12,-8(x7)
+    (Operation::Lw, [12, 7, 0], -8, 0xff83a603),
+    // jal x0,3c
+    (Operation::Jal, [0, 0, 0], 0, 0x0000006f),
+];
+
+/// Registers after 17 steps of it, each with its value.
+pub const TIMER_ENDS: [(u8, u32); 3] = [(10, 0x80000007), (11, 2), (12, 17)];
+
+/// Code that changes itself: it stores the last word over the fifth before that is executed, so x10 gets 40 more
+/// than 1, and not 2.
+pub const CHANGES: [(Operation, [u8; 3], i32, u32); 7] = [
+    // auipc x5,0x0
+    (Operation::Auipc, [5, 0, 0], 0, 0x00000297),
+    // lw x6,24(x5)
+    (Operation::Lw, [6, 5, 0], 24, 0x0182a303),
+    // addi x10,x0,1
+    (Operation::Addi, [10, 0, 0], 1, 0x00100513),
+    // sw x6,16(x5)
+    (Operation::Sw, [0, 5, 6], 16, 0x0062a823),
+    // addi x10,x0,2
+    (Operation::Addi, [10, 0, 0], 2, 0x00200513),
+    // jal x0,14
+    (Operation::Jal, [0, 0, 0], 0, 0x0000006f),
+    // addi x10,x10,40
+    (Operation::Addi, [10, 10, 0], 40, 0x02850513),
+];
+
+/// Registers after 5 steps of it, each with its value.
+pub const CHANGES_ENDS: [(u8, u32); 2] = [(10, 41), (6, 0x2850513)];
+
+/// Law: on the definition of a run, each program leaves this pc, these registers and this console after so many steps.
+#[tactic(auto, using(crate::proofs::Programs::hello, crate::proofs::Programs::trap, crate::proofs::Programs::user, crate::proofs::Programs::timer, crate::proofs::Programs::changes))]
+pub fn runs_are_defined()
+    ensures hello { is_at 0x8000001c HELLO_ENDS (72 ∷ []) (ran_for HELLO 7) ≡ true }
+    ensures trap { is_at 0x80000018 TRAP_ENDS ([]) (ran_for TRAP 16) ≡ true }
+    ensures user { is_at 0x8000003c USER_ENDS ([]) (ran_for USER 16) ≡ true }
+    ensures timer { is_at 0x8000003c TIMER_ENDS ([]) (ran_for TIMER 17) ≡ true }
+    ensures changes { is_at 0x80000014 CHANGES_ENDS ([]) (ran_for CHANGES 5) ≡ true }
+{
+    one_meaning();
+}
+
+#[cfg(test)]
+mod tests {
+    use super::*;
+    use rv_board::{BootedBoard, Event};
+    use rv_isa::Reg;
+    use std::alloc::Global;
+    use std::test::Fail;
+
+    type Row = (Operation, [u8; 3], i32, u32);
+
+    /// Boots a board with the words of a program, and takes steps.
+    fn ran_for(alloc: Global, rows: &[Row], steps: u64) -> Result<BootedBoard, &'static str> {
+        let mut image = Vec::new(alloc);
+        for &(_, _, _, word) in rows.iter() {
+            for byte in word.to_le_bytes() {
+                image.push(byte).ok().ok_or("no memory")?;
+            }
+        }
+        let mut board = BootedBoard::boot(alloc, &image, 1, 64)
+            .ok()
+            .ok_or("no board")?;
+        for _ in 0..steps {
+            board.apply(Event::Step).ok().ok_or("no memory")?;
+        }
+        Ok(board)
+    }
+
+    /// Whether a board stands at an address, with values in registers, and has sent a text.
+    fn is_at(board: &BootedBoard, pc: u32, values: &[(u8, u32)], sent: &[u8]) -> bool {
+        let mut are = board.pc() == pc && board.console() == sent;
+        for &(number, value) in values.iter() {
+            are = are && Reg::new(number).is_some_and(|reg| board.reg(reg) == value);
+        }
+        are
+    }
+
+    #[test]
+    fn runs(rt: HostRuntime) -> Result<(), Fail> {
+        let board = ran_for(rt.alloc(), HELLO.as_slice(), 7)?;
+        assert!(rt; is_at(&board, 0x8000001c, HELLO_ENDS.as_slice(), b"H".as_slice()));
+        let board = ran_for(rt.alloc(), TRAP.as_slice(), 16)?;
+        assert!(rt; is_at(&board, 0x80000018, TRAP_ENDS.as_slice(), b"".as_slice()));
+        let board = ran_for(rt.alloc(), USER.as_slice(), 16)?;
+        assert!(rt; is_at(&board, 0x8000003c, USER_ENDS.as_slice(), b"".as_slice()));
+        let board = ran_for(rt.alloc(), TIMER.as_slice(), 17)?;
+        assert!(rt; is_at(&board, 0x8000003c, TIMER_ENDS.as_slice(), b"".as_slice()));
+        let board = ran_for(rt.alloc(), CHANGES.as_slice(), 5)?;
+        assert!(rt; is_at(&board, 0x80000014, CHANGES_ENDS.as_slice(), b"".as_slice()));
+        Ok(())
+    }
+}

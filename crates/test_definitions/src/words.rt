@@ -1,0 +1,498 @@
+//! Words of instructions and their texts.
+ghost use Rattle.std.specs.Prelude.{◌≡◌, true};
+ghost use Rattle.std.specs.List.{list_all};
+ghost use Rattle.test_definitions.specs.Instructions.{is_word};
+
+use rv_isa::Operation;
+
+/// Each operation with fields: its rd, rs1 and rs2, its immediate, its word, and its text, filled up with blanks.
+/// Words and texts are those of LLVM's assembler, but for the numbers of control registers and the targets of
+/// jumps, which this project writes in its own way.
+pub const WORDS: [(Operation, [u8; 3], i32, u32, [u8; 21]); 63] = [
+    (
+        Operation::Lui,
+        [5, 0, 0],
+        65536,
+        0x100002b7,
+        *b"lui x5,0x10000       ",
+    ),
+    (
+        Operation::Lui,
+        [31, 0, 0],
+        0,
+        0x00000fb7,
+        *b"lui x31,0x0          ",
+    ),
+    (
+        Operation::Auipc,
+        [10, 0, 0],
+        1048575,
+        0xfffff517,
+        *b"auipc x10,0xfffff    ",
+    ),
+    (
+        Operation::Jal,
+        [1, 0, 0],
+        -1048576,
+        0x800000ef,
+        *b"jal x1,.-1048576     ",
+    ),
+    (
+        Operation::Jal,
+        [0, 0, 0],
+        1048574,
+        0x7ffff06f,
+        *b"jal x0,.+1048574     ",
+    ),
+    (
+        Operation::Jalr,
+        [0, 1, 0],
+        0,
+        0x00008067,
+        *b"jalr x0,0(x1)        ",
+    ),
+    (
+        Operation::Jalr,
+        [31, 30, 0],
+        -2048,
+        0x800f0fe7,
+        *b"jalr x31,-2048(x30)  ",
+    ),
+    (
+        Operation::Beq,
+        [0, 0, 0],
+        -4,
+        0xfe000ee3,
+        *b"beq x0,x0,.-4        ",
+    ),
+    (
+        Operation::Bne,
+        [0, 1, 2],
+        4094,
+        0x7e209fe3,
+        *b"bne x1,x2,.+4094     ",
+    ),
+    (
+        Operation::Blt,
+        [0, 3, 4],
+        -4096,
+        0x8041c063,
+        *b"blt x3,x4,.-4096     ",
+    ),
+    (
+        Operation::Bge,
+        [0, 5, 6],
+        2048,
+        0x0062d0e3,
+        *b"bge x5,x6,.+2048     ",
+    ),
+    (
+        Operation::Bltu,
+        [0, 7, 8],
+        30,
+        0x0083ef63,
+        *b"bltu x7,x8,.+30      ",
+    ),
+    (
+        Operation::Bgeu,
+        [0, 9, 10],
+        2,
+        0x00a4f163,
+        *b"bgeu x9,x10,.+2      ",
+    ),
+    (
+        Operation::Lb,
+        [1, 2, 0],
+        -1,
+        0xfff10083,
+        *b"lb x1,-1(x2)         ",
+    ),
+    (
+        Operation::Lh,
+        [3, 4, 0],
+        2047,
+        0x7ff21183,
+        *b"lh x3,2047(x4)       ",
+    ),
+    (
+        Operation::Lw,
+        [10, 5, 0],
+        4,
+        0x0042a503,
+        *b"lw x10,4(x5)         ",
+    ),
+    (
+        Operation::Lbu,
+        [5, 6, 0],
+        -2048,
+        0x80034283,
+        *b"lbu x5,-2048(x6)     ",
+    ),
+    (
+        Operation::Lhu,
+        [7, 8, 0],
+        0,
+        0x00045383,
+        *b"lhu x7,0(x8)         ",
+    ),
+    (
+        Operation::Sb,
+        [0, 2, 10],
+        31,
+        0x00a10fa3,
+        *b"sb x10,31(x2)        ",
+    ),
+    (
+        Operation::Sh,
+        [0, 3, 11],
+        -32,
+        0xfeb19023,
+        *b"sh x11,-32(x3)       ",
+    ),
+    (
+        Operation::Sw,
+        [0, 2, 10],
+        -4,
+        0xfea12e23,
+        *b"sw x10,-4(x2)        ",
+    ),
+    (
+        Operation::Addi,
+        [7, 7, 0],
+        1365,
+        0x55538393,
+        *b"addi x7,x7,1365      ",
+    ),
+    (
+        Operation::Slti,
+        [1, 2, 0],
+        -2048,
+        0x80012093,
+        *b"slti x1,x2,-2048     ",
+    ),
+    (
+        Operation::Sltiu,
+        [3, 4, 0],
+        2047,
+        0x7ff23193,
+        *b"sltiu x3,x4,2047     ",
+    ),
+    (
+        Operation::Xori,
+        [5, 6, 0],
+        -1,
+        0xfff34293,
+        *b"xori x5,x6,-1        ",
+    ),
+    (
+        Operation::Ori,
+        [7, 8, 0],
+        256,
+        0x10046393,
+        *b"ori x7,x8,256        ",
+    ),
+    (
+        Operation::Andi,
+        [9, 10, 0],
+        0,
+        0x00057493,
+        *b"andi x9,x10,0        ",
+    ),
+    (
+        Operation::Slli,
+        [11, 12, 0],
+        1,
+        0x00161593,
+        *b"slli x11,x12,1       ",
+    ),
+    (
+        Operation::Srli,
+        [13, 14, 0],
+        16,
+        0x01075693,
+        *b"srli x13,x14,16      ",
+    ),
+    (
+        Operation::Srai,
+        [5, 5, 0],
+        31,
+        0x41f2d293,
+        *b"srai x5,x5,31        ",
+    ),
+    (
+        Operation::Add,
+        [1, 2, 3],
+        0,
+        0x003100b3,
+        *b"add x1,x2,x3         ",
+    ),
+    (
+        Operation::Sub,
+        [5, 6, 7],
+        0,
+        0x407302b3,
+        *b"sub x5,x6,x7         ",
+    ),
+    (
+        Operation::Sll,
+        [4, 5, 6],
+        0,
+        0x00629233,
+        *b"sll x4,x5,x6         ",
+    ),
+    (
+        Operation::Slt,
+        [7, 8, 9],
+        0,
+        0x009423b3,
+        *b"slt x7,x8,x9         ",
+    ),
+    (
+        Operation::Sltu,
+        [10, 11, 12],
+        0,
+        0x00c5b533,
+        *b"sltu x10,x11,x12     ",
+    ),
+    (
+        Operation::Xor,
+        [13, 14, 15],
+        0,
+        0x00f746b3,
+        *b"xor x13,x14,x15      ",
+    ),
+    (
+        Operation::Srl,
+        [16, 17, 18],
+        0,
+        0x0128d833,
+        *b"srl x16,x17,x18      ",
+    ),
+    (
+        Operation::Sra,
+        [19, 20, 21],
+        0,
+        0x415a59b3,
+        *b"sra x19,x20,x21      ",
+    ),
+    (
+        Operation::Or,
+        [22, 23, 24],
+        0,
+        0x018beb33,
+        *b"or x22,x23,x24       ",
+    ),
+    (
+        Operation::And,
+        [25, 26, 27],
+        0,
+        0x01bd7cb3,
+        *b"and x25,x26,x27      ",
+    ),
+    (
+        Operation::Mul,
+        [5, 6, 7],
+        0,
+        0x027302b3,
+        *b"mul x5,x6,x7         ",
+    ),
+    (
+        Operation::Mulh,
+        [8, 9, 10],
+        0,
+        0x02a49433,
+        *b"mulh x8,x9,x10       ",
+    ),
+    (
+        Operation::Mulhsu,
+        [11, 12, 13],
+        0,
+        0x02d625b3,
+        *b"mulhsu x11,x12,x13   ",
+    ),
+    (
+        Operation::Mulhu,
+        [14, 15, 16],
+        0,
+        0x0307b733,
+        *b"mulhu x14,x15,x16    ",
+    ),
+    (
+        Operation::Div,
+        [17, 18, 19],
+        0,
+        0x033948b3,
+        *b"div x17,x18,x19      ",
+    ),
+    (
+        Operation::Divu,
+        [20, 21, 22],
+        0,
+        0x036ada33,
+        *b"divu x20,x21,x22     ",
+    ),
+    (
+        Operation::Rem,
+        [23, 24, 25],
+        0,
+        0x039c6bb3,
+        *b"rem x23,x24,x25      ",
+    ),
+    (
+        Operation::Remu,
+        [26, 27, 28],
+        0,
+        0x03cdfd33,
+        *b"remu x26,x27,x28     ",
+    ),
+    (
+        Operation::Fence,
+        [0, 0, 0],
+        255,
+        0x0ff0000f,
+        *b"fence                ",
+    ),
+    (
+        Operation::FenceI,
+        [0, 0, 0],
+        0,
+        0x0000100f,
+        *b"fence.i              ",
+    ),
+    (
+        Operation::Csrrw,
+        [0, 5, 0],
+        3857,
+        0xf1129073,
+        *b"csrrw x0,0xf11,x5    ",
+    ),
+    (
+        Operation::Csrrs,
+        [6, 0, 0],
+        768,
+        0x30002373,
+        *b"csrrs x6,0x300,x0    ",
+    ),
+    (
+        Operation::Csrrc,
+        [7, 8, 0],
+        2816,
+        0xb00433f3,
+        *b"csrrc x7,0xb00,x8    ",
+    ),
+    (
+        Operation::Csrrwi,
+        [0, 8, 0],
+        768,
+        0x30045073,
+        *b"csrrwi x0,0x300,8    ",
+    ),
+    (
+        Operation::Csrrsi,
+        [1, 31, 0],
+        833,
+        0x341fe0f3,
+        *b"csrrsi x1,0x341,31   ",
+    ),
+    (
+        Operation::Csrrci,
+        [2, 0, 0],
+        4095,
+        0xfff07173,
+        *b"csrrci x2,0xfff,0    ",
+    ),
+    (
+        Operation::Ecall,
+        [0, 0, 0],
+        0,
+        0x00000073,
+        *b"ecall                ",
+    ),
+    (
+        Operation::Ebreak,
+        [0, 0, 0],
+        0,
+        0x00100073,
+        *b"ebreak               ",
+    ),
+    (
+        Operation::Mret,
+        [0, 0, 0],
+        0,
+        0x30200073,
+        *b"mret                 ",
+    ),
+    (
+        Operation::Wfi,
+        [0, 0, 0],
+        0,
+        0x10500073,
+        *b"wfi                  ",
+    ),
+    (
+        Operation::Fence,
+        [0, 0, 0],
+        2099,
+        0x8330000f,
+        *b"fence                ",
+    ),
+    (
+        Operation::Fence,
+        [0, 0, 0],
+        18,
+        0x0120000f,
+        *b"fence                ",
+    ),
+    (
+        Operation::Fence,
+        [31, 31, 0],
+        4095,
+        0xffff8f8f,
+        *b"fence                ",
+    ),
+];
+
+/// Law: the definitions give the word and the text of each row of `WORDS`.
+#[tactic(auto, using(crate::proofs::Instructions::each_word))]
+pub fn words_are_defined()
+    ensures { list_all is_word WORDS ≡ true }
+{}
+
+#[cfg(test)]
+mod tests {
+    use super::WORDS;
+    use rv_isa::{Instr, decode, encode, write_instr};
+    use std::alloc::Global;
+    use std::test::Fail;
+
+    /// Returns the text of an instruction, filled up with blanks.
+    fn filled_text(alloc: Global, instr: Instr) -> Result<Vec<u8>, &'static str> {
+        let mut out = Vec::new(alloc);
+        write_instr(instr, &mut out)
+            .ok()
+            .ok_or("there is no memory")?;
+        for _ in out.len()..21 {
+            out.push(b' ').ok().ok_or("there is no memory")?;
+        }
+        Ok(out)
+    }
+
+    /// Whether an instruction has these registers and this immediate.
+    fn has_fields(instr: Instr, registers: [u8; 3], imm: i32) -> bool {
+        let fields = instr.fields();
+        let found = [fields.rd.number(), fields.rs1.number(), fields.rs2.number()];
+        found == registers && fields.imm == imm
+    }
+
+    #[test]
+    fn words(rt: HostRuntime) -> Result<(), Fail> {
+        for &(_, registers, imm, word, text) in WORDS.iter() {
+            let instr = decode(word).ok_or("no instruction")?;
+            assert!(rt; has_fields(instr, registers, imm), "{word:x}");
+            assert!(rt; encode(instr) == word, "{word:x}");
+            let written = filled_text(rt.alloc(), instr)?;
+            assert!(rt; written.as_slice() == text.as_slice(), "{word:x}");
+        }
+        Ok(())
+    }
+}
