@@ -2,6 +2,7 @@
 use Rattle.std.proofs.Common.{◌≡◌, refl, true, ℕ}
 use Rattle.std.specs.Prelude.{[], ◌∷◌, replicate}
 use Rattle.std.specs.Fmt.{digits}
+use Rattle.std.specs.List.{list_all}
 use Rattle.rv_isa.specs.Alu.{alu_value, is_taken}
 use Rattle.rv_isa.specs.Fields.{kind_of}
 use Rattle.rv_isa.specs.Names.{csr_names}
@@ -19,8 +20,8 @@ use Rattle.rv_hart.specs.Effect.{execute, csr_written}
 use Rattle.rv_hart.specs.Step.{counts, enter}
 use Rattle.rv_board.specs.Boot.{reset}
 use Rattle.rv_board.specs.declared.event.Event.TheVariants.{Step}
-use Rattle.test_definitions.specs.Runs.{is_at, ran_for, image}
-use Rattle.test_definitions.specs.declared.runs.TheConstants.{HELLO, HELLO_ENDS, TRAP, TRAP_ENDS, USER, USER_ENDS, TIMER, TIMER_ENDS, CHANGES, CHANGES_ENDS}
+use Rattle.test_definitions.specs.Runs.{has_word, is_at, ran_for, image}
+use Rattle.test_definitions.specs.declared.runs.TheConstants.{HELLO, HELLO_ENDS, TRAP, TRAP_ENDS, USER, USER_ENDS, TIMER, TIMER_ENDS, CHANGES, CHANGES_ENDS, CALL, CALL_ENDS, CALL_INSIDE}
 use Rattle.test_definitions.proofs.Running.{run_is}
 
 -- what a run computes by
@@ -57,3 +58,12 @@ unfolding computes
 changes one =
     run_is CHANGES (is_at 0x80000014 CHANGES_ENDS ([])) (replicate 5 Step) (reset (image CHANGES) 4096) one
     refl refl
+
+pub call : OneMeaning → is_at 0x80000044 CALL_ENDS ([]) (ran_for CALL 17) ≡ true
+unfolding computes
+call one = run_is CALL (is_at 0x80000044 CALL_ENDS ([])) (replicate 17 Step) (reset (image CALL) 4096) one refl refl
+
+pub call_inside : OneMeaning → list_all (has_word (ran_for CALL 11)) CALL_INSIDE ≡ true
+unfolding computes
+call_inside one =
+    run_is CALL (λ b. list_all (has_word b) CALL_INSIDE) (replicate 11 Step) (reset (image CALL) 4096) one refl refl

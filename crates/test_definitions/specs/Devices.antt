@@ -1,3 +1,4 @@
+-- Not to audit: rows of tests alone cite this.
 -- What the rows of src/timer.rt say of the definition of the timer.
 use Rattle.std.specs.Prelude.{ℕ, Bool, false, ◌==◌, ◌&&◌, List, fold}
 use Rattle.std.specs.Bool.{beq}

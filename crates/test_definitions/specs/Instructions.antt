@@ -1,3 +1,4 @@
+-- Not to audit: rows of tests alone cite this.
 -- What the rows of src/values.rt and src/words.rt say of the definitions of instructions.
 use Rattle.std.specs.Prelude.{ℕ, ℤ, Bool, ◌==◌, ◌&&◌, ◌++◌, List, take, replicate, slice_index}
 use Rattle.std.specs.Bool.{beq}

@@ -1,3 +1,4 @@
+-- Not to audit: rows of tests alone cite this.
 -- What the rows of src/registers.rt and src/protection.rt say of the definitions of control registers.
 use Rattle.std.specs.Prelude.{ℕ, Bool, false, ◌+◌, ◌==◌, ◌&&◌, List, fold, slice_index, is_some, option_and_then, unwrap_or}
 use Rattle.std.specs.Bool.{beq}

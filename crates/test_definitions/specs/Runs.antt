@@ -1,12 +1,14 @@
+-- Not to audit: rows of tests alone cite this.
 -- What the rows of src/runs.rt say of the definition of a run.
-use Rattle.std.specs.Prelude.{ℕ, ℤ, Bool, ◌==◌, ◌&&◌, List, flat_map, replicate, slice_index}
+use Rattle.std.specs.Prelude.{ℕ, ℤ, Bool, false, ◌==◌, ◌&&◌, List, flat_map, replicate, slice_index}
 use Rattle.std.specs.Int.{to_le_bytes, w32}
 use Rattle.std.specs.List.{list_all}
 use Rattle.std.specs.Str.{bytes_eq}
 use Rattle.rv_isa.specs.declared.op.Operation.{Operation}
 use Rattle.rv_isa.specs.declared.fields.Fields.{Fields}
 use Rattle.rv_isa.specs.Fields.{with_fields}
-use Rattle.rv_board.specs.BoardState.{BoardState}
+use Rattle.std.specs.Option.{option_map_or}
+use Rattle.rv_board.specs.BoardState.{BoardState, csr_of}
 use Rattle.rv_board.specs.Boot.{reset}
 use Rattle.rv_board.specs.Move.{run}
 use Rattle.rv_board.specs.declared.event.Event.TheVariants.{Step}
@@ -33,3 +35,7 @@ has b row = slice_index b.machine.registers row.0 == row.1
 -- a board stands at an address, with values in registers, and has sent a text
 abbrev pub is_at : ℕ → List (ℕ × ℕ) → List ℕ → BoardState → Bool
 is_at pc values sent b = (b.machine.pc == pc) && list_all (has b) values && bytes_eq b.machine.bus.serial.sent sent
+
+-- a control register has a word, as machine mode reads it
+abbrev pub has_word : BoardState → ℕ × ℕ → Bool
+has_word b row = option_map_or (λ word. word == row.1) (csr_of b row.0) false

@@ -1,3 +1,4 @@
+-- Not to audit: rows of tests alone cite this.
 -- What the rows of src/traps.rt say of the definitions of traps and interrupts.
 use Rattle.std.specs.Prelude.{ℕ, Bool, ◌==◌, ◌&&◌, List, slice_index, slice_index_or, unwrap_or, false}
 use Rattle.rv_isa.specs.declared.Lines.{Lines}

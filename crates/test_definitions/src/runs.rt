@@ -1,6 +1,7 @@
 //! Whole runs: programs by their words, and what they leave.
 ghost use Rattle.std.specs.Prelude.{◌≡◌, true, ◌∷◌, []};
-ghost use Rattle.test_definitions.specs.Runs.{ran_for, is_at};
+ghost use Rattle.std.specs.List.{list_all};
+ghost use Rattle.test_definitions.specs.Runs.{ran_for, is_at, has_word};
 
 use rv_isa::{Operation, one_meaning};
 
@@ -170,14 +171,70 @@ pub const CHANGES: [(Operation, [u8; 3], i32, u32); 7] = [
 /// Registers after 5 steps of it, each with its value.
 pub const CHANGES_ENDS: [(u8, u32); 2] = [(10, 41), (6, 0x2850513)];
 
+/// A call of user mode: machine mode lets it access every byte (NAPOT of all ones), goes to it by an MRET, and takes
+/// its ECALL. The handler keeps mcause and mepc, and returns behind the call. docs/MAP.md goes through it.
+pub const CALL: [(Operation, [u8; 3], i32, u32); 18] = [
+    // auipc x5,0x0
+    (Operation::Auipc, [5, 0, 0], 0, 0x00000297),
+    // addi x6,x5,40
+    (Operation::Addi, [6, 5, 0], 40, 0x02828313),
+    // csrrw x0,mtvec,x6
+    (Operation::Csrrw, [0, 6, 0], 773, 0x30531073),
+    // addi x7,x0,-1
+    (Operation::Addi, [7, 0, 0], -1, 0xfff00393),
+    // csrrw x0,pmpaddr0,x7
+    (Operation::Csrrw, [0, 7, 0], 944, 0x3b039073),
+    // addi x7,x0,31
+    (Operation::Addi, [7, 0, 0], 31, 0x01f00393),
+    // csrrw x0,pmpcfg0,x7
+    (Operation::Csrrw, [0, 7, 0], 928, 0x3a039073),
+    // addi x6,x5,60
+    (Operation::Addi, [6, 5, 0], 60, 0x03c28313),
+    // csrrw x0,mepc,x6
+    (Operation::Csrrw, [0, 6, 0], 833, 0x34131073),
+    // mret
+    (Operation::Mret, [0, 0, 0], 0, 0x30200073),
+    // csrrs x10,mcause,x0
+    (Operation::Csrrs, [10, 0, 0], 834, 0x34202573),
+    // csrrs x11,mepc,x0
+    (Operation::Csrrs, [11, 0, 0], 833, 0x341025f3),
+    // addi x12,x11,4
+    (Operation::Addi, [12, 11, 0], 4, 0x00458613),
+    // csrrw x0,mepc,x12
+    (Operation::Csrrw, [0, 12, 0], 833, 0x34161073),
+    // mret
+    (Operation::Mret, [0, 0, 0], 0, 0x30200073),
+    // ecall
+    (Operation::Ecall, [0, 0, 0], 0, 0x00000073),
+    // addi x13,x0,1
+    (Operation::Addi, [13, 0, 0], 1, 0x00100693),
+    // jal x0,44
+    (Operation::Jal, [0, 0, 0], 0, 0x0000006f),
+];
+
+/// Registers after 17 steps of it, each with its value.
+pub const CALL_ENDS: [(u8, u32); 4] = [(10, 8), (11, 0x8000003c), (12, 0x80000040), (13, 1)];
+
+/// Control registers right after the ECALL, its step 11: mstatus, mepc, mcause, mtval, mcycle and minstret.
+pub const CALL_INSIDE: [(u16, u32); 6] = [
+    (0x300, 0),
+    (0x341, 0x8000003c),
+    (0x342, 8),
+    (0x343, 0),
+    (0xb00, 11),
+    (0xb02, 10),
+];
+
 /// Law: on the definition of a run, each program leaves this pc, these registers and this console after so many steps.
-#[tactic(auto, using(crate::proofs::Programs::hello, crate::proofs::Programs::trap, crate::proofs::Programs::user, crate::proofs::Programs::timer, crate::proofs::Programs::changes))]
+#[tactic(auto, using(crate::proofs::Programs::hello, crate::proofs::Programs::trap, crate::proofs::Programs::user, crate::proofs::Programs::timer, crate::proofs::Programs::changes, crate::proofs::Programs::call, crate::proofs::Programs::call_inside))]
 pub fn runs_are_defined()
     ensures hello { is_at 0x8000001c HELLO_ENDS (72 ∷ []) (ran_for HELLO 7) ≡ true }
     ensures trap { is_at 0x80000018 TRAP_ENDS ([]) (ran_for TRAP 16) ≡ true }
     ensures user { is_at 0x8000003c USER_ENDS ([]) (ran_for USER 16) ≡ true }
     ensures timer { is_at 0x8000003c TIMER_ENDS ([]) (ran_for TIMER 17) ≡ true }
     ensures changes { is_at 0x80000014 CHANGES_ENDS ([]) (ran_for CHANGES 5) ≡ true }
+    ensures call { is_at 0x80000044 CALL_ENDS ([]) (ran_for CALL 17) ≡ true }
+    ensures inside { list_all (has_word (ran_for CALL 11)) CALL_INSIDE ≡ true }
 {
     one_meaning();
 }
@@ -218,6 +275,15 @@ mod tests {
         are
     }
 
+    /// Whether control registers have words.
+    fn has_words(board: &BootedBoard, words: &[(u16, u32)]) -> bool {
+        let mut are = true;
+        for &(addr, word) in words.iter() {
+            are = are && board.csr(addr) == Some(word);
+        }
+        are
+    }
+
     #[test]
     fn runs(rt: HostRuntime) -> Result<(), Fail> {
         let board = ran_for(rt.alloc(), HELLO.as_slice(), 7)?;
@@ -230,6 +296,10 @@ mod tests {
         assert!(rt; is_at(&board, 0x8000003c, TIMER_ENDS.as_slice(), b"".as_slice()));
         let board = ran_for(rt.alloc(), CHANGES.as_slice(), 5)?;
         assert!(rt; is_at(&board, 0x80000014, CHANGES_ENDS.as_slice(), b"".as_slice()));
+        let board = ran_for(rt.alloc(), CALL.as_slice(), 17)?;
+        assert!(rt; is_at(&board, 0x80000044, CALL_ENDS.as_slice(), b"".as_slice()));
+        let board = ran_for(rt.alloc(), CALL.as_slice(), 11)?;
+        assert!(rt; has_words(&board, CALL_INSIDE.as_slice()));
         Ok(())
     }
 }
