@@ -105,6 +105,10 @@ based true d f o = refl
 based false true f o = refl
 based false false f o = refl
 
+-- what stands after the first n bytes, as a part of the text
+rest_of : (n : ℕ) (text : List ℕ) → take (length text - n) (drop n text) ≡ drop n text
+rest_of n text = take_all (length text - n) (drop n text) (omega (arith, length-drop n text))
+
 -- a number, by the tests of its prefix
 pub number_is : (text : List ℕ) → number text
     ≡ cond (has_prefix 120 88 text) (number_in 16 0xffffffff (drop 2 text))
@@ -117,24 +121,23 @@ number_is (a ∷ b ∷ ds) =
     rw (base_is a b ds)
     (based (has_prefix 120 88 (a ∷ b ∷ ds)) (has_prefix 98 66 (a ∷ b ∷ ds)) (λ base. number_in base 0xffffffff ds) _)
 
-pub number_hex : (text : List ℕ) → has_prefix 120 88 text ≡ true → number text ≡ number_in 16 0xffffffff (drop 2 text)
-number_hex text h = rw (number_is text, h) refl
+pub number_hex : (text : List ℕ) → has_prefix 120 88 text ≡ true →
+    number text ≡ number_in 16 0xffffffff (take (length text - 2) (drop 2 text))
+number_hex text h = rw (number_is text, h, rest_of 2 text) refl
 
-pub number_binary : (text : List ℕ) → has_prefix 120 88 text ≡ false → has_prefix 98 66 text ≡ true
-    → number text ≡ number_in 2 0xffffffff (drop 2 text)
-number_binary text h k = rw (number_is text, h, k) refl
+pub number_binary : (text : List ℕ) → has_prefix 120 88 text ≡ false → has_prefix 98 66 text ≡ true →
+    number text ≡ number_in 2 0xffffffff (take (length text - 2) (drop 2 text))
+number_binary text h k = rw (number_is text, h, k, rest_of 2 text) refl
 
-pub number_octal : (text : List ℕ) → has_prefix 120 88 text ≡ false → has_prefix 98 66 text ≡ false
-    → has_leading_zero text ≡ true → number text ≡ number_in 8 0xffffffff (drop 1 text)
-number_octal text h k l = rw (number_is text, h, k, l) refl
+pub number_octal : (text : List ℕ) → has_prefix 120 88 text ≡ false → has_prefix 98 66 text ≡ false →
+    has_leading_zero text ≡ true → number text ≡ number_in 8 0xffffffff (take (length text - 1) (drop 1 text))
+number_octal text h k l = rw (number_is text, h, k, l, rest_of 1 text) refl
 
-pub number_decimal : (text : List ℕ) → has_prefix 120 88 text ≡ false → has_prefix 98 66 text ≡ false
-    → has_leading_zero text ≡ false → number text ≡ number_in 10 0xffffffff text
+pub number_decimal : (text : List ℕ) → has_prefix 120 88 text ≡ false → has_prefix 98 66 text ≡ false →
+    has_leading_zero text ≡ false → number text ≡ number_in 10 0xffffffff text
 number_decimal text h k l = rw (number_is text, h, k, l) refl
 
--- what stands after the first n bytes, as a part of the text
-pub rest_of : (n : ℕ) (text : List ℕ) → take (length text - n) (drop n text) ≡ drop n text
-rest_of n text = take_all (length text - n) (drop n text) (omega (arith, length-drop n text))
+pub ruleset number_steps = (number_hex, number_binary, number_octal, number_decimal)
 
 -- ---- tokens
 

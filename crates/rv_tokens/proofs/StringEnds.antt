@@ -5,22 +5,20 @@ use native.Mathlib.Decide.{dec_lt}
 use Prim.{yes, no}
 use Rattle.std.specs.Bool.{◌==◌}
 use Rattle.std.specs.Option.{option_map}
-use Rattle.std.proofs.lemmas.Bool.{false≢true}
 use Rattle.std.proofs.lemmas.Bool.Decides.{nat_tests}
 use Rattle.std.proofs.lemmas.List.{take-take, drop-take, drop-drop}
-use Rattle.std.proofs.lemmas.List.Folds.{list_all_at}
 use Rattle.std.proofs.Math.Seq.{drop-cons}
 use Rattle.rv_tokens.specs.declared.token.Token.{Token}
 use Rattle.rv_tokens.specs.declared.token.Token.TheVariants.{Text}
-use Rattle.rv_base.specs.Numbers.{hex_digit, number_in}
+use Rattle.rv_base.specs.Numbers.{digit_value, hex_digit, number_in}
 use Rattle.rv_tokens.specs.Literals.{longest, escape, spelled, between, bytes_after}
 use Rattle.rv_tokens.specs.Cuts.{front}
 use Rattle.rv_tokens.specs.Tokens.{token_of, token_in}
-use Rattle.rv_tokens.specs.Partial.{may_precede, is_digit, first_byte, string_bytes, string, escape_by, spelled_by}
+use Rattle.rv_tokens.specs.Partial.{may_precede, first_byte, string_bytes, string, escape_by, spelled_by}
 use Rattle.rv_tokens.proofs.Signs.{token_is}
 use Rattle.rv_tokens.proofs.Escapes.{escape_is, spelled_is}
 use Rattle.rv_tokens.proofs.Front.{kept_in, no_name_last, token_in_is}
-use Rattle.rv_tokens.proofs.Digits.{number_in_is}
+use Rattle.rv_base.proofs.NumberReading.{no_digits}
 use Rattle.rv_tokens.proofs.Longest.{longest_is, longest_found, longest_missing, longest_none}
 use Rattle.rv_tokens.proofs.Spellings.{string_byte_in, bytes_of_none, bytes_of_some}
 
@@ -30,9 +28,9 @@ no_quote : (base : ℕ) (ds : List ℕ) (b i : ℕ) → base ≤ 16 → number_i
     → get_or ds i 0 ≡ 34 → ⊥
 unfolding hex_digit
 no_quote base ds b i low h lt q =
-    let digit : is_digit base (get_or ds i 0) ≡ false = rw q (grind (arith, nat_tests, low)) in
-    let all = number_in_is base 255 ds b h in
-    false≢true (sym (list_all_at (is_digit base) ds i 0 lt digit) ∙ all.0)
+    let other : base ≤ digit_value (get_or ds i 0) = rw q (omega (arith, low)) in
+    let none = no_digits base 255 i ds lt other in
+    absurd cc
 
 hex_quote : (c d e b i : ℕ) (t : Bool) → (c == 120) ≡ t
     → cond t (number_in 16 255 (d ∷ e ∷ [])) (number_in 8 255 (c ∷ d ∷ e ∷ [])) ≡ Some b → i < 3
