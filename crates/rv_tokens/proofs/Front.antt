@@ -11,6 +11,8 @@ use Rattle.std.proofs.lemmas.Bool.{false≢true}
 use Rattle.std.proofs.lemmas.Bool.Decides.{nat_tests}
 use Rattle.std.proofs.Math.Seq.{drop-cons}
 use Rattle.std.proofs.lemmas.List.Folds.{list_all_at, list_all_more}
+use Rattle.std.proofs.lemmas.Bool.{and_parts}
+use Rattle.std.proofs.Math.Bool.{and-false}
 use Rattle.rv_tokens.specs.declared.token.Token.{Token}
 use Rattle.rv_tokens.specs.declared.token.Token.TheVariants.{Character, High, Low}
 use Rattle.rv_tokens.specs.Literals.{longest}
@@ -18,7 +20,6 @@ use Rattle.rv_tokens.specs.Cuts.{front}
 use Rattle.rv_tokens.specs.Tokens.{is_name_byte, word, token_of, token_in}
 use Rattle.rv_tokens.specs.Partial.{begins_with_name_byte, may_precede, sign, half, character}
 use Rattle.rv_tokens.proofs.Signs.{token_is}
-use Rattle.rv_tokens.proofs.Bools.{and_left, and_right}
 use Rattle.rv_tokens.proofs.Spellings.{spelled_long}
 use Rattle.rv_tokens.proofs.Longest.{longest_above, longest_none, longest_at}
 
@@ -28,34 +29,26 @@ list_all_less xs zero n le h = refl
 list_all_less xs (suc m) zero le h = absurd (omega arith)
 list_all_less [] (suc m) (suc n) le h = refl
 list_all_less (x ∷ xs) (suc m) (suc n) le h =
-    let first = and_left (is_name_byte x) (list_all is_name_byte (take n xs)) h in
-    let rest =
-    list_all_less xs m n (omega arith)
-    (and_right (is_name_byte x) (list_all is_name_byte (take n xs)) h) in
-    rw (first, rest) refl
+    let p = and_parts (is_name_byte x) (list_all is_name_byte (take n xs)) h in
+    rw (p.0, list_all_less xs m n (omega arith) p.1) refl
 
 name_byte_at : (xs : List ℕ) (m n : ℕ) → m < n → n ≤ length xs → list_all is_name_byte (take n xs) ≡ true
     → is_name_byte (get_or xs m 0) ≡ true
 name_byte_at xs m n lt le h =
     let more = list_all_more is_name_byte xs m 0 (omega arith) in
-    and_right (list_all is_name_byte (take m xs)) _ (sym more ∙ list_all_less xs (m + 1) n (omega arith) h)
+    (and_parts (list_all is_name_byte (take m xs)) _ (sym more ∙ list_all_less xs (m + 1) n (omega arith) h)).1
 
 either_none : (s : Bool) → ◌≡◌ {A = Option Token} (cond s None None) None
 either_none true = refl
 either_none false = refl
 
-and_one : (a : Bool) → (a && false) ≡ false
-and_one true = refl
-and_one false = refl
-
 and_two : (a b : Bool) → (a && (b && false)) ≡ false
-and_two true b = and_one b
-and_two false b = refl
+and_two a b = ap (λ c. a && c) (and-false b) ∙ and-false a
 
 -- ---- what may precede the rest
 
 no_name_follows : (text rest : List ℕ) → begins_with_name_byte rest ≡ false → may_precede text rest ≡ true
-no_name_follows text rest h = rw (h, and_one (is_name_byte (get_or text (length text - 1) 0))) refl
+no_name_follows text rest h = rw (h, and-false (is_name_byte (get_or text (length text - 1) 0))) refl
 
 pub no_name_last : (text rest : List ℕ) → is_name_byte (get_or text (length text - 1) 0) ≡ false
     → may_precede text rest ≡ true
@@ -105,8 +98,8 @@ token_of_many (b ∷ c ∷ bs) long first h = search (rules, token_is, other)
 
 token_of_word : (xs : List ℕ) → 0 < length xs → list_all is_name_byte xs ≡ true → token_of xs ≡ word xs
 token_of_word [] long h = absurd (omega arith)
-token_of_word (b ∷ []) long h = token_is (b ∷ []) ∙ rw (and_left (is_name_byte b) true h) refl
-token_of_word (b ∷ c ∷ bs) long h = search (rules, and_left, token_is, other)
+token_of_word (b ∷ []) long h = token_is (b ∷ []) ∙ rw (and_parts (is_name_byte b) true h).0 refl
+token_of_word (b ∷ c ∷ bs) long h = search (rules, and_parts, token_is, other)
 
 stops : (rest : List ℕ) → (0 < length rest → is_name_byte (get_or rest 0 0) ≡ false)
     → begins_with_name_byte rest ≡ false
@@ -205,7 +198,7 @@ front_sign (b ∷ bs) some h s c p =
 -- a half has three bytes
 half_other : (xs : List ℕ) → (length xs ≡ 3 → ⊥) → half xs ≡ None
 half_other [] h = refl
-half_other (a ∷ []) h = rw (and_one (a == 37)) refl
+half_other (a ∷ []) h = rw (and-false (a == 37)) refl
 half_other (a ∷ b ∷ []) h = rw (and_two (a == 37) (b == 104), and_two (a == 37) (b == 108)) refl
 half_other (a ∷ b ∷ c ∷ []) h = absurd (h refl)
 half_other (a ∷ b ∷ c ∷ d ∷ xs) h = search rules

@@ -1,4 +1,3 @@
-pub mod Bools
 pub mod Escapes
 pub mod Longest
 pub mod StringEnds

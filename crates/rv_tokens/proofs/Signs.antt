@@ -4,11 +4,10 @@ use Rattle.std.proofs.lemmas.Grind.{common_steps}
 use Rattle.std.proofs.Common.{◌≡◌, ℕ, ◌-◌, Bool, true, false, cond, List, [], ◌∷◌, length, take, drop, refl, sym, ◌∙◌, arith, length-drop}
 use Rattle.std.specs.Prelude.{Option, None, Some, ◌&&◌, nat_lt}
 use Rattle.std.specs.Bool.{◌==◌}
-use Rattle.std.specs.Str.{bytes_eq}
 use Rattle.std.specs.List.{list_all}
 use Rattle.std.specs.Option.{option_map, option_or}
 use Rattle.std.proofs.lemmas.Bool.Decides.{nat_tests}
-use Rattle.std.proofs.Math.Bool.{and-true}
+use Rattle.std.proofs.Math.Bool.{and-true, and-false}
 use Rattle.std.proofs.lemmas.List.{take_all}
 use Rattle.rv_base.specs.Tables.{lookup}
 use Rattle.rv_tokens.specs.declared.token.Token.{Token}
@@ -26,10 +25,6 @@ same_by a b false false e f = refl
 
 pub same_byte : (a b : ℕ) → ((a == b) && true) ≡ (b == a)
 same_byte a b = same_by a b (a == b) (b == a) refl refl
-
-pub no_more : (a : Bool) → (a && false) ≡ false
-no_more true = refl
-no_more false = refl
 
 -- ---- one byte
 
@@ -55,7 +50,7 @@ pub number_is : (text : List ℕ) → number text
     (cond (has_leading_zero text) (number_in 8 0xffffffff (drop 1 text)) (number_in 10 0xffffffff text)))
 unfolding number
 number_is [] = refl
-number_is (a ∷ []) = rw (no_more (48 == a)) refl
+number_is (a ∷ []) = rw (and-false (48 == a)) refl
 number_is (a ∷ b ∷ ds) = search rules
 
 pub number_hex : (text : List ℕ) → has_prefix 120 88 text ≡ true →
@@ -79,7 +74,7 @@ pub ruleset number_steps = (number_hex, number_binary, number_octal, number_deci
 -- ---- tokens
 
 between_not : (q b : ℕ) (bs : List ℕ) → (b == q) ≡ false → between q q (b ∷ bs) ≡ None
-between_not q b bs h = rw (h, no_more (nat_lt 1 (length (b ∷ bs)))) refl
+between_not q b bs h = rw (h, and-false (nat_lt 1 (length (b ∷ bs)))) refl
 
 not_string : (b : ℕ) (bs : List ℕ) → (b == 34) ≡ false → string (b ∷ bs) ≡ None
 unfolding string
@@ -117,16 +112,6 @@ single : (b : ℕ) (w : Bool) → is_name_byte b ≡ w → token_of (b ∷ []) �
 unfolding token_of character string
 single b true e = rw e refl
 single b false e = rw e (single_rest b (b == 34) (b == 39) refl refl)
-
-swapped_texts : (xs ys : List ℕ) (s t : Bool) → bytes_eq xs ys ≡ s → bytes_eq ys xs ≡ t
-    → bytes_eq xs ys ≡ bytes_eq ys xs
-swapped_texts xs ys true true e f = e ∙ sym f
-swapped_texts xs ys false false e f = e ∙ sym f
-swapped_texts xs ys true false e f = search rules
-swapped_texts xs ys false true e f = search rules
-
-pub bytes_eq-swapped : (xs ys : List ℕ) → bytes_eq xs ys ≡ bytes_eq ys xs
-bytes_eq-swapped xs ys = swapped_texts xs ys (bytes_eq xs ys) (bytes_eq ys xs) refl refl
 
 half_is : (c : ℕ) (bs : List ℕ) → lookup (37 ∷ c ∷ bs) signs ≡ half (37 ∷ c ∷ bs)
 half_is c bs = search rules
