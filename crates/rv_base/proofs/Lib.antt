@@ -1,4 +1,4 @@
-pub mod DecimalDigits
+pub mod NumberReading
 pub mod Hexadecimal
 pub mod LineSplitting
 pub mod TableRows

@@ -1,12 +1,12 @@
 -- The first line of a text.
-use Rattle.std.proofs.Common.{◌≡◌, ℕ, suc, ◌<◌, ◌≤◌, Bool, true, false, cond, List, [], ◌∷◌, length, take, drop, refl, sym, ap, arith, ◌==◌}
+use Rattle.std.proofs.Common.{◌≡◌, ℕ, suc, ◌<◌, ◌≤◌, Bool, true, false, cond, List, [], ◌∷◌, length, take, drop, refl, ap, arith, ◌==◌}
 use Rattle.std.proofs.Math.Numerals.{one-add}
-use Rattle.std.specs.Prelude.{Some, None, nat_lt}
+use Rattle.std.specs.Prelude.{Some, None}
 use Rattle.std.specs.List.{onto_first, position_or_len, position}
-use Rattle.std.proofs.lemmas.Bool.Decides.{nat_tests}
 use Rattle.std.proofs.lemmas.List.{drop_all, take_all, length-map}
 use Rattle.std.specs.Str.Lines.{strip_carriage_return}
 use Rattle.rv_base.specs.Lines.{split, lines}
+use Rattle.rv_base.proofs.WordSplitting.{position_some, position_none}
 
 -- how many bytes stand before the first LF
 abbrev pub until_feed : List ℕ → ℕ
@@ -32,32 +32,24 @@ pub split_front : (s : List ℕ) → 0 < length s → split s ≡ take (until_fe
 split_front [] h = absurd (omega arith)
 split_front (b ∷ bs) h = split_step b bs (b == 10) refl (split_front bs)
 
-at_feed : (s : List ℕ) (n : ℕ) (t : Bool) → nat_lt (until_feed s) (length s) ≡ t →
-    cond t (Some (until_feed s)) None ≡ Some n → n ≡ until_feed s
-at_feed s n true e h = cc
-at_feed s n false e h = cc
-
-at_end : (s : List ℕ) (t : Bool) → nat_lt (until_feed s) (length s) ≡ t →
-    cond t (Some (until_feed s)) None ≡ None → length s ≤ until_feed s
-at_end s true e h = cc
-at_end s false e h = grind (arith, nat_tests)
-
 -- a text with a LF
 pub lines_feed : (s : List ℕ) (n : ℕ) → 0 < length s → Some n ≡ position (λ b. b == 10) s →
     lines s ≡ strip_carriage_return (take n s) ∷ lines (drop 1 (drop n s))
 lines_feed s n h e =
-    let is = at_feed s n (nat_lt (until_feed s) (length s)) refl (sym e) in
+    let is = position_some (λ b. b == 10) s n e in
     rw is (rw (split_front s h) refl)
 
 -- a text without one
 pub lines_last : (s : List ℕ) → 0 < length s → None ≡ position (λ b. b == 10) s →
-    lines s ≡ strip_carriage_return s ∷ lines []
-unfolding split
+    lines s ≡ strip_carriage_return s ∷ lines (drop (length s) s)
 lines_last s h e =
-    let past = at_end s (nat_lt (until_feed s) (length s)) refl (sym e) in
-    let all : take (until_feed s) s ≡ s = take_all (until_feed s) s past in
-    let none : drop (until_feed s) s ≡ [] = drop_all (until_feed s) s past in
-    rw (split_front s h, all, none) refl
+    let past = position_none (λ b. b == 10) s e in
+    rw (
+      split_front s h,
+      take_all (until_feed s) s past,
+      drop_all (until_feed s) s past,
+      drop_all (length s) s (omega arith),
+    ) refl
 
 -- an empty text has no line
 pub lines_end : (s : List ℕ) → length s ≡ 0 → lines s ≡ []

@@ -1,4 +1,3 @@
-pub mod Decimals
 pub mod Digits
 pub mod Halves
 pub mod Limits
@@ -8,5 +7,4 @@ pub mod Registers
 pub mod Room
 pub mod TableRows
 pub mod Tables
-pub mod Values
 pub mod Words

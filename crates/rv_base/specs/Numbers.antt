@@ -4,7 +4,6 @@ use Rattle.std.specs.Prelude.{ℕ, ◌+◌, ◌*◌, ◌&&◌, List, length, fol
 use Rattle.std.specs.List.{list_all}
 pub use Rattle.rv_base.specs.Digits.{digit_value}
 unfoldable pub use Rattle.rv_base.specs.Digits.{hex_digit}
-pub use Rattle.rv_base.specs.Values.{value_in_base}
 
 -- one or more digits in a base of at most 16, the highest first, of a value no more than this
 unfoldable pub number_in : ℕ → ℕ → List ℕ → Option ℕ

@@ -1,8 +1,8 @@
 //! Text, numbers and limits that all crates share.
 //!
 //! - `cut_lines` cuts a text into lines, and `first_word` takes the first word off a line.
-//! - `decimal`, `hex_digit` and `hex_byte` read numbers; `append_hex`, `byte_digits` and `word_digits` write
-//!   them.
+//! - `number_in`, `decimal`, `hex_digit` and `hex_byte` read numbers; `append_hex`, `byte_digits` and
+//!   `word_digits` write them.
 //! - `low_word` and the functions beside it read and replace the halves of 64 bits.
 //! - `look_up` finds a name in a table.
 //! - `append_within` appends to a text that has room, and `NoMemory` is the error of one that could get none.
@@ -25,6 +25,6 @@ pub use halves::{high_word, low_word, with_high_word, with_low_word};
 pub use limits::{IMAGE_LIMIT, LINE_LIMIT, RAM_BASE, TEXT_LIMIT};
 pub use lines::{Cut, cut_lines};
 pub use memory::{NoMemory, append_within};
-pub use numbers::{decimal, hex_byte, hex_digit};
+pub use numbers::{decimal, hex_byte, hex_digit, number_in};
 pub use tables::look_up;
 pub use words::{begins_comment, first_word, has_word, is_blank};

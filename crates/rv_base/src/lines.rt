@@ -26,6 +26,7 @@ fn without_return(line: &[u8]) -> &[u8]
 }
 
 /// Splits a text after its first line: the line, without its end, and what follows.
+#[tactic(auto, using(crate::proofs::LineSplitting::lines_feed, crate::proofs::LineSplitting::lines_last))]
 fn first_line(text: &[u8]) -> (&[u8], &[u8])
     requires { 0 < length text.now }
     ensures { lines text.now ≡ result.0.now ∷ lines result.1.now }
@@ -62,6 +63,7 @@ impl<'a> Iterator for Cut<'a> {
 
     ghost remaining = { item_count (λ cut. cut) };
 
+    #[tactic(auto, using(crate::proofs::LineSplitting::lines_end))]
     fn next(&mut self) -> Option<&'a [u8]> {
         if self.rest.is_empty() {
             return None;
@@ -77,6 +79,7 @@ impl<'a> Iterator for Cut<'a> {
 /// The last line needs no LF. A loop `for line in cut_lines(text)` sees the lines left as `l.line-iterator`:
 /// its invariant names `length l.line-iterator`, or `lines text ≡ done ++ l.line-iterator`, and each turn
 /// takes one off by `steps`.
+#[tactic(auto, using(crate::proofs::LineSplitting::lines_length))]
 pub fn cut_lines(text: &[u8]) -> Cut<'_>
     ensures cut { result ≡ lines text.now }
     ensures within { length result ≤ length text.now }

@@ -1,6 +1,41 @@
 //! Reads numbers.
 ghost use Rattle.std.specs.Prelude.{◌≡◌, ◌+◌, ◌*◌, ◌<◌, ◌≤◌, Bool, IfSome};
-ghost use Rattle.rv_base.specs.Numbers.{number_in, hex_digit, hex_byte};
+ghost use Rattle.rv_base.specs.Numbers.{digit_value, number_in, hex_digit, hex_byte};
+
+/// Returns the value of a digit, or 16 for any other byte.
+fn digit_value(b: u8) -> u64
+    ensures is { result ≡ digit_value b }
+    ensures most { result ≤ 16 }
+{
+    u64::from(hex_digit(b).unwrap_or(16))
+}
+
+/// Returns the number that digits in a base of at most 16 stand for, the highest first, or None where there is
+/// no digit, another byte, or a number above `most`. Leading zeros are allowed.
+#[tactic(auto, using(crate::proofs::NumberReading::digit_steps))]
+pub fn number_in(base: u64, most: u64, digits: &[u8]) -> Option<u64>
+    requires low { 1 ≤ base }
+    requires high { base ≤ 16 }
+    requires most { most < 10000000000 }
+    ensures value { result ≡ number_in base most digits.now }
+    ensures below { IfSome result (λ n. n ≤ most) }
+{
+    if digits.is_empty() {
+        return None;
+    }
+    let mut sum: u64 = 0;
+    for b in digits {
+        let digit = digit_value(*b);
+        if digit >= base {
+            return None;
+        }
+        sum = base * sum + digit;
+        if sum > most {
+            return None;
+        }
+    }
+    Some(sum)
+}
 
 /// Returns the number that decimal digits stand for, or None where there is no digit, another byte, or a
 /// number above `most`. Leading zeros are allowed.
@@ -9,20 +44,7 @@ pub fn decimal(most: u64, word: &[u8]) -> Option<u64>
     ensures value { result ≡ number_in 10 most word.now }
     ensures below { IfSome result (λ n. n ≤ most) }
 {
-    if word.is_empty() {
-        return None;
-    }
-    let mut sum: u64 = 0;
-    for b in word {
-        if !b.is_ascii_digit() {
-            return None;
-        }
-        sum = 10 * sum + u64::from(*b - b'0');
-        if sum > most {
-            return None;
-        }
-    }
-    Some(sum)
+    number_in(10, most, word)
 }
 
 /// Returns the number that a hexadecimal digit of either case stands for, or None for any other byte.

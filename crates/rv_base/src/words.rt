@@ -20,6 +20,7 @@ fn first_blank(text: &[u8]) -> Option<usize>
 
 /// Returns the first word of a text and what follows it, or None where the text has no word. Blanks separate
 /// words.
+#[tactic(auto, using(crate::proofs::WordSplitting::word_steps))]
 pub fn first_word<'a>(text: &'a [u8]) -> Option<(&'a [u8], &'a [u8])>
     ensures value { MatchOption result (words text.now ≡ []) (λ p. words text.now ≡ p.0.now ∷ words p.1.now) }
     ensures shorter { IfSome result (λ p. length p.1.now < length text.now) }

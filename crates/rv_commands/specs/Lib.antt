@@ -1,4 +1,4 @@
 pub mod Addresses
 pub mod Commands
 pub mod Named
-pub mod Rows
+pub mod Operands

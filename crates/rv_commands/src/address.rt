@@ -1,30 +1,23 @@
 //! The address of a command.
-ghost use Rattle.std.specs.Prelude.{◌≡◌, ◌&&◌, nat_le};
+ghost use Rattle.std.specs.Prelude.{◌≡◌};
 ghost use Rattle.rv_commands.specs.Addresses.{hexadecimal, address_of};
 
 use crate::SymbolLookup;
-use rv_base::{hex_digit, low_word};
+use rv_base::{low_word, number_in};
 
-/// Returns whether an address may have this number of hexadecimal digits.
-fn is_digit_count(count: usize) -> bool
-    ensures { result ≡ (nat_le 1 count && nat_le count 8) }
-{
-    1 <= count && count <= 8
-}
+/// The most hexadecimal digits of an address.
+const MOST_DIGITS: usize = 8;
 
 /// Reads one to eight hexadecimal digits of either case.
+#[tactic(auto, unfolding(crate::specs::Addresses::hexadecimal))]
 pub fn hexadecimal(digits: &[u8]) -> Option<u32>
     ensures { result ≡ hexadecimal digits.now }
 {
-    if !is_digit_count(digits.len()) {
+    if digits.len() > MOST_DIGITS {
         return None;
     }
-    let mut sum: u32 = 0;
-    for digit in digits {
-        let value = hex_digit(*digit)?;
-        sum = 16 * sum + u32::from(value);
-    }
-    Some(sum)
+    let number = number_in(16, u64::from(u32::MAX), digits)?;
+    Some(number as u32)
 }
 
 /// Reads an address: `0x` and a hexadecimal number, or a symbol.

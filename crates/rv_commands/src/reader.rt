@@ -1,10 +1,10 @@
 //! Reads commands.
-ghost use Rattle.std.specs.Prelude.{◌≡◌, ◌≤◌, ◌<◌, IfSome};
+ghost use Rattle.std.specs.Prelude.{◌≡◌, ◌≤◌, ◌<◌, ℕ, ℤ, List, Option, codes, IfSome};
 ghost use Rattle.std.specs.Option.{option_copied};
 ghost use Rattle.rv_base.specs.Words.{words};
-ghost use Rattle.rv_commands.specs.Commands.{number_between, command_of};
+ghost use Rattle.rv_commands.specs.Commands.{number_between, command_by, command_of};
 ghost use Rattle.rv_commands.specs.Named.{IsNamed};
-ghost use Rattle.rv_commands.specs.Rows.{alone, only, number_alone, address_alone, steps, going, named, memory, row};
+ghost use Rattle.rv_commands.specs.Operands.{alone, only, number_alone, address_alone};
 
 use crate::address::address;
 use crate::{Command, SymbolLookup};
@@ -37,7 +37,7 @@ fn only_word<'a>(text: &'a [u8]) -> Option<&'a [u8]>
 }
 
 /// Reads a number from `low` to `high`, the only word of a text.
-#[tactic(auto, unfolding(crate::specs::Rows::number_alone))]
+#[tactic(auto, unfolding(crate::specs::Operands::number_alone))]
 fn only_number(low: u64, high: u64, text: &[u8]) -> Option<u64>
     requires { high < 10000000000 }
     ensures value { result ≡ number_alone low high (words text.now) }
@@ -48,7 +48,7 @@ fn only_number(low: u64, high: u64, text: &[u8]) -> Option<u64>
 }
 
 /// Reads an address, the only word of a text.
-#[tactic(auto, unfolding(crate::specs::Rows::address_alone))]
+#[tactic(auto, unfolding(crate::specs::Operands::address_alone))]
 fn only_address<S: SymbolLookup>(text: &[u8], symbols: &S) -> Option<u32>
     ensures { result ≡ address_alone (S.symbols symbols.now) (words text.now) }
 {
@@ -56,9 +56,10 @@ fn only_address<S: SymbolLookup>(text: &[u8], symbols: &S) -> Option<u32>
 }
 
 /// Reads the words following `s`: a number of steps, or nothing for one step.
-#[tactic(auto, unfolding(crate::specs::Rows::steps))]
+#[tactic(auto, unfolding(crate::specs::Operands::number_alone))]
 fn read_step<'a>(text: &[u8]) -> Option<Command<'a>>
-    ensures { result ≡ steps (words text.now) }
+    ensures value { (symbols : List ℕ → Option ℤ) → result ≡ command_by symbols (codes "s") (words text.now) }
+    ensures named { IfSome result IsNamed }
 {
     if !has_word(text) {
         return Some(Command::Step { count: 1 });
@@ -68,9 +69,10 @@ fn read_step<'a>(text: &[u8]) -> Option<Command<'a>>
 }
 
 /// Reads the words following `c`: the most steps, or nothing for all that are left.
-#[tactic(auto, unfolding(crate::specs::Rows::going))]
+#[tactic(auto, unfolding(crate::specs::Operands::number_alone))]
 fn read_go<'a>(text: &[u8]) -> Option<Command<'a>>
-    ensures { result ≡ going (words text.now) }
+    ensures value { (symbols : List ℕ → Option ℤ) → result ≡ command_by symbols (codes "c") (words text.now) }
+    ensures named { IfSome result IsNamed }
 {
     if !has_word(text) {
         return Some(Command::Go { count: None });
@@ -80,9 +82,9 @@ fn read_go<'a>(text: &[u8]) -> Option<Command<'a>>
 }
 
 /// Reads the words following `p`: the name of a control register.
-#[tactic(auto, unfolding(crate::specs::Rows::named))]
 fn read_control_register<'a>(text: &'a [u8]) -> Option<Command<'a>>
-    ensures { result ≡ named (words text.now) }
+    ensures value { (symbols : List ℕ → Option ℤ) → result ≡ command_by symbols (codes "p") (words text.now) }
+    ensures named { IfSome result IsNamed }
 {
     let name = only_word(text)?;
     let csr = csr_named(name)?;
@@ -91,9 +93,9 @@ fn read_control_register<'a>(text: &'a [u8]) -> Option<Command<'a>>
 }
 
 /// Reads the words following `m`: an address and a number of bytes.
-#[tactic(auto, unfolding(crate::specs::Rows::memory))]
 fn read_memory<'a, S: SymbolLookup>(text: &[u8], symbols: &S) -> Option<Command<'a>>
-    ensures { result ≡ memory (S.symbols symbols.now) (words text.now) }
+    ensures value { result ≡ command_by (S.symbols symbols.now) (codes "m") (words text.now) }
+    ensures named { IfSome result IsNamed }
 {
     let (first, rest) = first_word(text)?;
     let second = only_word(rest)?;
@@ -112,15 +114,18 @@ fn only_source(text: &[u8]) -> Option<Source>
 
 /// Returns a command if no word follows its first.
 fn without_operands<'a>(command: Command<'a>, text: &[u8]) -> Option<Command<'a>>
-    ensures { result ≡ alone command.entry (words text.now) }
+    requires { IsNamed command }
+    ensures value { result ≡ alone command.entry (words text.now) }
+    ensures named { IfSome result IsNamed }
 {
     if has_word(text) { None } else { Some(command) }
 }
 
 /// Reads a command, given its first word and the text following it.
-#[tactic(auto, unfolding(crate::specs::Rows::row))]
+#[tactic(auto, unfolding(crate::specs::Operands::number_alone, crate::specs::Operands::address_alone))]
 fn read_row<'a, S: SymbolLookup>(word: &[u8], rest: &'a [u8], symbols: &S) -> Option<Command<'a>>
-    ensures { result ≡ row (S.symbols symbols.now) word.now (words rest.now) }
+    ensures value { result ≡ command_by (S.symbols symbols.now) word.now (words rest.now) }
+    ensures named { IfSome result IsNamed }
 {
     match word {
         b"s" => read_step(rest),
@@ -150,10 +155,11 @@ fn read_row<'a, S: SymbolLookup>(word: &[u8], rest: &'a [u8], symbols: &S) -> Op
     }
 }
 
-/// Reads a command line, as `read_command`.
-#[tactic(auto, unfolding(crate::specs::Commands::command_of), using(crate::proofs::Rows::row_is))]
-fn read<'a, S: SymbolLookup>(line: &'a [u8], symbols: &S) -> Option<Command<'a>>
-    ensures { result ≡ command_of line.now (S.symbols symbols.now) }
+/// Reads a command line. Symbols stand for their values. None if the line isn't a command.
+#[tactic(auto, unfolding(crate::specs::Commands::command_of))]
+pub fn read_command<'a, S: SymbolLookup>(line: &'a [u8], symbols: &S) -> Option<Command<'a>>
+    ensures value { result ≡ command_of line.now (S.symbols symbols.now) }
+    ensures named { IfSome result IsNamed }
 {
     if line.len() > LINE_LIMIT {
         return None;
@@ -165,13 +171,4 @@ fn read<'a, S: SymbolLookup>(line: &'a [u8], symbols: &S) -> Option<Command<'a>>
         return Some(Command::Nothing);
     }
     read_row(first, rest, symbols)
-}
-
-/// Reads a command line. Symbols stand for their values. None if the line isn't a command.
-#[tactic(auto, using(crate::proofs::CommandNames::is_named))]
-pub fn read_command<'a, S: SymbolLookup>(line: &'a [u8], symbols: &S) -> Option<Command<'a>>
-    ensures value { result ≡ command_of line.now (S.symbols symbols.now) }
-    ensures named { IfSome result IsNamed }
-{
-    read(line, symbols)
 }

@@ -1,5 +1,6 @@
 -- The table of the registers says what the cases by register say.
-use Rattle.std.proofs.Common.{◌≡◌, ℕ, zero, suc, ◌+◌, ◌-◌, ◌*◌, ◌==◌, Bool, true, false, cond, List, [], ◌∷◌, ◌++◌, map, length, Option, Some, None, refl, ap, sym, subst, ◌∙◌, arith, nat_lt, nat_le}
+use Rattle.std.proofs.Common.{rules}
+use Rattle.std.proofs.Common.{◌≡◌, ℕ, zero, suc, ◌+◌, ◌-◌, ◌*◌, ◌==◌, Bool, true, false, cond, List, [], ◌∷◌, ◌++◌, map, length, Option, Some, None, refl, ap, sym, ◌∙◌, arith, nat_lt, nat_le}
 use Rattle.std.specs.Prelude.{◌&&◌, ◌||◌, find, if◌then◌else◌, codes}
 use Rattle.std.specs.Fmt.{digits}
 use Rattle.std.specs.List.{list_all, list_any, range_with_len}
@@ -18,7 +19,7 @@ use Rattle.rv_csr.specs.Registers.{table, row_at, number_of, read, write}
 use Rattle.rv_csr.specs.RegisterCases.{Row, is_from_to, is_zero, register_at, value_of, with_value, with_value_at}
 use Rattle.rv_csr.specs.RegisterCases as cases
 use Rattle.rv_csr.specs.declared.register.Register.{Register}
-use Rattle.rv_csr.specs.declared.register.Register.TheVariants.{Mstatus, Misa, Mie, Mtvec, Mscratch, Mepc, Mcause, Mtval, Mip, Mcycle, Mcycleh, Minstret, Minstreth, Zero}
+use Rattle.rv_csr.specs.declared.register.Register.TheVariants.{Zero}
 
 -- a row has the value and the write of a register
 pub record Agrees (row : Row) (register : Register) : Type 0 where
@@ -35,14 +36,7 @@ Same (Some row) None = ⊥
 more : (addr n : ℕ) (row : Row) (register : Register) (rows : Option Row) (others : Option Register)
     → number_of row.0 ≡ n → Agrees row register → ((addr == n) ≡ false → Same rows others)
     → Same (cond (addr == number_of row.0) (Some row) rows) (if addr == n then Some register else others)
-more addr n row register rows others is here later =
-    subst (λ k. Same (cond (addr == k) (Some row) rows) (if addr == n then Some register else others)) (sym is)
-    (by (addr == n) later)
-  where
-    by : (b : Bool) → (b ≡ false → Same rows others)
-        → Same (cond b (Some row) rows) (if b then Some register else others)
-    by true later = here
-    by false later = later refl
+more addr n row register rows others is here later = search rules
 
 -- ---- the registers that have a name
 
@@ -56,8 +50,7 @@ any-numbered addr prefix suffix base first (suc count) =
 any-from_to : (addr : ℕ) (prefix suffix : List ℕ) (base first count low high : ℕ) → base + first ≡ low
     → base + first + count ≡ suc high
     → list_any (λ named. addr == named.1) (numbered prefix suffix base first count) ≡ is_from_to low high addr
-any-from_to addr prefix suffix base first count low high begin end =
-    any-numbered addr prefix suffix base first count ∙ grind (arith, nat_tests)
+any-from_to addr prefix suffix base first count low high begin end = search (rules, any-numbered, nat_tests)
 
 joined : (addr : ℕ) (xs ys : List (List ℕ × ℕ)) (a b : Bool)
     → list_any (λ named. addr == named.1) xs ≡ a → list_any (λ named. addr == named.1) ys ≡ b
@@ -83,16 +76,7 @@ more_names = numbered (codes "pmpcfg") [] 0x3a0 0 4 ++ addresses_on
 any-more : (addr : ℕ) → list_any (λ named. addr == named.1) more_names
     ≡ (is_from_to 0x3A0 0x3A3 addr || (is_from_to 0x3B0 0x3BF addr || (is_from_to 0x323 0x33F addr
     || (is_from_to 0xB03 0xB1F addr || is_from_to 0xB83 0xB9F addr))))
-any-more addr =
-    joined addr (numbered (codes "pmpcfg") [] 0x3a0 0 4) addresses_on _ _
-    (any-from_to addr (codes "pmpcfg") [] 0x3a0 0 4 0x3A0 0x3A3 refl refl)
-    (joined addr (numbered (codes "pmpaddr") [] 0x3b0 0 16) events_on _ _
-    (any-from_to addr (codes "pmpaddr") [] 0x3b0 0 16 0x3B0 0x3BF refl refl)
-    (joined addr (numbered (codes "mhpmevent") [] 0x320 3 29) counters_on _ _
-    (any-from_to addr (codes "mhpmevent") [] 0x320 3 29 0x323 0x33F refl refl)
-    (joined addr (numbered (codes "mhpmcounter") [] 0xb00 3 29) high_halves _ _
-    (any-from_to addr (codes "mhpmcounter") [] 0xb00 3 29 0xB03 0xB1F refl refl)
-    (any-from_to addr (codes "mhpmcounter") (codes "h") 0xb80 3 29 0xB83 0xB9F refl refl))))
+any-more addr = search (rules, joined, any-from_to)
 
 -- the numbers of the names without, before the rest
 abbrev named_before : ℕ → Bool → Bool
@@ -109,19 +93,12 @@ any-name : (addr : ℕ) → list_any (λ named. addr == named.1) csr_names
 unfolding csr_names
 any-name addr = refl
 
-five : (addr : ℕ) (rest : Bool)
-    → ((addr == 0xF11) || ((addr == 0xF12) || ((addr == 0xF13) || ((addr == 0xF14) || ((addr == 0xF15) || rest)))))
-    ≡ (is_from_to 0xF11 0xF15 addr || rest)
-five addr rest = grind (arith, nat_tests)
-
 five_and_more : (addr : ℕ)
     → ((addr == 0x306) || ((addr == 0x30A) || ((addr == 0x310) || ((addr == 0x31A) || ((addr == 0x320)
     || ((addr == 0xF11) || ((addr == 0xF12) || ((addr == 0xF13) || ((addr == 0xF14) || ((addr == 0xF15)
     || (is_from_to 0x323 0x33F addr || (is_from_to 0xB03 0xB1F addr || is_from_to 0xB83 0xB9F addr))))))))))))
     ≡ is_zero addr
-five_and_more addr =
-    ap (λ rest. (addr == 0x306) || ((addr == 0x30A) || ((addr == 0x310) || ((addr == 0x31A) || ((addr == 0x320) || rest)))))
-    (five addr _)
+five_and_more addr = search rules
 
 -- a name that is of neither the table nor protection is one of a register that reads 0
 named_zero : (addr : ℕ) → (addr == 0x300) ≡ false
@@ -139,8 +116,7 @@ named_zero : (addr : ℕ) → (addr == 0x300) ≡ false
     → (addr == 0xB82) ≡ false
     → is_config addr ≡ false → is_address addr ≡ false
     → list_any (λ named. addr == named.1) csr_names ≡ is_zero addr
-named_zero addr f300 f301 f304 f305 f340 f341 f342 f343 f344 fB00 fB02 fB80 fB82 config address =
-    any-name addr ∙ ap (named_before addr) (any-more addr) ∙ rw (f300, f301, f304, f305, f340, f341, f342, f343, f344, fB00, fB02, fB80, fB82, config, address) (five_and_more addr)
+named_zero addr f300 f301 f304 f305 f340 f341 f342 f343 f344 fB00 fB02 fB80 fB82 config address = search (rules, any-name, any-more, five_and_more)
 
 -- ---- the rows
 
@@ -237,61 +213,15 @@ pub ruleset counter_numbers = (number_mcycle, number_minstret)
 
 same : (addr : ℕ) → is_config addr ≡ false → is_address addr ≡ false → Same (row_at addr) (register_at addr)
 unfolding table register_at row_at
-same addr config address =
-    more addr 0x300 _ Mstatus _ _ number_mstatus (record { value = λ s lines. refl; written = λ s word. refl }) (λ f300.
-    (more addr 0x301 _ Misa _ _ number_misa (record { value = λ s lines. refl; written = λ s word. refl }) (λ f301.
-    (more addr 0x304 _ Mie _ _ number_mie (record { value = λ s lines. refl; written = λ s word. refl }) (λ f304.
-    (more addr 0x305 _ Mtvec _ _ number_mtvec (record { value = λ s lines. refl; written = λ s word. refl }) (λ f305.
-    (more addr 0x340 _ Mscratch _ _ number_mscratch (record { value = λ s lines. refl; written = λ s word. refl }) (λ f340.
-    (more addr 0x341 _ Mepc _ _ number_mepc (record { value = λ s lines. refl; written = λ s word. refl }) (λ f341.
-    (more addr 0x342 _ Mcause _ _ number_mcause (record { value = λ s lines. refl; written = λ s word. refl }) (λ f342.
-    (more addr 0x343 _ Mtval _ _ number_mtval (record { value = λ s lines. refl; written = λ s word. refl }) (λ f343.
-    (more addr 0x344 _ Mip _ _ number_mip (record { value = λ s lines. refl; written = λ s word. refl }) (λ f344.
-    (more addr 0xB00 _ Mcycle _ _ number_mcycle (record { value = λ s lines. refl; written = λ s word. refl }) (λ fB00.
-    (more addr 0xB80 _ Mcycleh _ _ number_mcycleh (record { value = λ s lines. refl; written = λ s word. refl }) (λ fB80.
-    (more addr 0xB02 _ Minstret _ _ number_minstret (record { value = λ s lines. refl; written = λ s word. refl }) (λ fB02.
-    (more addr 0xB82 _ Minstreth _ _ number_minstreth (record { value = λ s lines. refl; written = λ s word. refl }) (λ fB82.
-    zero_found addr csr_names (is_zero addr) each_number
-    (named_zero addr f300 f301 f304 f305 f340 f341 f342 f343 f344 fB00 fB02 fB80 fB82 config address))))))))))))))))))))))))))
+same addr config address = search (rules, more, number_mstatus, number_misa, number_mie, number_mtvec, number_mscratch, number_mepc, number_mcause, number_mtval, number_mip, number_mcycle, number_mcycleh, number_minstret, number_minstreth, zero_found, each_number, named_zero)
 
 -- ---- what is at an address, by the register there
 
 -- where protection has a register, none of these is at the address
 module _ (addr : ℕ) (within : is_from_to 0x3A0 0x3BF addr ≡ true) where
-  not_at : (n : ℕ) → (nat_lt n 0x3A0 || nat_lt 0x3BF n) ≡ true → (addr == n) ≡ false
-  not_at n apart = grind (arith, nat_tests)
-
-  not_from : (first last : ℕ) → (nat_lt last 0x3A0 || nat_lt 0x3BF first) ≡ true
-      → is_from_to first last addr ≡ false
-  not_from first last apart = grind (arith, nat_tests)
-
   none_within : register_at addr ≡ None
   unfolding register_at
-  none_within =
-      rw (
-        not_at 0x300 refl,
-        not_at 0x301 refl,
-        not_at 0x304 refl,
-        not_at 0x305 refl,
-        not_at 0x340 refl,
-        not_at 0x341 refl,
-        not_at 0x342 refl,
-        not_at 0x343 refl,
-        not_at 0x344 refl,
-        not_at 0xB00 refl,
-        not_at 0xB80 refl,
-        not_at 0xB02 refl,
-        not_at 0xB82 refl,
-        not_at 0x306 refl,
-        not_at 0x30A refl,
-        not_at 0x310 refl,
-        not_at 0x31A refl,
-        not_at 0x320 refl,
-        not_from 0x323 0x33F refl,
-        not_from 0xB03 0xB1F refl,
-        not_from 0xB83 0xB9F refl,
-        not_from 0xF11 0xF15 refl,
-      ) refl
+  none_within = search rules
 
 none_config : (addr : ℕ) → is_config addr ≡ true → register_at addr ≡ None
 none_config addr within = none_within addr (grind (arith, nat_tests))
@@ -384,12 +314,10 @@ pub read_by_cases : (state : CsrState) (addr : ℕ) (mode : Mode) (lines : Lines
     → read state addr mode lines
     ≡ (if may_read addr mode then cases.value_at state lines addr (register_at addr) else None)
 unfolding read row_at
-read_by_cases state addr mode lines =
-    ap (λ value. if may_read addr mode then value else None) (values state lines addr)
+read_by_cases state addr mode lines = search (rules, values)
 
 pub write_by_cases : (state : CsrState) (addr : ℕ) (mode : Mode) (word : ℕ)
     → write state addr mode word
     ≡ (if may_write addr mode then with_value_at state addr word (register_at addr) else None)
 unfolding write row_at
-write_by_cases state addr mode word =
-    ap (λ after. if may_write addr mode then after else None) (writes state addr word)
+write_by_cases state addr mode word = search (rules, writes)

@@ -1,5 +1,4 @@
 pub mod Inputs
-pub mod Lines
 pub mod Whole
 pub mod Inserted
 pub mod Texts

@@ -1,5 +1,6 @@
 -- The steps of a list that was read have ten digits at most.
-use Rattle.std.proofs.Common.{◌≡◌, ◌∙◌, ℕ, Bool, true, false, cond, List, [], ◌∷◌, ◌++◌, refl, ap}
+use Rattle.std.proofs.Common.{rules}
+use Rattle.std.proofs.Common.{◌≡◌, ℕ, Bool, true, false, cond, List, [], ◌∷◌, refl, ap}
 use Rattle.std.proofs.lemmas.List.Folds.{list_all-append}
 use Rattle.std.specs.List.{list_all}
 use Rattle.std.specs.Prelude.{Option, Some, None, nat_le, nat_lt, ◌&&◌, length, option_and_then}
@@ -10,11 +11,6 @@ use Rattle.rv_lists.specs.declared.input.Input.{Input}
 use Rattle.rv_lists.specs.declared.input.TimedInput.{TimedInput}
 use Rattle.rv_lists.specs.Reading.{HasSteps, joined}
 use Rattle.rv_lists.specs.Timed.{at_step, all_of, step_of, inputs_of, timed_words, timed_line, never_falls, timed}
-
-and_both : (a b c : Bool) → (a && (b && c)) ≡ true → c ≡ true
-and_both true true c h = h
-and_both true false c h = absurd cc
-and_both false b c h = absurd cc
 
 both : (a b : Bool) → a ≡ true → b ≡ true → (a && b) ≡ true
 both a b p q = rw (p, q) refl
@@ -54,8 +50,7 @@ timed_by : (step : Option ℕ) (is : Option (List Input)) (xs : List TimedInput)
     → option_and_then (λ n. option_map (at_step n) is) step ≡ Some xs → HasSteps xs
 timed_by None is xs small h = absurd cc
 timed_by (Some n) None xs small h = absurd cc
-timed_by (Some n) (Some is) xs small h =
-    let same : at_step n is ≡ xs = cc in rw (← same) (at_small n is (small n refl))
+timed_by (Some n) (Some is) xs small h = search (rules, at_small)
 
 words_by : (comment : Bool) (step : Option ℕ) (is : Option (List Input)) (xs : List TimedInput)
     → ((n : ℕ) → step ≡ Some n → nat_le n 9999999999 ≡ true)
@@ -84,11 +79,7 @@ joined_small : (a b : Option (List TimedInput)) (xs : List TimedInput)
     → ((ys : List TimedInput) → b ≡ Some ys → HasSteps ys) → joined a b ≡ Some xs → HasSteps xs
 joined_small None b xs p q h = absurd cc
 joined_small (Some ys) None xs p q h = absurd cc
-joined_small (Some ys) (Some zs) xs p q h =
-    let same : ys ++ zs ≡ xs = cc in
-    rw (← same)
-    (list_all-append (λ x. nat_le x.step 9999999999) ys zs
-    ∙ both (list_all (λ x. nat_le x.step 9999999999) ys) _ (p ys refl) (q zs refl))
+joined_small (Some ys) (Some zs) xs p q h = search (rules, list_all-append, both)
 
 all_small : (texts : List (List ℕ)) (xs : List TimedInput) → all_of timed_line texts ≡ Some xs → HasSteps xs
 unfolding all_of

@@ -1,5 +1,6 @@
 -- Reading the lines of a timed list, one by one.
-use Rattle.std.proofs.Common.{◌≡◌, ◌∙◌, ℕ, zero, suc, ◌+◌, ◌<◌, Bool, true, false, cond, List, [], ◌∷◌, ◌++◌, length, take, drop, refl, sym, ap, arith, add-one, append-nil, append_assoc, length-drop, below_more}
+use Rattle.std.proofs.Common.{rules}
+use Rattle.std.proofs.Common.{◌≡◌, ◌∙◌, ℕ, zero, suc, ◌+◌, ◌<◌, true, List, [], ◌∷◌, ◌++◌, length, take, drop, refl, sym, ap, arith, add-one, append-nil, append_assoc, length-drop, below_more}
 use Rattle.std.specs.Prelude.{Option, Some, None, is_some, option_and_then}
 use Rattle.std.proofs.lemmas.List.{take_all}
 use Rattle.rv_lists.specs.declared.input.TimedInput.{TimedInput}
@@ -27,16 +28,10 @@ all_of_more meaning (y ∷ ys) x =
 
 -- ---- lines that have a list
 
-rising_by : (xs before : List TimedInput) (b : Bool) → never_falls xs ≡ b
-    → cond b (Some xs) None ≡ Some before → (xs ≡ before) × (never_falls xs ≡ true)
-rising_by xs before true e h = (cc, e)
-rising_by xs before false e h = absurd cc
-
 listed_by : (r : Option (List TimedInput)) (before : List TimedInput)
     → option_and_then unless_falling r ≡ Some before → (r ≡ Some before) × (never_falls before ≡ true)
 listed_by None before h = absurd cc
-listed_by (Some xs) before h =
-    let p = rising_by xs before (never_falls xs) refl h in (ap (λ x. Some x) p.0, rw p.0 at p.1)
+listed_by (Some xs) before h = search rules
 
 listed : (texts : List (List ℕ)) (before : List TimedInput) → timed texts ≡ Some before
     → (all_of timed_line texts ≡ Some before) × (never_falls before ≡ true)
@@ -56,8 +51,7 @@ with_line_by before (Some xs) = refl
 timed_more : (texts : List (List ℕ)) (text : List ℕ) (before : List TimedInput) → timed texts ≡ Some before
     → timed (texts ++ text ∷ []) ≡ with_line before (timed_line text)
 unfolding timed
-timed_more texts text before h =
-    rw (all_of_more timed_line texts text, (listed texts before h).0) (with_line_by before (timed_line text))
+timed_more texts text before h = search (rules, all_of_more, listed, with_line_by)
 
 -- ---- the first n lines have these inputs, and the others are left
 
@@ -100,17 +94,14 @@ module _ (texts rest : List (List ℕ)) (n : ℕ) (inputs : List TimedInput)
 
     more_taken : (new : List TimedInput) → with_line inputs (timed_line text) ≡ Some new → (k : ℕ) → k < n + 1 + 1
         → is_some (timed (take k texts)) ≡ true
-    more_taken new e =
-        below_more (λ k. is_some (timed (take k texts)) ≡ true) (n + 1) so.taken (rw (next_is, e) refl)
+    more_taken new e = search (rules, below_more, next_is)
 
     pub read_more : (new : List TimedInput) → with_line inputs (timed_line text) ≡ Some new
         → SoFar texts after (n + 1) new
-    read_more new e =
-        record { left = rw add-one (sym next.back); inputs_are = next_is ∙ e; taken = more_taken new e }
+    read_more new e = search (rules, add-one, next, next_is, more_taken)
 
     first_refused : with_line inputs (timed_line text) ≡ None → IsFirstRefused texts (n + 1)
-    first_refused e =
-        (next_is ∙ e, so.taken)
+    first_refused e = search (rules, next_is)
 
     pub refused : with_line inputs (timed_line text) ≡ None → (k : ℕ) → k ≡ n + 1 → IsFirstRefused texts k
     refused e k is = rw is (first_refused e)

@@ -3,7 +3,6 @@
 use Rattle.std.specs.Prelude.{◌≡◌, ℕ, ◌<◌, ◌&&◌, Bool, true, false, nat_le, nat_lt, List, [], ◌∷◌, ◌++◌, take, if◌then◌else◌, Option, Some, None, is_some, Result, Ok, Err, codes, decimal, option_and_then}
 use Rattle.std.specs.Option.{option_map}
 use Rattle.std.specs.List.{list_all}
-use Rattle.std.specs.Str.{bytes_eq}
 use Rattle.rv_lists.specs.declared.input.Input.{Input}
 use Rattle.rv_lists.specs.declared.input.Input.TheVariants.{Rx, Line}
 use Rattle.rv_lists.specs.declared.input.TimedInput.{TimedInput}
@@ -12,7 +11,7 @@ use Rattle.rv_lists.specs.declared.line_refusal.LineRefusal.TheVariants.{BadLine
 use Rattle.rv_base.specs.Numbers.{number_in}
 use Rattle.rv_base.specs.Tables.{lookup}
 use Rattle.rv_lists.specs.Text.{input_text}
-use Rattle.rv_lists.specs.Timed.{received, driven, at_step, never_falls, timed}
+use Rattle.rv_lists.specs.Timed.{at_step, never_falls, timed}
 
 -- no step has more than ten digits
 abbrev pub HasSteps : List TimedInput → Type 0
@@ -65,12 +64,6 @@ with_inputs before step inputs = option_map (λ is. before ++ at_step step is) i
 -- the inputs of a line, following others, unless a step falls
 abbrev pub with_line : List TimedInput → Option (List TimedInput) → Option (List TimedInput)
 with_line before said = option_and_then (λ inputs. unless_falling (before ++ inputs)) said
-
--- the inputs of a kind, by the words following it: a choice by its name
-unfoldable pub inputs_by : List ℕ → List (List ℕ) → Option (List Input)
-inputs_by kind more =
-    if bytes_eq kind (codes "rx") then received more
-    else (if bytes_eq kind (codes "line") then driven more else None)
 
 -- ---- the ranges of an input's fields, as they are written
 

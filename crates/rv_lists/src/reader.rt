@@ -62,7 +62,7 @@ fn read_level(step: u64, text: &[u8], out: &mut Vec<TimedInput>) -> Result<(), L
 }
 
 /// Reads the words following a step, and appends their inputs.
-#[tactic(auto, unfolding(crate::specs::Timed::inputs_of, crate::specs::Reading::inputs_by), using(crate::proofs::Inputs::inputs_are))]
+#[tactic(auto, unfolding(crate::specs::Timed::inputs_of))]
 fn read_inputs(step: u64, text: &[u8], out: &mut Vec<TimedInput>) -> Result<(), LineRefusal>
     ensures { Becomes out.new.items result (with_inputs out.old.items step (inputs_of (words text.now))) }
 {
@@ -95,6 +95,7 @@ fn falls(step: u64, before: &[TimedInput]) -> bool
 }
 
 /// Reads a line, and appends its inputs.
+#[tactic(auto, unfolding(crate::specs::Timed::timed_line), using(crate::proofs::Inputs::line_steps))]
 pub fn read_line(line: &[u8], out: &mut Vec<TimedInput>) -> Result<(), LineRefusal>
     requires { never_falls out.old.items ≡ true }
     ensures { Becomes out.new.items result (with_line out.old.items (timed_line line.now)) }

@@ -1,12 +1,13 @@
 -- The sources above the threshold that the controller keeps, and the level of the external line by them.
-use Rattle.std.proofs.Common.{◌≡◌, ◌≢◌, ℕ, ◌+◌, ◌<◌, ◌≤◌, Bool, true, false, List, replicate, inl, inr, refl, sym, ◌∙◌, ap, arith}
-use Rattle.std.specs.Prelude.{◌==◌, ◌&&◌, ◌||◌, not, nat_lt, nat_le, length, slice_index, slice_set}
+use Rattle.std.proofs.Common.{rules}
+use Rattle.std.proofs.Common.{◌≡◌, ◌≢◌, ℕ, ◌+◌, ◌<◌, ◌≤◌, Bool, true, false, List, replicate, inl, inr, sym, ◌∙◌, ap, arith}
+use Rattle.std.specs.Prelude.{◌==◌, ◌&&◌, ◌||◌, not, nat_lt, length, slice_index, slice_set}
 use Rattle.std.specs.FinSet.{contains, insert, remove, intersection, empty, contains-empty, contains-insert, contains-remove, contains-intersection}
 use Rattle.std.specs.Ordering.{nat_cmp}
 use Rattle.std.specs.Cmp.{nat_cmp_total, unsigned_tied}
-use Rattle.std.proofs.lemmas.Bool.{cases_eq, and_parts, and_from, and_left, and_right, ltb-true, leb-true, le-ltb, lt-ltb, le-leb, eq-eqb, ne_eqb, or_left, both_ways, false_from_ne_true}
+use Rattle.std.proofs.lemmas.Bool.{cases_eq, and_parts, and_from, and_left, and_right, ltb-true, le-ltb, lt-ltb, eq-eqb, ne_eqb, or_left, both_ways, false_from_ne_true}
 use Rattle.std.proofs.lemmas.Bool.Decides.{nat_tests}
-use Rattle.std.proofs.lemmas.List.{get_or-replicate, get_or-set_same, get_or-set_other}
+use Rattle.std.proofs.lemmas.List.{get_or-replicate, get_or-set_same}
 use Rattle.rv_plic.specs.Sources.{sources, Sources}
 use Rattle.rv_plic.specs.Words.{any-range, contains-filtered}
 use Rattle.rv_plic.specs.Gateways.{PlicState}
@@ -17,10 +18,7 @@ use Rattle.rv_plic.proofs.Best.{and_unless, none-range}
 use Rattle.rv_plic.proofs.Words.{same_sources}
 
 in_range : (ps : List ℕ) (t q : ℕ) → is_above ps t q ≡ true → (1 ≤ q) × (q < 1 + 31)
-in_range ps t q is =
-    let low = (and_parts _ _ is).0 in
-    let high = (and_parts _ _ (and_parts _ _ is).1).0 in
-    (leb-true 1 q low, ltb-true q 32 high)
+in_range ps t q is = search rules
 
 pub contains-above : (ps : List ℕ) (t q : ℕ) → contains (sources_above ps t) q ≡ is_above ps t q
 unfolding sources_above sources
@@ -28,27 +26,18 @@ contains-above ps t q = contains-filtered (is_above ps t) 1 31 q (in_range ps t 
 
 -- at reset no source is above the threshold
 none_at : (q : ℕ) → is_above (replicate 32 0) 0 q ≡ false
-none_at q =
-    and_right (nat_le 1 q) _ (and_unless (nat_lt q 32) _
-    (λ high. ap (λ n. nat_lt 0 n) (get_or-replicate 32 q 0 0 (ltb-true q 32 high))))
+none_at q = search (rules, and_right, and_unless, get_or-replicate, ltb-true)
 
 pub none_above : (s : Sources) → s ≡ empty → sources_above (replicate 32 0) 0 ≡ s
-none_above s none =
-    same_sources _ _ (λ q. contains-above (replicate 32 0) 0 q ∙ none_at q
-    ∙ sym (ap (λ u. contains u q) none ∙ contains-empty nat_cmp q))
+none_above s none = search (rules, same_sources, contains-above, none_at, contains-empty)
 
 -- ---- a priority is set
 other_above : (ps : List ℕ) (t s v q : ℕ) → (q ≡ s → ⊥) → is_above (slice_set ps s v) t q ≡ is_above ps t q
-other_above ps t s v q other =
-    ap (λ n. nat_le 1 q && (nat_lt q 32 && nat_lt t n)) (get_or-set_other ps s q v 0 other)
+other_above ps t s v q other = search rules
 
 this_above : (ps : List ℕ) (t s v q : ℕ) (b : Bool) → 0 < s → s < 32 → q ≡ s
     → nat_lt t (slice_index (slice_set ps s v) s) ≡ b → is_above (slice_set ps s v) t q ≡ b
-this_above ps t s v q b low high e is =
-    ap (λ k. is_above (slice_set ps s v) t k) e
-    ∙ ap (λ c. c && (nat_lt s 32 && nat_lt t (slice_index (slice_set ps s v) s))) (le-leb 1 s low)
-    ∙ ap (λ c. c && nat_lt t (slice_index (slice_set ps s v) s)) (lt-ltb s 32 high)
-    ∙ is
+this_above ps t s v q b low high e is = search rules
 
 set_here : (ps : List ℕ) (t s v : ℕ) → length ps ≡ 32 → s < 32
     → nat_lt t (slice_index (slice_set ps s v) s) ≡ nat_lt t v
@@ -85,16 +74,11 @@ in_notified : (plic : PlicState) (above : Sources) (q : ℕ)
     → sources_above plic.priorities plic.threshold ≡ above
     → contains (intersection (intersection plic.pending plic.enabled) above) q
     ≡ (is_waiting plic q && is_above plic.priorities plic.threshold q)
-in_notified plic above q is =
-    contains-intersection nat_cmp_total (intersection plic.pending plic.enabled) above q
-    ∙ (λ i. contains-intersection nat_cmp_total plic.pending plic.enabled q i
-    && (ap (λ u. contains u q) (sym is) ∙ contains-above plic.priorities plic.threshold q) i)
+in_notified plic above q is = search (rules, contains-intersection, nat_cmp_total, contains-above)
 
 with_range : (w : Bool) (ps : List ℕ) (t q : ℕ) → 1 ≤ q → q < 32
     → (w && nat_lt t (slice_index ps q)) ≡ (w && is_above ps t q)
-with_range w ps t q low high =
-    ap (λ b. w && b) (sym (ap (λ c. c && (nat_lt q 32 && nat_lt t (slice_index ps q))) (le-leb 1 q low)
-    ∙ ap (λ c. c && nat_lt t (slice_index ps q)) (lt-ltb q 32 high)))
+with_range w ps t q low high = search rules
 
 pub none_notified : (plic : PlicState) (above : Sources)
     → sources_above plic.priorities plic.threshold ≡ above
@@ -122,11 +106,7 @@ some_other plic above is quiet =
 pub some_notified : (plic : PlicState) (above : Sources)
     → sources_above plic.priorities plic.threshold ≡ above
     → intersection (intersection plic.pending plic.enabled) above ≢ empty → is_notified plic ≡ true
-some_notified plic above is some = by_level (is_notified plic) refl
-  where
-    by_level : (b : Bool) → is_notified plic ≡ b → is_notified plic ≡ true
-    by_level true e = e
-    by_level false e = absurd (some (some_other plic above is e))
+some_notified plic above is some = search (rules, some_other)
 
 -- ---- the sources above the threshold, collected one by one
 -- a set has the sources above the threshold with numbers below `number`, and no others
@@ -134,19 +114,11 @@ abbrev pub HasThoseBelow : ℕ → List ℕ → ℕ → Sources → Type 0
 HasThoseBelow number ps t s = (q : ℕ) → contains s q ≡ (nat_lt q number && is_above ps t q)
 
 pub starts_empty : (ps : List ℕ) (t : ℕ) (s : Sources) → s ≡ empty → HasThoseBelow 1 ps t s
-starts_empty ps t s none q = ap (λ u. contains u q) none ∙ contains-empty nat_cmp q ∙ sym (nothing q)
-  where
-    below : (q : ℕ) → q < 1 → nat_le 1 q ≡ false
-    below q low = grind (arith, nat_tests)
-
-    nothing : (q : ℕ) → (nat_lt q 1 && is_above ps t q) ≡ false
-    nothing q = and_unless (nat_lt q 1) _ (λ low. and_left (nat_le 1 q) _ (below q (ltb-true q 1 low)))
+starts_empty ps t s none q = search (rules, contains-empty, nat_tests, and_unless, and_left, ltb-true)
 
 at_number : (ps : List ℕ) (t n : ℕ) (b : Bool) → 0 < n → n < 32 → nat_lt t (slice_index ps n) ≡ b
     → is_above ps t n ≡ b
-at_number ps t n b low high is =
-    ap (λ c. c && (nat_lt n 32 && nat_lt t (slice_index ps n))) (le-leb 1 n low)
-    ∙ ap (λ c. c && nat_lt t (slice_index ps n)) (lt-ltb n 32 high) ∙ is
+at_number ps t n b low high is = search rules
 
 next_number : (q n : ℕ) → (q ≡ n → ⊥) → nat_lt q n ≡ nat_lt q (n + 1)
 next_number q n other = grind (arith, nat_tests)
@@ -154,39 +126,15 @@ next_number q n other = grind (arith, nat_tests)
 its_number : (q n : ℕ) → q ≡ n → nat_lt q (n + 1) ≡ true
 its_number q n e = lt-ltb q (n + 1) (omega arith)
 
-no_number : (q n : ℕ) → q ≡ n → nat_lt q n ≡ false
-no_number q n e = le-ltb q n (omega arith)
-
 pub with_next : (ps : List ℕ) (t n : ℕ) (s : Sources) → HasThoseBelow n ps t s → 0 < n → n < 32
     → t < slice_index ps n → HasThoseBelow (n + 1) ps t (insert s n)
-with_next ps t n s so_far low high over q =
-    (contains-insert nat_cmp_total s n q ∙ (λ i. unsigned_tied q n i || so_far q i))
-    ∙ elim (cases_eq q n) [
-      | inl e ↦ or_left (q == n) _ (eq-eqb q n e) ∙ sym
-          (and_from _ _ (its_number q n e) (ap (is_above ps t) e
-          ∙ at_number ps t n true low high (lt-ltb t (slice_index ps n) over)))
-      | inr other ↦ ap (λ b. b || (nat_lt q n && is_above ps t q)) (ne_eqb q n other)
-          ∙ ap (λ b. b && is_above ps t q) (next_number q n other)
-    ]
+with_next ps t n s so_far low high over q = search (rules, contains-insert, nat_cmp_total, cases_eq, or_left, eq-eqb, and_from, its_number, at_number, lt-ltb, ne_eqb, next_number)
 
 pub without_next : (ps : List ℕ) (t n : ℕ) (s : Sources) → HasThoseBelow n ps t s → 0 < n → n < 32
     → slice_index ps n ≤ t → HasThoseBelow (n + 1) ps t s
-without_next ps t n s so_far low high under q =
-    so_far q
-    ∙ elim (cases_eq q n) [
-      | inl e ↦ and_left (nat_lt q n) _ (no_number q n e)
-          ∙ sym (and_right (nat_lt q (n + 1)) _ (ap (is_above ps t) e
-          ∙ at_number ps t n false low high (le-ltb t (slice_index ps n) under)))
-      | inr other ↦ ap (λ b. b && is_above ps t q) (next_number q n other)
-    ]
+without_next ps t n s so_far low high under q = search rules
 
 pub has_all : (ps : List ℕ) (t n : ℕ) (s : Sources) → 32 ≤ n → HasThoseBelow n ps t s → s ≡ sources_above ps t
-has_all ps t n s past all =
-    same_sources _ _ (λ q. all q ∙ limit q (is_above ps t q) refl ∙ sym (contains-above ps t q))
-  where
-    limit : (q : ℕ) (b : Bool) → is_above ps t q ≡ b → (nat_lt q n && is_above ps t q) ≡ is_above ps t q
-    limit q true e =
-        let high : q < 1 + 31 = (in_range ps t q e).1 in and_from _ _ (lt-ltb q n (omega arith)) e ∙ sym e
-    limit q false e = and_right (nat_lt q n) _ e ∙ sym e
+has_all ps t n s past all = search (rules, same_sources, contains-above, in_range, and_from, lt-ltb, and_right)
 
 pub ruleset collection = (starts_empty, with_next, without_next, has_all)

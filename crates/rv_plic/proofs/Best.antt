@@ -1,12 +1,12 @@
 -- The best source by its property, and the search for it.
-use Rattle.std.proofs.Common.{◌≡◌, ℕ, zero, suc, ◌+◌, ◌<◌, ◌≤◌, ◌⊎◌, Bool, true, false, cond, refl, sym, ◌∙◌, ap, subst, arith, inl, inr}
+use Rattle.std.proofs.Common.{rules}
+use Rattle.std.proofs.Common.{◌≡◌, ℕ, zero, suc, ◌+◌, ◌<◌, ◌≤◌, Bool, true, false, cond, refl, sym, ◌∙◌, ap, subst, arith, inl, inr}
 use Rattle.std.specs.Prelude.{◌&&◌, not, nat_lt, slice_index, Option, Some, None}
 use Rattle.std.specs.List.{range_with_len, find, list_any}
-use Rattle.std.specs.Option.{option_map_or}
 use Rattle.std.specs.FinSet.{contains, intersection, empty, contains-empty, contains-intersection}
 use Rattle.std.specs.Ordering.{nat_cmp}
 use Rattle.std.specs.Cmp.{nat_cmp_total}
-use Rattle.std.proofs.lemmas.Bool.{cases_eq, and_parts, and_from, or_from, and_left, not_from_false, le-ltb, lt-ltb, ltb-true, both_ways, false_from_ne_true}
+use Rattle.std.proofs.lemmas.Bool.{cases_eq, and_parts, and_from, or_from, and_left, not_from_false}
 use Rattle.rv_plic.specs.Sources.{sources}
 use Rattle.rv_plic.specs.Words.{any-range}
 use Rattle.rv_plic.specs.Gateways.{PlicState}
@@ -52,24 +52,12 @@ module _ (waits : ℕ → Bool) (priority : ℕ → ℕ) where
   -- the priority of a source that waits isn't above that of the best
   not_above : (source other : ℕ) → (above 0 other ≡ true → IsFirst priority source other)
       → above (priority source) other ≡ false
-  not_above source other first = by (waits other) refl where
-    by : (b : Bool) → waits other ≡ b → (b && nat_lt (priority source) (priority other)) ≡ false
-    by false waiting = refl
-    by true waiting = false_from_ne_true _ (λ more.
-        let higher : priority source < priority other = ltb-true (priority source) (priority other) more in
-        let best : IsFirst priority source other =
-        first (and_from _ _ waiting (lt-ltb 0 (priority other) (omega arith))) in
-        absurd (omega (arith, best.higher)))
+  not_above source other first = search rules
 
   -- a source with a lower number than the best has a lower priority
   above_lower : (source other : ℕ) → IsFirst priority source other → other < source → waits source ≡ true
       → above (priority other) source ≡ true
-  above_lower source other first lower waiting =
-      and_from _ _ waiting (lt-ltb (priority other) (priority source)
-      (elim (cases_eq (priority other) (priority source)) [
-        | inl e ↦ absurd (omega (arith, first.lower e))
-        | inr differ ↦ let most : priority other ≤ priority source = first.higher in grind arith
-      ]))
+  above_lower source other first lower waiting = search rules
 
   module _ (n : ℕ) where
     abbrev is_unbeaten : ℕ → Bool
@@ -78,9 +66,7 @@ module _ (waits : ℕ → Bool) (priority : ℕ → ℕ) where
 
     best_is_unbeaten : (source : ℕ) → IsBestBelow (1 + n) (above 0) priority (Some source)
         → is_unbeaten source ≡ true
-    best_is_unbeaten source is =
-        and_from _ _ is.2 (not_from_false _ (none-range (above (priority source)) 1 n
-        (λ t low high. not_above source t (λ p. is.3 t low high p))))
+    best_is_unbeaten source is = search (rules, and_from, not_from_false, none-range, not_above)
 
     lower_is_beaten : (source other : ℕ) → IsBestBelow (1 + n) (above 0) priority (Some source) → 1 ≤ other
         → other < source → is_unbeaten other ≡ false
@@ -91,78 +77,12 @@ module _ (waits : ℕ → Bool) (priority : ℕ → ℕ) where
 
     search_finds_best : (found : Option ℕ) → IsBestBelow (1 + n) (above 0) priority found
         → find is_unbeaten (range_with_len 1 n) ≡ found
-    search_finds_best None none =
-        find_none-range is_unbeaten 1 n (λ t low high. and_left (above 0 t) _ (none t low high))
-    search_finds_best (Some source) is =
-        find_first-range is_unbeaten 1 n source is.0 is.1 (best_is_unbeaten source is)
-        (λ t low high. lower_is_beaten source t is low high)
+    search_finds_best None none = search (rules, find_none-range, and_left)
+    search_finds_best (Some source) is = search (rules, find_first-range, best_is_unbeaten, lower_is_beaten)
 
 pub best_by_property : (plic : PlicState) (found : Option ℕ) → IsBest plic found → best plic ≡ found
 unfolding best sources
 best_by_property plic found is = search_finds_best (is_waiting plic) (priority_of plic) 31 found is
-
--- ---- the search over the sources from 1 on
-module _ (is_in : ℕ → Bool) (priority : ℕ → ℕ) where
-  abbrev in_with_priority : ℕ → Bool
-  in_with_priority source = is_in source && nat_lt 0 (priority source)
-
-  step_above : (end other : ℕ) → other < end + 1 → (other ≡ end) ⊎ (other < end)
-  step_above end other below = elim (cases_eq other end) [ inl e ↦ inl e | inr differ ↦ inr (grind arith) ]
-
-  has_priority : (source : ℕ) → is_in source ≡ true → 0 < priority source → in_with_priority source ≡ true
-  has_priority source is more = and_from _ _ is (lt-ltb 0 (priority source) more)
-
-  -- the next source goes before each one so far
-  next_is_first : (number : ℕ) (found : Option ℕ) → IsBestBelow number in_with_priority priority found
-      → option_map_or priority found 0 < priority number → (other : ℕ) → 0 < other → other < number
-      → in_with_priority other ≡ true → IsFirst priority number other
-  next_is_first number None best_so_far more other low high passes =
-      absurd (both_ways _ (best_so_far other low high) passes)
-  next_is_first number (Some source) best_so_far more other low high passes =
-      let first : IsFirst priority source other = best_so_far.3 other low high passes in
-      record { higher = omega (arith, first.higher); lower = λ e. absurd (omega (arith, first.higher)) }
-
-  itself_is_first : (number other : ℕ) → other ≡ number → IsFirst priority number other
-  itself_is_first number other e = record {
-    higher = let same : priority other ≡ priority number =
-        ap priority e in omega arith;
-    lower = λ _. omega arith;
-  }
-
-  pub best_with_next : (number : ℕ) (found : Option ℕ) → IsBestBelow number in_with_priority priority found
-      → 0 < number → is_in number ≡ true → option_map_or priority found 0 < priority number
-      → IsBestBelow (number + 1) in_with_priority priority (Some number)
-  best_with_next number found best_so_far low is more = (
-    low,
-    omega arith,
-    has_priority number is (omega arith),
-    λ other above below passes. elim (step_above number other below) [
-      | inl e ↦ itself_is_first number other e
-      | inr lower ↦ next_is_first number found best_so_far more other above lower passes
-    ],
-  )
-
-  pub best_without_next : (number : ℕ) (found : Option ℕ)
-      → IsBestBelow number in_with_priority priority found → 0 < number
-      → (is_in number ≡ true → priority number ≤ option_map_or priority found 0)
-      → IsBestBelow (number + 1) in_with_priority priority found
-  best_without_next number None best_so_far low less =
-      λ other above below. elim (step_above number other below) [
-        | inl e ↦
-            ap in_with_priority e ∙ and_unless (is_in number) _ (λ is. le-ltb 0 (priority number) (less is))
-        | inr lower ↦ best_so_far other above lower
-      ]
-  best_without_next number (Some source) best_so_far low less = (
-    best_so_far.0,
-    omega (arith, best_so_far.1),
-    best_so_far.2,
-    λ other above below passes. elim (step_above number other below) [
-      | inl e ↦ let is : is_in number ≡ true = (and_parts _ _ (ap in_with_priority (sym e) ∙ passes)).0 in
-          let same : priority other ≡ priority number = ap priority e in
-          record { higher = omega (arith, less is); lower = λ _. omega (arith, best_so_far.1) }
-      | inr lower ↦ best_so_far.3 other above lower passes
-    ],
-  )
 
 pub best_of_intersection : (plic : PlicState) (found : Option ℕ)
     → IsBestBelow 32 (λ s. contains (intersection plic.pending plic.enabled) s

@@ -1,10 +1,13 @@
 -- Counts of edges, where those of a set of sources are changed.
-use Rattle.std.proofs.Common.{◌≡◌, ℕ, zero, suc, ◌+◌, ◌-◌, ◌^◌, ◌<◌, ◌≤◌, Bool, true, false, List, [], ◌∷◌, inl, inr, refl, sym, ◌∙◌, ap, arith, add-zero}
+use Rattle.std.proofs.Common.{rules}
+use Rattle.std.proofs.lemmas.Bool.Decides.{nat_tests}
+use Rattle.std.proofs.lemmas.Grind.{common_steps}
+use Rattle.std.proofs.Common.{◌≡◌, ℕ, zero, suc, ◌+◌, ◌-◌, ◌^◌, ◌<◌, ◌≤◌, Bool, true, false, [], ◌∷◌, refl, sym, ◌∙◌, ap, arith, add-zero}
 use Rattle.std.specs.Prelude.{length, slice_index, slice_set, get_or, map, if◌then◌else◌}
 use Rattle.std.specs.List.{range_with_len}
 use Rattle.std.specs.FinSet.{contains}
-use Rattle.std.proofs.lemmas.Bool.{cases_eq, lt-ltb, le-leb}
-use Rattle.std.proofs.lemmas.List.{get_or-set_same, get_or-set_other, length-set, same_lists}
+use Rattle.std.proofs.lemmas.Bool.{le-leb}
+use Rattle.std.proofs.lemmas.List.{same_lists}
 use Rattle.rv_plic.specs.Sources.{Sources}
 use Rattle.rv_plic.specs.Gateways.{edges_of, one_more}
 use Rattle.rv_plic.specs.GatewayState.{Edges, taken}
@@ -29,8 +32,7 @@ get_or-changed : (f : ℕ → ℕ) (s : Sources) (a : ℕ) (edges : Edges) (k d 
     else get_or edges k d)
 unfolding changed
 get_or-changed f s a [] k d in_list = absurd (omega arith)
-get_or-changed f s a (n ∷ ns) zero d in_list =
-    let same : a ≡ a + 0 = omega arith in ap (λ q. if contains s q then f n else n) same
+get_or-changed f s a (n ∷ ns) zero d in_list = search rules
 get_or-changed f s a (n ∷ ns) (suc k) d in_list =
     let same : a + 1 + k ≡ a + suc k = omega arith in
     get_or-changed f s (a + 1) ns k d (omega arith)
@@ -38,9 +40,7 @@ get_or-changed f s a (n ∷ ns) (suc k) d in_list =
 
 -- a pending edge that is taken and given back leaves the count as it was
 again_same : (n : ℕ) → (0 < n) × (n < 2 ^ 32) → one_more (one_less n) ≡ n
-again_same n is =
-    let again : n - 1 + 1 ≡ n = omega (arith, is.0) in
-    ap (λ b. if b then n - 1 + 1 else n - 1) (lt-ltb (n - 1) 4294967295 (omega (arith, is.0, is.1))) ∙ again
+again_same n is = search rules
 
 -- ---- taking an edge of each source of a set, as the definition says it
 less : (b : Bool) (m n : ℕ) → m ≡ n → m - (if b then 1 else 0) ≡ (if b then one_less n else n)
@@ -60,10 +60,7 @@ taken-from s all (n ∷ ns) a each =
 
 pub taken-changed : (s : Sources) (edges : Edges) → taken s edges ≡ changed one_less s 24 edges
 unfolding taken
-taken-changed s edges =
-    taken-from s edges edges 24
-    (λ k. ap (λ b. if b then slice_index edges (24 + k - 24) else 0) (le-leb 24 (24 + k) (omega arith))
-    ∙ ap (slice_index edges) (omega arith))
+taken-changed s edges = search (rules, taken-from, le-leb)
 
 pub taken_and_given : (s : Sources) (a : ℕ) (edges : Edges)
     → ((k : ℕ) → k < length edges → contains s (a + k) ≡ true
@@ -96,74 +93,21 @@ pub record IsChangedBelow (f : ℕ → ℕ) (number : ℕ) (s : Sources) (old ne
 
 pub none_changed : (f : ℕ → ℕ) (s : Sources) (old new : Edges) → length old ≡ 8 → new ≡ old
     → IsChangedBelow f 24 s old new
-none_changed f s old new old_length e =
-    record {
-      old_length = old_length;
-      new_length = ap length e ∙ old_length;
-      changed_below =
-          λ k low. absurd (omega arith);
-      same_from = λ k from. ap (λ l. slice_index l k) e;
-    }
+none_changed f s old new old_length e = search rules
 
 pub one_changed : (f : ℕ → ℕ) (number : ℕ) (s : Sources) (old new : Edges) (count : ℕ)
     → IsChangedBelow f number s old new → 24 ≤ number → number < 32 → contains s number ≡ true
     → count ≡ f (slice_index new (number - 24))
     → IsChangedBelow f (number + 1) s old (slice_set new (number - 24) count)
-one_changed f number s old new count so_far from below is its =
-    record {
-      old_length = so_far.old_length;
-      new_length = length-set new (number - 24) count ∙ so_far.new_length;
-      changed_below = λ k low. elim (cases_eq k (number - 24)) [
-        | inl e ↦
-            let place : 24 + k ≡ number = omega (arith, e, from) in
-            ap (slice_index (slice_set new (number - 24) count)) e
-            ∙ get_or-set_same new (number - 24) count 0 (omega (arith, so_far.new_length, from, below))
-            ∙ its
-            ∙ ap (λ j. f (slice_index new j)) (sym e)
-            ∙ ap f (so_far.same_from k (omega (arith, place)))
-            ∙ sym (ap (λ b. if b then f (slice_index old k) else slice_index old k) (ap (contains s) place
-            ∙ is))
-        | inr other ↦ get_or-set_other new (number - 24) k count 0 other
-            ∙ so_far.changed_below k (omega (arith, other, low, from))
-      ];
-      same_from = λ k past. get_or-set_other new (number - 24) k count 0 (λ e. omega (arith, e, past, from))
-          ∙ so_far.same_from k (omega (arith, past));
-    }
+one_changed f number s old new count so_far from below is its = search rules
 
 pub one_left : (f : ℕ → ℕ) (number : ℕ) (s : Sources) (old new : Edges) → IsChangedBelow f number s old new
     → 24 ≤ number → number < 32 → contains s number ≡ false → IsChangedBelow f (number + 1) s old new
-one_left f number s old new so_far from below is =
-    record {
-      old_length = so_far.old_length;
-      new_length = so_far.new_length;
-      changed_below = λ k low. elim (cases_eq (24 + k) number) [
-        | inl e ↦ so_far.same_from k (omega (arith, e))
-            ∙ sym (ap (λ b. if b then f (slice_index old k) else slice_index old k) (ap (contains s) e ∙ is))
-        | inr other ↦ so_far.changed_below k (omega (arith, other, low))
-      ];
-      same_from = λ k past. so_far.same_from k (omega (arith, past));
-    }
+one_left f number s old new so_far from below is = search rules
 
 pub all_changed : (f : ℕ → ℕ) (number : ℕ) (s : Sources) (old new : Edges) → 32 ≤ number
     → IsChangedBelow f number s old new → new ≡ changed f s 24 old
-all_changed f number s old new past all =
-    same_lists new (changed f s 24 old) (all.new_length ∙ sym (length-changed f s 24 old ∙ all.old_length))
-    (λ k d in_list.
-    get_or_any new k d in_list
-    ∙ all.changed_below k (omega (arith, past, in_list, all.new_length))
-    ∙ sym (get_or_any (changed f s 24 old) k d (omega (
-      arith,
-      in_list,
-      all.new_length,
-      all.old_length,
-      length-changed f s 24 old,
-    )) ∙ get_or-changed f s 24 old k 0
-    (omega (arith, in_list, all.new_length, all.old_length))))
-  where
-    get_or_any : (l : List ℕ) (k d : ℕ) → k < length l → get_or l k d ≡ slice_index l k
-    get_or_any [] k d in_list = absurd (omega arith)
-    get_or_any (n ∷ ns) zero d in_list = refl
-    get_or_any (n ∷ ns) (suc k) d in_list = get_or_any ns k d (omega arith)
+all_changed f number s old new past all = grind (arith, nat_tests, common_steps, same_lists, length-changed, get_or-changed)
 
 -- a change by one edge less is the taking of an edge
 pub less_taken : (s : Sources) (edges new : Edges) → new ≡ changed one_less s 24 edges → new ≡ taken s edges

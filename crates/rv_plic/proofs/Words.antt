@@ -1,4 +1,6 @@
 -- Words of sources, and the sets that they stand for.
+use Rattle.std.proofs.lemmas.Bool.Decides.{nat_tests}
+use Rattle.std.proofs.lemmas.Grind.{common_steps}
 use Rattle.std.proofs.Common.{◌≡◌, ℕ, zero, suc, ◌+◌, ◌-◌, ◌*◌, ◌/◌, ◌%◌, ◌^◌, ◌<◌, ◌≤◌, Bool, false, cond, lit<, refl, sym, ◌∙◌, ap, arith, bit_and, bit_or, ◌∷◌, inl, inr}
 use Rattle.std.specs.Prelude.{◌==◌, ◌&&◌, ◌||◌, not, filter, max, min}
 use Rattle.std.specs.Ordering.{nat_cmp}
@@ -165,17 +167,7 @@ even_word word =
     (λ s. bit_at word s == 1) 1 31 (λ s low high. ap (λ n. n == 1) (kept_bit word s low high)))
 
 pub even_is_word : (word : ℕ) → word < 2 ^ 32 → IsSourceWord (bit_and word (bit_not w32 1))
-even_is_word word fits =
-    record {
-      fits = omega (arith, and_le_l word (2 ^ 32 - 2));
-      no_zero =
-          omega (
-            arith,
-            bit_at_lowest (bit_and word (2 ^ 32 - 2 ^ 1)),
-            bit_at_and word (2 ^ 32 - 2 ^ 1) 0,
-            bit_at_mask_below 1 32 0 (omega arith),
-          );
-    }
+even_is_word word fits = grind (arith, nat_tests, common_steps, and_le_l, bit_at_lowest, bit_and, bit_at_and, bit_at_mask_below)
 
 pub empty_word : sources_of 0 ≡ empty
 unfolding sources_of sources

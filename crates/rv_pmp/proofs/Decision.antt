@@ -1,9 +1,9 @@
 -- The decision by spans is the one by regions.
+use Rattle.std.proofs.Common.{rules}
 use Rattle.std.proofs.Common.{◌≡◌, ℕ, zero, suc, ◌+◌, ◌-◌, ◌*◌, ◌%◌, ◌^◌, ◌<◌, ◌≤◌, ◌⊎◌, inl, inr, Bool, true, false, cond, List, [], ◌∷◌, length, drop, get_or, Option, Some, None, refl, ap, sym, subst, ◌∙◌, arith, add-one, add-zero, nat_lt, nat_le, ◌/◌, ◌==◌, eqb-true, mul_assoc, div-add-mod', add-sub_of_le}
 use Rattle.std.specs.Prelude.{if◌then◌else◌, ◌&&◌, ◌||◌, find, unwrap_or}
 use Rattle.std.specs.List.{list_any, list_all, range_with_len}
 use Rattle.std.specs.Option.{option_map_or}
-use Rattle.std.proofs.lemmas.Bool.{ltb-true}
 use Rattle.std.proofs.lemmas.Bool.Decides.{nat_tests}
 use Rattle.std.proofs.lemmas.Nat.{pow_pos, pow-add, mod_below, div-mul-add}
 use Rattle.rv_isa.specs.Width.{bytes_of}
@@ -36,24 +36,12 @@ step-some : (mode : Mode) (access : Access) (first last : ℕ) (a : ActiveEntry)
     (granted : Bool)
     → entry_answer mode access first last a ≡ Some granted → step mode access first last a rest ≡ Some granted
 unfolding step
-step-some mode access first last a rest granted h = go (meets a.span first last) h where
-  go : (b : Bool)
-      → (if b then Some (holds a.span first last && entry_grants a.entry mode access) else None)
-      ≡ Some granted
-      → (if b then Some (holds a.span first last && entry_grants a.entry mode access) else rest)
-      ≡ Some granted
-  go true h = h
-  go false h = cc
+step-some mode access first last a rest granted h = search rules
 
 step-none : (mode : Mode) (access : Access) (first last : ℕ) (a : ActiveEntry) (rest : Option Bool)
     → entry_answer mode access first last a ≡ None → step mode access first last a rest ≡ rest
 unfolding step
-step-none mode access first last a rest h = go (meets a.span first last) h where
-  go : (b : Bool)
-      → (if b then Some (holds a.span first last && entry_grants a.entry mode access) else None) ≡ None
-      → (if b then Some (holds a.span first last && entry_grants a.entry mode access) else rest) ≡ rest
-  go true h = cc
-  go false h = refl
+step-none mode access first last a rest h = search rules
 
 decision-drop : (mode : Mode) (access : Access) (first last : ℕ) (xs : List ActiveEntry) (i : ℕ)
     (a : ActiveEntry)
@@ -105,8 +93,7 @@ whole_no_bytes = record { first_word = refl; last_word = refl; some_byte = inr r
 
 whole_top : (b : Bool) (lower address : ℕ) → nat_lt lower address ≡ b
     → IsWhole (if b then record { first = 4 * lower; «end» = 4 * address } else no_bytes)
-whole_top true lower address e =
-    record { first_word = omega arith; last_word = omega arith; some_byte = inl (grind (arith, nat_tests)) }
+whole_top true lower address e = search rules
 whole_top false lower address e = whole_no_bytes
 
 pow_word : (k : ℕ) → (2 ^ (k + 3) % 4 ≡ 0) × (0 < 2 ^ (k + 3))
@@ -118,8 +105,7 @@ blocks_word q k = omega (arith, ap (λ n. q * n) (pow-add 2 k 3), mul_assoc q (2
 whole_span : (m : Matching) (lower address : ℕ) → IsWhole (span m lower address)
 whole_span Off lower address = whole_no_bytes
 whole_span Tor lower address = whole_top (nat_lt lower address) lower address refl
-whole_span Na4 lower address =
-    record { first_word = omega arith; last_word = omega arith; some_byte = inl (omega arith) }
+whole_span Na4 lower address = search rules
 whole_span Napot lower address =
     let k = trailing_ones address in
     let p = pow_word k in
@@ -129,9 +115,6 @@ whole_span Napot lower address =
 whole : (lower : ℕ) (e : Entry) → IsWhole (span_of lower e)
 unfolding span_of
 whole lower e = whole_span e.matching lower e.address
-
-between_none : (f l byte : ℕ) → l ≤ f → is_between f l byte ≡ false
-between_none f l byte h = grind (arith, nat_tests)
 
 top_between : (b : Bool) (lower address byte : ℕ) → nat_lt lower address ≡ b
     → (nat_le lower (byte / 4) && nat_lt (byte / 4) address)
@@ -164,9 +147,7 @@ matched-between : (m : Matching) (lower address byte : ℕ)
 matched-between Off lower address byte = grind (arith, nat_tests)
 matched-between Tor lower address byte = top_between (nat_lt lower address) lower address byte refl
 matched-between Na4 lower address byte = grind (arith, nat_tests)
-matched-between Napot lower address byte =
-    let k = trailing_ones address in
-    block_between byte (2 ^ (k + 3)) (address / 2 ^ (k + 1)) (pow_pos (k + 3))
+matched-between Napot lower address byte = search (rules, block_between, pow_pos)
 
 region-between : (lower : ℕ) (e : Entry) (byte : ℕ)
     → region lower e byte ≡ is_between (span_of lower e).first (span_of lower e).«end» byte
@@ -183,35 +164,21 @@ pub matched_span : (pmp : PmpState) (n lower byte : ℕ) (s : Span) → lower �
     → s ≡ span_of lower (entry_at pmp n)
     → matches pmp n byte ≡ (nat_le s.first byte && nat_lt byte s.«end»)
 unfolding span_of
-matched_span pmp n lower byte s e f =
-    rw (f, e) (matched-between (entry_at pmp n).matching (lower_of pmp n) (entry_at pmp n).address byte)
+matched_span pmp n lower byte s e f = search (rules, matched-between)
 
 found_first : (p : ℕ → Bool) (a n i : ℕ) → i < n → ((k : ℕ) → a ≤ k → k < a + i → p k ≡ false) → p (a + i) ≡ true
     → find p (range_with_len a n) ≡ Some (a + i)
 found_first p a zero i below none is = absurd (omega (arith, below))
-found_first p a (suc n) zero below none is =
-    let here : a + 0 ≡ a = omega arith in
-    let passes : p a ≡ true = ap p (sym here) ∙ is in rw passes (ap Some (sym here))
+found_first p a (suc n) zero below none is = search rules
 found_first p a (suc n) (suc i) below none is =
     let here : p a ≡ false = none a (omega arith) (omega arith) in
     let on : a + 1 + i ≡ a + suc i = omega arith in
     rw here (found_first p (a + 1) n i (omega (arith, below))
     (λ k h g. none k (omega (arith, h)) (omega (arith, g))) (ap p on ∙ is) ∙ ap Some on)
 
-found_none : (p : ℕ → Bool) (a n : ℕ) → ((k : ℕ) → a ≤ k → k < a + n → p k ≡ false)
-    → find p (range_with_len a n) ≡ None
-found_none p a zero none = refl
-found_none p a (suc n) none =
-    let here : p a ≡ false = none a (omega arith) (omega arith) in
-    rw here (found_none p (a + 1) n (λ k h g. none k (omega (arith, h)) (omega (arith, g))))
-
 pub none_up_to : (pmp : PmpState) (addr n : ℕ) → ((k : ℕ) → k < n → matches pmp k addr ≡ false)
     → matches pmp n addr ≡ false → (k : ℕ) → k < n + 1 → matches pmp k addr ≡ false
-none_up_to pmp addr n none is k h = go (nat_lt k n) refl where
-  go : (b : Bool) → nat_lt k n ≡ b → matches pmp k addr ≡ false
-  go true less = none k (grind (arith, nat_tests))
-  go false not_less =
-      let same : k ≡ n = grind (arith, nat_tests) in ap (λ i. matches pmp i addr) same ∙ is
+none_up_to pmp addr n none is k h = search (rules, nat_tests)
 
 pub first_match : (pmp : PmpState) (addr i : ℕ) → i < 16 → ((k : ℕ) → k < i → matches pmp k addr ≡ false)
     → matches pmp i addr ≡ true → Some i ≡ find (λ n. matches pmp n addr) (range_with_len 0 16)
@@ -222,8 +189,7 @@ first_match pmp addr i below none is =
 
 pub no_match : (pmp : PmpState) (addr n : ℕ) → 16 ≤ n → ((k : ℕ) → k < n → matches pmp k addr ≡ false)
     → None ≡ find (λ n. matches pmp n addr) (range_with_len 0 16)
-no_match pmp addr n all none =
-    sym (found_none (λ n. matches pmp n addr) 0 16 (λ k h g. none k (omega (arith, g, all))))
+no_match pmp addr n all none = search rules
 
 -- ---- tests of the bytes of an access
 
@@ -247,33 +213,17 @@ all_between f l a (suc n) = grind (arith, nat_tests, all_between f l (a + 1) n)
 
 any_meets : (s : Span) (a n : ℕ) → IsWhole s
     → list_any (is_between s.first s.«end») (range_with_len a (suc n)) ≡ meets s a (a + suc n)
-any_meets s a n w =
-    any_between s.first s.«end» a n
-    ∙ elim w.some_byte [ inl some ↦ grind (arith, nat_tests) | inr none ↦ grind (arith, nat_tests) ]
+any_meets s a n w = search (rules, any_between, nat_tests)
 
 list_any-region : (lower : ℕ) (e : Entry) (a n : ℕ)
     → list_any (region lower e) (range_with_len a (suc n)) ≡ meets (span_of lower e) a (a + suc n)
-list_any-region lower e a n =
-    list_any-same (region lower e) (is_between (span_of lower e).first (span_of lower e).«end»)
-    (region-between lower e) (range_with_len a (suc n))
-    ∙ any_meets (span_of lower e) a n (whole lower e)
+list_any-region lower e a n = search (rules, list_any-same, region-between, any_meets, whole)
 
 list_all-region : (lower : ℕ) (e : Entry) (a n : ℕ)
     → list_all (region lower e) (range_with_len a (suc n)) ≡ holds (span_of lower e) a (a + suc n)
-list_all-region lower e a n =
-    list_all-same (region lower e) (is_between (span_of lower e).first (span_of lower e).«end»)
-    (region-between lower e) (range_with_len a (suc n))
-    ∙ all_between (span_of lower e).first (span_of lower e).«end» a n
+list_all-region lower e a n = search (rules, list_all-same, region-between, all_between)
 
 -- ---- the decision by spans is the one by regions
-
--- an entry that matches no address meets no byte
-off_meets : (m : Matching) (lower address first last : ℕ) → is_matching m ≡ false
-    → meets (span m lower address) first last ≡ false
-off_meets Off lower address first last h = grind (arith, nat_tests)
-off_meets Tor lower address first last h = cc
-off_meets Na4 lower address first last h = cc
-off_meets Napot lower address first last h = cc
 
 -- the decision of the entries from one on: the answer of that one, whether it matches addresses or not, or of
 -- the rest
@@ -282,16 +232,7 @@ decision-more : (mode : Mode) (access : Access) (first last lower : ℕ) (e : En
     ≡ step mode access first last (active_of lower e)
     (decision mode access first last (actives_from e.address es))
 unfolding decision actives_from step span_of
-decision-more mode access first last lower e es = go (is_matching e.matching) refl where
-  rest : Option Bool
-  rest = decision mode access first last (actives_from e.address es)
-
-  go : (b : Bool) → is_matching e.matching ≡ b
-      → decision mode access first last
-      (cond b (active_of lower e ∷ actives_from e.address es) (actives_from e.address es))
-      ≡ step mode access first last (active_of lower e) rest
-  go true m = refl
-  go false m = rw (off_meets e.matching lower e.address first last m) refl
+decision-more mode access first last lower e es = search rules
 
 pub decision-spans : (mode : Mode) (access : Access) (a n lower : ℕ) (es : List Entry)
     → unwrap_or (decision mode access a (a + suc n) (actives_from lower es)) (is_machine mode)
@@ -341,15 +282,7 @@ decision-off mode access first last lower (e ∷ es) off =
 -- a span that has any byte of a part of a word has all of it
 word_held : (s : Span) (first last : ℕ) → IsWhole s → first < last → first % 4 + (last - first) ≤ 4
     → meets s first last ≡ true → holds s first last ≡ true
-word_held s first last w some within m =
-    let parts = both (nat_lt s.first last) (nat_lt first s.«end») m in
-    let below : s.first < last = ltb-true s.first last parts.0 in
-    let above : first < s.«end» = ltb-true first s.«end» parts.1 in
-    let words = w.first_word in
-    let ends = w.last_word in
-    let from : s.first ≤ first = omega arith in
-    let to : last ≤ s.«end» = omega arith in
-    grind (arith, nat_tests)
+word_held s first last w some within m = search rules
 
 -- so if no entry is locked, machine mode is granted a part of a word
 pub decision-word : (access : Access) (first last lower : ℕ) (es : List Entry)
@@ -446,14 +379,7 @@ found_same : (p q : ℕ → Bool) (f g : ℕ → Bool) (d : Bool) → ((n : ℕ)
     → ((n : ℕ) → f n ≡ g n) → (xs : List ℕ)
     → option_map_or f (find p xs) d ≡ option_map_or g (find q xs) d
 found_same p q f g d tests says [] = refl
-found_same p q f g d tests says (x ∷ xs) = go (p x) (q x) (tests x) (found_same p q f g d tests says xs) where
-  go : (b c : Bool) → b ≡ c
-      → option_map_or f (find p xs) d ≡ option_map_or g (find q xs) d
-      → option_map_or f (cond b (Some x) (find p xs)) d ≡ option_map_or g (cond c (Some x) (find q xs)) d
-  go true true is rest = says x
-  go true false is rest = absurd cc
-  go false true is rest = absurd cc
-  go false false is rest = rest
+found_same p q f g d tests says (x ∷ xs) = search rules
 
 same_lower : (pmp : PmpState) (n : ℕ) → lower_of pmp n ≡ lower_from 0 pmp.entries n
 unfolding lower_from
@@ -462,8 +388,7 @@ same_lower pmp (suc n) = refl
 
 same_matches : (pmp : PmpState) (n byte : ℕ) → matches pmp n byte ≡ matches_from 0 pmp.entries n byte
 unfolding matches_from
-same_matches pmp n byte =
-    ap (λ lower. matched (entry_at pmp n).matching lower (entry_at pmp n).address byte) (same_lower pmp n)
+same_matches pmp n byte = search (rules, same_lower)
 
 pub by_list : (pmp : PmpState) (mode : Mode) (access : Access) (first count : ℕ)
     → grants pmp mode access first count ≡ answer_of mode access first count 0 pmp.entries
@@ -480,8 +405,7 @@ pub decision-grants : (pmp : PmpState) (mode : Mode) (access : Access) (first co
     → unwrap_or (decision mode access first (first + count) (actives_from 0 pmp.entries)) (is_machine mode)
     ≡ grants pmp mode access first count
 decision-grants pmp mode access first zero h = absurd (omega arith)
-decision-grants pmp mode access first (suc n) h =
-    decision-spans mode access first n 0 pmp.entries ∙ sym (by_list pmp mode access first (suc n))
+decision-grants pmp mode access first (suc n) h = search (rules, decision-spans, by_list)
 
 pub grants-off : (pmp : PmpState) (mode : Mode) (access : Access) (first count : ℕ) → 0 < count
     → some_on pmp.entries ≡ false → grants pmp mode access first count ≡ is_machine mode
@@ -499,12 +423,9 @@ grants-word pmp access first count h free within =
 -- so if no entry is locked, machine mode is granted every aligned access
 pub grants-aligned : (pmp : PmpState) (access : Access) (first : ℕ) (w : Width)
     → some_locked pmp.entries ≡ false → first % bytes_of w ≡ 0 → grants pmp Machine access first (bytes_of w) ≡ true
-grants-aligned pmp access first One free aligned =
-    grants-word pmp access first 1 (omega arith) free (omega arith)
-grants-aligned pmp access first Two free aligned =
-    grants-word pmp access first 2 (omega arith) free (omega arith)
-grants-aligned pmp access first Four free aligned =
-    grants-word pmp access first 4 (omega arith) free (omega arith)
+grants-aligned pmp access first One free aligned = search (rules, grants-word)
+grants-aligned pmp access first Two free aligned = search (rules, grants-word)
+grants-aligned pmp access first Four free aligned = search (rules, grants-word)
 
 -- ---- bytes that are granted together are granted one by one
 
@@ -552,9 +473,7 @@ answer_each mode access first count i lower (e ∷ es) h granted =
 
 pub grants_each : (pmp : PmpState) (mode : Mode) (access : Access) (first count i : ℕ) → i < count
     → grants pmp mode access first count ≡ true → grants pmp mode access (first + i) 1 ≡ true
-grants_each pmp mode access first count i h granted =
-    by_list pmp mode access (first + i) 1
-    ∙ answer_each mode access first count i 0 pmp.entries h (sym (by_list pmp mode access first count) ∙ granted)
+grants_each pmp mode access first count i h granted = search (rules, by_list, answer_each)
 
 -- the answer of `allowed`: that of the entry that decides, or that of the mode
 pub grants-some : (pmp : PmpState) (mode : Mode) (access : Access) (first count : ℕ) (granted : Bool)

@@ -1,9 +1,10 @@
 -- The registers by number are what the code reads and writes.
+use Rattle.std.proofs.Common.{rules}
 use Rattle.std.proofs.Common.{◌≡◌, ◌≢◌, ◌∙◌, ℕ, zero, suc, ◌+◌, ◌-◌, ◌*◌, ◌/◌, ◌%◌, ◌<◌, ◌≤◌, ◌==◌, Bool, true, false, List, [], ◌∷◌, length, map, get_or, Option, Some, None, refl, ap, sym, arith, add-zero, nat_lt, eqb-true}
 use Rattle.std.specs.Prelude.{slice_get, slice_set, if◌then◌else◌, ◌&&◌, not}
 use Rattle.std.specs.List.{range_with_len}
 use Rattle.std.specs.Option.{option_map, option_map_or}
-use Rattle.std.proofs.Math.ListN.{length-set, length-map, get_or-eq_default}
+use Rattle.std.proofs.Math.ListN.{get_or-eq_default}
 use Rattle.std.proofs.Math.Seq.{ext_get_or, get_or-set_same, get_or-set_other}
 use Rattle.std.proofs.lemmas.Bool.Decides.{nat_tests}
 use Rattle.rv_pmp.specs.declared.entry.Entry.{Entry}
@@ -32,21 +33,11 @@ unfolding config_byte
 config pmp n = by_number config_byte pmp.entries n
 
 four : (pmp : PmpState) (first : ℕ) → word_of pmp (Config first) ≡ config_word pmp first
-four pmp first =
-    rw (config pmp first, config pmp (first + 1), config pmp (first + 2), config pmp (first + 3))
-    (omega (arith, ap (λ n. config_byte (entry_at pmp n)) (add-zero first)))
+four pmp first = search (rules, config, add-zero)
 
 pub loads : (pmp : PmpState) (addr : ℕ) → read_register pmp addr ≡ option_map (word_of pmp) (register_at addr)
 unfolding read_register register_at
-loads pmp addr = go (is_config addr) (is_address addr) where
-  go : (a b : Bool)
-      → (if a then Some (config_word pmp (4 * (addr - 0x3A0)))
-      else (if b then Some (entry_at pmp (addr - 0x3B0)).address else None))
-      ≡ option_map (word_of pmp)
-      (if a then Some (Config (4 * (addr - 0x3A0))) else (if b then Some (Address (addr - 0x3B0)) else None))
-  go true b = ap Some (sym (four pmp (4 * (addr - 0x3A0))))
-  go false true = ap Some (sym (by_number (λ e. e.address) pmp.entries (addr - 0x3B0)))
-  go false false = refl
+loads pmp addr = search (rules, four, by_number)
 
 -- ---- one change of an entry
 
@@ -55,20 +46,11 @@ at es n = get_or es n off_entry
 
 config-length : (es : List Entry) (p byte : ℕ) → length (with_config es p byte) ≡ length es
 unfolding with_config
-config-length es p byte = by (slice_get es p) where
-  by : (found : Option Entry)
-      → length (option_map_or (λ e. slice_set es p (configured e byte)) found es) ≡ length es
-  by None = refl
-  by (Some e) = length-set es p (configured e byte)
+config-length es p byte = search rules
 
 address-length : (es : List Entry) (p word : ℕ) → length (with_address es p word) ≡ length es
 unfolding with_address
-address-length es p word = by (starts_locked es (p + 1)) (slice_get es p) where
-  by : (b : Bool) (found : Option Entry)
-      → length (if b then es else option_map_or (λ e. slice_set es p (addressed e word)) found es) ≡ length es
-  by true found = refl
-  by false None = refl
-  by false (Some e) = length-set es p (addressed e word)
+address-length es p word = search rules
 
 other : (i p : ℕ) → (i == p) ≡ false → i ≢ p
 other i p apart same = absurd (grind (arith, nat_tests))
@@ -126,67 +108,24 @@ one_by_one e first word i =
 configs-at : (es : List Entry) (first word i : ℕ) → i < length es
     → at (with_word es (Config first) word) i ≡ one_by_one (at es i) first word i
 unfolding with_word
-configs-at es first word i within =
-    let one = with_config es first (byte_of word 0) in
-    let two = with_config one (first + 1) (byte_of word 1) in
-    let three = with_config two (first + 2) (byte_of word 2) in
-    let in_one : i < length one = omega (arith, config-length es first (byte_of word 0)) in
-    let in_two : i < length two = omega (arith, config-length one (first + 1) (byte_of word 1)) in
-    let in_three : i < length three = omega (arith, config-length two (first + 2) (byte_of word 2)) in
-    config-at three (first + 3) (byte_of word 3) i in_three
-    ∙ ap (λ e. if i == first + 3 then configured e (byte_of word 3) else e)
-    (config-at two (first + 2) (byte_of word 2) i in_two
-    ∙ ap (λ e. if i == first + 2 then configured e (byte_of word 2) else e)
-    (config-at one (first + 1) (byte_of word 1) i in_one
-    ∙ ap (λ e. if i == first + 1 then configured e (byte_of word 1) else e)
-    (config-at es first (byte_of word 0) i within)))
+configs-at es first word i within = search (rules, config-length, config-at)
 
 configs-length : (es : List Entry) (first word : ℕ) → length (with_word es (Config first) word) ≡ length es
 unfolding with_word
-configs-length es first word =
-    let one = with_config es first (byte_of word 0) in
-    let two = with_config one (first + 1) (byte_of word 1) in
-    let three = with_config two (first + 2) (byte_of word 2) in
-    config-length three (first + 3) (byte_of word 3) ∙ config-length two (first + 2) (byte_of word 2)
-    ∙ config-length one (first + 1) (byte_of word 1) ∙ config-length es first (byte_of word 0)
+configs-length es first word = search (rules, config-length)
 
 -- an entry of the four
 among : (e : Entry) (first word i r : ℕ) → i ≡ first + r → r < 4
     → one_by_one e first word i ≡ configured e (byte_of word r)
-among e first word i zero is small =
-    let a : (i == first) ≡ true = grind (arith, nat_tests) in
-    let b : (i == first + 1) ≡ false = grind (arith, nat_tests) in
-    let c : (i == first + 2) ≡ false = grind (arith, nat_tests) in
-    let d : (i == first + 3) ≡ false = grind (arith, nat_tests) in
-    rw (a, b, c, d) refl
-among e first word i (suc zero) is small =
-    let a : (i == first) ≡ false = grind (arith, nat_tests) in
-    let b : (i == first + 1) ≡ true = grind (arith, nat_tests) in
-    let c : (i == first + 2) ≡ false = grind (arith, nat_tests) in
-    let d : (i == first + 3) ≡ false = grind (arith, nat_tests) in
-    rw (a, b, c, d) refl
-among e first word i (suc (suc zero)) is small =
-    let a : (i == first) ≡ false = grind (arith, nat_tests) in
-    let b : (i == first + 1) ≡ false = grind (arith, nat_tests) in
-    let c : (i == first + 2) ≡ true = grind (arith, nat_tests) in
-    let d : (i == first + 3) ≡ false = grind (arith, nat_tests) in
-    rw (a, b, c, d) refl
-among e first word i (suc (suc (suc zero))) is small =
-    let a : (i == first) ≡ false = grind (arith, nat_tests) in
-    let b : (i == first + 1) ≡ false = grind (arith, nat_tests) in
-    let c : (i == first + 2) ≡ false = grind (arith, nat_tests) in
-    let d : (i == first + 3) ≡ true = grind (arith, nat_tests) in
-    rw (a, b, c, d) refl
+among e first word i zero is small = search rules
+among e first word i (suc zero) is small = search rules
+among e first word i (suc (suc zero)) is small = search rules
+among e first word i (suc (suc (suc zero))) is small = search rules
 among e first word i (suc (suc (suc (suc r)))) is small = absurd (omega arith)
 
 -- an entry outside of the four
 outside : (e : Entry) (first word i : ℕ) → ((r : ℕ) → r < 4 → i ≢ first + r) → one_by_one e first word i ≡ e
-outside e first word i apart =
-    let a : (i == first) ≡ false = grind (arith, nat_tests, apart 0 (omega arith), add-zero first) in
-    let b : (i == first + 1) ≡ false = grind (arith, nat_tests, apart 1 (omega arith)) in
-    let c : (i == first + 2) ≡ false = grind (arith, nat_tests, apart 2 (omega arith)) in
-    let d : (i == first + 3) ≡ false = grind (arith, nat_tests, apart 3 (omega arith)) in
-    rw (a, b, c, d) refl
+outside e first word i apart = search rules
 
 module _ (pmp : PmpState) (addr word i : ℕ) where
   config_written : is_config addr ≡ true → i < 16
@@ -294,18 +233,13 @@ stored_entry pmp new addr word is n = by (read_register pmp addr) is where
       ap (λ (p : PmpState). entry_at p n) (sym same) ∙ one (nat_lt n (length pmp.entries)) refl
   by None gives = absurd cc
 
-range-length : (a n : ℕ) → length (range_with_len a n) ≡ n
-range-length a zero = refl
-range-length a (suc n) = ap suc (range-length (a + 1) n)
-
 module _ (pmp : PmpState) (addr word : ℕ) (sixteen : length pmp.entries ≡ 16) where
   entries : List Entry
   entries = map (written pmp addr word) (range_with_len 0 (length pmp.entries))
 
   entries-length : length entries ≡ length pmp.entries
   unfolding entries
-  entries-length =
-      length-map (range_with_len 0 (length pmp.entries)) (written pmp addr word) ∙ range-length 0 (length pmp.entries)
+  entries-length = search rules
 
   same : (new : List Entry) → length new ≡ length pmp.entries
       → ((i : ℕ) → i < 16 → at new i ≡ written pmp addr word i) → new ≡ entries
@@ -341,12 +275,9 @@ module _ (pmp : PmpState) (addr word : ℕ) (sixteen : length pmp.entries ≡ 16
 
   pub stored_by : (register : PmpRegister) (new : PmpState) → Some register ≡ register_at addr
       → new ≡ record { entries = with_word pmp.entries register word } → write_register pmp addr word ≡ Some new
-  stored_by register new there is =
-      stores ∙ ap (option_map (λ register. with_entries (with_word pmp.entries register word))) (sym there)
-      ∙ ap Some (sym is)
+  stored_by register new there is = search (rules, stores)
 
   pub none_stored : None ≡ register_at addr → write_register pmp addr word ≡ None
-  none_stored none =
-      stores ∙ ap (option_map (λ register. with_entries (with_word pmp.entries register word))) (sym none)
+  none_stored none = search (rules, stores)
 
 pub ruleset writes = (stored_by, none_stored)

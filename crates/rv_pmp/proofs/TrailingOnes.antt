@@ -1,4 +1,5 @@
 -- The trailing ones of a number.
+use Rattle.std.proofs.Common.{rules}
 use Rattle.std.proofs.Common.{◌≡◌, ℕ, zero, suc, ◌+◌, ◌-◌, ◌/◌, ◌%◌, ◌^◌, ◌<◌, ◌≤◌, ◌==◌, ◌*◌, Bool, true, false, refl, ap, sym, ◌∙◌, arith, eqb-true, mul_assoc}
 use Rattle.std.specs.Prelude.{if◌then◌else◌}
 use Rattle.std.proofs.Math.Nat.{pow-suc}
@@ -25,14 +26,6 @@ ones_in-le (suc n) p = go (p % 2 == 1) refl (ones_in n (p / 2)) (ones_in-le n (p
   go : (b : Bool) → (p % 2 == 1) ≡ b → (k : ℕ) → 2 ^ k ≤ p / 2 + 1 → 2 ^ (if b then suc k else 0) ≤ p + 1
   go true odd k h = omega (arith, pow-suc 2 k, eqb-true (p % 2) 1 odd)
   go false even k h = omega arith
-
-pub ones_in-most : (n p : ℕ) → ones_in n p ≤ n
-unfolding ones_in
-ones_in-most zero p = omega arith
-ones_in-most (suc n) p = go (p % 2 == 1) (ones_in n (p / 2)) (ones_in-most n (p / 2)) where
-  go : (b : Bool) (k : ℕ) → k ≤ n → (if b then suc k else 0) ≤ suc n
-  go true k h = omega arith
-  go false k h = omega arith
 
 -- they are the trailing zeros of the complement
 pub count_trailing_zeros-complement : (n p : ℕ) → p < 2 ^ n
@@ -113,5 +106,4 @@ pub napot_span : (lower : ℕ) (e : Entry) (k : ℕ) → e.matching ≡ Napot �
       «end» = 4 * (e.address + 1 - 1 * 2 ^ k % 2 ^ 64) + 1 * 2 ^ (k + 3) % 2 ^ 64;
     }) (span_of lower e)
 unfolding span_of
-napot_span lower e k way is most small =
-    rw (way, power_fits k (omega arith), power_fits (k + 3) (omega arith), is, block_first e.address small) refl
+napot_span lower e k way is most small = search (rules, power_fits, block_first)

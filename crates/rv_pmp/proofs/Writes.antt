@@ -1,11 +1,11 @@
 -- The entries after a write.
-use Rattle.std.proofs.Common.{◌≡◌, ◌≢◌, ℕ, zero, suc, ◌+◌, ◌<◌, ◌≤◌, ◌/◌, ◌%◌, ◌^◌, Bool, true, false, List, length, get_or, refl}
-use Rattle.std.specs.Prelude.{IsTrue, [], ◌∷◌, slice_index_or, slice_set, if◌then◌else◌, ◌&&◌}
+use Rattle.std.proofs.Common.{rules}
+use Rattle.std.proofs.Common.{◌≡◌, ◌≢◌, ℕ, zero, suc, ◌+◌, ◌<◌, ◌≤◌, true, false, List, length, get_or, refl}
+use Rattle.std.specs.Prelude.{IsTrue, slice_set}
 use Rattle.std.proofs.lemmas.Option.{slice_get-get_or, slice_get_past}
 use Rattle.std.proofs.lemmas.List.Elements.{All-set, All-get_or}
-use Rattle.rv_isa.specs.Number.{flag}
 use Rattle.rv_pmp.specs.declared.entry.Entry.{Entry}
-use Rattle.rv_pmp.specs.declared.entry.Matching.TheVariants.{Off, Tor, Na4, Napot}
+use Rattle.rv_pmp.specs.declared.entry.Matching.TheVariants.{Napot}
 use Rattle.rv_pmp.specs.Entry.{configured, addressed}
 use Rattle.rv_pmp.specs.ActiveEntries.{AllReadable}
 use Rattle.rv_pmp.specs.Registers.{matching_of, changed_at, with_config, with_address, starts_locked}
@@ -19,38 +19,15 @@ matching_rest (suc (suc zero)) a b c = absurd (c refl)
 matching_rest (suc (suc (suc zero))) a b c = refl
 matching_rest (suc (suc (suc (suc n)))) a b c = refl
 
-abbrev IsReadable : Entry → Type 0
-IsReadable e = IsTrue e.writable → IsTrue e.readable
-
-both : (a b : Bool) → (a && b) ≡ true → a ≡ true
-both true b h = refl
-both false b h = cc
-
 configured-readable : (e : Entry) (byte : ℕ) → (IsTrue e.writable → IsTrue e.readable)
     → IsTrue (configured e byte).writable → IsTrue (configured e byte).readable
 unfolding configured
-configured-readable e byte h = go e.locked where
-  fields : Entry
-  fields = record e {
-    readable = flag byte 0;
-    writable = flag byte 0 && flag byte 1;
-    executable = flag byte 2;
-    locked = flag byte 7;
-    matching = slice_index_or (Off ∷ Tor ∷ Na4 ∷ Napot ∷ []) (byte / 2 ^ 3 % 4) Napot;
-  }
-
-  go : (b : Bool) → IsTrue (if b then e else fields).writable → IsTrue (if b then e else fields).readable
-  go true w = h w
-  go false w = both (flag byte 0) (flag byte 1) w
+configured-readable e byte h = search rules
 
 addressed-readable : (e : Entry) (word : ℕ) → (IsTrue e.writable → IsTrue e.readable)
     → IsTrue (addressed e word).writable → IsTrue (addressed e word).readable
 unfolding addressed
-addressed-readable e word h = go e.locked where
-  go : (b : Bool) → IsTrue (if b then e else record e { address = word }).writable
-      → IsTrue (if b then e else record e { address = word }).readable
-  go true w = h w
-  go false w = h w
+addressed-readable e word h = search rules
 
 changed-at : (es : List Entry) (place : ℕ) (f : Entry → Entry) (e : Entry) → place < length es
     → changed_at es place f ≡ slice_set es place (f (get_or es place e))
@@ -71,9 +48,7 @@ with_config-past es place byte h = changed-past es place (λ x. configured x byt
 
 pub config-readable : (es : List Entry) (place byte : ℕ) (e : Entry) → place < length es → AllReadable es
     → AllReadable (slice_set es place (configured (get_or es place e) byte))
-config-readable es place byte e h all =
-    All-set IsReadable es place (configured (get_or es place e) byte)
-    (configured-readable (get_or es place e) byte (All-get_or IsReadable es place e h all)) all
+config-readable es place byte e h all = search (rules, All-set, configured-readable, All-get_or)
 
 pub with_address-at : (es : List Entry) (place word : ℕ) (e : Entry) → place < length es
     → starts_locked es (place + 1) ≡ false
@@ -89,16 +64,11 @@ with_address-locked es place word locked = rw locked refl
 pub with_address-past : (es : List Entry) (place word : ℕ) → length es ≤ place
     → with_address es place word ≡ es
 unfolding with_address
-with_address-past es place word h = go (starts_locked es (place + 1)) where
-  go : (b : Bool) → (if b then es else changed_at es place (λ x. addressed x word)) ≡ es
-  go true = refl
-  go false = changed-past es place (λ x. addressed x word) h
+with_address-past es place word h = search (rules, changed-past)
 
 pub address-readable : (es : List Entry) (place word : ℕ) (e : Entry) → place < length es → AllReadable es
     → AllReadable (slice_set es place (addressed (get_or es place e) word))
-address-readable es place word e h all =
-    All-set IsReadable es place (addressed (get_or es place e) word)
-    (addressed-readable (get_or es place e) word (All-get_or IsReadable es place e h all)) all
+address-readable es place word e h all = search (rules, All-set, addressed-readable, All-get_or)
 
 pub ruleset config_steps = (with_config-at, with_config-past, config-readable)
 

@@ -1,6 +1,7 @@
 -- Escapes, bytes between quotes and local references, by tests in their order.
-use Rattle.std.proofs.Common.{◌≡◌, ◌∙◌, ℕ, suc, ◌-◌, ◌<◌, Bool, true, false, cond, List, [], ◌∷◌, length, take, drop, get_or, refl, sym, ap, arith}
-use Rattle.std.specs.Prelude.{Option, None, Some, option_and_then, ◌&&◌, not, nat_lt}
+use Rattle.std.proofs.Common.{rules}
+use Rattle.std.proofs.Common.{◌≡◌, ◌∙◌, ℕ, ◌-◌, ◌<◌, Bool, true, false, cond, List, [], ◌∷◌, length, take, drop, get_or, refl, sym, arith}
+use Rattle.std.specs.Prelude.{Option, None, Some, option_and_then, ◌&&◌, not}
 use Rattle.std.specs.Bool.{◌==◌}
 use Rattle.std.specs.Option.{option_map, option_or}
 use Rattle.std.proofs.lemmas.Bool.Decides.{nat_tests}
@@ -14,22 +15,12 @@ use Rattle.rv_tokens.specs.declared.token.Token.TheVariants.{Local}
 use Rattle.rv_tokens.specs.Literals.{letters, escape, spelled}
 use Rattle.rv_tokens.specs.Tokens.{local}
 use Rattle.rv_tokens.specs.Partial.{escape_by, spelled_by, local_by}
-use Rattle.rv_tokens.proofs.Signs.{same_byte, no_more}
+use Rattle.rv_tokens.proofs.Signs.{same_byte}
 
 -- ---- escapes
 
 no_letter : (b c : ℕ) (bs : List ℕ) → lookup (b ∷ c ∷ bs) letters ≡ None
-no_letter b c bs =
-    rw (
-      no_more (110 == b),
-      no_more (116 == b),
-      no_more (114 == b),
-      no_more (98 == b),
-      no_more (102 == b),
-      no_more (92 == b),
-      no_more (34 == b),
-      no_more (39 == b),
-    ) refl
+no_letter b c bs = search rules
 
 -- no octal number begins with an `x`
 x_alone : option_or (lookup (120 ∷ []) letters) (number_in 8 255 (120 ∷ [])) ≡ None
@@ -53,20 +44,13 @@ unfolding hex_byte
 two_by b c true e = let same : b ≡ 120 = grind (arith, nat_tests) in rw same (sym (x_first c))
 two_by b c false e = refl
 
-none_either : (s : Bool) → ◌≡◌ {A = Option ℕ} (cond s None None) None
-none_either true = refl
-none_either false = refl
-
 pub escape_is : (text : List ℕ) → escape text ≡ escape_by text
 unfolding escape escape_by hex_byte number_in
 escape_is [] = refl
 escape_is (b ∷ []) = one_by b (b == 120) refl
 escape_is (b ∷ c ∷ []) = rw (no_letter b c []) (two_by b c (b == 120) refl)
 escape_is (b ∷ c ∷ d ∷ []) = rw (no_letter b c (d ∷ [])) refl
-escape_is (b ∷ c ∷ d ∷ e ∷ es) =
-    let long : nat_lt 3 (length (b ∷ c ∷ d ∷ e ∷ es)) ≡ true = grind (arith, nat_tests) in
-    let other : (length (c ∷ d ∷ e ∷ es) == 2) ≡ false = grind (arith, nat_tests) in
-    rw (long, other) (none_either (b == 120))
+escape_is (b ∷ c ∷ d ∷ e ∷ es) = search rules
 
 pub as_escape : (text : List ℕ) (o : Option ℕ) → o ≡ escape_by text → o ≡ escape text
 as_escape text o e = e ∙ sym (escape_is text)
@@ -87,8 +71,7 @@ pub spelled_is : (quote : ℕ) (text : List ℕ) → spelled quote text ≡ spel
 unfolding spelled spelled_by
 spelled_is quote [] = refl
 spelled_is quote (b ∷ []) = plain_by (b == 92) _ (b == quote) b
-spelled_is quote (b ∷ c ∷ cs) =
-    let more : (length (c ∷ cs) == 0) ≡ false = grind (arith, nat_tests) in rw (more, no_more _) refl
+spelled_is quote (b ∷ c ∷ cs) = search rules
 
 pub as_spelled : (quote : ℕ) (text : List ℕ) (o : Option ℕ) → o ≡ spelled_by quote text → o ≡ spelled quote text
 as_spelled quote text o e = e ∙ sym (spelled_is quote text)
@@ -98,8 +81,7 @@ pub backslash : (quote : ℕ) (text : List ℕ) → 1 < length text → get_or t
     → spelled quote text ≡ escape (take (length text - 1) (drop 1 text))
 unfolding spelled
 backslash quote [] h e = absurd (omega arith)
-backslash quote (b ∷ bs) h e =
-    let rest : take (length (b ∷ bs) - 1) bs ≡ bs = take_all (length (b ∷ bs) - 1) bs (omega arith) in rw (e, rest) refl
+backslash quote (b ∷ bs) h e = search (rules, take_all)
 
 -- ---- local references
 
@@ -112,9 +94,4 @@ found_by false false o = refl
 
 pub as_local : (text : List ℕ) (o : Option Token) → 0 < length text → o ≡ local_by text → o ≡ local text
 unfolding local local_by
-as_local text o some e =
-    let end = length text - 1 in
-    let last : drop end text ≡ get_or text end 0 ∷ [] =
-    drop-cons text end 0 (omega (arith, some)) ∙ ap (λ xs. get_or text end 0 ∷ xs) (drop_all (suc end) text (omega (arith, some))) in
-    rw (last, same_byte 98 (get_or text end 0), same_byte 102 (get_or text end 0))
-    (e ∙ sym (found_by (get_or text end 0 == 98) (get_or text end 0 == 102) _))
+as_local text o some e = search (rules, drop-cons, drop_all, same_byte, found_by)

@@ -1,25 +1,25 @@
 -- The longest token at the front of a line, by the byte that the line begins with.
+use Rattle.std.proofs.Common.{rules}
+use Rattle.std.proofs.lemmas.Grind.{common_steps}
 use Rattle.std.proofs.Common.{◌≡◌, ℕ, zero, suc, ◌+◌, ◌-◌, ◌<◌, ◌≤◌, Bool, true, false, cond, List, [], ◌∷◌, length, take, drop, get_or, refl, sym, ap, ◌∙◌, arith, length-take, length-drop, get_or-take, get_or-drop, add-zero}
 use Rattle.std.specs.Prelude.{Option, None, Some, option_and_then, ◌&&◌, not, nat_lt, codes}
 use Rattle.std.specs.Str.{bytes_eq}
 use Rattle.std.specs.List.{list_all}
-use native.Mathlib.Decide.{dec_lt}
-use Prim.{yes, no}
 use Rattle.std.specs.Bool.{◌==◌}
 use Rattle.std.specs.Option.{option_map}
 use Rattle.std.proofs.lemmas.Bool.{false≢true}
 use Rattle.std.proofs.lemmas.Bool.Decides.{nat_tests}
-use Rattle.std.proofs.lemmas.Slice.Eq.{bytes_eq-Decides}
 use Rattle.std.proofs.Math.Seq.{drop-cons}
 use Rattle.std.proofs.lemmas.List.Folds.{list_all_at, list_all_more}
+use Rattle.std.proofs.lemmas.Bool.{and_parts}
+use Rattle.std.proofs.Math.Bool.{and-false}
 use Rattle.rv_tokens.specs.declared.token.Token.{Token}
 use Rattle.rv_tokens.specs.declared.token.Token.TheVariants.{Character, High, Low}
-use Rattle.rv_tokens.specs.Literals.{longest, spelled}
+use Rattle.rv_tokens.specs.Literals.{longest}
 use Rattle.rv_tokens.specs.Cuts.{front}
 use Rattle.rv_tokens.specs.Tokens.{is_name_byte, word, token_of, token_in}
 use Rattle.rv_tokens.specs.Partial.{begins_with_name_byte, may_precede, sign, half, character}
 use Rattle.rv_tokens.proofs.Signs.{token_is}
-use Rattle.rv_tokens.proofs.Bools.{and_left, and_right}
 use Rattle.rv_tokens.proofs.Spellings.{spelled_long}
 use Rattle.rv_tokens.proofs.Longest.{longest_above, longest_none, longest_at}
 
@@ -29,38 +29,26 @@ list_all_less xs zero n le h = refl
 list_all_less xs (suc m) zero le h = absurd (omega arith)
 list_all_less [] (suc m) (suc n) le h = refl
 list_all_less (x ∷ xs) (suc m) (suc n) le h =
-    let first = and_left (is_name_byte x) (list_all is_name_byte (take n xs)) h in
-    let rest =
-    list_all_less xs m n (omega arith)
-    (and_right (is_name_byte x) (list_all is_name_byte (take n xs)) h) in
-    rw (first, rest) refl
+    let p = and_parts (is_name_byte x) (list_all is_name_byte (take n xs)) h in
+    rw (p.0, list_all_less xs m n (omega arith) p.1) refl
 
 name_byte_at : (xs : List ℕ) (m n : ℕ) → m < n → n ≤ length xs → list_all is_name_byte (take n xs) ≡ true
     → is_name_byte (get_or xs m 0) ≡ true
 name_byte_at xs m n lt le h =
     let more = list_all_more is_name_byte xs m 0 (omega arith) in
-    and_right (list_all is_name_byte (take m xs)) _ (sym more ∙ list_all_less xs (m + 1) n (omega arith) h)
+    (and_parts (list_all is_name_byte (take m xs)) _ (sym more ∙ list_all_less xs (m + 1) n (omega arith) h)).1
 
 either_none : (s : Bool) → ◌≡◌ {A = Option Token} (cond s None None) None
 either_none true = refl
 either_none false = refl
 
-and_one : (a : Bool) → (a && false) ≡ false
-and_one true = refl
-and_one false = refl
-
 and_two : (a b : Bool) → (a && (b && false)) ≡ false
-and_two true b = and_one b
-and_two false b = refl
-
-and_three : (a b c : Bool) → (a && (b && (c && false))) ≡ false
-and_three true b c = and_two b c
-and_three false b c = refl
+and_two a b = ap (λ c. a && c) (and-false b) ∙ and-false a
 
 -- ---- what may precede the rest
 
 no_name_follows : (text rest : List ℕ) → begins_with_name_byte rest ≡ false → may_precede text rest ≡ true
-no_name_follows text rest h = rw (h, and_one (is_name_byte (get_or text (length text - 1) 0))) refl
+no_name_follows text rest h = rw (h, and-false (is_name_byte (get_or text (length text - 1) 0))) refl
 
 pub no_name_last : (text rest : List ℕ) → is_name_byte (get_or text (length text - 1) 0) ≡ false
     → may_precede text rest ≡ true
@@ -79,22 +67,14 @@ at_front text n = let e : n + 0 ≡ n = omega arith in get_or-drop n text 0 0 �
 
 pub none_in : (line : List ℕ) (m : ℕ) → token_of (take m line) ≡ None → token_in line m ≡ None
 unfolding token_in
-none_in line m h =
-    rw h (either_none (is_name_byte (get_or line (m - 1) 0) && is_name_byte (get_or line m 0)))
+none_in line m h = search rules
 
 -- the token of the first bytes of a line, by what they may precede
 pub token_in_is : (line : List ℕ) (n : ℕ) → n ≤ length line
     → token_in line n ≡ cond (may_precede (take n line) (drop n line)) (token_of (take n line)) None
 unfolding token_in
-token_in_is line zero le =
-    none_in line 0 (token_is []) ∙ sym (rw (token_is []) (either_none (may_precede [] line)))
-token_in_is line (suc n) le =
-    let len : length (take (suc n) line) ≡ suc n = omega (arith, length-take (suc n) line) in
-    let index : suc n - 1 ≡ n = omega arith in
-    let last : get_or (take (suc n) line) (length (take (suc n) line) - 1) 0 ≡ get_or line n 0 =
-    rw (len, index) (get_or-take (suc n) line n 0 (omega arith)) in
-    rw (index, last, at_front line (suc n))
-    (either_way (is_name_byte (get_or line n 0) && is_name_byte (get_or line (suc n) 0)) (token_of (take (suc n) line)))
+token_in_is line zero le = search (rules, none_in, token_is, either_none)
+token_in_is line (suc n) le = grind (arith, nat_tests, common_steps, length-take, get_or-take, at_front, either_way)
 
 pub kept_in : (line : List ℕ) (m : ℕ) → m ≤ length line → may_precede (take m line) (drop m line) ≡ true
     → token_in line m ≡ token_of (take m line)
@@ -104,15 +84,9 @@ lost_in : (line : List ℕ) (m : ℕ) → m ≤ length line → may_precede (tak
     → token_in line m ≡ None
 lost_in line m le h = rw (token_in_is line m le, h) refl
 
-other_step : (n b : ℕ) (t : Bool) → (b == n) ≡ t → (b ≡ n → t ≡ false) → t ≡ false
-other_step n b true e h = h (grind (arith, nat_tests))
-other_step n b false e h = refl
-
 -- no name byte is a quote or a percent sign
 other : (n b : ℕ) → is_name_byte n ≡ false → is_name_byte b ≡ true → (b == n) ≡ false
-other n b e h =
-    other_step n b (b == n) refl
-    (λ same. let f : is_name_byte n ≡ true = rw (← same) h in absurd (false≢true (sym e ∙ f)))
+other n b e h = search rules
 
 -- ---- words
 
@@ -120,15 +94,12 @@ token_of_many : (xs : List ℕ) → 1 < length xs → is_name_byte (get_or xs 0 
     → list_all is_name_byte xs ≡ false → token_of xs ≡ None
 token_of_many [] long first h = absurd (omega arith)
 token_of_many (b ∷ []) long first h = absurd (omega arith)
-token_of_many (b ∷ c ∷ bs) long first h =
-    token_is (b ∷ c ∷ bs) ∙ rw (other 34 b refl first, other 39 b refl first, other 37 b refl first, h) refl
+token_of_many (b ∷ c ∷ bs) long first h = search (rules, token_is, other)
 
 token_of_word : (xs : List ℕ) → 0 < length xs → list_all is_name_byte xs ≡ true → token_of xs ≡ word xs
 token_of_word [] long h = absurd (omega arith)
-token_of_word (b ∷ []) long h = token_is (b ∷ []) ∙ rw (and_left (is_name_byte b) true h) refl
-token_of_word (b ∷ c ∷ bs) long h =
-    let first : is_name_byte b ≡ true = and_left (is_name_byte b) (list_all is_name_byte (c ∷ bs)) h in
-    token_is (b ∷ c ∷ bs) ∙ rw (other 34 b refl first, other 39 b refl first, other 37 b refl first, h) refl
+token_of_word (b ∷ []) long h = token_is (b ∷ []) ∙ rw (and_parts (is_name_byte b) true h).0 refl
+token_of_word (b ∷ c ∷ bs) long h = search (rules, and_parts, token_is, other)
 
 stops : (rest : List ℕ) → (0 < length rest → is_name_byte (get_or rest 0 0) ≡ false)
     → begins_with_name_byte rest ≡ false
@@ -137,14 +108,7 @@ stops (b ∷ bs) h = h (omega arith)
 
 word_above : (line : List ℕ) (m n : ℕ) → n < m → 1 < m → m ≤ length line
     → is_name_byte (get_or line 0 0) ≡ true → is_name_byte (get_or line n 0) ≡ false → token_in line m ≡ None
-word_above line m n lt two le first stop =
-    let len : length (take m line) ≡ m = omega (arith, length-take m line) in
-    let at : is_name_byte (get_or (take m line) n 0) ≡ false = rw (get_or-take m line n 0 lt) stop in
-    let begin : is_name_byte (get_or (take m line) 0 0) ≡ true =
-    rw (get_or-take m line 0 0 (omega arith)) first in
-    none_in line m
-    (token_of_many (take m line) (omega arith) begin
-    (list_all_at is_name_byte (take m line) n 0 (omega arith) at))
+word_above line m n lt two le first stop = search (rules, length-take, get_or-take, none_in, token_of_many, list_all_at)
 
 word_at : (line : List ℕ) (n : ℕ) → 0 < n → n ≤ length line → list_all is_name_byte (take n line) ≡ true
     → (n < length line → is_name_byte (get_or line n 0) ≡ false) → token_in line n ≡ word (take n line)
@@ -169,12 +133,7 @@ word_shorter line m n some lt within all =
 word_below : (line : List ℕ) (m n : ℕ) → 0 < m → m ≤ n → n ≤ length line
     → list_all is_name_byte (take n line) ≡ true → word (take n line) ≡ None
     → token_in line n ≡ word (take n line) → token_in line m ≡ None
-word_below line m n some le within all none same =
-    elim (dec_lt m n) [
-      | yes lt ↦ word_shorter line m n some lt within all
-      | no ge ↦
-          (let e : m ≡ n = omega arith in rw e (same ∙ none))
-    ]
+word_below line m n some le within all none same = search (rules, word_shorter)
 
 word_longest : (line : List ℕ) (n : ℕ) → 0 < n → (o : Option Token) → token_in line n ≡ o
     → (o ≡ None → longest (token_in line) n ≡ None) → longest (token_in line) n ≡ option_map (λ t. (t, n)) o
@@ -217,11 +176,7 @@ sign_at b bs h = kept_in (b ∷ bs) 1 (omega arith) (no_name_last (b ∷ []) bs 
 sign_above : (line : List ℕ) (m : ℕ) → 1 < m → m ≤ length line → is_name_byte (get_or line 0 0) ≡ false
     → (get_or line 0 0 == 34) ≡ false → (get_or line 0 0 == 39) ≡ false → (get_or line 0 0 == 37) ≡ false
     → token_in line m ≡ None
-sign_above line m two le h s c p =
-    let len : length (take m line) ≡ m = omega (arith, length-take m line) in
-    let first : get_or (take m line) 0 0 ≡ get_or line 0 0 = get_or-take m line 0 0 (omega arith) in
-    none_in line m
-    (token_of_other (take m line) (omega arith) (rw first h) (rw first s) (rw first c) (rw first p))
+sign_above line m two le h s c p = search (rules, length-take, get_or-take, none_in, token_of_other)
 
 one_longest : (line : List ℕ) (o : Option Token) → token_in line 1 ≡ o
     → longest (token_in line) 1 ≡ option_map (λ t. (t, 1)) o
@@ -243,11 +198,10 @@ front_sign (b ∷ bs) some h s c p =
 -- a half has three bytes
 half_other : (xs : List ℕ) → (length xs ≡ 3 → ⊥) → half xs ≡ None
 half_other [] h = refl
-half_other (a ∷ []) h = rw (and_one (a == 37)) refl
+half_other (a ∷ []) h = rw (and-false (a == 37)) refl
 half_other (a ∷ b ∷ []) h = rw (and_two (a == 37) (b == 104), and_two (a == 37) (b == 108)) refl
 half_other (a ∷ b ∷ c ∷ []) h = absurd (h refl)
-half_other (a ∷ b ∷ c ∷ d ∷ xs) h =
-    rw (and_three (a == 37) (b == 104) (c == 105), and_three (a == 37) (b == 108) (c == 111)) refl
+half_other (a ∷ b ∷ c ∷ d ∷ xs) h = search rules
 
 token_of_half : (xs : List ℕ) → 0 < length xs → get_or xs 0 0 ≡ 37 → token_of xs ≡ half xs
 token_of_half [] some e = absurd (omega arith)
@@ -256,39 +210,23 @@ token_of_half (a ∷ b ∷ bs) some e = token_is (a ∷ b ∷ bs) ∙ rw e refl
 
 half_of : (line : List ℕ) (m : ℕ) → 0 < m → m ≤ length line → get_or line 0 0 ≡ 37
     → token_of (take m line) ≡ half (take m line)
-half_of line m some le e =
-    let len : length (take m line) ≡ m = omega (arith, length-take m line) in
-    token_of_half (take m line) (omega arith) (get_or-take m line 0 0 some ∙ e)
+half_of line m some le e = search (rules, length-take, token_of_half, get_or-take)
 
 half_not : (line : List ℕ) (m : ℕ) → 0 < m → m ≤ length line → (m ≡ 3 → ⊥) → get_or line 0 0 ≡ 37
     → token_in line m ≡ None
-half_not line m some le other e =
-    let len : length (take m line) ≡ m = omega (arith, length-take m line) in
-    none_in line m
-    (half_of line m some le e ∙ half_other (take m line) (λ same. other (sym len ∙ same)))
+half_not line m some le other e = search (rules, length-take, none_in, half_of, half_other, other)
 
 -- a line that is too short for a half
 pub front_short : (line : List ℕ) → length line < 3 → get_or line 0 0 ≡ 37 → front line ≡ None
-front_short line short e =
-    longest_none (token_in line) (length line) (λ m p q. half_not line m p q (λ same. omega arith) e)
-
-half_kept : (s : Bool) (t : Token)
-    → ◌≡◌ {A = Option Token} (cond (not s) (Some t) None) (cond s None (Some t))
-half_kept true t = refl
-half_kept false t = refl
+front_short line short e = search (rules, longest_none, half_not)
 
 half_kept_by : (text rest : List ℕ) (c d : Bool) → bytes_eq text (codes "%hi") ≡ c
     → bytes_eq text (codes "%lo") ≡ d
     → cond (may_precede text rest) (cond c (Some High) (cond d (Some Low) None)) None
     ≡ cond (begins_with_name_byte rest) None (cond c (Some High) (cond d (Some Low) None))
-half_kept_by text rest true d e f =
-    let same : text ≡ codes "%hi" = (bytes_eq-Decides text (codes "%hi")).0 e in
-    rw same (half_kept (begins_with_name_byte rest) High)
-half_kept_by text rest false true e f =
-    let same : text ≡ codes "%lo" = (bytes_eq-Decides text (codes "%lo")).0 f in
-    rw same (half_kept (begins_with_name_byte rest) Low)
-half_kept_by text rest false false e f =
-    either_none (may_precede text rest) ∙ sym (either_none (begins_with_name_byte rest))
+half_kept_by text rest true d e f = search rules
+half_kept_by text rest false true e f = search rules
+half_kept_by text rest false false e f = search rules
 
 half_in : (line : List ℕ) → 2 < length line → get_or line 0 0 ≡ 37
     → token_in line 3 ≡ cond (begins_with_name_byte (drop 3 line)) None (half (take 3 line))
@@ -299,18 +237,12 @@ half_in line long e =
 
 three_below : (line : List ℕ) (m : ℕ) → 0 < m → m ≤ 3 → 2 < length line → get_or line 0 0 ≡ 37
     → token_in line 3 ≡ None → token_in line m ≡ None
-three_below line m some le long first e =
-    elim (dec_lt m 3) [
-      | yes lt ↦ half_not line m some (omega arith) (λ same. omega arith) first
-      | no ge ↦
-          (let f : m ≡ 3 = omega arith in rw f e)
-    ]
+three_below line m some le long first e = search (rules, half_not)
 
 three_longest : (line : List ℕ) (o : Option Token) → 2 < length line → get_or line 0 0 ≡ 37
     → token_in line 3 ≡ o → longest (token_in line) 3 ≡ option_map (λ t. (t, 3)) o
 three_longest line (Some t) long first e = longest_at (token_in line) 3 t (omega arith) e
-three_longest line None long first e =
-    longest_none (token_in line) 3 (λ m p q. three_below line m p q long first e)
+three_longest line None long first e = search (rules, longest_none, three_below)
 
 -- the half at the front of a line
 pub front_half : (line : List ℕ) → 2 < length line → get_or line 0 0 ≡ 37
@@ -342,18 +274,12 @@ character_open xs h = rw (h, and_two (nat_lt 1 (length xs)) (get_or xs 0 0 == 39
 character_kept : (xs rest : List ℕ) (t : Bool) → (get_or xs (length xs - 1) 0 == 39) ≡ t
     → cond (may_precede xs rest) (option_map (λ n. Character n) (character xs)) None
     ≡ option_map (λ n. Character n) (character xs)
-character_kept xs rest true e =
-    let last : get_or xs (length xs - 1) 0 ≡ 39 = grind (arith, nat_tests) in
-    rw (no_name_last xs rest (rw last refl)) refl
+character_kept xs rest true e = search rules
 character_kept xs rest false e = rw (character_open xs e) (either_none (may_precede xs rest))
 
 pub character_in : (line : List ℕ) (m : ℕ) → 0 < m → m ≤ length line → get_or line 0 0 ≡ 39
     → token_in line m ≡ option_map (λ n. Character n) (character (take m line))
-character_in line m some le e =
-    let len : length (take m line) ≡ m = omega (arith, length-take m line) in
-    let first : get_or (take m line) 0 0 ≡ 39 = get_or-take m line 0 0 some ∙ e in
-    rw (token_in_is line m le, token_of_character (take m line) (omega arith) first)
-    (character_kept (take m line) (drop m line) _ refl)
+character_in line m some le e = search (rules, length-take, get_or-take, token_in_is, token_of_character, character_kept)
 
 between_none : (c : Bool) (f : List ℕ → Option ℕ) (ys : List ℕ) → f ys ≡ None
     → option_and_then f (cond c (Some ys) None) ≡ None
@@ -363,17 +289,8 @@ between_none false f ys h = refl
 -- a character has at most six bytes
 character_long : (xs : List ℕ) → 6 < length xs → character xs ≡ None
 unfolding character
-character_long xs long =
-    let inside = drop 1 (take (length xs - 1) xs) in
-    let len : length inside ≡ length xs - 2 =
-    omega (arith, length-drop 1 (take (length xs - 1) xs), length-take (length xs - 1) xs) in
-    between_none (nat_lt 1 (length xs) && ((get_or xs 0 0 == 39) && (get_or xs (length xs - 1) 0 == 39)))
-    (spelled 39) inside (spelled_long 39 inside (omega arith))
+character_long xs long = search (rules, length-drop, length-take, between_none, spelled_long)
 
 pub character_within : (line : List ℕ) (n : ℕ) → n ≤ length line → ((m : ℕ) → n < m → m ≤ length line → 6 < m)
     → get_or line 0 0 ≡ 39 → longest (token_in line) n ≡ front line
-character_within line n le long e =
-    sym (longest_above (token_in line) n (length line) le (λ m p q.
-    let len : length (take m line) ≡ m = omega (arith, length-take m line) in
-    character_in line m (omega arith) q e
-    ∙ ap (option_map (λ n. Character n)) (character_long (take m line) (omega (arith, len, long m p q)))))
+character_within line n le long e = search (rules, longest_above, length-take, character_in, character_long)

@@ -1,5 +1,3 @@
-pub mod Bools
-pub mod Digits
 pub mod Escapes
 pub mod Longest
 pub mod StringEnds

@@ -1,4 +1,5 @@
 -- The longest prefix of a text that spells something.
+use Rattle.std.proofs.Common.{rules}
 use Rattle.std.proofs.Common.{◌≡◌, ℕ, zero, suc, ◌+◌, ◌-◌, ◌<◌, ◌≤◌, refl, sym, ap, ◌∙◌, arith, add-suc}
 use Rattle.std.specs.Prelude.{Option, None, Some}
 use native.Mathlib.Decide.{dec_lt}
@@ -63,30 +64,12 @@ found_more spells k n x e l = record {
       [ yes lt ↦ l.above m p (omega arith) | no ge ↦ (let f : m ≡ suc k = omega arith in rw f e) ];
 }
 
-found_pair : {A : Type 0} (k n : ℕ) (x y : A) → ◌≡◌ {A = Option (A × ℕ)} (Some (y, k)) (Some (x, n))
-    → ◌≡◌ {A = A × ℕ} (y, k) (x, n)
-found_pair k n x y h = cc
-
-found_here : {A : Type 0} (spells : ℕ → Option A) (k n : ℕ) (x y : A) → spells (suc k) ≡ Some y
-    → ◌≡◌ {A = A × ℕ} (y, suc k) (x, n) → IsLongest spells (suc k) n x
-found_here spells k n x y e h =
-    let f : suc k ≡ n = ap (λ p. p.1) h in
-    let g : y ≡ x = ap (λ p. p.0) h in
-    record {
-      some = omega (arith, f);
-      within = omega (arith, f);
-      is = rw (← f, ← g) e;
-      above = λ m p q. absurd
-          (omega (arith, f));
-    }
-
 found_step : {A : Type 0} (spells : ℕ → Option A) (k n : ℕ) (x : A) (o : Option A) → spells (suc k) ≡ o
     → (longest spells k ≡ Some (x, n) → IsLongest spells k n x) → longest spells (suc k) ≡ Some (x, n)
     → IsLongest spells (suc k) n x
 unfolding longest
 found_step spells k n x None e below h = found_more spells k n x e (below (rw e at h))
-found_step spells k n x (Some y) e below h =
-    found_here spells k n x y e (found_pair (suc k) n x y (rw e at h))
+found_step spells k n x (Some y) e below h = search rules
 
 pub longest_found : {A : Type 0} (spells : ℕ → Option A) (k n : ℕ) (x : A) → longest spells k ≡ Some (x, n)
     → IsLongest spells k n x
@@ -99,9 +82,7 @@ missing_step : {A : Type 0} (spells : ℕ → Option A) (k : ℕ) (o : Option A)
     → (longest spells k ≡ None → (m : ℕ) → 0 < m → m ≤ k → spells m ≡ None) → longest spells (suc k) ≡ None
     → (m : ℕ) → 0 < m → m ≤ suc k → spells m ≡ None
 unfolding longest
-missing_step spells k None e below h m p q =
-    elim (dec_lt m (suc k))
-    [ yes lt ↦ below (rw e at h) m p (omega arith) | no ge ↦ (let f : m ≡ suc k = omega arith in rw f e) ]
+missing_step spells k None e below h m p q = search rules
 missing_step spells k (Some y) e below h m p q = let f = rw e at h in absurd cc
 
 pub longest_missing : {A : Type 0} (spells : ℕ → Option A) (k : ℕ) → longest spells k ≡ None → (m : ℕ) → 0 < m

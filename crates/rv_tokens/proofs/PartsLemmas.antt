@@ -1,8 +1,8 @@
 -- The tokens of a line are its only parts in the sense of Parts.antt.
-use Rattle.std.proofs.Common.{◌≡◌, ℕ, zero, suc, ◌<◌, ◌≤◌, Bool, true, false, cond, List, [], ◌∷◌, ◌++◌, length, take, drop, get_or, refl, sym, ap, ◌∙◌, arith, length-take, length-drop}
+use Rattle.std.proofs.Common.{rules}
+use Rattle.std.proofs.Common.{◌≡◌, ℕ, zero, suc, ◌<◌, ◌≤◌, Bool, true, false, cond, List, [], ◌∷◌, ◌++◌, length, take, drop, get_or, refl, ap, ◌∙◌, arith, length-take, length-drop}
 use Rattle.std.specs.Prelude.{Option, None, Some, Result, Ok, Err, ◌↔◌, ◌||◌, nat_lt, MatchBool}
 use Rattle.std.specs.Bool.{◌==◌}
-use Rattle.std.proofs.lemmas.Bool.{false≢true}
 use Rattle.std.proofs.lemmas.Bool.Decides.{nat_tests}
 use Rattle.std.proofs.lemmas.List.{take-append-drop}
 use Rattle.rv_tokens.specs.declared.token.Token.{Token}
@@ -38,18 +38,9 @@ slash_none : (bs : List ℕ) → token_of (47 ∷ bs) ≡ None
 slash_none [] = token_is (47 ∷ [])
 slash_none (c ∷ cs) = token_is (47 ∷ c ∷ cs)
 
-differs_step : (b n : ℕ) (s : Bool) → (b == n) ≡ s → (b ≡ n → ⊥) → s ≡ false
-differs_step b n true e h = absurd (h (grind (arith, nat_tests)))
-differs_step b n false e h = refl
-
-none_some : (t : Token) → ◌≡◌ {A = Option Token} None (Some t) → ⊥
-none_some t h = absurd cc
-
 differs : (n : ℕ) → ((bs : List ℕ) → token_of (n ∷ bs) ≡ None) → (b : ℕ) (bs : List ℕ) (t : Token)
     → token_of (b ∷ bs) ≡ Some t → (b == n) ≡ false
-differs n none b bs t h =
-    differs_step b n (b == n) refl
-    (λ e. none_some t (sym (none bs) ∙ (ap (λ x. token_of (x ∷ bs)) (sym e) ∙ h)))
+differs n none b bs t h = search rules
 
 comment_not : (b : ℕ) (bs : List ℕ) → (b == 35) ≡ false → (b == 47) ≡ false → is_comment (b ∷ bs) ≡ false
 comment_not b bs h s = rw (swapped 35 b, swapped 47 b, h, s) refl
@@ -57,14 +48,7 @@ comment_not b bs h s = rw (swapped 35 b, swapped 47 b, h, s) refl
 starts : (text : List ℕ) (t : Token) → token_of text ≡ Some t → (rest : List ℕ)
     → (0 < length text) × (is_blank (get_or (text ++ rest) 0 0) ≡ false) × (is_comment (text ++ rest) ≡ false)
 starts [] t h rest = let f = rw (token_is []) at h in absurd cc
-starts (b ∷ bs) t h rest =
-    let space = differs 32 space_none b bs t h in
-    let tab = differs 9 tab_none b bs t h in (
-      omega arith,
-      rw (space, tab) refl,
-      comment_not b (bs ++ rest) (differs 35 hash_none b bs t h)
-          (differs 47 slash_none b bs t h),
-    )
+starts (b ∷ bs) t h rest = search (rules, differs, space_none, tab_none, comment_not, hash_none, slash_none)
 
 token_by : (b : Bool) (o : Option Token) (t : Token) → cond b None o ≡ Some t → o ≡ Some t
 token_by true o t h = absurd cc
@@ -80,12 +64,8 @@ begins line n t h =
 
 comment_step : (b : ℕ) (bs : List ℕ) (x y : Bool) → (b == 32) ≡ x → (b == 9) ≡ y
     → is_comment (b ∷ bs) ≡ true → (x || y) ≡ false
-comment_step b bs true y e f h =
-    let same : b ≡ 32 = grind (arith, nat_tests) in
-    absurd (false≢true (sym (comment_not b bs (rw same refl) (rw same refl)) ∙ h))
-comment_step b bs false true e f h =
-    let same : b ≡ 9 = grind (arith, nat_tests) in
-    absurd (false≢true (sym (comment_not b bs (rw same refl) (rw same refl)) ∙ h))
+comment_step b bs true y e f h = search rules
+comment_step b bs false true e f h = search rules
 comment_step b bs false false e f h = refl
 
 comment_ends : (line : List ℕ) → is_comment line ≡ true → tokens_after line 0 ≡ Ok []
@@ -158,9 +138,7 @@ made (suc k) (b ∷ bs) h = made_step b bs (is_blank b) (λ l m. made k l (omega
 
 pub short_tokens : (line : List ℕ) → length line ≤ 1024 → tokens line ≡ tokens_after line 0
 unfolding tokens
-short_tokens line h =
-    let short : nat_lt 1024 (length line) ≡ false = grind (arith, nat_tests) in
-    rw short (sym (tokens_are line))
+short_tokens line h = search (rules, nat_tests, tokens_are)
 
 pub long_tokens : (line : List ℕ) → 1024 < length line → tokens line ≡ Err LineTooLong
 unfolding tokens
@@ -168,13 +146,8 @@ long_tokens line h = let long : nat_lt 1024 (length line) ≡ true = grind (arit
 
 cut_by : (line : List ℕ) (r : Result (List Token) LineFault) (b : Bool) → nat_lt 1024 (length line) ≡ b
     → MatchBool b (r ≡ Err LineTooLong) (IsCut line r) ↔ (tokens line ≡ r)
-cut_by line r true e =
-    let long = long_tokens line (grind (arith, nat_tests)) in (λ h. long ∙ sym h, λ h. sym h ∙ long)
-cut_by line r false e =
-    let short = short_tokens line (grind (arith, nat_tests)) in (
-      λ h. short ∙ cut_is line r h,
-      λ h. rw (← h, short) (made (length line) line (omega arith)),
-    )
+cut_by line r true e = search (rules, long_tokens, nat_tests)
+cut_by line r false e = search (rules, short_tokens, nat_tests, cut_is, made)
 
 -- the parts of a line are its tokens
 pub cut_means : (line : List ℕ) (r : Result (List Token) LineFault) → IsCutInto line r ↔ (tokens line ≡ r)

@@ -1,13 +1,14 @@
 -- Where tokens stand, token by token; and the tokens and the places of a line by where its tokens begin.
-use Rattle.std.proofs.Common.{◌≡◌, ℕ, zero, suc, ◌-◌, ◌<◌, Bool, true, false, List, [], ◌∷◌, length, drop, get_or, refl, ap, ◌∙◌, arith}
-use Rattle.std.specs.Prelude.{Option, Some, None, Result, Ok, Err, pred, is_none, slice_get}
+use Rattle.std.proofs.Common.{rules}
+use Rattle.std.proofs.Common.{◌≡◌, ℕ, zero, suc, ◌-◌, ◌<◌, Bool, true, false, List, [], ◌∷◌, length, drop, get_or, refl, ap, arith}
+use Rattle.std.specs.Prelude.{Option, Some, None, Result, Ok, Err, is_none, slice_get}
 use Rattle.std.specs.List.{filter_map, find}
 use Rattle.std.specs.Option.{option_map, option_map_or}
 use Rattle.rv_base.specs.Words.{is_blank}
 use Rattle.rv_tokens.specs.declared.place.Place.{Place}
 use Rattle.rv_tokens.specs.declared.fault.LineFault.{LineFault}
 use Rattle.rv_tokens.specs.declared.token.Token.{Token}
-use Rattle.rv_tokens.specs.Partial.{tokens_after, places_after, with_tokens}
+use Rattle.rv_tokens.specs.Partial.{tokens_after, places_after}
 use Rattle.rv_tokens.specs.Cuts.{front, starts, places}
 use Rattle.rv_tokens.specs.Tokens.{is_comment, fault_at}
 
@@ -40,12 +41,6 @@ abbrev places_by : ℕ → List (List ℕ) → List Place
 places_by total rests =
     filter_map (λ rest. option_map (λ found. record { column = total - length rest; len = found.1 }) (front rest)) rests
 
-one_token : (t : Token) (o : Option (List ℕ)) (ts : List Token)
-    → with_tokens (t ∷ []) (option_map_or (λ rest. Err (fault_at (get_or rest 0 0))) o (Ok ts))
-    ≡ option_map_or (λ rest. Err (fault_at (get_or rest 0 0))) o (Ok (t ∷ ts))
-one_token t None ts = refl
-one_token t (Some rest) ts = refl
-
 both_at : (total b : ℕ) (bs : List ℕ) (s c : Bool) (o : Option (Token × ℕ)) → is_blank b ≡ s
     → is_comment (b ∷ bs) ≡ c → front (b ∷ bs) ≡ o
     → ((n : ℕ) → (tokens_after bs n ≡ tokens_by (starts bs n)) × (places_after total bs n ≡ places_by total (starts bs n)))
@@ -55,13 +50,7 @@ unfolding starts tokens_after places_after
 both_at total b bs true c o e f g more = let h = more 0 in (rw e h.0, rw e h.1)
 both_at total b bs false true o e f g more = (rw (e, f) refl, rw (e, f) refl)
 both_at total b bs false false None e f g more = (rw (e, f, g) refl, rw (e, f, g) refl)
-both_at total b bs false false (Some (t, n)) e f g more =
-    let h = more (pred n) in
-    let p : Place = record { column = total - length (b ∷ bs); len = n } in
-    let rests = starts bs (pred n) in (
-      rw (e, f, g) (ap (with_tokens (t ∷ [])) h.0 ∙ one_token t (find (λ rest. is_none (front rest)) rests) _),
-      rw (e, f, g) (ap (λ ps. p ∷ ps) h.1),
-    )
+both_at total b bs false false (Some (t, n)) e f g more = search rules
 
 both : (total : ℕ) (line : List ℕ) (n : ℕ) → (tokens_after line n ≡ tokens_by (starts line n))
     × (places_after total line n ≡ places_by total (starts line n))

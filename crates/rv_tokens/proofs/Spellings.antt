@@ -1,4 +1,5 @@
 -- Reading characters and strings.
+use Rattle.std.proofs.Common.{rules}
 use Rattle.std.proofs.Common.{◌≡◌, ℕ, zero, suc, ◌<◌, ◌≤◌, Bool, true, false, cond, List, [], ◌∷◌, length, take, drop, refl, sym, ap, ◌∙◌, arith, length-take, ◌++◌, append_assoc, append-nil}
 use Rattle.std.specs.Prelude.{Option, None, Some}
 use Rattle.std.specs.Bool.{◌==◌}
@@ -35,10 +36,7 @@ string_byte_in text n = spelled 34 (take n text)
 
 pub first_byte_within : (text : List ℕ) (n : ℕ) → n ≤ length text
     → ((m : ℕ) → n < m → m ≤ length text → 4 < m) → longest (string_byte_in text) n ≡ first_byte text
-first_byte_within text n le long =
-    sym (longest_above (string_byte_in text) n (length text) le (λ m p q.
-    let l : length (take m text) ≡ m = omega (arith, length-take m text) in
-    spelled_long 34 (take m text) (omega (arith, l, long m p q))))
+first_byte_within text n le long = search (rules, longest_above, length-take, spelled_long)
 
 -- ---- the bytes of a string
 
@@ -62,10 +60,8 @@ bytes_of_none (b ∷ bs) some e = rw e refl
 pub bytes_of_some : (text : List ℕ) (x n : ℕ) → first_byte text ≡ Some (x, n)
     → string_bytes text ≡ option_map (λ cs. x ∷ cs) (string_bytes (drop n text))
 unfolding bytes_after
-bytes_of_some [] x n e =
-    let l = longest_found (string_byte_in []) 0 n x e in absurd (omega (arith, l.some, l.within))
-bytes_of_some (b ∷ bs) x zero e =
-    let l = longest_found (string_byte_in (b ∷ bs)) (length (b ∷ bs)) 0 x e in absurd (omega (arith, l.some))
+bytes_of_some [] x n e = search (rules, longest_found)
+bytes_of_some (b ∷ bs) x zero e = search (rules, longest_found)
 bytes_of_some (b ∷ bs) x (suc n) e = rw e (ap (option_map (λ cs. x ∷ cs)) (bytes_after_drop bs n))
 
 one_more : (done : List ℕ) (x : ℕ) (o : Option (List ℕ))
@@ -88,7 +84,5 @@ some_same xs ys h = cc
 -- the end of a string
 pub append_end : (done all text : List ℕ) → first_byte text ≡ None
     → option_map (λ cs. done ++ cs) (string_bytes text) ≡ Some all → done ≡ all
-append_end done all [] e h =
-    sym (append-nil done)
-    ∙ some_same (done ++ []) all (ap (option_map (λ cs. done ++ cs)) (sym (bytes_of_end [] refl)) ∙ h)
+append_end done all [] e h = search (rules, append-nil, some_same, bytes_of_end)
 append_end done all (b ∷ bs) e h = let f = rw (bytes_of_none (b ∷ bs) (omega arith) e) at h in absurd cc

@@ -1,26 +1,25 @@
 -- The end of a string.
+use Rattle.std.proofs.Common.{rules}
 use Rattle.std.proofs.Common.{◌≡◌, ℕ, zero, suc, ◌+◌, ◌-◌, ◌<◌, ◌≤◌, Bool, true, false, cond, List, [], ◌∷◌, length, take, drop, get_or, refl, sym, ap, ◌∙◌, arith, length-take, length-drop, get_or-take, get_or-drop}
-use Rattle.std.specs.Prelude.{Option, None, Some, option_and_then, nat_lt, is_some}
+use Rattle.std.specs.Prelude.{Option, None, Some, option_and_then, is_some}
 use native.Mathlib.Decide.{dec_lt}
 use Prim.{yes, no}
 use Rattle.std.specs.Bool.{◌==◌}
 use Rattle.std.specs.Option.{option_map}
-use Rattle.std.proofs.lemmas.Bool.{false≢true}
 use Rattle.std.proofs.lemmas.Bool.Decides.{nat_tests}
 use Rattle.std.proofs.lemmas.List.{take-take, drop-take, drop-drop}
-use Rattle.std.proofs.lemmas.List.Folds.{list_all_at}
 use Rattle.std.proofs.Math.Seq.{drop-cons}
 use Rattle.rv_tokens.specs.declared.token.Token.{Token}
 use Rattle.rv_tokens.specs.declared.token.Token.TheVariants.{Text}
-use Rattle.rv_base.specs.Numbers.{hex_digit, number_in}
+use Rattle.rv_base.specs.Numbers.{digit_value, hex_digit, number_in}
 use Rattle.rv_tokens.specs.Literals.{longest, escape, spelled, between, bytes_after}
 use Rattle.rv_tokens.specs.Cuts.{front}
 use Rattle.rv_tokens.specs.Tokens.{token_of, token_in}
-use Rattle.rv_tokens.specs.Partial.{may_precede, is_digit, first_byte, string_bytes, string, escape_by, spelled_by}
+use Rattle.rv_tokens.specs.Partial.{may_precede, first_byte, string_bytes, string, escape_by, spelled_by}
 use Rattle.rv_tokens.proofs.Signs.{token_is}
 use Rattle.rv_tokens.proofs.Escapes.{escape_is, spelled_is}
 use Rattle.rv_tokens.proofs.Front.{kept_in, no_name_last, token_in_is}
-use Rattle.rv_tokens.proofs.Digits.{number_in_is}
+use Rattle.rv_base.proofs.NumberReading.{no_digits}
 use Rattle.rv_tokens.proofs.Longest.{longest_is, longest_found, longest_missing, longest_none}
 use Rattle.rv_tokens.proofs.Spellings.{string_byte_in, bytes_of_none, bytes_of_some}
 
@@ -30,9 +29,9 @@ no_quote : (base : ℕ) (ds : List ℕ) (b i : ℕ) → base ≤ 16 → number_i
     → get_or ds i 0 ≡ 34 → ⊥
 unfolding hex_digit
 no_quote base ds b i low h lt q =
-    let digit : is_digit base (get_or ds i 0) ≡ false = rw q (grind (arith, nat_tests, low)) in
-    let all = number_in_is base 255 ds b h in
-    false≢true (sym (list_all_at (is_digit base) ds i 0 lt digit) ∙ all.0)
+    let other : base ≤ digit_value (get_or ds i 0) = rw q (omega (arith, low)) in
+    let none = no_digits base 255 i ds lt other in
+    absurd cc
 
 hex_quote : (c d e b i : ℕ) (t : Bool) → (c == 120) ≡ t
     → cond t (number_in 16 255 (d ∷ e ∷ [])) (number_in 8 255 (c ∷ d ∷ e ∷ [])) ≡ Some b → i < 3
@@ -144,13 +143,6 @@ pub record IsScanned (text : List ℕ) (i : ℕ) : Type 0 where
   pub goes_on : (m : ℕ) → i ≤ m → m ≤ length text
       → is_some (string_bytes (take m text)) ≡ is_some (string_bytes (take (m - i) (drop i text)))
 
-pub scanned_none : (text : List ℕ) → IsScanned text 0
-scanned_none text = record {
-  within = omega arith;
-  none_before = λ m p q. absurd (omega arith);
-  goes_on = λ m p q. let e : m - 0 ≡ m = omega arith in rw e refl;
-}
-
 module _ (text : List ℕ) (i : ℕ) (so : IsScanned text i) where
   drop_length : length (drop i text) ≡ length text - i
   drop_length = length-drop i text
@@ -158,18 +150,7 @@ module _ (text : List ℕ) (i : ℕ) (so : IsScanned text i) where
   -- a prefix that ends within the next byte
   before_next : (b k m : ℕ) → (get_or text i 0 ≡ 34 → ⊥) → first_byte (drop i text) ≡ Some (b, k) → i ≤ m
       → m < i + k → m < length text → get_or text m 0 ≡ 34 → string_bytes (take m text) ≡ None
-  before_next b k m test e le lt within q = elim (dec_lt i m) [
-    | yes more ↦
-        (let at : get_or (drop i text) (m - i) 0
-        ≡ 34 = (let f : i + (m - i) ≡ m = omega arith in get_or-drop i text (m - i) 0
-        ∙ (ap (λ n. get_or text n 0) f ∙ q)) in
-        let none = cut_quote (drop i text) b k (m - i) e (omega arith) (omega arith) at in
-        none_of (string_bytes (take m text)) (so.goes_on m le (omega arith) ∙ ap is_some none))
-    | no less ↦
-        (let same : m ≡ i = omega arith in
-        let f : get_or text i 0 ≡ 34 = rw same at q in
-        absurd (test f))
-  ]
+  before_next b k m test e le lt within q = search (rules, get_or-drop, cut_quote, none_of)
 
   pub scanned_more : (b k : ℕ) → (get_or text i 0 ≡ 34 → ⊥) → first_byte (drop i text) ≡ Some (b, k)
       → IsScanned text (i + k)
@@ -208,11 +189,7 @@ first_byte_quote zs = longest_none (string_byte_in (34 ∷ zs)) (length (34 ∷ 
 
 quoted_between : (ys : List ℕ) (n : ℕ) → length ys ≡ suc n
     → between 34 34 (34 ∷ ys) ≡ cond (get_or ys n 0 == 34) (Some (take n ys)) None
-quoted_between ys n len =
-    let e : length (34 ∷ ys) ≡ suc (suc n) = omega (arith, len) in
-    let f : nat_lt 1 (suc (suc n)) ≡ true = grind (arith, nat_tests) in
-    let g : suc (suc n) - 1 ≡ suc n = omega arith in
-    rw (e, f, g) refl
+quoted_between ys n len = search rules
 
 quoted_cond : (t : Bool) (ys : List ℕ)
     → ◌≡◌ {A = Option Token} (option_map (λ s. Text s) (option_and_then string_bytes (cond t (Some ys) None)))
@@ -224,10 +201,7 @@ token_of_string : (ys : List ℕ) (n : ℕ) → length ys ≡ suc n
     → token_of (34 ∷ ys) ≡ cond (get_or ys n 0 == 34) (option_map (λ s. Text s) (string_bytes (take n ys))) None
 unfolding string
 token_of_string [] n len = absurd (omega arith)
-token_of_string (c ∷ cs) n len =
-    token_is (34 ∷ c ∷ cs)
-    ∙ ap (λ o. option_map (λ s. Text s) (option_and_then string_bytes o)) (quoted_between (c ∷ cs) n len)
-    ∙ quoted_cond (get_or (c ∷ cs) n 0 == 34) (take n (c ∷ cs))
+token_of_string (c ∷ cs) n len = search (rules, token_is, quoted_between, quoted_cond)
 
 text_open : (may : Bool) → ◌≡◌ {A = Option Token} (cond may None None) None
 text_open true = refl
@@ -237,9 +211,7 @@ text_kept : (xs rest : List ℕ) (c : ℕ) (t : Bool) (o : Option (List ℕ)) �
     → (c == 34) ≡ t
     → ◌≡◌ {A = Option Token} (cond (may_precede xs rest) (cond t (option_map (λ s. Text s) o) None) None)
     (cond t (option_map (λ s. Text s) o) None)
-text_kept xs rest c true o e f =
-    let last : c ≡ 34 = grind (arith, nat_tests) in
-    rw (no_name_last xs rest (rw (e, last) refl)) refl
+text_kept xs rest c true o e f = search rules
 text_kept xs rest c false o e f = text_open (may_precede xs rest)
 
 string_in : (text : List ℕ) (m : ℕ) → m < length text
@@ -268,30 +240,18 @@ cond_none false o h = refl
 -- if no quote at m ends the string, the line doesn't begin with a string of m + 2 bytes
 not_here : (text : List ℕ) (m : ℕ) → m < length text → (get_or text m 0 ≡ 34 → string_bytes (take m text) ≡ None)
     → token_in (34 ∷ text) (suc (suc m)) ≡ None
-not_here text m lt h =
-    string_in text m lt
-    ∙ cond_none (get_or text m 0 == 34) (string_bytes (take m text)) (λ t. h (grind (arith, nat_tests, t)))
+not_here text m lt h = search (rules, string_in, cond_none, nat_tests)
 
 -- no string goes on past the quote at n
 past_quote : (text : List ℕ) (n m : ℕ) → IsScanned text n → n < length text → get_or text n 0 ≡ 34 → n < m
     → m < length text → string_bytes (take m text) ≡ None
-past_quote text n m so lt q more within =
-    let e : drop n text ≡ get_or text n 0 ∷ drop (suc n) text = drop-cons text n 0 lt in
-    let f : drop n text ≡ 34 ∷ drop (suc n) text = rw q at e in
-    let len : length (take (m - n) (drop n text)) ≡ m - n =
-    omega (arith, length-take (m - n) (drop n text), length-drop n text) in
-    let none : string_bytes (take (m - n) (drop n text)) ≡ None =
-    bytes_of_none (take (m - n) (drop n text)) (omega (arith, len))
-    (first_byte_take_none (drop n text) (m - n) (rw f (first_byte_quote (drop (suc n) text)))
-    (omega (arith, length-drop n text))) in
-    none_of (string_bytes (take m text)) (so.goes_on m (omega arith) (omega arith) ∙ ap is_some none)
+past_quote text n m so lt q more within = search (rules, drop-cons, length-take, length-drop, bytes_of_none, first_byte_take_none, first_byte_quote, none_of)
 
 above_string : (text : List ℕ) (n m : ℕ) → IsScanned text n → n < length text → get_or text n 0 ≡ 34
     → suc (suc n) < m → m ≤ length (34 ∷ text) → token_in (34 ∷ text) m ≡ None
 above_string text n zero so lt q more within = absurd (omega arith)
 above_string text n (suc zero) so lt q more within = absurd (omega arith)
-above_string text n (suc (suc m)) so lt q more within =
-    not_here text m (omega arith) (λ r. past_quote text n m so lt q (omega arith) (omega arith))
+above_string text n (suc (suc m)) so lt q more within = search (rules, not_here, past_quote)
 
 -- the string that ends with the quote at n
 pub front_string : (text s : List ℕ) (n : ℕ) → IsScanned text n → n < length text → get_or text n 0 ≡ 34
@@ -328,25 +288,12 @@ front_unended text n so end = front_open text (λ k p q. so.none_before k (omega
 past_bad : (text : List ℕ) (n k : ℕ) → IsScanned text n → (get_or text n 0 ≡ 34 → ⊥)
     → first_byte (drop n text) ≡ None → n ≤ k → k < length text → get_or text k 0 ≡ 34
     → string_bytes (take k text) ≡ None
-past_bad text n k so test e le lt q = elim (dec_lt n k) [
-  | yes more ↦
-      (let len : length (take (k - n) (drop n text))
-      ≡ k - n = omega (arith, length-take (k - n) (drop n text), length-drop n text) in
-      let none =
-      bytes_of_none (take (k - n) (drop n text)) (omega (arith, len))
-      (first_byte_take_none (drop n text) (k - n) e (omega (arith, length-drop n text))) in
-      none_of (string_bytes (take k text)) (so.goes_on k le (omega arith) ∙ ap is_some none))
-  | no less ↦
-      (let same : k ≡ n = omega arith in let f : get_or text n 0 ≡ 34 = rw same at q in absurd (test f))
-]
+past_bad text n k so test e le lt q = search (rules, length-take, length-drop, bytes_of_none, first_byte_take_none, none_of)
 
 -- no byte is spelled at n
 pub front_bad : (text : List ℕ) (n : ℕ) → IsScanned text n → (get_or text n 0 ≡ 34 → ⊥)
     → first_byte (drop n text) ≡ None → front (34 ∷ text) ≡ None
-front_bad text n so test e =
-    front_open text
-    (λ k p q. elim (dec_lt k n)
-    [ yes lt ↦ so.none_before k lt q | no ge ↦ past_bad text n k so test e (omega arith) p q ])
+front_bad text n so test e = search (rules, front_open, past_bad)
 
 -- a line that begins with a quote
 pub begins_quoted : (line : List ℕ) → 0 < length line → get_or line 0 0 ≡ 34 → line ≡ 34 ∷ drop 1 line

@@ -7,7 +7,7 @@ use Rattle.rv_base.specs.Words.{is_blank}
 use Rattle.rv_tokens.specs.declared.place.Place.{Place}
 use Rattle.rv_tokens.specs.declared.fault.LineFault.{LineFault}
 use Rattle.std.specs.Option.{option_map, option_or}
-use Rattle.rv_base.specs.Numbers.{digit_value, number_in}
+use Rattle.rv_base.specs.Numbers.{number_in}
 use Rattle.rv_base.specs.Tables.{lookup}
 use Rattle.rv_tokens.specs.declared.fault.LineFault.TheVariants.{OutOfMemory}
 use Rattle.rv_tokens.specs.Literals.{longest, short_decimal, letters, escape, spelled, between, bytes_after}
@@ -98,10 +98,6 @@ abbrev pub may_precede : List ℕ → List ℕ → Bool
 may_precede text rest = not (is_name_byte (slice_index text (length text - 1)) && begins_with_name_byte rest)
 
 -- ---- numbers, characters and strings
-
--- whether a byte is a digit in a base of at most 16
-abbrev pub is_digit : ℕ → ℕ → Bool
-is_digit base b = nat_lt (digit_value b) base
 
 -- the byte of a character with its quotes
 unfoldable pub character : List ℕ → Option ℕ

@@ -1,48 +1,20 @@
 //! Numbers, characters and strings.
 ghost use Rattle.std.specs.Prelude.{◌≡◌, ◌<◌, ◌≤◌, IfSome, length};
-ghost use Rattle.rv_base.specs.Numbers.{digit_value, number_in};
+ghost use Rattle.rv_base.specs.Numbers.{number_in};
 ghost use Rattle.std.specs.Option.{option_map};
 ghost use Rattle.rv_tokens.specs.Literals.{has_leading_zero, number, short_decimal, escape, spelled, between};
-ghost use Rattle.rv_tokens.specs.Partial.{character, first_byte, has_prefix, is_digit, is_plain, letter_escape};
+ghost use Rattle.rv_tokens.specs.Partial.{character, first_byte, has_prefix, is_plain, letter_escape};
 
-use rv_base::hex_digit;
+use rv_base::number_in;
 
-/// Returns the value of a digit, or 16 for any other byte.
-fn digit_value(b: u8) -> u8
-    ensures is { result ≡ digit_value b }
-    ensures most { result ≤ 16 }
-{
-    hex_digit(b).unwrap_or(16)
-}
-
-/// Returns whether a byte is a digit in a base of at most 16.
-fn is_digit(base: u64, b: u8) -> bool
-    ensures { result ≡ is_digit base b }
-{
-    u64::from(digit_value(b)) < base
-}
-
-/// Reads a number in a base: one or more digits of a value no more than this.
-fn number_in(base: u64, most: u32, digits: &[u8]) -> Option<u32>
+/// Reads a number of 32 bits in a base.
+fn word_in(base: u64, digits: &[u8]) -> Option<u32>
     requires low { 1 ≤ base }
     requires high { base ≤ 16 }
-    ensures value { result ≡ number_in base most digits.now }
-    ensures small { IfSome result (λ n. n ≤ most) }
+    ensures { result ≡ number_in base 0xffffffff digits.now }
 {
-    if digits.is_empty() {
-        return None;
-    }
-    let mut sum: u64 = 0;
-    for b in digits {
-        if !is_digit(base, *b) {
-            return None;
-        }
-        sum = base * sum + u64::from(digit_value(*b));
-        if sum > u64::from(most) {
-            return None;
-        }
-    }
-    Some(sum as u32)
+    let n = number_in(base, u64::from(u32::MAX), digits)?;
+    Some(n as u32)
 }
 
 /// Returns whether a text begins with `0` and a letter in either case.
@@ -60,18 +32,18 @@ fn has_leading_zero(text: &[u8]) -> bool
 }
 
 /// Reads a number: hexadecimal after `0x`, binary after `0b`, octal after `0`, or decimal.
-#[tactic(auto, using(crate::proofs::Signs::number_decimal))]
+#[tactic(auto, using(crate::proofs::Signs::number_steps))]
 pub fn number(text: &[u8]) -> Option<u32>
     ensures { result ≡ number text.now }
 {
     if has_prefix(b'x', b'X', text) {
-        number_in(16, u32::MAX, &text[2..])
+        word_in(16, &text[2..])
     } else if has_prefix(b'b', b'B', text) {
-        number_in(2, u32::MAX, &text[2..])
+        word_in(2, &text[2..])
     } else if has_leading_zero(text) {
-        number_in(8, u32::MAX, &text[1..])
+        word_in(8, &text[1..])
     } else {
-        number_in(10, u32::MAX, text)
+        word_in(10, text)
     }
 }
 

@@ -1,9 +1,10 @@
 -- The matches of the words, by the command alone.
-use Rattle.std.proofs.Common.{◌≡◌, ◌∙◌, ◌<◌, ◌≤◌, ◌^◌, ap, subst, sym, refl, arith, ℕ, true, List, Option, Some, Result, Ok}
+use Rattle.std.proofs.Common.{◌≡◌, ◌∙◌, ◌<◌, ◌≤◌, ◌^◌, ap, subst, sym, refl, arith, ℕ, true, List, Option, Some, Result}
 use Rattle.std.specs.Prelude.{codes, pos, option_map}
 use Rattle.std.specs.Option.{option_map_or}
 use Rattle.std.specs.Borrow.{Bor}
-use Rattle.std.specs.Str.Parse.{ParsesUnsigned, digits_value, without_leading_plus}
+use Rattle.std.specs.declared.num.ParseIntError.{ParseIntError}
+use Rattle.std.specs.Str.Parse.{ParsesUnsigned, ExplainsUnsignedError, HasUnsignedDigitsIfOk, digits_value, without_leading_plus}
 use Rattle.clap.specs.Matches.{ReadsOne}
 use Rattle.clap.proofs.CallerReads.{signed_reads}
 use Rattle.clap.proofs.WalkLemmas.{first_value-rows, one_text-rows}
@@ -137,17 +138,18 @@ pub record IsNumberOf (rows : List Row) (id : Text) (low high : ℕ) (r : Option
   pub most : value ≤ high
   pub said : value ≡ number_of id rows
 
-pub number_got : (E : Type 0) (G : List ℕ → Result ℕ E →
-    Type 0) (bits low high : ℕ) (words : List Text) (m : ArgMatches) (id : Text) (r : Option ℕ)
-    → ((t : List ℕ) → one_text (found_of m) id ≡ Some t → ReadsOne G t r)
-    → ((u : List ℕ) (x : Result ℕ E) → G u x → ParsesUnsigned bits 10 u x) → high < 2 ^ bits
+-- how `parse` reads an unsigned number
+abbrev Parses : ℕ → List ℕ → Result ℕ ParseIntError → Type 0
+Parses bits text r = ParsesUnsigned bits 10 text r × ExplainsUnsignedError 10 text r × HasUnsignedDigitsIfOk text r
+
+pub number_got : (bits low high : ℕ) (words : List Text) (m : ArgMatches) (id : Text) (r : Option ℕ)
+    → ((t : List ℕ) → one_text (found_of m) id ≡ Some t → ReadsOne (Parses bits) t r) → high < 2 ^ bits
     → IsBoardParse words m → HasNumber m id low high → IsNumberOf (matches_of board_app words) id low high r
-number_got E G bits low high words m id r gives only fits p h =
+number_got bits low high words m id r gives fits p h =
     let one = gives (without_minus h.text) h.one in
-    let got = signed_reads E G bits low high h.text r one only fits h.accepted in
-    let read : ReadsOne G (without_minus h.text) (Some got.0) =
-    subst (λ (o : Option ℕ). ReadsOne G (without_minus h.text) o) got.1 one in
-    let parsed = only (without_minus h.text) (Ok got.0) read in
+    let got = signed_reads ParseIntError (Parses bits) bits low high h.text r one (λ u x g. g.0) fits h.accepted in
+    let read : ReadsOne (Parses bits) (without_minus h.text) (Some got.0) =
+    subst (λ (o : Option ℕ). ReadsOne (Parses bits) (without_minus h.text) o) got.1 one in
     let text : one_of id (matches_of board_app words) ≡ Some (without_minus h.text) =
     ap (one_of id) (sym p.rows) ∙ (sym (one_text-rows (found_of m) id) ∙ h.one) in
     record {
@@ -155,7 +157,7 @@ number_got E G bits low high words m id r gives only fits p h =
       is = got.1;
       least = got.2;
       most = got.3;
-      said = parsed.1 ∙ sym (ap (λ (o : Option Text).
+      said = read.0.1 ∙ sym (ap (λ (o : Option Text).
           option_map_or (λ t. digits_value 10 (without_leading_plus t)) o 0) text);
     }
 

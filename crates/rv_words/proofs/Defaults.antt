@@ -1,6 +1,9 @@
 -- An argument with a default value has a value after each parse of a simple command, whatever the words are,
 -- and the value passed the argument's parser.
-use Rattle.std.proofs.Common.{true≢false, ◌≡◌, ◌∙◌, ◌<◌, ◌≤◌, ◌&&◌, ap, subst, sym, refl, ℕ, Bool, true, false, not, cond, zero, suc, List, [], ◌∷◌, length, map, is_some, Option, Some, None, inl, inr, arith}
+use Rattle.std.proofs.Common.{rules}
+use Rattle.std.proofs.lemmas.Bool.Decides.{nat_tests}
+use Rattle.std.proofs.lemmas.Grind.{common_steps}
+use Rattle.std.proofs.Common.{◌≡◌, ◌∙◌, ◌<◌, ◌≤◌, ◌&&◌, ap, subst, sym, refl, ℕ, Bool, true, false, not, cond, zero, suc, List, [], ◌∷◌, length, map, is_some, Option, Some, None, inl, inr, arith}
 use Rattle.std.specs.Prelude.{codes, find, option_map, slice_get}
 use Rattle.std.specs.List.{All, list_all, slice_index_or}
 use Rattle.std.specs.Str.{bytes_eq}
@@ -9,9 +12,7 @@ use Rattle.std.proofs.Math.ListN.{get_or-map}
 use Rattle.std.proofs.lemmas.List.{get_or_default, length-map}
 use Rattle.std.proofs.lemmas.List.Elements.{All-nil, All-cons, All-get_or}
 use Rattle.std.proofs.lemmas.Slice.Eq.{bytes_eq-Decides}
-use Rattle.clap.specs.Texts.{items_of}
-use Rattle.clap.specs.Facts.{IsParsed, args_of, groups_of, Entry, EntryPasses, HasId, HasReading, PassesArg, ValuesPass, WantsDefault, least_values, parser_of, parser_of_value, unwrap_or_range}
-use Rattle.clap.specs.declared.builder.range.ValueRange.{ValueRange}
+use Rattle.clap.specs.Facts.{IsParsed, args_of, groups_of, Entry, EntryPasses, HasId, HasReading, PassesArg, ValuesPass, WantsDefault, least_values, parser_of, parser_of_value}
 use Rattle.clap.specs.Built.{IsAuto, IsParsedFrom, IsPlain, IsPlainArg, SameRules}
 use Rattle.clap.specs.Matches.{first_value, found_of, has_subcommand, matched_of, one_text}
 use Rattle.clap.specs.Values.{Accepts, read_as, reading_of}
@@ -79,10 +80,7 @@ none_there : (xs : List Arg) (id : Text) (j : ℕ) (e : Arg) → none_has id (ma
     j < length xs
     → bytes_eq (slice_index_or xs j e).id.now id ≡ true → ⊥
 none_there [] id j e h lt same = absurd (omega arith)
-none_there (x ∷ xs) id zero e h lt same =
-    let p = both (not (bytes_eq x.id.now id)) (none_has id (map rule_of xs)) h in
-    let no = is_false (bytes_eq x.id.now id) p.0 in
-    cc
+none_there (x ∷ xs) id zero e h lt same = search rules
 none_there (x ∷ xs) id (suc j) e h lt same = none_there xs id j e
     (both (not (bytes_eq x.id.now id)) (none_has id (map rule_of xs)) h).1 (omega arith) same
 
@@ -92,10 +90,7 @@ only_there : (xs : List Arg) (id : Text) (k j : ℕ) (e : Arg) → only_at id k 
 only_there [] id k j e h lt same = absurd (omega arith)
 only_there (x ∷ xs) id zero zero e h lt same = refl
 only_there (x ∷ xs) id zero (suc j) e h lt same = absurd (none_there xs id j e h (omega arith) same)
-only_there (x ∷ xs) id (suc k) zero e h lt same =
-    let p = both (not (bytes_eq x.id.now id)) (only_at id k (map rule_of xs)) h in
-    let no = is_false (bytes_eq x.id.now id) p.0 in
-    cc
+only_there (x ∷ xs) id (suc k) zero e h lt same = search rules
 only_there (x ∷ xs) id (suc k) (suc j) e h lt same =
     ap suc (only_there xs id k j e (both (not (bytes_eq x.id.now id)) (only_at id k (map rule_of xs)) h).1
     (omega arith) same)
@@ -194,10 +189,7 @@ only_reading old m p k d lt unique own q parser r any =
 
 accepts_of : (a y : Arg) (q : ValueParser) (t : List ℕ) → SameRules a y → a.value_parser ≡ Some q
     → Accepts y.ignore_case (parser_of y) t → Accepts a.ignore_case q t
-accepts_of a y q t s parser read =
-    let is_q : parser_of y ≡ q = ap parser_of_value (s.parser q parser) in
-    let as_q : Accepts y.ignore_case q t = subst (λ (w : ValueParser). Accepts y.ignore_case w t) is_q read in
-    subst (λ (b : Bool). Accepts b q t) s.ignore_case as_q
+accepts_of a y q t s parser read = search rules
 
 passes_read : (old : Command) (m : ArgMatches) (p : IsParsedFrom old m) (k : ℕ) (d : Arg) →
     k < length (args_of old)
@@ -281,52 +273,13 @@ module _ (rules : List Rule) (old : Command) (m : ArgMatches) (p : IsParseOf rul
 
   -- the rule of the argument
   rule_is : (d : Arg) → rule_of (slice_index_or (args_of old) k d) ≡ r
-  rule_is d =
-      let from : k < length (map rule_of (args_of old)) = rw (← p.rules_are) at h.within in
-      sym (get_or-map rule_of (args_of old) k d)
-      ∙ (get_or_default (map rule_of (args_of old)) k (rule_of d) r from
-      ∙ (ap (λ l. slice_index_or l k r) p.rules_are ∙ h.at))
+  rule_is d = grind (arith, nat_tests, common_steps, get_or-map, get_or_default)
 
   argument_facts : (d : Arg) → Argument old k d r.id
-  argument_facts d =
-      let a = slice_index_or (args_of old) k d in
-      let is : rule_of a ≡ r = rule_is d in
-      let id_is : a.id.now ≡ r.id = ap (λ (x : Rule). x.id) is in
-      let all = all_simple_free (args_of old) (rw p.rules_are p.simple_free) in
-      let facts : IsSimpleFree a = all k d within_args in
-      let range : a.num_vals ≡ None = ap (λ (x : Rule). x.range) is ∙ h.range in
-      let filled : 0 < length (items_of a.default_vals) =
-      nonempty_texts (items_of a.default_vals) r.defaults (ap (λ (x : Rule). x.defaults) is) h.defaults in
-      record {
-        within = within_args;
-        id_is = id_is;
-        facts = facts;
-        action = ap (λ (x : Rule). x.action) is ∙ h.action;
-        least = subst (λ (o : Option ValueRange). 1 ≤ (unwrap_or_range o).start_inclusive) (sym range)
-            (omega arith);
-        wants = (facts.ifs, filled);
-        only = λ j e lt same. only_there (args_of old) r.id k j e (rw p.rules_are h.only) lt
-            (rw id_is at same);
-        named = λ e.
-            let empty : is_empty r.id ≡ true = ap (λ (t : Text). is_empty t) (sym id_is ∙ e) in
-            absurd (true≢false (sym empty ∙ h.named));
-        own = λ auto. elim auto [
-          | inl e ↦
-              let help : bytes_eq r.id (codes "help") ≡ true =
-              ap (λ t. bytes_eq t (codes "help")) (sym id_is ∙ e) in
-              absurd (true≢false (sym help ∙ h.no_help))
-          | inr e ↦
-              let version : bytes_eq r.id (codes "version") ≡ true =
-              ap (λ t. bytes_eq t (codes "version")) (sym id_is ∙ e) in
-              absurd (true≢false (sym version ∙ h.no_version))
-        ];
-      }
+  argument_facts d = grind (arith, nat_tests, common_steps, rule_is, all_simple_free, within_args, nonempty_texts, only_there)
 
   plain : IsPlain old
-  plain = (
-    (λ j e lt. (all_simple_free (args_of old) (rw p.rules_are p.simple_free) j e lt).plain),
-    p.groups,
-  )
+  plain = grind (arith, nat_tests, common_steps, all_simple_free)
 
   -- the entry of the argument has a value
   has_value_with : (d : Arg) → is_some (first_value (found_of m) r.id) ≡ true

@@ -1,7 +1,6 @@
 use Rattle.std.proofs.Common.{◌≡◌, ◌≤◌, ◌∙◌, rules, arith, ap, refl, Some, List, ℕ}
 use Rattle.std.specs.Borrow.{Bor}
 use Rattle.std.specs.Prelude.{codes, option_map}
-use Rattle.std.specs.Str.Parse.{ParsesUnsigned, ExplainsUnsignedError, HasUnsignedDigitsIfOk}
 use Rattle.clap.specs.Walk.{texts}
 use Rattle.rv_words.proofs.BoardParse.{number_got, text_got}
 use Rattle.rv_words.proofs.read_words.Goals as goal
@@ -9,28 +8,25 @@ use Rattle.rv_words.proofs.read_words.Goals as goal
 pub unwrap-steps-requires : goal.unwrap-steps-requires
 unwrap-steps-requires c =
     let p = c.in_ok-matches.ensures.parsed in
-    let n = number_got _ (λ bs r. ParsesUnsigned 32 10 bs r × ExplainsUnsignedError 10 bs r
-    × HasUnsignedDigitsIfOk bs r) 32 0 1000000000 (texts c.args.words.now) c.in_ok-matches.matches
+    let n = number_got 32 0 1000000000 (texts c.args.words.now) c.in_ok-matches.matches
     (codes "steps") c.get_one.result
-    c.get_one.ensures.value (λ u x g. g.0) (omega arith) p p.steps in
+    c.get_one.ensures.value (omega arith) p p.steps in
     rw n.is refl
 
 pub unwrap-pages-requires : goal.unwrap-pages-requires
 unwrap-pages-requires c =
     let p = c.in_ok-matches.ensures.parsed in
-    let n = number_got _ (λ bs r. ParsesUnsigned 16 10 bs r × ExplainsUnsignedError 10 bs r
-    × HasUnsignedDigitsIfOk bs r) 16 1 4096 (texts c.args.words.now) c.in_ok-matches.matches
+    let n = number_got 16 1 4096 (texts c.args.words.now) c.in_ok-matches.matches
     (codes "pages") c.get_one-2.result
-    c.get_one-2.ensures.value (λ u x g. g.0) (omega arith) p p.pages in
+    c.get_one-2.ensures.value (omega arith) p p.pages in
     rw n.is refl
 
 pub unwrap-slots-requires : goal.unwrap-slots-requires
 unwrap-slots-requires c =
     let p = c.in_ok-matches.ensures.parsed in
-    let n = number_got _ (λ bs r. ParsesUnsigned 16 10 bs r × ExplainsUnsignedError 10 bs r
-    × HasUnsignedDigitsIfOk bs r) 16 64 4096 (texts c.args.words.now) c.in_ok-matches.matches
+    let n = number_got 16 64 4096 (texts c.args.words.now) c.in_ok-matches.matches
     (codes "slots") c.get_one-3.result
-    c.get_one-3.ensures.value (λ u x g. g.0) (omega arith) p p.slots in
+    c.get_one-3.ensures.value (omega arith) p p.slots in
     rw n.is refl
 
 pub returns-clause-read : goal.returns-clause-read
@@ -38,15 +34,12 @@ returns-clause-read c =
     let m = c.in_ok-matches.matches in
     let words = texts c.args.words.now in
     let p = c.in_ok-matches.ensures.parsed in
-    let n = number_got _ (λ bs r. ParsesUnsigned 32 10 bs r × ExplainsUnsignedError 10 bs r
-    × HasUnsignedDigitsIfOk bs r) 32 0 1000000000 words m (codes "steps") c.get_one.result
-    c.get_one.ensures.value (λ u x g. g.0) (omega arith) p p.steps in
-    let k = number_got _ (λ bs r. ParsesUnsigned 16 10 bs r × ExplainsUnsignedError 10 bs r
-    × HasUnsignedDigitsIfOk bs r) 16 1 4096 words m (codes "pages") c.get_one-2.result
-    c.get_one-2.ensures.value (λ u x g. g.0) (omega arith) p p.pages in
-    let j = number_got _ (λ bs r. ParsesUnsigned 16 10 bs r × ExplainsUnsignedError 10 bs r
-    × HasUnsignedDigitsIfOk bs r) 16 64 4096 words m (codes "slots") c.get_one-3.result
-    c.get_one-3.ensures.value (λ u x g. g.0) (omega arith) p p.slots in
+    let n = number_got 32 0 1000000000 words m (codes "steps") c.get_one.result
+    c.get_one.ensures.value (omega arith) p p.steps in
+    let k = number_got 16 1 4096 words m (codes "pages") c.get_one-2.result
+    c.get_one-2.ensures.value (omega arith) p p.pages in
+    let j = number_got 16 64 4096 words m (codes "slots") c.get_one-3.result
+    c.get_one-3.ensures.value (omega arith) p p.slots in
     let found : c.get_str.result ≡ Some c.unwrap-source.result = search rules in
     let steps : c.unwrap-steps.result ≡ n.value = cc in
     let pages : c.unwrap-pages.result ≡ k.value = cc in

@@ -1,9 +1,10 @@
 use Rattle.std.proofs.Common.{◌≡◌, ◌∙◌, ◌<◌, length, take, refl, rules}
 use Rattle.std.proofs.lemmas.List.{take_all}
+use Rattle.std.proofs.lemmas.Bool.{and_from}
 use Rattle.std.proofs.lemmas.List.Folds.{list_all_more}
 use Rattle.rv_lists.specs.Reading.{is_input}
 use Rattle.rv_lists.specs.Text.{list_text}
-use Rattle.rv_lists.proofs.Texts.{both, line_more, reads}
+use Rattle.rv_lists.proofs.Texts.{line_more, reads}
 use Rattle.rv_lists.proofs.writer.list_text.Goals as goal
 
 pub loop-timed-init : goal.loop-timed-init
@@ -19,7 +20,7 @@ loop-timed-preserved c =
           c.loop-timed.invariant.text c.in_ok-append_line.ensures.text;
       ranges = list_all_more (λ x. is_input x.input) c.args.inputs.now c.loop-timed.timed-index
           c.timed-item.result within
-          ∙ both _ _ c.loop-timed.invariant.ranges (rw (← c.timed-item.is) c.in_ok-append_line.ensures.range);
+          ∙ and_from _ _ c.loop-timed.invariant.ranges (rw (← c.timed-item.is) c.in_ok-append_line.ensures.range);
     }
 
 pub returns-clause-read : goal.returns-clause-read
