@@ -14,7 +14,7 @@ use Rattle.rv_bus.specs.State.{BusState}
 use Rattle.rv_bus.specs.Table.{reached, windows}
 use Rattle.rv_bus.specs.Access.{load, store, writes, fetch}
 use Rattle.rv_bus.specs.Locations.{controller, device_in, for_width, has, location_of, registers, takes}
-use Rattle.rv_bus.specs.AtLocation.{IsFor, in_memory, location, load_at, store_at, is_written, fetch_at}
+use Rattle.rv_bus.specs.AtLocation.{IsFor, in_memory, location, reach_at, is_written, fetch_at}
 use Rattle.rv_bus.specs.declared.locations.Location.{Location}
 use Rattle.rv_bus.specs.declared.locations.Location.TheVariants.{Nowhere, Plic, Ram, Serial}
 use Rattle.rv_bus.proofs.Memory.{fetch_is, writes_is}
@@ -41,10 +41,9 @@ module _ (b : BusState) (a : ℕ) (w : Width) where
   abbrev Row : Type 0
   Row = ℕ × ℕ × ℕ × (ℕ → Reached)
 
-  -- what a row reaches, or none, does what the accesses at a location do
-  record IsRow (x : Option Reached) (p : Location) : Type 0 where
-    load : option_map (λ (x : Reached). x.0) x ≡ load_at b p w
-    store : (v : ℕ) → option_map (λ (x : Reached). x.1 v) x ≡ store_at b p w v
+  -- what a row reaches, or none, is what an access reaches at a location
+  abbrev IsRow : Option Reached → Location → Type 0
+  IsRow x p = x ≡ reach_at b p (bytes_of w)
 
   -- whether a row takes the access, and what it reaches
   abbrev takes_it : Row → Bool
@@ -68,7 +67,7 @@ module _ (b : BusState) (a : ℕ) (w : Width) where
       × (list_any (λ (x : Row). has x.0 x.1 y.0) xs ≡ false)
 
   abbrev AreRows : List (ℕ × Location) → List Row → Type 0
-  AreRows [] xs = xs ≡ drop 10 (windows b (bytes_of w))
+  AreRows [] xs = xs ≡ drop (length registers + 1) (windows b (bytes_of w))
   AreRows (y ∷ ys) [] = ⊥
   AreRows (y ∷ ys) (x ∷ xs) = IsRegister y x xs × AreRows ys xs
 
@@ -80,8 +79,8 @@ module _ (b : BusState) (a : ℕ) (w : Width) where
       ∙ none_takes xs p.1
 
   nowhere : (t : Bool) → IsRow None (if t then Nowhere else Nowhere)
-  nowhere true = record { load = refl; store = λ v. refl }
-  nowhere false = record { load = refl; store = λ v. refl }
+  nowhere true = refl
+  nowhere false = refl
 
   -- the row of a device, by whether it takes the width, and whether it has the address
   at_row : (t u : Bool) (x : Row) (rest : Option Row) (p q : Location) → takes p w ≡ t
@@ -108,7 +107,7 @@ module _ (b : BusState) (a : ℕ) (w : Width) where
       subst (λ xs. IsRow (option_map reaches (find takes_it xs)) (for_width (controller a) w)) (sym is)
       (tested (Plic 0) (has 0x0c000000 0x4000000 a) _ None (for_width (controller a) w)
       (at_row (takes (Plic 0) w) (has 0x0c000000 0x4000000 a) _ None (Plic (a - 0x0c000000)) Nowhere refl (λ u. refl)
-      (record { load = refl; store = λ v. refl }) (nowhere (takes Nowhere w))))
+      refl (nowhere (takes Nowhere w))))
   rows_of (y ∷ ys) [] is = absurd is
   rows_of (y ∷ ys) (x ∷ xs) is =
       subst (λ t. IsRow (option_map reaches (cond t (Some x) (find takes_it xs))) (for_width (device_in (y ∷ ys) a) w))
@@ -133,7 +132,7 @@ module _ (b : BusState) (a : ℕ) (w : Width) where
   rows =
       tested (Serial Tx) (has ram_base (length b.ram) a) _ (find takes_it (drop 1 (windows b (bytes_of w)))) _
       (first (has ram_base (length b.ram) a) _ (find takes_it (drop 1 (windows b (bytes_of w)))) (Ram (a - ram_base))
-      (for_width (device_in registers a) w) (record { load = refl; store = λ v. refl })
+      (for_width (device_in registers a) w) refl
       (rows_of registers (drop 1 (windows b (bytes_of w))) (search rules)))
 
   -- ---- the memory and the transmit register
@@ -179,7 +178,12 @@ module _ (b : BusState) (a : ℕ) (w : Width) where
   pub at_location : IsFor b a w (location b a w)
   unfolding load store
   at_location =
-      record { load = rows.load; store = rows.store; writes = written; fetch = fetches }
+      record {
+        load = ap (λ x. option_map (λ (x : Reached). x.0) x) rows;
+        store = λ v. ap (λ x. option_map (λ (x : Reached). x.1 v) x) rows;
+        writes = written;
+        fetch = fetches;
+      }
 
   pub is_for : (p : Location) → p ≡ location b a w → IsFor b a w p
   is_for p is = subst (IsFor b a w) (sym is) at_location
