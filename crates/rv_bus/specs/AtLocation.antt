@@ -1,6 +1,6 @@
 -- Not to audit: private contracts alone cite this. proofs/ proves that it is what the address table says.
 -- Accesses by the locations in which the code looks.
-use Rattle.std.specs.Prelude.{◌≡◌, ℕ, Bool, true, false, ◌-◌, ◌&&◌, nat_le, nat_lt, List, length, Option, Some, None}
+use Rattle.std.specs.Prelude.{◌≡◌, ℕ, Bool, true, false, List, length, Option, Some, None}
 use Rattle.std.specs.Option.{option_map}
 use Rattle.rv_base.specs.Limits.{ram_base}
 use Rattle.rv_isa.specs.declared.op.Width.{Width}
@@ -13,13 +13,13 @@ use Rattle.rv_mmio.specs.declared.serial.SerialReg.TheVariants.{Tx}
 use Rattle.rv_bus.specs.State.{BusState}
 use Rattle.rv_bus.specs.Access as access
 use Rattle.rv_bus.specs.Table.{reach, serial_at}
-use Rattle.rv_bus.specs.Locations.{location_of}
+use Rattle.rv_bus.specs.Locations.{has, location_of}
 use Rattle.rv_bus.specs.declared.locations.Location.{Location}
 use Rattle.rv_bus.specs.declared.locations.Location.TheVariants.{Ram, Halt, Timer, Plic, Serial, Nowhere}
 
 -- whether an address is in the memory
 abbrev pub in_memory : List ℕ → ℕ → Bool
-in_memory ram a = nat_le ram_base a && nat_lt (a - ram_base) (length ram)
+in_memory ram a = has ram_base (length ram) a
 
 -- the location at an address
 abbrev pub location : BusState → ℕ → Width → Location
