@@ -1,7 +1,9 @@
 -- The rows of the address table do what the accesses at their locations do.
-use Rattle.std.proofs.Common.{◌≡◌, ℕ, ◌-◌, ◌==◌, Bool, true, false, cond, nat_le, nat_lt, List, [], ◌∷◌, Option, Some, None, refl, sym, ap, subst, ◌∙◌}
-use Rattle.std.specs.Prelude.{◌&&◌, ◌||◌, if◌then◌else◌, drop, find, length}
+use Rattle.std.proofs.Common.{◌≡◌, ℕ, ◌+◌, ◌-◌, ◌<◌, ◌==◌, Bool, true, false, cond, nat_le, nat_lt, List, [], ◌∷◌, Option, Some, None, arith, refl, rules, sym, ap, subst, ◌∙◌}
+use Rattle.std.specs.Prelude.{◌&&◌, ◌||◌, not, if◌then◌else◌, drop, find, length}
+use Rattle.std.specs.List.{list_any}
 use Rattle.std.specs.Option.{option_map}
+use Rattle.std.proofs.lemmas.Bool.{and_from, and_right, eqb-true, le-leb, lt-ltb, not-true, or_parts}
 use Rattle.rv_base.specs.Limits.{ram_base}
 use Rattle.rv_isa.specs.declared.op.Width.{Width}
 use Rattle.rv_isa.specs.Width.{bytes_of}
@@ -11,13 +13,25 @@ use Rattle.rv_mmio.specs.declared.serial.SerialReg.TheVariants.{Tx}
 use Rattle.rv_bus.specs.State.{BusState}
 use Rattle.rv_bus.specs.Table.{reached, windows}
 use Rattle.rv_bus.specs.Access.{load, store, writes, fetch}
-use Rattle.rv_bus.specs.Locations as locations
-use Rattle.rv_bus.specs.Locations.{devices, location_in, location_of, takes}
-use Rattle.rv_bus.specs.AtLocation.{IsFor, in_memory, location, load_at, store_at, is_written, fetch_at}
+use Rattle.rv_bus.specs.Locations.{controller, device_in, for_width, has, location_of, registers, takes}
+use Rattle.rv_bus.specs.AtLocation.{IsFor, in_memory, location, reach_at, is_written, fetch_at}
 use Rattle.rv_bus.specs.declared.locations.Location.{Location}
-use Rattle.rv_bus.specs.declared.locations.Location.TheVariants.{Ram, Serial}
+use Rattle.rv_bus.specs.declared.locations.Location.TheVariants.{Nowhere, Plic, Ram, Serial}
 use Rattle.rv_bus.proofs.Memory.{fetch_is, writes_is}
-use Rattle.rv_bus.proofs.Windows.{each_device, one_address}
+use Rattle.rv_bus.proofs.Windows.{at_device, each_device, one_address}
+
+-- the bytes of the narrowest access that a device takes
+abbrev narrowest : Location → ℕ
+narrowest (Serial reg) = 1
+narrowest p = 4
+
+narrow : (w : Width) (p : Location) → nat_le (narrowest p) (bytes_of w) ≡ takes p w
+narrow One (Serial reg) = refl
+narrow One p = refl
+narrow Two (Serial reg) = refl
+narrow Two p = refl
+narrow Four (Serial reg) = refl
+narrow Four p = refl
 
 module _ (b : BusState) (a : ℕ) (w : Width) where
   -- what an access reaches, and a row of the table
@@ -27,28 +41,16 @@ module _ (b : BusState) (a : ℕ) (w : Width) where
   abbrev Row : Type 0
   Row = ℕ × ℕ × ℕ × (ℕ → Reached)
 
-  -- what a row reaches, or none, does what the accesses at a location do
-  record IsRow (x : Option Reached) (p : Location) : Type 0 where
-    load : option_map (λ (x : Reached). x.0) x ≡ load_at b p w
-    store : (v : ℕ) → option_map (λ (x : Reached). x.1 v) x ≡ store_at b p w v
+  -- what a row reaches, or none, is what an access reaches at a location
+  abbrev IsRow : Option Reached → Location → Type 0
+  IsRow x p = x ≡ reach_at b p (bytes_of w)
 
   -- whether a row takes the access, and what it reaches
   abbrev takes_it : Row → Bool
-  takes_it x = nat_le x.2 (bytes_of w) && (nat_le x.0 a && nat_lt (a - x.0) x.1)
+  takes_it x = nat_le x.2 (bytes_of w) && has x.0 x.1 a
 
   abbrev reaches : Row → Reached
   reaches x = x.3 (a - x.0)
-
-  -- a row that takes the accesses that a window of locations takes
-  record IsPair (x : Row) (y : locations.Window) : Type 0 where
-    same : takes_it x ≡ takes y a w
-    row : IsRow (Some (reaches x)) (y.location (a - y.first))
-
-  abbrev ArePairs : List Row → List locations.Window → Type 0
-  ArePairs [] [] = Unit {0}
-  ArePairs [] (y ∷ ys) = ⊥
-  ArePairs (x ∷ xs) [] = ⊥
-  ArePairs (x ∷ xs) (y ∷ ys) = IsPair x y × ArePairs xs ys
 
   first : (t : Bool) (x : Row) (rest : Option Row) (p q : Location) → IsRow (Some (reaches x)) p
       → IsRow (option_map reaches rest) q
@@ -56,31 +58,84 @@ module _ (b : BusState) (a : ℕ) (w : Width) where
   first true x rest p q here later = here
   first false x rest p q here later = later
 
-  rows_of : (xs : List Row) (ys : List locations.Window) → ArePairs xs ys
-      → IsRow (option_map reaches (find takes_it xs)) (location_in ys a w)
-  rows_of [] [] p = record { load = refl; store = λ v. refl }
-  rows_of [] (y ∷ ys) p = absurd p
-  rows_of (x ∷ xs) [] p = absurd p
-  rows_of (x ∷ xs) (y ∷ ys) p =
-      subst (λ t. IsRow (option_map reaches (cond t (Some x) (find takes_it xs))) (location_in (y ∷ ys) a w))
-      (sym p.0.same)
-      (first (takes y a w) x (find takes_it xs) (y.location (a - y.first)) (location_in ys a w)
-      p.0.row (rows_of xs ys p.1))
+  -- ---- the rows of the devices
+
+  -- rows are those of the registers, of which no later one has the same address, and then the interrupt controller's
+  abbrev IsRegister : ℕ × Location → Row → List Row → Type 0
+  IsRegister y x xs =
+      (x.0 ≡ y.0) × (x.1 ≡ 1) × (x.2 ≡ narrowest y.1) × ((off : ℕ) → IsRow (Some (x.3 off)) y.1)
+      × (list_any (λ (x : Row). has x.0 x.1 y.0) xs ≡ false)
+
+  abbrev AreRows : List (ℕ × Location) → List Row → Type 0
+  AreRows [] xs = xs ≡ drop (length registers + 1) (windows b (bytes_of w))
+  AreRows (y ∷ ys) [] = ⊥
+  AreRows (y ∷ ys) (x ∷ xs) = IsRegister y x xs × AreRows ys xs
+
+  none_takes : (xs : List Row) → list_any (λ (x : Row). has x.0 x.1 a) xs ≡ false → find takes_it xs ≡ None
+  none_takes [] none = refl
+  none_takes (x ∷ xs) none =
+      let p = or_parts (has x.0 x.1 a) (list_any (λ (x : Row). has x.0 x.1 a) xs) none in
+      ap (λ t. cond t (Some x) (find takes_it xs)) (and_right (nat_le x.2 (bytes_of w)) (has x.0 x.1 a) p.0)
+      ∙ none_takes xs p.1
+
+  nowhere : (t : Bool) → IsRow None (if t then Nowhere else Nowhere)
+  nowhere true = refl
+  nowhere false = refl
+
+  -- the row of a device, by whether it takes the width, and whether it has the address
+  at_row : (t u : Bool) (x : Row) (rest : Option Row) (p q : Location) → takes p w ≡ t
+      → (u ≡ true → rest ≡ None) → IsRow (Some (reaches x)) p → IsRow (option_map reaches rest) (for_width q w)
+      → IsRow (option_map reaches (cond (t && u) (Some x) rest)) (for_width (if u then p else q) w)
+  at_row true true x rest p q is none here later =
+      subst (λ t. IsRow (Some (reaches x)) (if t then p else Nowhere)) (sym is) here
+  at_row false true x rest p q is none here later =
+      subst (λ o. IsRow (option_map reaches o) (for_width p w)) (sym (none refl))
+      (subst (λ t. IsRow None (if t then p else Nowhere)) (sym is) (nowhere false))
+  at_row true false x rest p q is none here later = later
+  at_row false false x rest p q is none here later = later
+
+  -- a row's test, by the location that it has
+  tested : (p : Location) (u : Bool) (x : Row) (rest : Option Row) (at : Location)
+      → IsRow (option_map reaches (cond (takes p w && u) (Some x) rest)) at
+      → IsRow (option_map reaches (cond (nat_le (narrowest p) (bytes_of w) && u) (Some x) rest)) at
+  tested p u x rest at =
+      subst (λ t. IsRow (option_map reaches (cond (t && u) (Some x) rest)) at) (sym (narrow w p))
+
+  rows_of : (ys : List (ℕ × Location)) (xs : List Row) → AreRows ys xs
+      → IsRow (option_map reaches (find takes_it xs)) (for_width (device_in ys a) w)
+  rows_of [] xs is =
+      subst (λ xs. IsRow (option_map reaches (find takes_it xs)) (for_width (controller a) w)) (sym is)
+      (tested (Plic 0) (has 0x0c000000 0x4000000 a) _ None (for_width (controller a) w)
+      (at_row (takes (Plic 0) w) (has 0x0c000000 0x4000000 a) _ None (Plic (a - 0x0c000000)) Nowhere refl (λ u. refl)
+      refl (nowhere (takes Nowhere w))))
+  rows_of (y ∷ ys) [] is = absurd is
+  rows_of (y ∷ ys) (x ∷ xs) is =
+      subst (λ t. IsRow (option_map reaches (cond t (Some x) (find takes_it xs))) (for_width (device_in (y ∷ ys) a) w))
+      (sym test)
+      (at_row (takes y.1 w) (a == y.0) x (find takes_it xs) y.1 (device_in ys a) refl none (is.0.3 (a - x.0))
+      (rows_of ys xs is.1))
+    where
+      test : takes_it x ≡ (takes y.1 w && (a == y.0))
+      test =
+          ap (λ f. nat_le x.2 (bytes_of w) && has f x.1 a) is.0.0
+          ∙ (ap (λ s. nat_le x.2 (bytes_of w) && has y.0 s a) is.0.1
+          ∙ (ap (λ n. nat_le n (bytes_of w) && has y.0 1 a) is.0.2
+          ∙ (ap (λ t. t && has y.0 1 a) (narrow w y.1) ∙ ap (λ u. takes y.1 w && u) (one_address y.0 a))))
+
+      none : (a == y.0) ≡ true → find takes_it xs ≡ None
+      none u =
+          none_takes xs
+          (subst (λ k. list_any (λ (x : Row). has x.0 x.1 k) xs ≡ false) (sym (eqb-true a y.0 u)) is.0.4)
 
   rows : IsRow (reached b a (bytes_of w)) (location b a w)
   unfolding location_of
   rows =
-      rows_of (windows b (bytes_of w)) (locations.windows (length b.ram)) (record { same = refl; row = record { load = refl; store = λ v. refl } }, (record { same = refl; row = record { load = refl; store = λ v. refl } }, (record { same = refl; row = record { load = refl; store = λ v. refl } }, (record { same = refl; row = record { load = refl; store = λ v. refl } }, (record { same = refl; row = record { load = refl; store = λ v. refl } }, (record { same = refl; row = record { load = refl; store = λ v. refl } }, (record { same = refl; row = record { load = refl; store = λ v. refl } }, (record { same = refl; row = record { load = refl; store = λ v. refl } }, (record { same = refl; row = record { load = refl; store = λ v. refl } }, (record { same = refl; row = record { load = refl; store = λ v. refl } }, (record { same = refl; row = record { load = refl; store = λ v. refl } }, tt)))))))))))
+      tested (Serial Tx) (has ram_base (length b.ram) a) _ (find takes_it (drop 1 (windows b (bytes_of w)))) _
+      (first (has ram_base (length b.ram) a) _ (find takes_it (drop 1 (windows b (bytes_of w)))) (Ram (a - ram_base))
+      (for_width (device_in registers a) w) refl
+      (rows_of registers (drop 1 (windows b (bytes_of w))) (search rules)))
 
   -- ---- the memory and the transmit register
-
-  by_memory : location b a w ≡ (if in_memory b.ram a then Ram (a - ram_base) else location_in devices a w)
-  unfolding location_of
-  by_memory = by w where
-    by : (w : Width) → location b a w ≡ (if in_memory b.ram a then Ram (a - ram_base) else location_in devices a w)
-    by One = refl
-    by Two = refl
-    by Four = refl
 
   fetched : (t : Bool) (p : Location) → fetch_at b.ram p ≡ None
       → (if t then Some (value_at b.ram (a - ram_base) 4) else None)
@@ -89,56 +144,55 @@ module _ (b : BusState) (a : ℕ) (w : Width) where
   fetched false p none = sym none
 
   fetches : fetch b.ram a ≡ fetch_at b.ram (location b a w)
+  unfolding location_of
   fetches =
       fetch_is b.ram a
-      ∙ fetched (in_memory b.ram a) (location_in devices a w)
+      ∙ fetched (in_memory b.ram a) (for_width (device_in registers a) w)
       (each_device (λ p. fetch_at b.ram p ≡ None) a w refl (λ reg. refl) (λ off. refl) (λ reg. refl) refl)
-      ∙ ap (fetch_at b.ram) (sym by_memory)
 
+  -- of the devices the transmit register alone is written
   abbrev others : Location
-  others = location_in (drop 1 devices) a w
+  others = device_in (drop 1 registers) a
 
-  by_transmit : location_in devices a w ≡ (if a == 0x10000000 then Serial Tx else others)
-  by_transmit = by w where
-    by : (w : Width) → location_in devices a w ≡ (if a == 0x10000000 then Serial Tx else location_in (drop 1 devices) a w)
-    by One = rw (one_address 0x10000000 a) refl
-    by Two = rw (one_address 0x10000000 a) refl
-    by Four = rw (one_address 0x10000000 a) refl
+  no_others : (t : Bool) → is_written (if t then others else Nowhere) ≡ false
+  no_others true =
+      not-true (is_written others) (at_device (λ p. not (is_written p)) (drop 1 registers) a refl (λ off. refl) refl)
+  no_others false = refl
 
-  neither : (t : Bool) (p q : Location) → is_written p ≡ false → is_written q ≡ false
-      → is_written (if t then p else q) ≡ false
-  neither true p q e f = e
-  neither false p q e f = f
+  device_written : (u : Bool) → is_written (for_width (if u then Serial Tx else others) w) ≡ u
+  device_written true = refl
+  device_written false = no_others (takes others w)
 
-  abbrev NoneWritten : List locations.Window → Type 0
-  NoneWritten [] = Unit {0}
-  NoneWritten (y ∷ ys) = (is_written (y.location (a - y.first)) ≡ false) × NoneWritten ys
-
-  none_written : (ys : List locations.Window) → NoneWritten ys → is_written (location_in ys a w) ≡ false
-  none_written [] n = refl
-  none_written (y ∷ ys) n =
-      neither (takes y a w) (y.location (a - y.first)) (location_in ys a w) n.0 (none_written ys n.1)
-
-  no_others : is_written others ≡ false
-  no_others = none_written (drop 1 devices) (refl, (refl, (refl, (refl, (refl, (refl, (refl, (refl, (refl, tt)))))))))
-
-  writing : (t u : Bool) (p : Location) → is_written p ≡ false
-      → (t || u) ≡ is_written (if t then Ram (a - ram_base) else (if u then Serial Tx else p))
-  writing true u p none = refl
-  writing false true p none = refl
-  writing false false p none = sym none
+  writing : (t u : Bool) (p : Location) → is_written p ≡ u
+      → (t || u) ≡ is_written (if t then Ram (a - ram_base) else p)
+  writing true u p is = refl
+  writing false u p is = sym is
 
   written : writes b a ≡ is_written (location b a w)
+  unfolding location_of
   written =
       writes_is b a
-      ∙ writing (in_memory b.ram a) (a == 0x10000000) others no_others
-      ∙ ap (λ p. is_written (if in_memory b.ram a then Ram (a - ram_base) else p)) (sym by_transmit)
-      ∙ ap is_written (sym by_memory)
+      ∙ writing (in_memory b.ram a) (a == 0x10000000) (for_width (device_in registers a) w)
+      (device_written (a == 0x10000000))
 
   pub at_location : IsFor b a w (location b a w)
   unfolding load store
   at_location =
-      record { load = rows.load; store = rows.store; writes = written; fetch = fetches }
+      record {
+        load = ap (λ x. option_map (λ (x : Reached). x.0) x) rows;
+        store = λ v. ap (λ x. option_map (λ (x : Reached). x.1 v) x) rows;
+        writes = written;
+        fetch = fetches;
+      }
 
   pub is_for : (p : Location) → p ≡ location b a w → IsFor b a w p
   is_for p is = subst (IsFor b a w) (sym is) at_location
+
+  -- the memory
+  pub in_ram : (off : ℕ) → a ≡ ram_base + off → off < length b.ram → IsFor b a w (Ram off)
+  unfolding location_of
+  in_ram off is below =
+      let low : nat_le ram_base a ≡ true = le-leb ram_base a (omega arith) in
+      let high : nat_lt (a - ram_base) (length b.ram) ≡ true = lt-ltb (a - ram_base) (length b.ram) (omega arith) in
+      let gap : a - ram_base ≡ off = omega arith in
+      is_for (Ram off) (sym (ap (λ t. if t then Ram (a - ram_base) else for_width (device_in registers a) w) (and_from _ _ low high) ∙ ap Ram gap))

@@ -1,47 +1,45 @@
 -- Not to audit: private contracts alone cite this. proofs/ proves that it is what the address table says.
 -- Accesses by the locations in which the code looks.
-use Rattle.std.specs.Prelude.{◌≡◌, ℕ, Bool, true, false, ◌-◌, ◌%◌, ◌^◌, ◌&&◌, nat_le, nat_lt, List, length, Option, Some, None}
+use Rattle.std.specs.Prelude.{◌≡◌, ℕ, Bool, true, false, List, length, Option, Some, None}
+use Rattle.std.specs.Option.{option_map}
 use Rattle.rv_base.specs.Limits.{ram_base}
 use Rattle.rv_isa.specs.declared.op.Width.{Width}
 use Rattle.rv_isa.specs.Width.{bytes_of}
 use Rattle.rv_ram.specs.Bytes.{put, value_at}
 use Rattle.rv_plic.specs.Plic as plic
 use Rattle.rv_mmio.specs.Timer as timer
-use Rattle.rv_mmio.specs.Serial as serial
 use Rattle.rv_mmio.specs.Halt.{halted_by}
 use Rattle.rv_mmio.specs.declared.serial.SerialReg.TheVariants.{Tx}
 use Rattle.rv_bus.specs.State.{BusState}
 use Rattle.rv_bus.specs.Access as access
-use Rattle.rv_bus.specs.Locations.{location_of}
+use Rattle.rv_bus.specs.Table.{reach, serial_at}
+use Rattle.rv_bus.specs.Locations.{has, location_of}
 use Rattle.rv_bus.specs.declared.locations.Location.{Location}
 use Rattle.rv_bus.specs.declared.locations.Location.TheVariants.{Ram, Halt, Timer, Plic, Serial, Nowhere}
 
 -- whether an address is in the memory
 abbrev pub in_memory : List ℕ → ℕ → Bool
-in_memory ram a = nat_le ram_base a && nat_lt (a - ram_base) (length ram)
+in_memory ram a = has ram_base (length ram) a
 
 -- the location at an address
 abbrev pub location : BusState → ℕ → Width → Location
 location b a w = location_of (length b.ram) a w
 
--- the value that a load returns, that of the bytes or of the register, with the bus after it
-abbrev pub load_at : BusState → Location → Width → Option (ℕ × BusState)
-load_at b (Ram off) w = Some (value_at b.ram off (bytes_of w), b)
-load_at b Halt w = Some (0, b)
-load_at b (Timer reg) w = Some ((timer.at reg).word b.timer, b)
-load_at b (Plic off) w = Some ((plic.at off).word b.plic, record b { plic = (plic.at off).loaded b.plic })
-load_at b (Serial reg) w =
-    Some ((serial.at reg).word b.serial % 256 ^ bytes_of w, record b { serial = (serial.at reg).loaded b.serial })
-load_at b Nowhere w = None
+-- what an access of n bytes reaches at a location, as in the address table
+abbrev pub reach_at : BusState → Location → ℕ → Option ((ℕ × BusState) × (ℕ → BusState))
+reach_at b (Ram off) n = Some ((value_at b.ram off n, b), λ v. record b { ram = put b.ram off n v })
+reach_at b Halt n = Some ((0, b), λ v. record b { halt = halted_by b.halt v })
+reach_at b (Timer reg) n = Some (reach (timer.at reg) b.timer (λ t. record b { timer = t }))
+reach_at b (Plic off) n = Some (reach (plic.at off) b.plic (λ p. record b { plic = p }))
+reach_at b (Serial reg) n = Some (reach (serial_at n reg) b.serial (λ s. record b { serial = s }))
+reach_at b Nowhere n = None
 
--- the bus after a store, or none for a fault
+-- the value that a load returns with the bus after it, and the bus after a store, or none for a fault
+abbrev pub load_at : BusState → Location → Width → Option (ℕ × BusState)
+load_at b p w = option_map (λ reached. reached.0) (reach_at b p (bytes_of w))
+
 abbrev pub store_at : BusState → Location → Width → ℕ → Option BusState
-store_at b (Ram off) w v = Some (record b { ram = put b.ram off (bytes_of w) v })
-store_at b Halt w v = Some (record b { halt = halted_by b.halt v })
-store_at b (Timer reg) w v = Some (record b { timer = (timer.at reg).stored b.timer v })
-store_at b (Plic off) w v = Some (record b { plic = (plic.at off).stored b.plic v })
-store_at b (Serial reg) w v = Some (record b { serial = (serial.at reg).stored b.serial v })
-store_at b Nowhere w v = None
+store_at b p w v = option_map (λ reached. reached.1 v) (reach_at b p (bytes_of w))
 
 -- whether a location is in the memory or the transmit register
 abbrev pub is_written : Location → Bool

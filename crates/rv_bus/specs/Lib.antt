@@ -3,7 +3,6 @@ pub mod Table
 pub mod Access
 pub mod Locations
 pub mod AtLocation
-pub mod Routes
 pub mod Within
 pub mod Room
 pub mod Ticks

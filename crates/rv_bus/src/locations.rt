@@ -1,8 +1,8 @@
 //! The address table: what stands at each address.
-ghost use Rattle.std.specs.Prelude.{◌≡◌, ◌%◌, ◌≤◌, ◌^◌, ℕ};
+ghost use Rattle.std.specs.Prelude.{◌≡◌, ◌+◌, ◌%◌, ◌<◌, ℕ};
 ghost use Rattle.rv_isa.specs.Width.{bytes_of};
-ghost use Rattle.rv_bus.specs.Locations.{location_of};
-ghost use Rattle.rv_bus.specs.Routes.{controller, device_of, word_device};
+ghost use Rattle.rv_isa.specs.declared.op.Width.{Width};
+ghost use Rattle.rv_bus.specs.Locations.{controller, device_in, for_width, location_of, registers};
 ghost use Rattle.rv_bus.specs.Within.{IsWithin};
 
 use rv_base::RAM_BASE;
@@ -12,8 +12,8 @@ use rv_mmio::{SerialReg, TimerReg};
 /// The first address of the interrupt controller's window.
 const PLIC: u32 = 0x0c00_0000;
 
-/// The first address after the interrupt controller's window.
-const PLIC_END: u32 = 0x1000_0000;
+/// The number of bytes of that window.
+const PLIC_SIZE: u32 = 0x0400_0000;
 
 /// The location that the address table has at an address, for an access of some width.
 #[derive(Clone, Copy)]
@@ -33,48 +33,43 @@ pub enum Location {
 }
 
 /// Returns the location at an address, for an access of this width to a memory of `size` bytes.
-#[tactic(auto, using(crate::proofs::Fit::memory_within, crate::proofs::Windows::located, crate::proofs::Windows::located_below))]
+#[tactic(auto, using(crate::proofs::Fit::memory_within), unfolding(crate::specs::Locations::location_of))]
 pub(crate) fn find_location(size: u32, addr: u32, width: Width) -> Location
     requires words { size % 4096 ≡ 0 }
     requires aligned { addr % bytes_of width ≡ 0 }
     ensures location { result ≡ location_of size addr width }
     ensures within { IsWithin size addr width result }
 {
-    if addr < RAM_BASE {
-        return device(addr, width);
+    if addr >= RAM_BASE && addr - RAM_BASE < size {
+        return Location::Ram(addr - RAM_BASE);
     }
-    let off = addr - RAM_BASE;
-    if off < size {
-        Location::Ram(off)
-    } else {
-        Location::Nowhere
+    match width {
+        Width::Four => device(addr),
+        Width::One | Width::Two => narrow(device(addr)),
     }
 }
 
-/// Returns the location of a device at an address below the memory.
-fn device(addr: u32, width: Width) -> Location
-    requires { addr % bytes_of width ≡ 0 }
-    ensures location { result ≡ device_of addr width }
-    ensures within { (size : ℕ) → IsWithin size addr width result }
+/// Returns a device, if it takes accesses that are narrower than a word.
+fn narrow(device: Location) -> Location
+    ensures one { result ≡ for_width device Width.One }
+    ensures two { result ≡ for_width device Width.Two }
+    ensures within { (size : ℕ) (addr : ℕ) (w : Width) → IsWithin size addr w result }
+{
+    match device {
+        Location::Serial(register) => Location::Serial(register),
+        _ => Location::Nowhere,
+    }
+}
+
+/// Returns the device at an address.
+fn device(addr: u32) -> Location
+    ensures location { result ≡ device_in registers addr }
+    ensures within { (size : ℕ) (w : Width) → addr % 4 ≡ 0 → IsWithin size addr w result }
 {
     match addr {
         0x1000_0000 => Location::Serial(SerialReg::Tx),
         0x1000_0004 => Location::Serial(SerialReg::Rx),
         0x1000_0008 => Location::Serial(SerialReg::Status),
-        _ => match width {
-            Width::Four => word_device(addr),
-            Width::One | Width::Two => Location::Nowhere,
-        },
-    }
-}
-
-/// Returns the location of a device that takes only words.
-fn word_device(addr: u32) -> Location
-    requires { addr % 4 ≡ 0 }
-    ensures location { result ≡ word_device addr }
-    ensures within { (size : ℕ) (w : Width) → IsWithin size addr w result }
-{
-    match addr {
         0x0010_0000 => Location::Halt,
         0x0200_0000 => Location::Timer(TimerReg::Msip),
         0x0200_4000 => Location::Timer(TimerReg::MtimecmpLow),
@@ -87,15 +82,12 @@ fn word_device(addr: u32) -> Location
 
 /// Returns the location of the interrupt controller at an address, if it is there.
 fn controller(addr: u32) -> Location
-    requires { addr % 4 ≡ 0 }
     ensures location { result ≡ controller addr }
-    ensures within { (size : ℕ) (w : Width) → IsWithin size addr w result }
+    ensures within { (size : ℕ) (w : Width) → addr % 4 ≡ 0 → IsWithin size addr w result }
 {
-    if addr >= PLIC && addr < PLIC_END {
+    if addr >= PLIC && addr - PLIC < PLIC_SIZE {
         Location::Plic(addr - PLIC)
     } else {
         Location::Nowhere
     }
 }
-
-ghost use Rattle.rv_isa.specs.declared.op.Width.{Width};

@@ -1,6 +1,6 @@
 //! The values that instructions compute, other than by the operations of `rv_isa`: addresses, loaded values,
 //! values of control registers, and traps.
-ghost use Rattle.std.specs.Prelude.{◌≡◌, ◌+◌, ◌%◌, ◌^◌, ◌==◌, if◌then◌else◌, Ok, Err};
+ghost use Rattle.std.specs.Prelude.{◌≡◌, ◌+◌, ◌%◌, ◌^◌};
 ghost use Rattle.rv_isa.specs.Number.{modulo};
 ghost use Rattle.rv_isa.specs.Word as spec;
 ghost use Rattle.rv_csr.specs.Registers.{level};
@@ -18,20 +18,6 @@ pub(crate) fn offset_by(base: u32, offset: i32) -> u32
     ensures sum { result ≡ (base + modulo offset (2 ^ 32)) % 2 ^ 32 }
 {
     base.wrapping_add(offset.cast_unsigned())
-}
-
-/// Checks the target of a jump: one that is not a multiple of 4 is an exception of the jump itself.
-pub(crate) fn check_target(target: u32) -> Result<(), Trap>
-    ensures { result ≡ (if target % 4 == 0 then Ok tt else Err (record { cause = 0; tval = target })) }
-{
-    if target % 4 == 0 {
-        Ok(())
-    } else {
-        Err(Trap {
-            cause: 0,
-            tval: target,
-        })
-    }
 }
 
 /// Whether an instruction on a control register writes it: the set and clear forms don't if their source

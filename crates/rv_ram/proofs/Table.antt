@@ -1,6 +1,7 @@
 -- A memory as the table of its pages.
 use Rattle.std.proofs.Common.{◌≡◌, ℕ, zero, suc, ◌+◌, ◌-◌, ◌*◌, ◌/◌, ◌%◌, ◌<◌, ◌≤◌, List, [], ◌∷◌, ◌++◌, true, false, length, get_or, slice_index, slice_index_or, replicate, arith, refl, sym, ap, ◌∙◌, length-append}
 use Rattle.std.proofs.Math.ListN.{set}
+use Rattle.std.proofs.lemmas.Grind.{replicate_next}
 use Rattle.std.proofs.lemmas.List.{get_or_append_left, get_or-append_right, length-replicate, length-set}
 use Rattle.rv_isa.specs.declared.op.Width.{Width}
 use Rattle.rv_isa.specs.declared.op.Width.TheVariants.{One, Two, Four}
@@ -187,10 +188,7 @@ new_zero = refl
 
 pub new_more : (n : ℕ) → new_table (n + 1) ≡ new_table n ++ new_page ∷ []
 unfolding new_table
-new_more zero = refl
-new_more (suc n) =
-    let e : suc n + 1 ≡ suc (n + 1) = omega arith in ap (λ k. replicate k new_page) e
-    ∙ ap (λ ps. new_page ∷ ps) (new_more n)
+new_more n = replicate_next n new_page
 
 pub all_bytes_new : (n : ℕ) → all_bytes (new_table n) ≡ zeros (4096 * n)
 unfolding new_table
