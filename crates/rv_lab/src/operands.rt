@@ -25,11 +25,11 @@ pub(crate) fn count_or(text: &[u8], usual: u64, most: u64) -> Option<u64>
 impl Lab {
     /// Returns what operands speak of.
     pub(crate) fn scope(&self) -> Scope<'_>
-        ensures listing { result.listing.now ≡ self.now.listing }
+        ensures listing { seen result.listing ≡ self.now.listing }
         ensures board { result.board.now ≡ board self.now }
     {
         Scope {
-            listing: &self.listing,
+            listing: self.listing(),
             board: self.board(),
         }
     }
