@@ -79,6 +79,20 @@ module _ (texts rest : List (List ℕ)) (n : ℕ) (so : LeftOf texts rest n) whe
       let none : length rest ≡ 0 = rw h refl in
       omega (arith, length-drop n texts, ap length so.left, none, so.within)
 
+-- where no line so far is faulty in phase one, all of them are read
+pub so_read : (texts rest : List (List ℕ)) (n : ℕ) (ds : List Diagnosis) → LeftOf texts rest n →
+    Diagnoses texts (all_faults (phase_one_fault texts) n) ds → ds ≡ [] → SoFar texts rest n
+so_read texts rest n ds left found none = record {
+  left = left.left;
+  none = sym (firsts (phase_one_fault texts) n) ∙ ap first_of (sym found.each ∙ ap (map fault_of) none);
+  within = left.within;
+}
+
+pub none_before_it : (old : List Diagnosis) (found : Option Diagnosis) (new : List Diagnosis) → new ≡ old ++ listed found →
+    new ≡ [] → old ≡ []
+none_before_it [] found new e h = refl
+none_before_it (d ∷ ds) found new e h = absurd (let no : (d ∷ ds) ++ listed found ≡ [] = sym e ∙ h in cc)
+
 -- ---- the lines that are kept
 
 one_more : (xs : List Parsed) (n : ℕ) → known_before xs (suc n) ≡ with_line n (known_before xs n) (line_at xs n)

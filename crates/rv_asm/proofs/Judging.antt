@@ -1,6 +1,6 @@
 -- Judging the lines of a refused source, one by one.
-use Rattle.std.proofs.Common.{◌≡◌, ℕ, true, false, cond, List, [], refl, sym, ap, ◌∙◌}
-use Rattle.std.specs.Prelude.{Option, None, Some, is_some, Result, Ok, Err}
+use Rattle.std.proofs.Common.{◌≡◌, ℕ, true, false, cond, List, [], ◌∷◌, ◌++◌, refl, sym, ap, ◌∙◌}
+use Rattle.std.specs.Prelude.{Option, None, Some, is_some, Result, Ok, Err, OnOk}
 use Rattle.std.specs.Option.{option_map}
 use Rattle.std.specs.Result.{result_err}
 use Rattle.rv_source.specs.Reading.{Parsed, parsed}
@@ -8,7 +8,11 @@ use Rattle.rv_source.specs.declared.statement.Statement.{Statement}
 use Rattle.rv_program.specs.declared.fault.FaultKind.{FaultKind}
 use Rattle.rv_program.specs.declared.fault.FaultKind.TheVariants.{DuplicateSymbol, OutOfMemory}
 use Rattle.rv_program.specs.declared.fault.AsmFault.{AsmFault}
-use Rattle.rv_program.specs.Kept.{FailsBy, number_of, Fails}
+use Rattle.rv_tokens.specs.Partial.{Fails as LineFails}
+use Rattle.rv_tokens.specs.declared.fault.LineFault.{LineFault}
+use Rattle.rv_tokens.specs.declared.fault.LineFault.TheVariants as line
+use Rattle.rv_program.specs.Faults.{kind_of}
+use Rattle.rv_program.specs.Kept.{FailsBy, Fails}
 use Rattle.rv_asm.specs.declared.diagnosis.Diagnosis.{Diagnosis}
 use Rattle.rv_asm.specs.Symbols.{Definitions}
 use Rattle.rv_asm.specs.Counted.{relabels, fault_stated, fault_on, fault_in}
@@ -21,19 +25,33 @@ use Rattle.rv_asm.proofs.Laying.{all_labelled, not_stated}
 -- ---- faults other than out of memory
 
 real_kind : {A : Type 0} (kind : FaultKind) (r : Result A FaultKind) → KindFails kind r →
-    (number_of kind ≡ 12 → ⊥) → r ≡ Err kind
+    (kind ≡ OutOfMemory → ⊥) → r ≡ Err kind
 real_kind OutOfMemory r h n = absurd (n refl)
 real_kind kind r h n = h
 
 really_kept : {A : Type 0} (kind : FaultKind) (old new : A) → Keeps kind old new →
-    (number_of kind ≡ 12 → ⊥) → new ≡ old
+    (kind ≡ OutOfMemory → ⊥) → new ≡ old
 really_kept OutOfMemory old new h n = absurd (n refl)
 really_kept kind old new h n = h
 
 real_fault : {A : Type 0} (kind : FaultKind) (fault : AsmFault) (r : Result A AsmFault) → FailsBy kind fault r →
-    (number_of kind ≡ 12 → ⊥) → r ≡ Err fault
+    (kind ≡ OutOfMemory → ⊥) → r ≡ Err fault
 real_fault OutOfMemory fault r h n = absurd (n refl)
 real_fault kind fault r h n = h
+
+-- a line that can't be read
+pub not_read : (fault : LineFault) (r : Result Parsed LineFault) → LineFails fault r →
+    (fault ≡ line.OutOfMemory → ⊥) → option_map kind_of (result_err r) ≡ Some (kind_of fault)
+not_read line.OutOfMemory r h n = absurd (n refl)
+not_read fault r h n = rw h refl
+
+pub never_empty : {X : Type 0} (xs ys : List X) (x : X) → ys ≡ xs ++ x ∷ [] → ys ≡ [] → ⊥
+never_empty [] ys x e h = let no : x ∷ [] ≡ [] = sym e ∙ h in cc
+never_empty (y ∷ xs) ys x e h = let no : (y ∷ xs) ++ x ∷ [] ≡ [] = sym e ∙ h in cc
+
+pub never : {A E : Type 0} (r : Result A E) (P Q : Type 0) → OnOk r (P → ⊥) → OnOk r (P → Q)
+never (Ok x) P Q h = λ p. absurd (h p)
+never (Err e) P Q h = tt
 
 -- ---- a statement in phase two
 
@@ -55,7 +73,7 @@ module _ (k : ℕ) (s : Known) (statement : Option Statement) where
   unfolding after_statement
   stated_well new h = given (stated k s statement) new (fault_stated k s statement) h
 
-  stated_badly : (kind : FaultKind) → KindFails kind (after_statement k s statement) → (number_of kind ≡ 12 → ⊥)
+  stated_badly : (kind : FaultKind) → KindFails kind (after_statement k s statement) → (kind ≡ OutOfMemory → ⊥)
       → fault_stated k s statement ≡ Some kind
   unfolding after_statement
   stated_badly kind h n =
@@ -95,7 +113,7 @@ module _ (k : ℕ) (text : List ℕ) (old new : Known) (line : Parsed) (read : p
     stated_ok h f = let r = stated_well k s line.statement new h in by None r.none r.is f
 
     pub stated_not : (kind : FaultKind) → KindFails kind (after_statement k s line.statement) → Keeps kind s new →
-        (number_of kind ≡ 12 → ⊥) → IsFound k text (Some kind) found → Judges k text old new found
+        (kind ≡ OutOfMemory → ⊥) → IsFound k text (Some kind) found → Judges k text old new found
     stated_not kind h same n f =
         by (Some kind) (stated_badly k s line.statement kind h n) (really_kept kind s new same n) f
 
@@ -117,5 +135,5 @@ tried k known statement ds items kind adds e =
     sym (e ∙ ap kind_in (adds ds) ∙ appended_kind k (stated_bytes ds k known statement))
 
 pub not_written : (ds : Definitions) (items : List Item) (fault : AsmFault) → Fails fault (image_of ds items) →
-    (number_of fault.kind ≡ 12 → ⊥) → Some fault.kind ≡ kind_in (image_of ds items)
+    (fault.kind ≡ OutOfMemory → ⊥) → Some fault.kind ≡ kind_in (image_of ds items)
 not_written ds items fault h n = rw (real_fault fault.kind fault (image_of ds items) h n) refl

@@ -1,13 +1,12 @@
 -- The lines of a refused source, one by one.
 -- The language is this project's own: docs/ASSEMBLER.md.
 -- Not to audit: private contracts alone cite this.
-use Rattle.std.specs.Prelude.{◌≡◌, ℕ, suc, ◌+◌, ◌-◌, ◌≤◌, ◌<◌, List, [], ◌∷◌, map, length, get_or, Option, Some, None, is_some, if◌then◌else◌, Result, Ok, IfSome}
+use Rattle.std.specs.Prelude.{◌≡◌, ℕ, suc, ◌+◌, ◌-◌, ◌≤◌, ◌<◌, List, [], ◌∷◌, ◌++◌, map, length, get_or, Option, Some, None, is_some, if◌then◌else◌, Result, Ok, IfSome}
 use Rattle.std.specs.Option.{option_map}
 use Rattle.std.specs.List.{All}
 use Rattle.std.specs.Result.{result_err}
 use Rattle.rv_source.specs.Reading.{Parsed, parsed}
-use Rattle.rv_tokens.specs.Partial.{Fails as LineFails}
-use Rattle.rv_tokens.specs.declared.fault.LineFault.{LineFault}
+use Rattle.rv_program.specs.Faults.{kind_of}
 use Rattle.rv_source.specs.declared.line.Label.{Label}
 use Rattle.rv_program.specs.declared.fault.FaultKind.{FaultKind}
 use Rattle.rv_program.specs.declared.fault.AsmFault.{AsmFault}
@@ -28,11 +27,6 @@ cleared ls k =
 abbrev pub Keeps : {A : Type 0} → FaultKind → A → A → Type 0
 Keeps OutOfMemory old new = Unit {0}
 Keeps kind old new = new ≡ old
-
--- a line can't be read, for this fault or for out of memory
-abbrev pub IsUnreadBy : Result Parsed LineFault → Option LineFault → Type 0
-IsUnreadBy r None = result_err r ≡ None
-IsUnreadBy r (Some fault) = LineFails fault r
 
 -- labels but those that define a name a second time
 abbrev pub new_among : Known → List Label → List Label
@@ -62,6 +56,23 @@ pub record Judges (k : ℕ) (text : List ℕ) (old new : Known) (found : Option 
   pub finds : IsFound k text (fault_on k old line) found
   pub after : new ≡ known_after k old line
 
+-- a diagnosis, if there is one
+abbrev pub listed : Option Diagnosis → List Diagnosis
+listed None = []
+listed (Some d) = d ∷ []
+
+-- the diagnosis of line k is appended if it can't be read
+pub record AppendsUnread (k : ℕ) (text : List ℕ) (old new : List Diagnosis) : Type 0 where
+  pub found : Option Diagnosis
+  pub finds : IsFound k text (option_map kind_of (result_err (parsed text))) found
+  pub appends : new ≡ old ++ listed found
+
+-- the diagnosis of line k, which can be read, is appended if it is faulty in phase two
+pub record AppendsJudged (k : ℕ) (text : List ℕ) (old new : Known) (some more : List Diagnosis) : Type 0 where
+  pub found : Option Diagnosis
+  pub judges : Judges k text old new found
+  pub appends : more ≡ some ++ listed found
+
 -- line k is read and laid out, and its bytes are tried by these symbols
 pub record Tries (k : ℕ) (text : List ℕ) (ds : Definitions) (old new : Known) (found : Option Diagnosis) : Type 0 where
   pub line : Parsed
@@ -77,8 +88,3 @@ LiesIn texts d = (0 < d.column) × (d.column - 1 + d.length ≤ length (get_or t
 pub record Diagnoses (texts : List (List ℕ)) (faults : List AsmFault) (ds : List Diagnosis) : Type 0 where
   pub each : map fault_of ds ≡ faults
   pub places : All (LiesIn texts) ds
-
--- a diagnosis, if there is one
-abbrev pub listed : Option Diagnosis → List Diagnosis
-listed None = []
-listed (Some d) = d ∷ []

@@ -12,7 +12,7 @@ use rv_asm::{Listing, NearLabel};
 /// Returns the line that has a byte at an address, if there is one.
 #[tactic(auto, using(crate::proofs::Lines::line_is))]
 pub(crate) fn line_at(listing: Listing, address: u32) -> Option<usize>
-    ensures { result ≡ line_at (seen listing) address }
+    ensures { result ≡ line_at (seen listing.entry) address }
 {
     listing.line_at(address)
 }
@@ -20,7 +20,7 @@ pub(crate) fn line_at(listing: Listing, address: u32) -> Option<usize>
 /// Returns the nearest label before an address of the image, with the distance from it.
 #[tactic(auto, unfolding(crate::specs::Rows::label_at))]
 fn near_label<'a>(listing: Listing<'a>, address: u32) -> Option<NearLabel<'a>>
-    ensures { option_map {U = List ℕ × ℕ} (λ n. (n.name, n.distance)) result ≡ label_at (seen listing) address }
+    ensures { option_map {U = List ℕ × ℕ} (λ n. (n.name, n.distance)) result ≡ label_at (seen listing.entry) address }
 {
     match line_at(listing, address) {
         Some(_) => listing.label_before(address),
@@ -32,7 +32,7 @@ fn near_label<'a>(listing: Listing<'a>, address: u32) -> Option<NearLabel<'a>>
 /// image.
 #[tactic(auto, using(rv_answers::proofs::Pieces::nothing, crate::proofs::Lines::near_told))]
 pub(crate) fn append_near(listing: Listing, address: u32, answer: &mut Answer)
-    ensures { Appended answer.old answer.new (label_text (seen listing) address) }
+    ensures { Appended answer.old answer.new (label_text (seen listing.entry) address) }
 {
     if let Some(near) = near_label(listing, address) {
         append_label(near.name.bytes(), near.distance, answer);

@@ -45,7 +45,7 @@ impl Excerpt {
 
 /// Returns the address of a line, if it has bytes.
 fn bytes_at(listing: Listing, line: usize) -> Option<u32>
-    ensures { result ≡ bytes_at (seen listing) line }
+    ensures { result ≡ bytes_at (seen listing.entry) line }
 {
     if listing.bytes(line).is_empty() {
         return None;
@@ -55,7 +55,7 @@ fn bytes_at(listing: Listing, line: usize) -> Option<u32>
 
 /// Returns the number of lines.
 fn line_count(listing: Listing) -> usize
-    ensures { result ≡ line_count (seen listing) }
+    ensures { result ≡ line_count (seen listing.entry) }
 {
     listing.len()
 }

@@ -63,7 +63,7 @@ fn sign_place(word: &[u8]) -> usize
 
 /// Returns the first line from this one on that has bytes.
 pub fn line_with_bytes(listing: Listing, from: usize) -> Option<usize>
-    ensures { result ≡ line_with_bytes (seen listing) from }
+    ensures { result ≡ line_with_bytes (seen listing.entry) from }
 {
     for line in from..=listing.len() {
         if !listing.bytes(line).is_empty() {
