@@ -12,7 +12,7 @@ use Rattle.std.proofs.lemmas.List.Elements.{All-nil, All-push, All-weaker, All-g
 use Rattle.std.proofs.lemmas.List.Sorted.{IsNonDecreasingBy-push, IsNonDecreasingBy-short, IsNonDecreasingBy-from_default}
 use Rattle.rv_base.specs.Lines.{lines}
 use Rattle.rv_base.specs.Limits.{ram_base}
-use Rattle.rv_source.specs.Reading.{Parsed, parsed as parsed_of}
+use Rattle.rv_source.specs.Reading.{Parsed}
 use Rattle.rv_source.specs.declared.line.Label.{Label}
 use Rattle.rv_source.specs.declared.line.Label.TheVariants as label
 use Rattle.rv_program.specs.Program.{Assembly}
@@ -24,16 +24,16 @@ use Rattle.rv_asm.specs.Assembly.{all_parsed, line_bytes, assembled}
 use Rattle.rv_asm.specs.Counted.{phase_three_fault, address, joined, first, first_fault, joined_bytes, assembled_by, up_to, labels, phase_one_fault}
 use Rattle.rv_asm.proofs.Counting.{joined_is, up_to_is, assembled_is}
 use Rattle.rv_asm.specs.Lines.{Listed, Located, listed, bytes_of, end_of}
-use Rattle.rv_asm.specs.Steps.{Known, known_before, laid_out, after_line}
+use Rattle.rv_asm.specs.Steps.{Known, known_before, laid_out}
 use Rattle.rv_asm.specs.Looked.{LabelsRise, LieInOrder, AreLinesOf, located, with_line}
 use Rattle.rv_asm.specs.Taken.{so_far, Without}
 use Rattle.rv_asm.proofs.Listed.{size_listed, none_last, none_before}
 use Rattle.rv_asm.proofs.Whole.{length-parsed}
-use Rattle.rv_asm.proofs.Reading.{SoFar, known_is, read_line_at, laid_out_more}
+use Rattle.rv_asm.proofs.Reading.{known_is}
 
 -- ---- no fault
 
-none_below : (fault : ℕ → Option FaultKind) (n k : ℕ) → first_fault fault n ≡ None → k ≤ n →
+pub none_below : (fault : ℕ → Option FaultKind) (n k : ℕ) → first_fault fault n ≡ None → k ≤ n →
     first_fault fault k ≡ None
 unfolding first
 none_below fault zero zero h p = refl
@@ -44,10 +44,10 @@ none_below fault (suc n) k h p = by (none_below fault n k (none_before fault n h
     by r true e = let is : k ≡ suc n = grind (arith, nat_tests) in rw is h
     by r false e = r (grind (arith, nat_tests))
 
-none_at : (fault : ℕ → Option FaultKind) (n k : ℕ) → first_fault fault n ≡ None → k < n → fault k ≡ None
+pub none_at : (fault : ℕ → Option FaultKind) (n k : ℕ) → first_fault fault n ≡ None → k < n → fault k ≡ None
 none_at fault n k h p = none_last fault k (none_below fault n (suc k) h (omega (arith, p)))
 
-joined_same : {A : Type 0} (f g : ℕ → List A) (n : ℕ) → ((k : ℕ) → k < n → f k ≡ g k) →
+pub joined_same : {A : Type 0} (f g : ℕ → List A) (n : ℕ) → ((k : ℕ) → k < n → f k ≡ g k) →
     joined f n ≡ joined g n
 unfolding joined
 joined_same f g zero h = refl
@@ -311,15 +311,6 @@ module _ (source : List ℕ) (a : Assembly) (ok : IsAccepted source a) where
     all = joined_is (λ k. bytes_of listing (suc k)) n
         ∙ (joined_same (λ k. bytes_of listing (suc k)) image_of n part_is ∙ sym image_is);
   }
-
--- ---- one more line
-
-module _ (texts rest : List (List ℕ)) (n : ℕ) (so : SoFar texts rest n) (text : List ℕ)
-    (after : List (List ℕ)) (cut : rest ≡ text ∷ after) (line : Parsed) (is : parsed_of text ≡ Ok line) (known
-    new : Known)
-    (old : laid_out (all_parsed texts) n ≡ Ok known) (next : after_line n known line ≡ Ok new) where
-  pub layout_more : laid_out (all_parsed texts) (n + 1) ≡ Ok new
-  layout_more = sym (laid_out_more texts rest n so text after cut line is) ∙ (rw (old, next) refl)
 
 -- ---- the notes of lines
 

@@ -1,8 +1,9 @@
 use Rattle.std.proofs.Common.{◌≡◌, ◌∙◌, ◌∷◌, [], length, ap, sym, arith}
+use Rattle.std.specs.Option.{option_map}
 use Rattle.rv_base.specs.Lines.{lines}
 use Rattle.rv_asm.specs.Assembly.{all_parsed}
 use Rattle.rv_asm.specs.Counted.{phase_one_fault}
-use Rattle.rv_asm.specs.Judged.{judged}
+use Rattle.rv_asm.specs.Judged.{judged_with}
 use Rattle.rv_asm.proofs.Reading.{SoFar}
 use Rattle.rv_asm.proofs.Diagnosing.{none_found, all_left, next_line, left_more, found_more, none_left, so_read, none_before_it, known_begun, kept_up_to, judged_more, known_more}
 use Rattle.rv_asm.proofs.faults.review.Goals as goal
@@ -17,7 +18,7 @@ loop-text-init c =
       left = rw all (all_left (lines c.args.source.now));
       unread = rw c.requires.unread (none_found (lines c.args.source.now) (phase_one_fault (lines c.args.source.now)));
       misplaced = λ _. rw c.requires.misplaced
-          (none_found (lines c.args.source.now) (judged (all_parsed (lines c.args.source.now))));
+          (none_found (lines c.args.source.now) (judged_with (option_map (λ s. s.now) c.args.symbols) (all_parsed (lines c.args.source.now))));
       known = λ _. c.requires.known ∙ sym (known_begun (all_parsed (lines c.args.source.now)));
       counted = omega (
         arith,
@@ -52,7 +53,7 @@ loop-text-preserved c =
           (next_line texts rest n left text after cut).item
           (rw (next_line texts rest n left text after cut).item took.unread.finds) took.unread.appends;
       misplaced = λ h. judged_more texts rest n (so h) text after cut (took.misplaced h).judges.line
-          (took.misplaced h).judges.read c.loop-text.known (c.loop-text.invariant.known (none h))
+          (took.misplaced h).judges.read c.loop-text.known (c.loop-text.invariant.known (none h)) _
           c.loop-text.misplaced.items (c.loop-text.invariant.misplaced (none h)) _ _
           (took.misplaced h).judges.finds (took.misplaced h).appends;
       known = λ h. known_more texts rest n (so h) text after cut (took.misplaced h).judges.line
