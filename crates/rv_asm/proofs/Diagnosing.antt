@@ -16,15 +16,16 @@ use Rattle.rv_asm.specs.Layout.{line_at, phase_two_fault, definitions}
 use Rattle.rv_asm.specs.Assembly.{first_faults, all_parsed, assembled}
 use Rattle.rv_asm.specs.Counted.{phase_three_fault, fault_on, joined, first, first_fault, all_faults, unless_faulty, first_of, address, phase_one_fault, blank}
 use Rattle.rv_asm.specs.Symbols.{Definitions}
-use Rattle.rv_asm.specs.Steps.{Known, start, known_before, labelled, with_line, stated_bytes, laid_out}
+use Rattle.rv_asm.specs.Steps.{Known, start, known_before, labelled, with_line}
 use Rattle.rv_asm.specs.Diagnosed.{kept, faults_of, fault_of}
-use Rattle.rv_asm.specs.Judged.{new_among, cleared, judged, LiesIn, Diagnoses, known_after, IsFound, listed}
+use Rattle.rv_asm.specs.Judged.{new_among, cleared, judged, judged_with, fault_with, LiesIn, Diagnoses, known_after, IsFound, listed}
 use Rattle.rv_asm.proofs.Counting.{firsts, phases_are, first_phase}
 use Rattle.rv_asm.proofs.Labels.{IsUpTo}
 use Rattle.rv_asm.proofs.Laying.{phase_two_is, not_stated, up_to_before}
 use Rattle.rv_base.specs.Limits.{ram_base, image_limit}
 use Rattle.rv_asm.proofs.Listed.{none_last, none_before, within_line}
-use Rattle.rv_asm.proofs.Reading.{IsAt, dropped, SoFar, is_before, read_line_at, known_is}
+use Rattle.rv_asm.proofs.Lined.{none_at, none_below, joined_same}
+use Rattle.rv_asm.proofs.Reading.{IsAt, dropped, SoFar, is_before, read_line_at}
 use Rattle.rv_asm.proofs.Whole.{length-parsed}
 
 -- ---- diagnoses are collected line by line
@@ -78,6 +79,20 @@ module _ (texts rest : List (List ℕ)) (n : ℕ) (so : LeftOf texts rest n) whe
   none_left h =
       let none : length rest ≡ 0 = rw h refl in
       omega (arith, length-drop n texts, ap length so.left, none, so.within)
+
+-- where no line so far is faulty in phase one, all of them are read
+pub so_read : (texts rest : List (List ℕ)) (n : ℕ) (ds : List Diagnosis) → LeftOf texts rest n →
+    Diagnoses texts (all_faults (phase_one_fault texts) n) ds → ds ≡ [] → SoFar texts rest n
+so_read texts rest n ds left found none = record {
+  left = left.left;
+  none = sym (firsts (phase_one_fault texts) n) ∙ ap first_of (sym found.each ∙ ap (map fault_of) none);
+  within = left.within;
+}
+
+pub none_before_it : (old : List Diagnosis) (found : Option Diagnosis) (new : List Diagnosis) → new ≡ old ++ listed found →
+    new ≡ [] → old ≡ []
+none_before_it [] found new e h = refl
+none_before_it (d ∷ ds) found new e h = absurd (let no : (d ∷ ds) ++ listed found ≡ [] = sym e ∙ h in cc)
 
 -- ---- the lines that are kept
 
@@ -262,25 +277,42 @@ module _ (texts rest : List (List ℕ)) (n : ℕ) (so : SoFar texts rest n) (tex
     known_more new e =
         rw add-one (e ∙ rw (known, ← at) (sym (known_kept (all_parsed texts) n before)))
 
-    pub judged_more : (ds : List Diagnosis) → Diagnoses texts (all_faults (judged (all_parsed texts)) n) ds
-        → (found : Option Diagnosis) (more : List Diagnosis) → IsFound n text (fault_on n s line) found
-        → more ≡ ds ++ listed found → Diagnoses texts (all_faults (judged (all_parsed texts)) (n + 1)) more
-    judged_more ds so_far found more f e =
-        let same : judged (all_parsed texts) n ≡ fault_on n s line = judged_is (all_parsed texts) n before ∙ rw (known, ← at) refl in
-        found_more texts (judged (all_parsed texts)) n ds so_far text found more at_text (rw same f) e
+    pub judged_more : (symbols : Option Definitions) (ds : List Diagnosis)
+        → Diagnoses texts (all_faults (judged_with symbols (all_parsed texts)) n) ds
+        → (found : Option Diagnosis) (more : List Diagnosis) → IsFound n text (fault_with symbols n s line) found
+        → more ≡ ds ++ listed found → Diagnoses texts (all_faults (judged_with symbols (all_parsed texts)) (n + 1)) more
+    judged_more symbols ds so_far found more f e =
+        let same : judged_with symbols (all_parsed texts) n ≡ fault_with symbols n s line =
+        rw (judged_is (all_parsed texts) n before, known, ← at) refl in
+        found_more texts (judged_with symbols (all_parsed texts)) n ds so_far text found more at_text (rw same f) e
 
-  module _ (layout : laid_out (all_parsed texts) n ≡ Ok s) where
-    pub tried_more : (symbols : Definitions) → symbols ≡ definitions (all_parsed texts) → (ds : List Diagnosis)
-        → Diagnoses texts (all_faults (phase_three_fault (all_parsed texts)) n) ds
-        → (found : Option Diagnosis) (more : List Diagnosis)
-        → IsFound n text (result_err (stated_bytes symbols n (labelled n s line.labels) line.statement)) found
-        → more ≡ ds ++ listed found → Diagnoses texts (all_faults (phase_three_fault (all_parsed texts)) (n + 1)) more
-    tried_more symbols all ds so_far found more f e =
-        let known : s ≡ known_before (all_parsed texts) n = known_is (all_parsed texts) n s layout in
-        let same : phase_three_fault (all_parsed texts) n
-        ≡ result_err (stated_bytes symbols n (labelled n s line.labels) line.statement) =
-        rw (all, known, ← at) refl in
-        found_more texts (phase_three_fault (all_parsed texts)) n ds so_far text found more at_text (rw same f) e
+-- ---- the symbols of phase three
+
+or_none : (o : Option FaultKind) → option_or o None ≡ o
+or_none None = refl
+or_none (Some kind) = refl
+
+listed_same : (f g : ℕ → Option FaultKind) (n : ℕ) → ((k : ℕ) → k < n → f k ≡ g k) → all_faults f n ≡ all_faults g n
+listed_same f g n h =
+    joined_same (λ k. option_map_or (λ kind. record { line = suc k; kind = kind } ∷ []) (f k) [])
+    (λ k. option_map_or (λ kind. record { line = suc k; kind = kind } ∷ []) (g k) []) n
+    (λ k p. ap (λ o. option_map_or (λ kind. record { line = suc k; kind = kind } ∷ []) o []) (h k p))
+
+not_late : (ls : List Parsed) (n : ℕ) → all_faults (judged_with None ls) n ≡ all_faults (judged ls) n
+not_late ls n = listed_same (judged_with None ls) (judged ls) n (λ k p. or_none (judged ls k))
+
+pub as_two : (texts : List (List ℕ)) (ls : List Parsed) (n : ℕ) (ds : List Diagnosis) →
+    Diagnoses texts (all_faults (judged_with None ls) n) ds → Diagnoses texts (all_faults (judged ls) n) ds
+as_two texts ls n ds h = rw (not_late ls n) at h
+
+late_at : (ls : List Parsed) (n k : ℕ) → first_fault (judged ls) n ≡ None → k < n →
+    judged_with (Some (definitions ls)) ls k ≡ phase_three_fault ls k
+late_at ls n k h p =
+    rw (none_at (judged ls) n k h p, kept_all ls k (none_below (judged ls) n k h (omega (arith, p)))) refl
+
+all_late : (ls : List Parsed) (n : ℕ) → first_fault (judged ls) n ≡ None →
+    all_faults (judged_with (Some (definitions ls)) ls) n ≡ all_faults (phase_three_fault ls) n
+all_late ls n h = listed_same (judged_with (Some (definitions ls)) ls) (phase_three_fault ls) n (λ k p. late_at ls n k h p)
 
 -- ---- the phases together
 
@@ -333,12 +365,26 @@ module _ (source : List ℕ) (one : List Diagnosis)
           ∙ ap first_of (sym second.each ∙ ap (map fault_of) no_two)
 
       -- all lines are kept
-      pub symbols_are : (known : Known)
+      symbols_are : (known : Known)
           → known ≡ known_before (kept (all_parsed (lines source)) (length (lines source))) (length (lines source))
           → known.definitions ≡ definitions (all_parsed (lines source))
       symbols_are known e =
           rw (e, kept_all (all_parsed (lines source)) (length (lines source)) first_none)
           (ap (λ n. (known_before (all_parsed (lines source)) n).definitions) (sym (length-parsed (lines source))))
+
+      pub in_late : (known : Known)
+          → known ≡ known_before (kept (all_parsed (lines source)) (length (lines source))) (length (lines source))
+          → (three : List Diagnosis) → Diagnoses (lines source)
+          (all_faults (judged_with (Some known.definitions) (all_parsed (lines source))) (length (lines source))) three
+          → AreAll source three
+      in_late known e three third = in_three three
+          (rw (symbols_are known e, all_late (all_parsed (lines source)) (length (lines source)) first_none) at third)
+
+pub none_again : (texts : List (List ℕ)) (faults : List AsmFault) (one again : List Diagnosis) →
+    Diagnoses texts faults one → Diagnoses texts faults again → one ≡ [] → again ≡ []
+none_again texts faults one [] first second h = refl
+none_again texts faults one (d ∷ ds) first second h =
+    absurd (let no : map fault_of (d ∷ ds) ≡ [] = second.each ∙ sym first.each ∙ ap (map fault_of) h in cc)
 
 pub filled_by : (ds seen : List Diagnosis) (b : Bool) → seen ≡ ds → b ≡ (length seen == 0) → b ≡ false → ds ≡ [] → ⊥
 filled_by [] seen b s e h z =

@@ -16,6 +16,6 @@ pub mod Counting
 pub mod Whole
 pub mod Cuts
 pub mod Judging
+pub mod Lined
 pub mod Diagnosing
 pub mod Listings
-pub mod Lined

@@ -1,7 +1,7 @@
 -- The listing of an accepted source.
 use Rattle.std.proofs.Common.{◌≡◌, ℕ, zero, suc, ◌+◌, ◌-◌, ◌<◌, ◌≤◌, Bool, true, false, cond, List, [], ◌∷◌, ◌++◌, length, drop, get_or, slice_range, refl, sym, ap, ◌∙◌, arith, length-append, length-drop, append-nil, append_assoc, add-one, add-zero, add-suc}
-use Rattle.std.specs.Prelude.{Option, None, Some, nat_lt, ◌&&◌, Result, Ok, Err}
-use Rattle.std.specs.Option.{option_or, option_map_or}
+use Rattle.std.specs.Prelude.{Option, None, Some, IfSome, nat_lt, ◌&&◌, Result, Ok, Err}
+use Rattle.std.specs.Option.{option_map, option_or, option_map_or}
 use Rattle.std.specs.Result.{result_err, result_unwrap_or}
 use Rattle.std.specs.List.{All}
 use Rattle.std.specs.List.Sorted.{IsNonDecreasing, IsNonDecreasingBy}
@@ -12,26 +12,28 @@ use Rattle.std.proofs.lemmas.List.Elements.{All-nil, All-push, All-weaker, All-g
 use Rattle.std.proofs.lemmas.List.Sorted.{IsNonDecreasingBy-push, IsNonDecreasingBy-short, IsNonDecreasingBy-from_default}
 use Rattle.rv_base.specs.Lines.{lines}
 use Rattle.rv_base.specs.Limits.{ram_base}
-use Rattle.rv_source.specs.Reading.{Parsed, parsed as parsed_of}
+use Rattle.rv_source.specs.Reading.{Parsed}
 use Rattle.rv_source.specs.declared.line.Label.{Label}
 use Rattle.rv_source.specs.declared.line.Label.TheVariants as label
 use Rattle.rv_program.specs.Program.{Assembly}
 use Rattle.rv_program.specs.declared.fault.FaultKind.{FaultKind}
+use Rattle.rv_program.specs.Faults.{Gives}
 use Rattle.rv_program.specs.declared.fault.AsmFault.{AsmFault}
 use Rattle.rv_asm.specs.Layout.{line_at, definitions, phase_two_fault, labels_in}
 use Rattle.rv_asm.specs.Assembly.{all_parsed, line_bytes, assembled}
 use Rattle.rv_asm.specs.Counted.{phase_three_fault, address, joined, first, first_fault, joined_bytes, assembled_by, up_to, labels, phase_one_fault}
 use Rattle.rv_asm.proofs.Counting.{joined_is, up_to_is, assembled_is}
-use Rattle.rv_asm.specs.Lines.{Listed, listed, bytes_of}
-use Rattle.rv_asm.specs.Steps.{Known, known_before, laid_out, after_line}
-use Rattle.rv_asm.specs.Looked.{LabelsRise, LiesWhole, AreLinesOf}
+use Rattle.rv_asm.specs.Lines.{Listed, Located, listed, bytes_of, end_of}
+use Rattle.rv_asm.specs.Steps.{Known, known_before, laid_out}
+use Rattle.rv_asm.specs.Looked.{LabelsRise, LieInOrder, AreLinesOf, located, with_line}
+use Rattle.rv_asm.specs.Taken.{so_far, Without}
 use Rattle.rv_asm.proofs.Listed.{size_listed, none_last, none_before}
 use Rattle.rv_asm.proofs.Whole.{length-parsed}
-use Rattle.rv_asm.proofs.Reading.{SoFar, known_is, read_line_at, laid_out_more}
+use Rattle.rv_asm.proofs.Reading.{known_is}
 
 -- ---- no fault
 
-none_below : (fault : ℕ → Option FaultKind) (n k : ℕ) → first_fault fault n ≡ None → k ≤ n →
+pub none_below : (fault : ℕ → Option FaultKind) (n k : ℕ) → first_fault fault n ≡ None → k ≤ n →
     first_fault fault k ≡ None
 unfolding first
 none_below fault zero zero h p = refl
@@ -42,10 +44,10 @@ none_below fault (suc n) k h p = by (none_below fault n k (none_before fault n h
     by r true e = let is : k ≡ suc n = grind (arith, nat_tests) in rw is h
     by r false e = r (grind (arith, nat_tests))
 
-none_at : (fault : ℕ → Option FaultKind) (n k : ℕ) → first_fault fault n ≡ None → k < n → fault k ≡ None
+pub none_at : (fault : ℕ → Option FaultKind) (n k : ℕ) → first_fault fault n ≡ None → k < n → fault k ≡ None
 none_at fault n k h p = none_last fault k (none_below fault n (suc k) h (omega (arith, p)))
 
-joined_same : {A : Type 0} (f g : ℕ → List A) (n : ℕ) → ((k : ℕ) → k < n → f k ≡ g k) →
+pub joined_same : {A : Type 0} (f g : ℕ → List A) (n : ℕ) → ((k : ℕ) → k < n → f k ≡ g k) →
     joined f n ≡ joined g n
 unfolding joined
 joined_same f g zero h = refl
@@ -187,6 +189,16 @@ labels_to ls (suc n) =
 pub labels_rise : (ls : List Parsed) (n : ℕ) → LabelsRise (labels ls n)
 labels_rise ls n = (labels_to ls n).rises
 
+pub lie_in_order : (ls : List Parsed) (n : ℕ) →
+    LieInOrder (record { addresses = up_to (address ls) n; labels = labels ls n })
+unfolding known_before
+lie_in_order ls n = record {
+  some = omega (arith, length_up_to (address ls) n);
+  first = up_to_at (address ls) n 0 (omega arith);
+  rises = addresses_rise ls n;
+  labels = labels_rise ls n;
+}
+
 -- ---- the bytes of a line
 
 part_of : (xs ys : List ℕ) → slice_range (xs ++ ys) (length xs) (length (xs ++ ys)) ≡ ys
@@ -276,17 +288,10 @@ module _ (source : List ℕ) (a : Assembly) (ok : IsAccepted source a) where
   count_is : length listing.addresses ≡ suc n
   count_is = length_up_to (address parsed) n
 
-  pub lies_whole : LiesWhole listing
-  unfolding known_before
-  lies_whole = record {
-    some = omega (arith, count_is);
-    first = address_at 0 (omega arith);
-    last =
-        let e : length listing.addresses - 1 ≡ n = omega (arith, count_is) in
-        rw (e, image_is) (address_at n (omega arith) ∙ sym (reaches n (omega arith)));
-    rises = addresses_rise parsed n;
-    labels = labels_rise parsed n;
-  }
+  pub reaches_end : end_of listing ≡ ram_base + length a.bytes
+  reaches_end =
+      let e : length listing.addresses - 1 ≡ n = omega (arith, count_is) in
+      rw (e, image_is) (address_at n (omega arith) ∙ sym (reaches n (omega arith)))
 
   is_ok : (r : Result (List ℕ) FaultKind) → result_err r ≡ None → r ≡ Ok (result_unwrap_or r [])
   is_ok (Ok bs) h = refl
@@ -307,32 +312,30 @@ module _ (source : List ℕ) (a : Assembly) (ok : IsAccepted source a) where
         ∙ (joined_same (λ k. bytes_of listing (suc k)) image_of n part_is ∙ sym image_is);
   }
 
--- ---- one more line
+-- ---- the notes of lines
 
-module _ (texts rest : List (List ℕ)) (n : ℕ) (so : SoFar texts rest n) (text : List ℕ)
-    (after : List (List ℕ)) (cut : rest ≡ text ∷ after) (line : Parsed) (is : parsed_of text ≡ Ok line) (known
-    new : Known)
-    (old : laid_out (all_parsed texts) n ≡ Ok known) (next : after_line n known line ≡ Ok new) where
-  pub layout_more : laid_out (all_parsed texts) (n + 1) ≡ Ok new
-  layout_more = sym (laid_out_more texts rest n so text after cut line is) ∙ (rw (old, next) refl)
+pub noted_begun : (ls : List Parsed) (notes : Option Located) → IfSome notes (λ n. n ≡ located [] 0) →
+    notes ≡ option_map (λ _. located ls 0) notes
+unfolding known_before up_to joined
+noted_begun ls None h = refl
+noted_begun ls (Some n) h = rw h refl
 
-  pub addresses_more : (xs : List ℕ) → xs ≡ up_to (address (all_parsed texts)) n →
-      xs ++ new.address ∷ [] ≡ up_to (address (all_parsed texts)) (n + 1)
-  unfolding up_to
-  addresses_more xs h =
-      let e : new.address ≡ address (all_parsed texts) (n + 1) = ap (λ (s : Known). s.address)
-      (known_is (all_parsed texts) (n + 1) new layout_more) in
-      rw (e, h, add-one) refl
+noted_by : (ls : List Parsed) (n : ℕ) (first : Option Located) →
+    option_map (with_line (address ls n) (line_at ls n).labels (address ls (suc n))) (option_map (λ _. located ls n) first)
+    ≡ option_map (λ _. located ls (suc n)) first
+unfolding up_to joined
+noted_by ls n None = refl
+noted_by ls n (Some p) = refl
 
-  pub addresses_pushed : (xs ys : List ℕ) → ys ≡ xs ++ new.address ∷ [] →
-      xs ≡ up_to (address (all_parsed texts)) n →
-      ys ≡ up_to (address (all_parsed texts)) (n + 1)
-  addresses_pushed xs ys e h = e ∙ addresses_more xs h
-
-  pub labels_more : (xs ys : List (List ℕ × ℕ)) → xs ≡ labels (all_parsed texts) n →
-      ys ≡ xs ++ labels_in known.address line.labels → ys ≡ labels (all_parsed texts) (n + 1)
-  unfolding joined
-  labels_more xs ys h e =
-      let here : known.address ≡ address (all_parsed texts) n = ap (λ (s : Known). s.address)
-      (known_is (all_parsed texts) n known old) in
-      rw (e, h, here, ← read_line_at texts rest n so text after cut line is, add-one) refl
+pub noted_line : (A : Type 0) (ls : List Parsed) (n : ℕ) (old new : Option AsmFault) (known after : Known)
+    (first notes more : Option Located) (line : Parsed) → line_at ls n ≡ line
+    → Gives (λ s. s) (so_far old known) (laid_out ls n) → Gives (λ s. s) (so_far new after) (laid_out ls (n + 1))
+    → Without old (notes ≡ option_map (λ _. located ls n) first) → Without new ((old ≡ None) × A)
+    → Without new (more ≡ option_map (with_line known.address line.labels after.address) notes)
+    → Without new (more ≡ option_map (λ _. located ls (n + 1)) first)
+noted_line A ls n old (Some fault) known after first notes more line at before now so_far none adds = tt
+noted_line A ls n (Some fault) None known after first notes more line at before now so_far none adds = absurd cc
+noted_line A ls n None None known after first notes more line at before now so_far none adds =
+    let here = known_is ls n known before in
+    let end = known_is ls (n + 1) after now in
+    rw (adds, so_far, here, end, ← at, add-one) (noted_by ls n first)

@@ -1,25 +1,35 @@
 -- Writing a line that is read again.
-use Rattle.std.proofs.Common.{◌≡◌, ℕ, List, ap, sym, ◌∙◌, refl, append-nil}
-use Rattle.std.specs.Prelude.{Option, Some, None, Result, Ok, Err}
+use Rattle.std.proofs.Common.{◌≡◌, ℕ, Bool, List, true, false, ap, sym, ◌∙◌, refl}
+use Rattle.std.specs.Prelude.{Option, Some, None, is_some, Result, Ok, Err}
 use Rattle.std.specs.Option.{unwrap_or}
 use Rattle.rv_source.specs.declared.statement.Statement.{Statement}
 use Rattle.rv_source.specs.declared.statement.Statement.TheVariants as s
-use Rattle.rv_source.specs.Reading.{Parsed, line_form, statement_of}
+use Rattle.rv_source.specs.Reading.{Parsed, parsed, line_form, statement_of}
+use Rattle.rv_tokens.specs.Partial.{Fails as LineFails}
+use Rattle.rv_tokens.specs.declared.fault.LineFault.TheVariants as line
+use Rattle.rv_program.specs.Faults.{kind_of}
 use Rattle.rv_source.specs.Partial.{LineForm}
 use Rattle.rv_source.specs.declared.line.Label.{Label}
 use Rattle.rv_tokens.specs.declared.fault.LineFault.{LineFault}
 use Rattle.rv_program.specs.declared.fault.FaultKind.{FaultKind}
 use Rattle.rv_source.proofs.Parsed.{parsed_of, with_labels}
-use Rattle.rv_asm.specs.Constants.{IsTaken, KeptLine, stated_in, statement_bytes}
-use Rattle.rv_asm.specs.Kept.{KindBecomes}
+use Rattle.rv_asm.specs.Constants.{IsTaken, KeptLine, statement_in, stated_in, statement_bytes}
+use Rattle.rv_asm.specs.Kept.{KindBecomes, KindFails}
 use Rattle.rv_asm.specs.Steps.{line_text_bytes, appended}
 use Rattle.rv_asm.specs.Symbols.{Definitions, operand_value}
 
--- a line without a statement has no bytes
-nothing_written : (ds : Definitions) (line here : ℕ) (text : KeptLine) (out : List ℕ) →
-    s.Marker ≡ stated_in text.bytes → appended out (line_text_bytes ds line here text) ≡ Ok out
-unfolding statement_bytes
-nothing_written ds line here text out h = rw (sym h) (ap (λ x. Ok x) (append-nil out))
+abbrev has_statement : Result Parsed LineFault → Bool
+has_statement m = is_some (elim m as (λ _. Option Statement) [ Ok line ↦ line.statement | Err fault ↦ None ])
+
+-- a line that has a statement can only run out of memory
+pub never_unread : {A : Type 0} (text : List ℕ) (fault : LineFault) (meaning : Result A FaultKind) →
+    is_some (statement_in text) ≡ true → LineFails fault (parsed text) → KindFails (kind_of fault) meaning
+never_unread text line.OutOfMemory meaning some h = tt
+never_unread text fault meaning some h = absurd (let no : false ≡ true = sym (ap has_statement h) ∙ some in cc)
+
+pub never_none : (text : List ℕ) (labels : List Label) → is_some (statement_in text) ≡ true →
+    parsed text ≡ Ok (record { labels = labels; statement = None }) → ⊥
+never_none text labels some h = let no : false ≡ true = sym (ap has_statement h) ∙ some in cc
 
 abbrev stated : Result (Option Statement) LineFault → Statement
 stated m = elim m as (λ _. Statement) [ Ok o ↦ unwrap_or o s.Marker | Err fault ↦ s.Marker ]
@@ -52,12 +62,3 @@ module _ (text : KeptLine) (read : LineForm) (w : line_form text.bytes ≡ Ok re
         (statement_bytes text.constant (operand_value ds line here) here statement))
         → KindBecomes new result (appended out (line_text_bytes ds line here text))
     written_again statement new out result e h = rw (again text.bytes read (Ok (Some statement)) w e) h
-
-    pub nothing_again : (out : List ℕ) → Ok None ≡ statement_of read.1 →
-        appended out (line_text_bytes ds line here text) ≡ Ok out
-    nothing_again out e = nothing_written ds line here text out (sym (again text.bytes read (Ok None) w e))
-
-    pub fault_again : (fault : LineFault) (out : List ℕ) → Err fault ≡ statement_of read.1 →
-        appended out (line_text_bytes ds line here text) ≡ Ok out
-    fault_again fault out e = nothing_written ds line here text out
-        (sym (again text.bytes read (Err fault) w e))

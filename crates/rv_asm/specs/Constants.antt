@@ -1,7 +1,7 @@
 -- What a statement stands for by its constant, the value that must be known on its line; and what is kept
 -- with the text of a line.
 -- Not to audit: private contracts alone cite this.
-use Rattle.std.specs.Prelude.{◌≡◌, ℕ, ◌^◌, Bool, true, false, not, List, [], ◌∷◌, replicate, ℤ, pos, Option, Some, None, Result, Ok, Err}
+use Rattle.std.specs.Prelude.{◌≡◌, ℕ, ◌^◌, Bool, true, false, not, List, [], ◌∷◌, replicate, ℤ, pos, Option, Some, None, is_some, Result, Ok, Err}
 use Rattle.std.specs.Option.{unwrap_or, option_map_or}
 use Rattle.rv_base.specs.Limits.{image_limit}
 use Rattle.rv_isa.specs.Number.{modulo}
@@ -90,3 +90,8 @@ stated_in text = unwrap_or (statement_in text) Marker
 pub record KeptLine : Type 0 where
   pub bytes : List ℕ
   pub constant : ℤ
+
+-- a line with this text can be read, and has a statement that this constant is taken by
+pub record IsStated (c : ℤ) (text : List ℕ) : Type 0 where
+  pub some : is_some (statement_in text) ≡ true
+  pub taken : IsTaken c (stated_in text)

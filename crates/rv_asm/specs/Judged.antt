@@ -1,13 +1,12 @@
 -- The lines of a refused source, one by one.
 -- The language is this project's own: docs/ASSEMBLER.md.
 -- Not to audit: private contracts alone cite this.
-use Rattle.std.specs.Prelude.{◌≡◌, ℕ, suc, ◌+◌, ◌-◌, ◌≤◌, ◌<◌, List, [], ◌∷◌, map, length, get_or, Option, Some, None, is_some, if◌then◌else◌, Result, Ok, IfSome}
-use Rattle.std.specs.Option.{option_map}
+use Rattle.std.specs.Prelude.{◌≡◌, ℕ, suc, ◌+◌, ◌-◌, ◌≤◌, ◌<◌, List, [], ◌∷◌, ◌++◌, map, length, get_or, Option, Some, None, option_and_then, is_some, if◌then◌else◌, Ok, IfSome}
+use Rattle.std.specs.Option.{option_map, option_or}
 use Rattle.std.specs.List.{All}
 use Rattle.std.specs.Result.{result_err}
 use Rattle.rv_source.specs.Reading.{Parsed, parsed}
-use Rattle.rv_tokens.specs.Partial.{Fails as LineFails}
-use Rattle.rv_tokens.specs.declared.fault.LineFault.{LineFault}
+use Rattle.rv_program.specs.Faults.{kind_of}
 use Rattle.rv_source.specs.declared.line.Label.{Label}
 use Rattle.rv_program.specs.declared.fault.FaultKind.{FaultKind}
 use Rattle.rv_program.specs.declared.fault.AsmFault.{AsmFault}
@@ -15,7 +14,7 @@ use Rattle.rv_program.specs.declared.fault.FaultKind.TheVariants.{OutOfMemory}
 use Rattle.rv_asm.specs.declared.diagnosis.Diagnosis.{Diagnosis}
 use Rattle.rv_asm.specs.Symbols.{Definitions}
 use Rattle.rv_asm.specs.Counted.{address, names, fault_on}
-use Rattle.rv_asm.specs.Steps.{Known, labelled, with_line, stated_bytes, after_line}
+use Rattle.rv_asm.specs.Steps.{Known, known_before, labelled, with_line, stated_bytes}
 use Rattle.rv_asm.specs.Layout.{line_at, phase_two_fault}
 use Rattle.rv_asm.specs.Diagnosed.{fault_of, new_labels, kept}
 
@@ -28,11 +27,6 @@ cleared ls k =
 abbrev pub Keeps : {A : Type 0} → FaultKind → A → A → Type 0
 Keeps OutOfMemory old new = Unit {0}
 Keeps kind old new = new ≡ old
-
--- a line can't be read, for this fault or for out of memory
-abbrev pub IsUnreadBy : Result Parsed LineFault → Option LineFault → Type 0
-IsUnreadBy r None = result_err r ≡ None
-IsUnreadBy r (Some fault) = LineFails fault r
 
 -- labels but those that define a name a second time
 abbrev pub new_among : Known → List Label → List Label
@@ -48,6 +42,20 @@ known_after k known line =
 abbrev pub judged : List Parsed → ℕ → Option FaultKind
 judged lines k = phase_two_fault (kept lines k) k
 
+-- the fault of line k, which has none in phase two, in phase three by these symbols, if they are given
+abbrev pub late_fault : Option Definitions → ℕ → Known → Parsed → Option FaultKind
+late_fault symbols k known line = option_and_then
+    (λ ds. result_err (stated_bytes ds k (labelled k known line.labels) line.statement)) symbols
+
+-- its fault in these phases
+abbrev pub fault_with : Option Definitions → ℕ → Known → Parsed → Option FaultKind
+fault_with symbols k known line = option_or (fault_on k known line) (late_fault symbols k known line)
+
+-- the same, by the lines that are kept before it
+abbrev pub judged_with : Option Definitions → List Parsed → ℕ → Option FaultKind
+judged_with symbols lines k =
+    option_or (judged lines k) (late_fault symbols k (known_before (kept lines k) k) (line_at lines k))
+
 -- a diagnosis of line k, which has this text, if there is this fault
 pub record IsFound (k : ℕ) (text : List ℕ) (fault : Option FaultKind) (found : Option Diagnosis) : Type 0 where
   pub kind : fault ≡ option_map (λ d. d.kind) found
@@ -55,19 +63,29 @@ pub record IsFound (k : ℕ) (text : List ℕ) (fault : Option FaultKind) (found
   pub from : IfSome found (λ d. 0 < d.column)
   pub to : IfSome found (λ d. d.column - 1 + d.length ≤ length text)
 
--- line k is read and judged in phase two
-pub record Judges (k : ℕ) (text : List ℕ) (old new : Known) (found : Option Diagnosis) : Type 0 where
+-- line k is read and judged in phase two, and in phase three where symbols are given
+pub record Judges (symbols : Option Definitions) (k : ℕ) (text : List ℕ) (old new : Known) (found : Option Diagnosis) : Type 0 where
   pub line : Parsed
   pub read : parsed text ≡ Ok line
-  pub finds : IsFound k text (fault_on k old line) found
+  pub finds : IsFound k text (fault_with symbols k old line) found
   pub after : new ≡ known_after k old line
 
--- line k is read and laid out, and its bytes are tried by these symbols
-pub record Tries (k : ℕ) (text : List ℕ) (ds : Definitions) (old new : Known) (found : Option Diagnosis) : Type 0 where
-  pub line : Parsed
-  pub read : parsed text ≡ Ok line
-  pub after : after_line k old line ≡ Ok new
-  pub finds : IsFound k text (result_err (stated_bytes ds k (labelled k old line.labels) line.statement)) found
+-- a diagnosis, if there is one
+abbrev pub listed : Option Diagnosis → List Diagnosis
+listed None = []
+listed (Some d) = d ∷ []
+
+-- the diagnosis of line k is appended if it can't be read
+pub record AppendsUnread (k : ℕ) (text : List ℕ) (old new : List Diagnosis) : Type 0 where
+  pub found : Option Diagnosis
+  pub finds : IsFound k text (option_map kind_of (result_err (parsed text))) found
+  pub appends : new ≡ old ++ listed found
+
+-- the diagnosis of line k, which can be read, is appended if it is faulty in these phases
+pub record AppendsJudged (symbols : Option Definitions) (k : ℕ) (text : List ℕ) (old new : Known) (some more : List Diagnosis) : Type 0 where
+  pub found : Option Diagnosis
+  pub judges : Judges symbols k text old new found
+  pub appends : more ≡ some ++ listed found
 
 -- the place of a diagnosis, whose columns count from 1, lies in its line
 abbrev pub LiesIn : List (List ℕ) → Diagnosis → Type 0
@@ -77,8 +95,3 @@ LiesIn texts d = (0 < d.column) × (d.column - 1 + d.length ≤ length (get_or t
 pub record Diagnoses (texts : List (List ℕ)) (faults : List AsmFault) (ds : List Diagnosis) : Type 0 where
   pub each : map fault_of ds ≡ faults
   pub places : All (LiesIn texts) ds
-
--- a diagnosis, if there is one
-abbrev pub listed : Option Diagnosis → List Diagnosis
-listed None = []
-listed (Some d) = d ∷ []

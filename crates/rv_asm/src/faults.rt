@@ -5,26 +5,24 @@ ghost use Rattle.std.specs.Option.{option_map};
 ghost use Rattle.std.specs.Result.{result_err};
 ghost use Rattle.rv_base.specs.Lines.{lines};
 ghost use Rattle.rv_source.specs.Reading.{parsed};
+ghost use Rattle.rv_tokens.specs.Partial.{Fails as LineFails};
 ghost use Rattle.rv_program.specs.Faults.{kind_of};
 ghost use Rattle.rv_asm.specs.Assembly.{all_parsed, assembled};
-ghost use Rattle.rv_asm.specs.Counted.{phase_three_fault, all_faults, fault_in, phase_one_fault};
-ghost use Rattle.rv_asm.specs.Layout.{definitions};
-ghost use Rattle.rv_asm.specs.Steps.{start, known_before, image_of};
+ghost use Rattle.rv_asm.specs.Constants.{IsTaken, statement_bytes};
+ghost use Rattle.rv_asm.specs.Kept.{values_in};
+ghost use Rattle.rv_asm.specs.Counted.{all_faults, phase_one_fault};
+ghost use Rattle.rv_asm.specs.Steps.{start, known_before};
 ghost use Rattle.rv_asm.specs.Diagnosed.{kept, faults_of, fault_of};
-ghost use Rattle.rv_asm.specs.Judged.{judged, Diagnoses, IsUnreadBy, IsFound, Judges, Tries, listed};
+ghost use Rattle.rv_asm.specs.Judged.{judged_with, Diagnoses, AppendsUnread, AppendsJudged, IsFound, Judges, listed};
 
 use crate::FaultKind;
-use crate::assembler::image;
 use crate::diagnosis::{Detail, Diagnosis, Finding};
 use crate::finding::{early_finding, label_finding, late_finding};
 use crate::layout::Known;
 use crate::origins::Origins;
-use crate::placement::PlacedStatement;
 use crate::symbols::{Scope, Symbols};
 use rv_base::{NoMemory, cut_lines};
-use rv_source::{
-    LineFault, LineForm, Statement, fault_spot, read_line, read_line_form, whole_line,
-};
+use rv_source::{LineFault, LineForm, Statement, fault_spot, read_line_form};
 use std::alloc::Global;
 
 /// Returns the diagnosis of a line by the place that its fault means.
@@ -56,14 +54,7 @@ fn append(found: Option<Diagnosis>, out: &mut Vec<Diagnosis>) -> Result<(), NoMe
     }
 }
 
-// ---- phase one
-
-/// Returns the fault of a line that can't be read.
-fn unread(alloc: Global, text: &[u8]) -> Option<LineFault>
-    ensures { IsUnreadBy (parsed text.now) result }
-{
-    read_line(alloc, text).err()
-}
+// ---- phases one and two
 
 /// Returns the place that a fault in phase one means.
 fn reading_finding(alloc: Global, text: &[u8], fault: LineFault) -> Result<Finding, NoMemory>
@@ -78,57 +69,71 @@ fn reading_finding(alloc: Global, text: &[u8], fault: LineFault) -> Result<Findi
     Ok(Finding { place, detail })
 }
 
-/// Returns the diagnosis of a line that can't be read.
-fn find_unread(alloc: Global, number: usize, text: &[u8]) -> Result<Option<Diagnosis>, NoMemory>
-    requires { number < 0xffffffffffffffff }
-    ensures { IfOk result (IsFound number text.now (option_map kind_of (result_err (parsed text.now)))) }
+/// Appends the diagnosis of a line that can't be read.
+#[tactic(auto, using(crate::proofs::Judging::not_read, crate::proofs::Judging::never_empty))]
+fn append_unread(
+    alloc: Global,
+    number: usize,
+    text: &[u8],
+    fault: LineFault,
+    out: &mut Vec<Diagnosis>,
+) -> Result<(), NoMemory>
+    requires counted { number < 0xffffffffffffffff }
+    requires fails { LineFails fault (parsed text.now) }
+    ensures appends { OnOk result (AppendsUnread number text.now out.old.items out.new.items) }
+    ensures some { OnOk result (out.new.items ≡ [] → ⊥) }
 {
-    let Some(fault) = unread(alloc, text) else {
+    let finding = match fault {
+        LineFault::OutOfMemory => return Err(NoMemory),
+        _ => reading_finding(alloc, text, fault)?,
+    };
+    let found = diagnosed(number, text, FaultKind::from(fault), finding);
+    append(Some(found), out)
+}
+
+/// Returns the diagnosis of a statement of a line whose bytes can't be written with the symbols of a scope.
+fn judge_value(
+    alloc: Global,
+    number: usize,
+    scope: Scope,
+    text: &[u8],
+    line: &LineForm,
+    statement: &Statement,
+    constant: i64,
+) -> Result<Option<Diagnosis>, NoMemory>
+    requires counted { number < 0xffffffffffffffff }
+    requires taken { IsTaken constant statement.now }
+    ensures { IfOk result (IsFound number text.now (result_err (statement_bytes constant (values_in scope.entry) scope.entry.here statement.now))) }
+{
+    let mut out = Vec::new(alloc);
+    let Err(kind) = scope.write(constant, statement, &mut out) else {
         return Ok(None);
     };
-    let kind = FaultKind::from(fault);
-    if kind.number() == 12 {
+    if let FaultKind::OutOfMemory = kind {
         return Err(NoMemory);
     }
-    let finding = reading_finding(alloc, text, fault)?;
+    let finding = late_finding(alloc, scope, text, line, statement)?;
     Ok(Some(diagnosed(number, text, kind, finding)))
 }
 
-/// Returns the diagnoses of the lines that are faulty in phase one.
-fn diagnose_reading(alloc: Global, source: &[u8]) -> Result<Vec<Diagnosis>, NoMemory>
-    ensures { IfOk result (λ ds. Diagnoses (lines source.now) (all_faults (phase_one_fault (lines source.now)) (length (lines source.now))) ds.items) }
-{
-    let mut out = Vec::new(alloc);
-    let mut number: usize = 0;
-    for text in cut_lines(source) {
-        let found = find_unread(alloc, number, text)?;
-        append(found, &mut out)?;
-        number += 1;
-    }
-    Ok(out)
-}
-
-// ---- phase two
-
 /// Judges a line in phase two, by the lines before it but what is faulty in them. What is faulty in this one
-/// is left out as well.
+/// is left out as well. Where all symbols are given the line is judged in phase three too.
+#[tactic(auto, using(crate::proofs::Sizes::taken))]
 fn judge(
     alloc: Global,
     number: usize,
     text: &[u8],
+    line: &LineForm,
+    statement: &Option<Statement>,
+    symbols: Option<&Symbols>,
     known: &mut Known,
     origins: &Origins,
 ) -> Result<Option<Diagnosis>, NoMemory>
     requires up_to { All (λ d. d.line ≤ number) known.old.definitions.locals }
     requires counted { number < 0xffffffffffffffff }
-    ensures { IfOk result (Judges number text.now known.old known.new) }
+    requires read { parsed text.now ≡ Ok (record { labels = line.now.0; statement = statement.now }) }
+    ensures { IfOk result (Judges (option_map (λ s. s.now) symbols.entry) number text.now known.old known.new) }
 {
-    let Ok(line) = read_line_form(alloc, text) else {
-        return Err(NoMemory);
-    };
-    let Ok(statement) = line.statement() else {
-        return Err(NoMemory);
-    };
     if let Some(index) = known.new_labels(alloc, number, line.labels())? {
         let scope = known.scope(number);
         let finding = label_finding(scope, origins, text, line.labels(), index);
@@ -138,135 +143,91 @@ fn judge(
     let Some(statement) = statement else {
         return Ok(None);
     };
-    let kind = match known.advance(alloc, number, &statement) {
-        Ok(_) => return Ok(None),
+    let here = known.address();
+    let kind = match known.advance(alloc, number, statement) {
+        Ok(constant) => {
+            let Some(symbols) = symbols else {
+                return Ok(None);
+            };
+            let scope = Scope {
+                symbols,
+                line: number,
+                here,
+            };
+            return judge_value(alloc, number, scope, text, line, statement, constant);
+        }
         Err(kind) => kind,
     };
-    if kind.number() == 12 {
+    if let FaultKind::OutOfMemory = kind {
         return Err(NoMemory);
     }
     let scope = known.scope(number);
-    let finding = early_finding(alloc, scope, origins, text, &line, &statement, kind)?;
+    let finding = early_finding(alloc, scope, origins, text, line, statement, kind)?;
     Ok(Some(diagnosed(number, text, kind, finding)))
 }
 
-/// Returns the diagnoses of the lines that are faulty in phase two, of a source without a fault in phase one.
-fn diagnose_layout(
-    alloc: Global,
-    source: &[u8],
-    known: &mut Known,
-) -> Result<Vec<Diagnosis>, NoMemory>
-    requires { known.old ≡ start }
-    ensures all { IfOk result (λ ds. Diagnoses (lines source.now) (all_faults (judged (all_parsed (lines source.now))) (length (lines source.now))) ds.items) }
-    ensures known { OnOk result (known.new ≡ known_before (kept (all_parsed (lines source.now)) (length (lines source.now))) (length (lines source.now))) }
-{
-    let mut out = Vec::new(alloc);
-    let mut origins = Origins::new(alloc);
-    let mut number: usize = 0;
-    for text in cut_lines(source) {
-        let found = judge(alloc, number, text, known, &origins)?;
-        append(found, &mut out)?;
-        number += 1;
-        origins.note(&known.symbols().names, number)?;
-    }
-    Ok(out)
-}
-
-// ---- phase three
-
-/// Returns the place that the fault of a line in phase three means.
-fn value_finding(
-    alloc: Global,
-    scope: Scope,
-    text: &[u8],
-    line: &LineForm,
-    statement: &Option<Statement>,
-) -> Result<Finding, NoMemory>
-    ensures { IfOk result (λ f. f.place.column + f.place.len ≤ length text.now) }
-{
-    match statement {
-        Some(statement) => late_finding(alloc, scope, text, line, statement),
-        None => Ok(Finding {
-            place: whole_line(text),
-            detail: Detail::Nothing,
-        }),
-    }
-}
-
-/// Returns the kind of the fault for which the bytes of statements can't be written.
-#[tactic(auto, using(crate::proofs::Judging::not_written))]
-fn unwritten(
-    alloc: Global,
-    items: &[PlacedStatement],
-    symbols: &Symbols,
-) -> Result<Option<FaultKind>, NoMemory>
-    ensures { IfOk result (λ kind. kind ≡ option_map (λ fault. fault.kind) (fault_in (image_of symbols.now items.now))) }
-{
-    let kind = match image(alloc, items, symbols) {
-        Ok(_) => return Ok(None),
-        Err(fault) => fault.kind,
-    };
-    if kind.number() == 12 {
-        return Err(NoMemory);
-    }
-    Ok(Some(kind))
-}
-
-/// Lays out a line, and tries to write its bytes with all symbols of the source.
-#[tactic(auto, using(rv_source::proofs::Parsed::as_parsed, crate::proofs::Judging::tried))]
-fn try_line(
+/// Appends the diagnosis of a line that is faulty in phase one; or unless a line is, in phase two, and in
+/// phase three where all symbols are given.
+#[tactic(auto, using(rv_source::proofs::Parsed::form_fails, rv_source::proofs::Parsed::statement_fails, rv_source::proofs::Parsed::as_parsed))]
+fn review_line(
     alloc: Global,
     number: usize,
     text: &[u8],
+    symbols: Option<&Symbols>,
     known: &mut Known,
-    symbols: &Symbols,
-) -> Result<Option<Diagnosis>, NoMemory>
-    requires up_to { All (λ d. d.line ≤ number) known.old.definitions.locals }
+    origins: &Origins,
+    unread: &mut Vec<Diagnosis>,
+    misplaced: &mut Vec<Diagnosis>,
+) -> Result<(), NoMemory>
+    requires up_to { unread.old.items ≡ [] → All (λ d. d.line ≤ number) known.old.definitions.locals }
     requires counted { number < 0xffffffffffffffff }
-    ensures { IfOk result (Tries number text.now symbols.now known.old known.new) }
+    ensures unread { OnOk result (AppendsUnread number text.now unread.old.items unread.new.items) }
+    ensures misplaced { OnOk result (unread.new.items ≡ [] → AppendsJudged (option_map (λ s. s.now) symbols.entry) number text.now known.old known.new misplaced.old.items misplaced.new.items) }
 {
-    let Ok(line) = read_line_form(alloc, text) else {
-        return Err(NoMemory);
+    let line = match read_line_form(alloc, text) {
+        Ok(line) => line,
+        Err(fault) => return append_unread(alloc, number, text, fault, unread),
     };
-    let Ok(statement) = line.statement() else {
-        return Err(NoMemory);
+    let statement = match line.statement() {
+        Ok(statement) => statement,
+        Err(fault) => return append_unread(alloc, number, text, fault, unread),
     };
-    let here = known.address();
-    let mut items = Vec::new(alloc);
-    let Ok(()) = known.add(alloc, number, text, line.labels(), &statement, &mut items) else {
-        return Err(NoMemory);
-    };
-    let Some(kind) = unwritten(alloc, &items, symbols)? else {
-        return Ok(None);
-    };
-    let scope = Scope {
-        symbols,
-        line: number,
-        here,
-    };
-    let finding = value_finding(alloc, scope, text, &line, &statement)?;
-    Ok(Some(diagnosed(number, text, kind, finding)))
+    if !unread.as_slice().is_empty() {
+        return Ok(());
+    }
+    let found = judge(
+        alloc, number, text, &line, &statement, symbols, known, origins,
+    )?;
+    append(found, misplaced)
 }
 
-/// Returns the diagnoses of the lines that are faulty in phase three, of a source without a fault in the
-/// phases before, which has these symbols.
-fn diagnose_values(
+/// Appends the diagnoses of the lines that are faulty in phase one; and, unless there are any, of those that
+/// are faulty in phase two, or in phase three where all symbols are given.
+fn review(
     alloc: Global,
     source: &[u8],
-    symbols: &Symbols,
-) -> Result<Vec<Diagnosis>, NoMemory>
-    requires { symbols.now ≡ definitions (all_parsed (lines source.now)) }
-    ensures { IfOk result (λ ds. Diagnoses (lines source.now) (all_faults (phase_three_fault (all_parsed (lines source.now))) (length (lines source.now))) ds.items) }
+    symbols: Option<&Symbols>,
+    known: &mut Known,
+    unread: &mut Vec<Diagnosis>,
+    misplaced: &mut Vec<Diagnosis>,
+) -> Result<(), NoMemory>
+    requires known { known.old ≡ start }
+    requires unread { unread.old.items ≡ [] }
+    requires misplaced { misplaced.old.items ≡ [] }
+    ensures unread { OnOk result (Diagnoses (lines source.now) (all_faults (phase_one_fault (lines source.now)) (length (lines source.now))) unread.new.items) }
+    ensures misplaced { OnOk result (unread.new.items ≡ [] → Diagnoses (lines source.now) (all_faults (judged_with (option_map (λ s. s.now) symbols.entry) (all_parsed (lines source.now))) (length (lines source.now))) misplaced.new.items) }
+    ensures known { OnOk result (unread.new.items ≡ [] → known.new ≡ known_before (kept (all_parsed (lines source.now)) (length (lines source.now))) (length (lines source.now))) }
 {
-    let mut out = Vec::new(alloc);
-    let mut known = Known::new(alloc);
+    let mut origins = Origins::new(alloc);
     let mut number: usize = 0;
     for text in cut_lines(source) {
-        let found = try_line(alloc, number, text, &mut known, symbols)?;
-        append(found, &mut out)?;
+        review_line(
+            alloc, number, text, symbols, known, &origins, unread, misplaced,
+        )?;
         number += 1;
+        origins.note(&known.symbols().names, number)?;
     }
-    Ok(out)
+    Ok(())
 }
 
 /// Returns the diagnoses of all lines of a source that are faulty in the first phase that has a fault, in
@@ -281,14 +242,24 @@ pub fn diagnose(alloc: Global, source: &[u8]) -> Result<Vec<Diagnosis>, NoMemory
     ensures places { IfOk result (λ ds. All (λ d. (0 < d.column) × (d.column - 1 + d.length ≤ length (get_or (lines source.now) (d.line - 1) []))) ds.items) }
     ensures first { IfOk result (λ ds. slice_get (map fault_of ds.items) 0 ≡ result_err (assembled source.now)) }
 {
-    let unread = diagnose_reading(alloc, source)?;
+    let mut known = Known::new(alloc);
+    let mut unread = Vec::new(alloc);
+    let mut misplaced = Vec::new(alloc);
+    review(alloc, source, None, &mut known, &mut unread, &mut misplaced)?;
     if !unread.as_slice().is_empty() {
         return Ok(unread);
     }
-    let mut known = Known::new(alloc);
-    let misplaced = diagnose_layout(alloc, source, &mut known)?;
     if !misplaced.as_slice().is_empty() {
         return Ok(misplaced);
     }
-    diagnose_values(alloc, source, known.symbols())
+    let mut again = Known::new(alloc);
+    review(
+        alloc,
+        source,
+        Some(known.symbols()),
+        &mut again,
+        &mut unread,
+        &mut misplaced,
+    )?;
+    Ok(misplaced)
 }

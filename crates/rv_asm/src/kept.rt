@@ -13,13 +13,13 @@ pub struct LineText<'a> {
 }
 
 impl<'a> Model for LineText<'a> {
-    ghost use Rattle.rv_asm.specs.Constants.{KeptLine, IsTaken, stated_in};
+    ghost use Rattle.rv_asm.specs.Constants.{KeptLine, IsStated};
 
     ghost Value = { KeptLine };
 
     ghost view = { λ t. record { bytes = t.bytes.now; constant = t.constant } };
 
-    ghost invariant = { λ t. IsTaken t.constant (stated_in t.bytes.now) };
+    ghost invariant = { λ t. IsStated t.constant t.bytes.now };
 }
 
 /// What is kept of a statement until all symbols are known. The statement itself isn't kept, since its lists

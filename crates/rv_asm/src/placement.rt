@@ -37,7 +37,7 @@ impl<'a> Model for PlacedStatement<'a> {
 }
 
 /// Appends the bytes of the statement of a line that is read again.
-#[tactic(auto, using(crate::proofs::Writing::nothing_again, crate::proofs::Writing::fault_again))]
+#[tactic(auto, using(crate::proofs::Writing::never_unread, rv_source::proofs::Parsed::form_fails, rv_source::proofs::Parsed::statement_fails))]
 fn write_line(
     alloc: Global,
     scope: Scope,
@@ -46,13 +46,10 @@ fn write_line(
 ) -> Result<(), FaultKind>
     ensures { KindBecomes out.new.items result (appended out.old.items (line_text_bytes scope.entry.symbols.now scope.entry.line scope.entry.here text.now)) }
 {
-    // The line was read in phase one, so reading it again can only run out of memory.
-    let Ok(line) = read_line_form(alloc, text.bytes) else {
-        return Err(FaultKind::OutOfMemory);
-    };
-    match line.statement() {
-        Ok(Some(statement)) => scope.write(text.constant, &statement, out),
-        _ => Ok(()),
+    let line = read_line_form(alloc, text.bytes)?;
+    match line.statement()? {
+        Some(statement) => scope.write(text.constant, &statement, out),
+        None => unreachable!(),
     }
 }
 

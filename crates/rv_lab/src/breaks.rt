@@ -31,7 +31,7 @@ impl Lab {
         if line_number(word).is_none() {
             return self.refuse_address(command, word, answer);
         }
-        let count = self.listing.len() as u64;
+        let count = self.listing().len() as u64;
         let form = "no line with an instruction or data is there; the source has %d line%{s||s}\n";
         answer.fill(form, &[count, count]);
     }

@@ -1,6 +1,7 @@
 //! The lab: what a caller may ask of it.
 ghost use Rattle.std.specs.Prelude.{◌≡◌, ◌≤◌, max, false, Err, IfErr, IfOk, None, Ok, OnErr, OnOk, ◌++◌, IfSome};
 ghost use Rattle.rv_asm.specs.Lines.{listed};
+ghost use Rattle.rv_asm.specs.Seen.{seen};
 ghost use Rattle.rv_monitor.specs.Laws.{IsReached};
 ghost use Rattle.rv_opening.specs.Opening.{Opens};
 ghost use Rattle.rv_recording.specs.Recording.{first_board, last_step};
@@ -16,7 +17,7 @@ use crate::command::{Command, CommandLine, read_command};
 use crate::plan::Plan;
 use crate::registers::registers_of;
 use rv_answers::{Answer, Registers};
-use rv_asm::{Listing, Program, list};
+use rv_asm::{Listing, Places, Program, list};
 use rv_base::NoMemory;
 use rv_board::BootedBoard;
 use rv_opening::OpenFault;
@@ -69,7 +70,8 @@ pub(crate) struct Last {
 pub struct Lab {
     pub(crate) alloc: Global,
     pub(crate) source: Vec<u8>,
-    pub(crate) listing: Listing,
+    pub(crate) program: Program,
+    pub(crate) places: Places,
     pub(crate) recording: Recording,
     pub(crate) last: Last,
     /// The most steps of one call: a longer run goes on by `go_on`.
@@ -85,7 +87,8 @@ impl Drop for Lab {
         let Lab {
             alloc: _,
             source: _,
-            listing: _,
+            program: _,
+            places: _,
             recording: _,
             last: _,
             piece: _,
@@ -98,13 +101,14 @@ impl Model for Lab {
     ghost use Rattle.std.specs.FinSet as set;
     ghost use Rattle.std.specs.Ordering.{nat_cmp};
     ghost use Rattle.rv_plic.specs.Codes.{plic_code};
+    ghost use Rattle.rv_asm.specs.Lines.{listing_of};
     ghost use Rattle.rv_lab.specs.State.{LabState};
 
     ghost Value = { LabState };
 
     ghost coded = { Prim.hlevel (codes, plic_code, set.code {R = nat_cmp} coded_ℕ) };
 
-    ghost view = { λ l. record { source = l.source.items; listing = l.listing; recording = l.recording; registers = l.last.registers; before = l.last.steps; again = l.last.command; count = l.last.count; listed = l.last.listed; plan = l.last.plan; piece = l.piece } };
+    ghost view = { λ l. record { source = l.source.items; listing = listing_of l.program l.places; recording = l.recording; registers = l.last.registers; before = l.last.steps; again = l.last.command; count = l.last.count; listed = l.last.listed; plan = l.last.plan; piece = l.piece } };
 }
 
 impl Lab {
@@ -126,7 +130,7 @@ impl Lab {
             × (l.registers ≡ registers_of l.recording.session.timed.board) × (l.again ≡ StepOnce) × (l.count ≡ 1)
             × (l.listed ≡ 0) × (l.plan ≡ None) × (l.piece ≡ 1000000)) }
     {
-        let listing = list(alloc, source)?;
+        let (program, places) = list(alloc, source)?;
         let (pages, slots) = (u32::from(sizes.pages), u32::from(sizes.slots));
         let recording = Recording::open(alloc, source, inputs, pages, slots)?;
         let Ok(source) = Vec::from_slice(alloc, source) else {
@@ -144,7 +148,8 @@ impl Lab {
         Ok(Lab {
             alloc,
             source,
-            listing,
+            program,
+            places,
             recording,
             last,
             piece: PIECE,
@@ -176,12 +181,22 @@ impl Lab {
 
     /// Returns the program of the source.
     pub(crate) fn program(&self) -> &Program {
-        self.listing.program()
+        &self.program
+    }
+
+    /// Returns the lines of the source.
+    pub(crate) fn listing(&self) -> Listing<'_>
+        ensures { seen result ≡ self.now.listing }
+    {
+        Listing {
+            program: &self.program,
+            places: &self.places,
+        }
     }
 
     /// Appends the source's name and size, and where the board stands.
     pub fn greet(&self, name: &str, answer: &mut Answer) {
-        let lines = self.listing.len() as u64;
+        let lines = self.listing().len() as u64;
         let bytes = self.program().bytes().len() as u64;
         let form = ": %d line%{s||s}, %d byte%{s||s} from 80000000; `help` shows the commands\n";
         answer.say(name);

@@ -1,6 +1,7 @@
 //! The operands of commands: counts and addresses.
 ghost use Rattle.std.specs.Prelude.{◌≡◌, ◌<◌, OnSome};
 ghost use Rattle.rv_base.specs.Words.{words};
+ghost use Rattle.rv_asm.specs.Seen.{seen};
 ghost use Rattle.rv_operands.specs.Operands.{address};
 ghost use Rattle.rv_lab.specs.State.{board};
 ghost use Rattle.rv_lab.specs.Words.{count_of};
@@ -25,11 +26,11 @@ pub(crate) fn count_or(text: &[u8], usual: u64, most: u64) -> Option<u64>
 impl Lab {
     /// Returns what operands speak of.
     pub(crate) fn scope(&self) -> Scope<'_>
-        ensures listing { result.listing.now ≡ self.now.listing }
+        ensures listing { seen result.listing ≡ self.now.listing }
         ensures board { result.board.now ≡ board self.now }
     {
         Scope {
-            listing: &self.listing,
+            listing: self.listing(),
             board: self.board(),
         }
     }
