@@ -2,24 +2,24 @@
 ghost use Rattle.std.specs.Prelude.{◌≡◌, ◌≤◌, max, false, Err, IfErr, IfOk, None, Ok, OnErr, OnOk, ◌++◌, IfSome};
 ghost use Rattle.rv_asm.specs.Lines.{listed};
 ghost use Rattle.rv_monitor.specs.Laws.{IsReached};
-ghost use Rattle.rv_opening.specs.Opening.{Opens};
-ghost use Rattle.rv_recording.specs.Recording.{first_board, last_step};
+ghost use Rattle.rv_recording.specs.Recording.{first_board};
 ghost use Rattle.rv_lab.specs.State.{setup, registers_of};
 ghost use Rattle.rv_operands.specs.Operands.{operand_text};
 ghost use Rattle.rv_lab.specs.declared.command.Command.TheVariants.{StepOnce};
 ghost use Rattle.rv_lab.specs.Commands.{IsWithin, Leaves, Obeys, call_limit, ready};
 ghost use Rattle.rv_lab.specs.Refusals.{RunsOut};
 ghost use Rattle.rv_lab.specs.Looks.{told};
+ghost use Rattle.rv_lab.specs.Opening.{OpensLab};
 ghost use Rattle.rv_lab.specs.Words.{line_command};
 
 use crate::command::{Command, CommandLine, read_command};
+use crate::fault::LabFault;
 use crate::plan::Plan;
 use crate::registers::registers_of;
 use rv_answers::{Answer, Registers};
-use rv_asm::{Listing, Program, list};
+use rv_asm::{Listing, Program, assemble, list};
 use rv_base::NoMemory;
 use rv_board::BootedBoard;
-use rv_opening::OpenFault;
 use rv_recording::Recording;
 use std::alloc::Global;
 use std::marker::Model;
@@ -114,11 +114,10 @@ impl Lab {
     ///
     /// The first fault of the source, the timed list and the board, in this order; `OutOfMemory` may come in
     /// place of any result.
-    pub fn open(alloc: Global, source: &[u8], inputs: &[u8], sizes: Sizes) -> Result<Lab, OpenFault>
+    pub fn open(alloc: Global, source: &[u8], inputs: &[u8], sizes: Sizes) -> Result<Lab, LabFault>
         ensures opens { IfOk result (λ l.
-            Opens source.now inputs.now sizes.pages sizes.slots last_step (Ok l.recording.session)) }
-        ensures err { IfErr result (λ e.
-            Opens source.now inputs.now sizes.pages sizes.slots last_step (Err e)) }
+            OpensLab source.now inputs.now sizes.pages sizes.slots (Ok l.recording.session)) }
+        ensures err { IfErr result (λ e. OpensLab source.now inputs.now sizes.pages sizes.slots (Err e)) }
         ensures sizes { IfOk result (λ l.
             (l.recording.pages ≡ sizes.pages) × (l.recording.slots ≡ sizes.slots)) }
         ensures listing { IfOk result (λ l. listed source.now ≡ Ok l.listing) }
@@ -126,11 +125,12 @@ impl Lab {
             × (l.registers ≡ registers_of l.recording.session.timed.board) × (l.again ≡ StepOnce) × (l.count ≡ 1)
             × (l.listed ≡ 0) × (l.plan ≡ None) × (l.piece ≡ 1000000)) }
     {
+        let program = assemble(alloc, source)?;
         let listing = list(alloc, source)?;
         let (pages, slots) = (u32::from(sizes.pages), u32::from(sizes.slots));
-        let recording = Recording::open(alloc, source, inputs, pages, slots)?;
+        let recording = Recording::open(alloc, program, inputs, pages, slots)?;
         let Ok(source) = Vec::from_slice(alloc, source) else {
-            return Err(OpenFault::OutOfMemory);
+            return Err(LabFault::OutOfMemory);
         };
         let last = Last {
             registers: registers_of(recording.session().board()),

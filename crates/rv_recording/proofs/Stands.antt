@@ -3,14 +3,15 @@ use Rattle.std.proofs.Common.{◌≡◌, ◌∙◌, ℕ, ◌-◌, ◌*◌, ◌<�
 use Rattle.std.proofs.lemmas.Bool.Decides.{nat_tests}
 use Rattle.std.specs.FinSet as set
 use Rattle.std.specs.List.{list_all}
-use Rattle.std.specs.Prelude.{◌⊎◌, ◌&&◌, nat_le, nat_lt, is_none, min, Option, Some, None, Result, Ok, Err, OnOk, OnErr, OnOk}
+use Rattle.std.specs.Prelude.{◌⊎◌, ◌&&◌, nat_le, nat_lt, is_none, min, if◌then◌else◌, option_and_then, Option, Some, None, Result, Ok, Err, OnOk, OnErr, OnOk}
 use Rattle.rv_base.specs.declared.memory.NoMemory.{NoMemory}
 use Rattle.rv_hart.specs.declared.trap.Outcome.{Outcome}
 use Rattle.rv_board.specs.Boot.{boot_fault, reset}
 use Rattle.rv_board.specs.Move.{run}
 use Rattle.rv_board.specs.State.{BoardState, halted_of}
 use Rattle.rv_lists.specs.Reading.{HasSteps}
-use Rattle.rv_lists.specs.Timed.{never_falls, inserted}
+use Rattle.rv_base.specs.Lines.{lines}
+use Rattle.rv_lists.specs.Timed.{IsRead, all_of, inserted, never_falls, timed, timed_line}
 use Rattle.rv_lists.specs.declared.input.Input.{Input}
 use Rattle.rv_lists.specs.declared.input.TimedInput.{TimedInput}
 use Rattle.rv_program.specs.Program.{Assembly}
@@ -30,7 +31,7 @@ use Rattle.rv_monitor.proofs.Given.{given_stands, reached_steps}
 use Rattle.rv_monitor.proofs.Resumed.{resumed_back}
 use Rattle.rv_monitor.proofs.SessionCalls.{took_was, took_others, refused_was, refused_others, on_was, on_others}
 use Rattle.rv_monitor.proofs.Reached.{begun_stands, stopped_stands, refused_stands, step_stands, due_is_reached}
-use Rattle.rv_opening.specs.Opening.{Opens}
+use Rattle.rv_monitor.specs.Opening.{Opens}
 use Rattle.rv_recording.specs.Recording.{RecordingState, gone_back}
 use Rattle.rv_recording.specs.Recorded.{IsRecorded}
 use Rattle.rv_recording.specs.Kept.{KeptBoard, AreKept, AreWithin}
@@ -62,28 +63,36 @@ Stands s p q ks =
     IsRecorded (record { session = s; pages = p; slots = q })
     × AreKept (reset s.program.bytes (4096 * p)) s.timed.inputs ks
 
-begun_is : (s : SessionState) (board : BoardState) (program : Assembly) (inputs : List TimedInput)
-    (pages slots : ℕ) → boot_fault (length program.bytes) pages slots ≡ None → never_falls inputs ≡ true
-    → HasSteps inputs → s ≡ monitor.new_session board inputs program 9999999999 → board ≡ reset program.bytes (4096 * pages)
-    → IsRecorded (record { session = s; pages = pages; slots = slots })
-begun_is s board program inputs pages slots boots rising small is booted =
-    subst (λ (u : SessionState). IsRecorded (record { session = u; pages = pages; slots = slots }))
-    (sym (is ∙ ap (λ (c : BoardState). monitor.new_session c inputs program 9999999999) booted))
-    (record {
-      boots = boots;
-      reached = begun_stands (reset program.bytes (4096 * pages)) inputs rising;
-      steps = small;
-      limit = refl;
-    })
+rises_by : (xs ys : List TimedInput) (rises : Bool) → never_falls xs ≡ rises
+    → (if rises then Some xs else None) ≡ Some ys → never_falls ys ≡ true
+rises_by xs ys true is e = let same : xs ≡ ys = cc in ap never_falls (sym same) ∙ is
+rises_by xs ys false is e = absurd cc
 
-pub opened_is : (source inputs : List ℕ) (pages slots : ℕ) (s : SessionState)
-    → Opens source inputs pages slots 9999999999 (Ok s) → never_falls s.timed.inputs ≡ true
-    → HasSteps s.timed.inputs → (ks : List KeptBoard) → ks ≡ [] → Stands s pages slots ks
-opened_is source inputs pages slots s opens rising small ks none = (
-  begun_is s (reset s.program.bytes (4096 * pages)) s.program s.timed.inputs pages slots opens.2 rising small
-      opens.3 refl,
-  subst (AreKept (reset s.program.bytes (4096 * pages)) s.timed.inputs) (sym none) tt,
-)
+-- the inputs of a timed list rise
+read_rises : (all : Option (List TimedInput)) (inputs : List TimedInput)
+    → option_and_then (λ xs. if never_falls xs then Some xs else None) all ≡ Some inputs
+    → never_falls inputs ≡ true
+read_rises None inputs e = absurd cc
+read_rises (Some xs) inputs e = rises_by xs inputs (never_falls xs) refl e
+
+rising : (text : List ℕ) (inputs : List TimedInput) → IsRead text (Ok inputs) → never_falls inputs ≡ true
+unfolding timed
+rising text inputs read = read_rises (all_of timed_line (lines text)) inputs read
+
+pub opened_is : (program : Assembly) (text : List ℕ) (pages slots : ℕ) (s : SessionState)
+    → Opens program text pages slots 9999999999 (Ok s) → HasSteps s.timed.inputs
+    → (ks : List KeptBoard) → ks ≡ [] → Stands s pages slots ks
+opened_is program text pages slots s opens small ks none =
+    let first = reset program.bytes (4096 * pages) in
+    subst (λ (u : SessionState). Stands u pages slots ks) (sym opens.2) (
+      record {
+        boots = opens.1;
+        reached = begun_stands first s.timed.inputs (rising text s.timed.inputs opens.0);
+        steps = small;
+        limit = refl;
+      },
+      subst (AreKept first s.timed.inputs) (sym none) tt,
+    )
 
 -- ---- what calls leave
 
