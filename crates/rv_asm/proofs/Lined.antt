@@ -22,9 +22,9 @@ use Rattle.rv_asm.specs.Layout.{line_at, definitions, phase_two_fault, labels_in
 use Rattle.rv_asm.specs.Assembly.{all_parsed, line_bytes, assembled}
 use Rattle.rv_asm.specs.Counted.{phase_three_fault, address, joined, first, first_fault, joined_bytes, assembled_by, up_to, labels, phase_one_fault}
 use Rattle.rv_asm.proofs.Counting.{joined_is, up_to_is, assembled_is}
-use Rattle.rv_asm.specs.Lines.{Listed, listed, bytes_of}
+use Rattle.rv_asm.specs.Lines.{Listed, Located, listed, bytes_of, end_of}
 use Rattle.rv_asm.specs.Steps.{Known, known_before, laid_out, after_line}
-use Rattle.rv_asm.specs.Looked.{LabelsRise, LiesWhole, AreLinesOf}
+use Rattle.rv_asm.specs.Looked.{LabelsRise, LieInOrder, AreLinesOf}
 use Rattle.rv_asm.proofs.Listed.{size_listed, none_last, none_before}
 use Rattle.rv_asm.proofs.Whole.{length-parsed}
 use Rattle.rv_asm.proofs.Reading.{SoFar, known_is, read_line_at, laid_out_more}
@@ -187,6 +187,16 @@ labels_to ls (suc n) =
 pub labels_rise : (ls : List Parsed) (n : ℕ) → LabelsRise (labels ls n)
 labels_rise ls n = (labels_to ls n).rises
 
+pub lie_in_order : (ls : List Parsed) (n : ℕ) →
+    LieInOrder (record { addresses = up_to (address ls) n; labels = labels ls n })
+unfolding known_before
+lie_in_order ls n = record {
+  some = omega (arith, length_up_to (address ls) n);
+  first = up_to_at (address ls) n 0 (omega arith);
+  rises = addresses_rise ls n;
+  labels = labels_rise ls n;
+}
+
 -- ---- the bytes of a line
 
 part_of : (xs ys : List ℕ) → slice_range (xs ++ ys) (length xs) (length (xs ++ ys)) ≡ ys
@@ -276,17 +286,10 @@ module _ (source : List ℕ) (a : Assembly) (ok : IsAccepted source a) where
   count_is : length listing.addresses ≡ suc n
   count_is = length_up_to (address parsed) n
 
-  pub lies_whole : LiesWhole listing
-  unfolding known_before
-  lies_whole = record {
-    some = omega (arith, count_is);
-    first = address_at 0 (omega arith);
-    last =
-        let e : length listing.addresses - 1 ≡ n = omega (arith, count_is) in
-        rw (e, image_is) (address_at n (omega arith) ∙ sym (reaches n (omega arith)));
-    rises = addresses_rise parsed n;
-    labels = labels_rise parsed n;
-  }
+  pub reaches_end : end_of listing ≡ ram_base + length a.bytes
+  reaches_end =
+      let e : length listing.addresses - 1 ≡ n = omega (arith, count_is) in
+      rw (e, image_is) (address_at n (omega arith) ∙ sym (reaches n (omega arith)))
 
   is_ok : (r : Result (List ℕ) FaultKind) → result_err r ≡ None → r ≡ Ok (result_unwrap_or r [])
   is_ok (Ok bs) h = refl

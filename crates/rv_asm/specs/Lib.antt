@@ -9,6 +9,7 @@ pub mod Counted
 pub mod Steps
 pub mod Taken
 pub mod Lines
+pub mod Seen
 pub mod Looked
 pub mod Diagnosed
 pub mod Judged

@@ -19,6 +19,15 @@ pub record Listed : Type 0 where
   pub addresses : List ℕ
   pub labels : List (List ℕ × ℕ)
 
+-- where the lines of a source lie, with the one following them all, and its labels, both as in a listing
+pub record Located : Type 0 where
+  pub addresses : List ℕ
+  pub labels : List (List ℕ × ℕ)
+
+-- a listing by its image and names, and the places of its lines
+abbrev pub listing_of : Assembly → Located → Listed
+listing_of a p = record { assembly = a; addresses = p.addresses; labels = p.labels }
+
 -- the listing of a source, or its fault
 unfoldable pub listed : List ℕ → Result Listed AsmFault
 listed source =
@@ -39,6 +48,10 @@ address_of l n =
 abbrev pub bytes_of : Listed → ℕ → List ℕ
 bytes_of l n = option_map_or
     (λ a. slice_range l.assembly.bytes (a - ram_base) (get_or l.addresses n 0 - ram_base)) (address_of l n) []
+
+-- the address following all lines
+abbrev pub end_of : Listed → ℕ
+end_of l = get_or l.addresses (length l.addresses - 1) 0
 
 -- the byte at an address is one of line n
 abbrev pub HasByteAt : Listed → ℕ → ℕ → Type 0

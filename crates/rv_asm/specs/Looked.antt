@@ -1,14 +1,14 @@
 -- The lines of a listing, one by one, and looked up.
 -- The language is this project's own: docs/ASSEMBLER.md.
 -- Not to audit: private contracts alone cite this.
-use Rattle.std.specs.Prelude.{◌≡◌, ℕ, suc, ◌+◌, ◌-◌, ◌<◌, List, ◌++◌, length, get_or, Ok}
+use Rattle.std.specs.Prelude.{◌≡◌, ℕ, suc, ◌<◌, List, ◌++◌, length, get_or, Ok}
 use Rattle.std.specs.List.{flat_map, range_with_len}
 use Rattle.std.specs.List.Sorted.{IsNonDecreasing, IsNonDecreasingBy}
 use Rattle.rv_base.specs.Limits.{ram_base}
 use Rattle.rv_source.specs.Reading.{Parsed, parsed}
 use Rattle.rv_base.specs.Lines.{lines}
 use Rattle.rv_asm.specs.Assembly.{all_parsed, line_bytes}
-use Rattle.rv_asm.specs.Lines.{Listed, bytes_of}
+use Rattle.rv_asm.specs.Lines.{Listed, Located, bytes_of}
 use Rattle.rv_asm.specs.Layout.{labels_in}
 use Rattle.rv_asm.specs.Steps.{Known, after_line}
 
@@ -23,13 +23,12 @@ pub record Lists (k : ℕ) (text : List ℕ) (old new : Known) (labels more : Li
 abbrev pub LabelsRise : List (List ℕ × ℕ) → Type 0
 LabelsRise ls = IsNonDecreasingBy (λ l. l.1) ls
 
--- the lines of a listing lie one after the other over the whole image, and so do its labels
-pub record LiesWhole (l : Listed) : Type 0 where
-  pub some : 0 < length l.addresses
-  pub first : get_or l.addresses 0 0 ≡ ram_base
-  pub last : get_or l.addresses (length l.addresses - 1) 0 ≡ ram_base + length l.assembly.bytes
-  pub rises : IsNonDecreasing l.addresses
-  pub labels : LabelsRise l.labels
+-- lines lie one after the other, and so do the labels
+pub record LieInOrder (p : Located) : Type 0 where
+  pub some : 0 < length p.addresses
+  pub first : get_or p.addresses 0 0 ≡ ram_base
+  pub rises : IsNonDecreasing p.addresses
+  pub labels : LabelsRise p.labels
 
 -- the bytes of each line are those of the assembly, and joined in order they are the image
 pub record AreLinesOf (source : List ℕ) (l : Listed) : Type 0 where

@@ -30,6 +30,6 @@ mod values;
 pub use assembler::assemble;
 pub use diagnosis::{Detail, Diagnosis, Field};
 pub use faults::diagnose;
-pub use listing::{Listing, NearLabel, list};
+pub use listing::{Listing, NearLabel, Places, list};
 pub use locals::LocalLabel;
 pub use rv_program::{AsmFault, FaultKind, Program};

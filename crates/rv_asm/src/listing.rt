@@ -1,12 +1,13 @@
 //! The lines of an accepted source with their addresses and their bytes, and its labels.
 ghost use Rattle.std.specs.Prelude.{◌≡◌, ◌≤◌, ◌<◌, ◌+◌, ◌++◌, ℕ, suc, List, true, false, nat_le, filter, get_or, None, Ok, IfOk, OnOk, length};
-ghost use Rattle.std.specs.List.{All, flat_map, last_or, range_with_len};
+ghost use Rattle.std.specs.List.{All, flat_map, last_or, range_with_len, slice_range};
 ghost use Rattle.std.specs.List.Sorted.{IsNonDecreasing, IsPartitionPoint};
 ghost use Rattle.std.specs.Option.{option_map};
+ghost use Rattle.rv_base.specs.Limits.{ram_base};
 ghost use Rattle.rv_base.specs.Lines.{lines};
 ghost use Rattle.rv_program.specs.Faults.{Gives};
 ghost use Rattle.rv_asm.specs.Assembly.{all_parsed, line_bytes};
-ghost use Rattle.rv_asm.specs.Lines.{listed, bytes_of};
+ghost use Rattle.rv_asm.specs.Lines.{listed, bytes_of, end_of, listing_of};
 ghost use Rattle.rv_asm.specs.Layout.{labels_in};
 ghost use Rattle.rv_asm.specs.Counted.{address, labels, up_to};
 ghost use Rattle.rv_asm.specs.Kept.{last_of};
@@ -84,17 +85,38 @@ pub fn pass(
     }
 }
 
-/// The addresses of the lines of a source, with the one following them all, and its labels.
-#[derive(Drop)]
-struct Places {
+/// Where the lines of an accepted source lie, and its labels.
+pub struct Places {
+    /// The address of each line, and the one following them all.
     addresses: Vec<u32>,
     labels: Vec<PlacedName>,
 }
 
+// Hand-written: a derived `Drop` would be proved anew at each exit (docs/PROVING.md).
+impl Drop for Places {
+    fn drop(self) {
+        let Places {
+            addresses: _,
+            labels: _,
+        } = self;
+    }
+}
+
+impl Model for Places {
+    ghost use Rattle.rv_asm.specs.Lines.{Located};
+    ghost use Rattle.rv_asm.specs.Looked.{LieInOrder};
+
+    ghost Value = { Located };
+
+    ghost view = { λ p. record { addresses = p.addresses.items; labels = p.labels.items } };
+
+    ghost invariant = { λ p. LieInOrder (record { addresses = p.addresses.items; labels = p.labels.items }) };
+}
+
 /// Returns the addresses and the labels of an accepted source.
 fn find_places(alloc: Global, source: &[u8]) -> Result<Places, NoMemory>
-    ensures addresses { IfOk result (λ p. p.addresses.items ≡ up_to (address (all_parsed (lines source.now))) (length (lines source.now))) }
-    ensures labels { IfOk result (λ p. p.labels.items ≡ labels (all_parsed (lines source.now)) (length (lines source.now))) }
+    ensures addresses { IfOk result (λ p. p.addresses ≡ up_to (address (all_parsed (lines source.now))) (length (lines source.now))) }
+    ensures labels { IfOk result (λ p. p.labels ≡ labels (all_parsed (lines source.now)) (length (lines source.now))) }
 {
     let mut known = Known::new(alloc);
     let mut labels = Vec::new(alloc);
@@ -140,108 +162,68 @@ pub struct NearLabel<'a> {
     pub distance: u32,
 }
 
-/// The lines of an accepted source, counted from 1, with their addresses and their bytes, and its labels.
-pub struct Listing {
-    program: Program,
-    /// The address of each line, and the one following them all.
-    addresses: Vec<u32>,
-    labels: Vec<PlacedName>,
+/// The lines of an accepted source, counted from 1, with their addresses and their bytes, and its labels. The
+/// program and the places of its lines are lent.
+#[derive(Clone, Copy)]
+pub struct Listing<'a> {
+    pub program: &'a Program,
+    pub places: &'a Places,
 }
 
-// Hand-written: a derived `Drop` would be proved anew at each exit (docs/PROVING.md).
-impl Drop for Listing {
-    fn drop(self) {
-        let Listing {
-            program: _,
-            addresses: _,
-            labels: _,
-        } = self;
-    }
-}
-
-impl Model for Listing {
-    ghost use Rattle.std.specs.Prelude.{◌≡◌, ◌+◌, ◌<◌, ◌-◌, length, get_or};
-    ghost use Rattle.rv_base.specs.Limits.{ram_base};
-    ghost use Rattle.rv_asm.specs.Lines.{Listed};
-    ghost use Rattle.rv_asm.specs.Looked.{LiesWhole};
-
-    ghost Value = { Listed };
-
-    ghost view = { λ l. record { assembly = l.program; addresses = l.addresses.items; labels = l.labels.items } };
-
-    ghost invariant = { λ l. LiesWhole (record { assembly = l.program; addresses = l.addresses.items; labels = l.labels.items }) };
-}
-
-impl Listing {
+impl<'a> Listing<'a> {
     ghost use Rattle.std.specs.Prelude.{◌≡◌, ◌+◌, ◌-◌, ◌<◌, ◌≤◌, ◌&&◌, ℕ, List, nat_le, nat_lt, filter, length, None, is_some, IfSome, IfNone};
     ghost use Rattle.std.specs.List.{last_or};
     ghost use Rattle.std.specs.Option.{option_map};
     ghost use Rattle.rv_base.specs.Limits.{ram_base};
-    ghost use Rattle.rv_asm.specs.Lines.{address_of, bytes_of, HasByteAt};
-    ghost use Rattle.rv_asm.specs.Looked.{LiesWhole};
-
-    /// Makes the listing of a program and its places.
-    fn new(program: Program, places: Places) -> Listing
-        requires { LiesWhole (record { assembly = program; addresses = places.addresses.items; labels = places.labels.items }) }
-        ensures { result ≡ record { assembly = program; addresses = places.addresses.items; labels = places.labels.items } }
-    {
-        let Places { addresses, labels } = places;
-        Listing {
-            program,
-            addresses,
-            labels,
-        }
-    }
-
-    /// Returns the image and the names of the source, as `assemble` gives them.
-    pub fn program(&self) -> &Program
-        ensures { result.now ≡ self.now.assembly }
-    {
-        &self.program
-    }
+    ghost use Rattle.rv_asm.specs.Lines.{address_of, bytes_of, end_of, HasByteAt};
+    ghost use Rattle.rv_asm.specs.Seen.{seen};
 
     /// Returns the number of lines.
     pub fn len(&self) -> usize
-        ensures { result + 1 ≡ length self.now.addresses }
+        ensures { result + 1 ≡ length (seen self.now).addresses }
     {
-        self.addresses.len() - 1
+        let places = self.places;
+        places.addresses.len() - 1
     }
 
     /// Returns the address of what a line stands for; `None` if there is no such line. A line without bytes
     /// has the address of what follows it.
     pub fn address(&self, line: usize) -> Option<u32>
-        ensures { result ≡ address_of self.now line }
+        ensures { result ≡ address_of (seen self.now) line }
     {
-        if line > 0 && line < self.addresses.len() {
-            Some(self.addresses[line - 1])
+        let places = self.places;
+        if line > 0 && line < places.addresses.len() {
+            Some(places.addresses[line - 1])
         } else {
             None
         }
     }
 
     /// Returns the bytes of a line in the image; none if there is no such line.
-    pub fn bytes(&self, line: usize) -> &[u8]
-        ensures { result.now ≡ bytes_of self.now line }
+    pub fn bytes(&self, line: usize) -> &'a [u8]
+        ensures { result.now ≡ bytes_of (seen self.now) line }
     {
-        if line > 0 && line < self.addresses.len() {
-            let start = (self.addresses[line - 1] - RAM_BASE) as usize;
-            let end = (self.addresses[line] - RAM_BASE) as usize;
-            &self.program.bytes()[start..end]
+        let places = self.places;
+        if line > 0 && line < places.addresses.len() {
+            let start = (places.addresses[line - 1] - RAM_BASE) as usize;
+            let end = (places.addresses[line] - RAM_BASE) as usize;
+            part(self.program.bytes(), start, end)
         } else {
             &[]
         }
     }
 
     /// Returns the number of the line that has a byte at an address; `None` if none has, and the address lies
-    /// outside the image then.
+    /// before or behind all lines then.
     pub fn line_at(&self, address: u32) -> Option<usize>
-        ensures found { IfSome result (HasByteAt self.now address) }
-        ensures none { IfNone result ((m : ℕ) → HasByteAt self.now address m → ⊥) }
-        ensures only { IfSome result (λ n. (m : ℕ) → HasByteAt self.now address m → m ≡ n) }
-        ensures within { is_some result ≡ (nat_le ram_base address && nat_lt address (ram_base + length self.now.assembly.bytes)) }
+        ensures found { IfSome result (HasByteAt (seen self.now) address) }
+        ensures none { IfNone result ((m : ℕ) → HasByteAt (seen self.now) address m → ⊥) }
+        ensures only { IfSome result (λ n. (m : ℕ) → HasByteAt (seen self.now) address m → m ≡ n) }
+        ensures within { is_some result ≡ (nat_le ram_base address && nat_lt address (end_of (seen self.now))) }
     {
-        let count = count_up_to(&self.addresses, address);
-        if count > 0 && count < self.addresses.len() {
+        let places = self.places;
+        let count = count_up_to(&places.addresses, address);
+        if count > 0 && count < places.addresses.len() {
             Some(count)
         } else {
             None
@@ -249,14 +231,15 @@ impl Listing {
     }
 
     /// Returns the last label at an address or before it, with the distance from it.
-    pub fn label_before(&self, address: u32) -> Option<NearLabel<'_>>
-        ensures { option_map {U = List ℕ × ℕ} (λ n. (n.name, n.distance)) result ≡ option_map (λ l. (l.0, address - l.1)) (last_or None (filter (λ l. nat_le l.1 address) self.now.labels)) }
+    pub fn label_before(&self, address: u32) -> Option<NearLabel<'a>>
+        ensures { option_map {U = List ℕ × ℕ} (λ n. (n.name, n.distance)) result ≡ option_map (λ l. (l.0, address - l.1)) (last_or None (filter (λ l. nat_le l.1 address) (seen self.now).labels)) }
     {
-        let count = count_labels(&self.labels, address);
+        let places = self.places;
+        let count = count_labels(&places.labels, address);
         if count == 0 {
             return None;
         }
-        let label = &self.labels[count - 1];
+        let label = &places.labels[count - 1];
         let distance = address - label.address;
         Some(NearLabel {
             name: Name::new(&label.name),
@@ -265,20 +248,30 @@ impl Listing {
     }
 }
 
-/// Returns the listing of a source. It assembles the source, and then reads it again: 4 bytes for each line
-/// and some 50 for each label are kept beside the program.
+/// Returns the elements of a slice from one on up to another, of those that there are.
+fn part(bytes: &[u8], start: usize, end: usize) -> &[u8]
+    requires { start ≤ end }
+    ensures { result.now ≡ slice_range bytes.now start end }
+{
+    let end = end.min(bytes.len());
+    &bytes[start.min(end)..end]
+}
+
+/// Returns the program of a source, and the places of its lines. It assembles the source, and then reads it
+/// again: 4 bytes for each line and some 50 for each label are kept beside the program.
 ///
 /// # Errors
 ///
 /// The fault of `assemble`. `OutOfMemory`, at line 0, may come in place of any result.
-pub fn list(alloc: Global, source: &[u8]) -> Result<Listing, AsmFault>
-    ensures value { Gives (λ l. l) result (listed source.now) }
-    ensures bytes { IfOk result (λ l. (k : ℕ) → k < length (lines source.now) → line_bytes (all_parsed (lines source.now)) k ≡ Ok (bytes_of l (suc k))) }
-    ensures image { IfOk result (λ l. flat_map (λ k. bytes_of l (suc k)) (range_with_len 0 (length (lines source.now))) ≡ l.assembly.bytes) }
+pub fn list(alloc: Global, source: &[u8]) -> Result<(Program, Places), AsmFault>
+    ensures value { Gives (λ l. listing_of l.0 l.1) result (listed source.now) }
+    ensures bytes { IfOk result (λ l. (k : ℕ) → k < length (lines source.now) → line_bytes (all_parsed (lines source.now)) k ≡ Ok (bytes_of (listing_of l.0 l.1) (suc k))) }
+    ensures image { IfOk result (λ l. flat_map (λ k. bytes_of (listing_of l.0 l.1) (suc k)) (range_with_len 0 (length (lines source.now))) ≡ l.0.bytes) }
+    ensures end { IfOk result (λ l. end_of (listing_of l.0 l.1) ≡ ram_base + length l.0.bytes) }
 {
     let program = assemble(alloc, source)?;
     match find_places(alloc, source) {
-        Ok(places) => Ok(Listing::new(program, places)),
+        Ok(places) => Ok((program, places)),
         Err(NoMemory) => Err(AsmFault::at(0, crate::FaultKind::OutOfMemory)),
     }
 }

@@ -1,9 +1,10 @@
 //! The lab: what a caller may ask of it.
 ghost use Rattle.std.specs.Prelude.{◌≡◌, ◌≤◌, max, false, Err, IfErr, IfOk, None, Ok, OnErr, OnOk, ◌++◌, IfSome};
 ghost use Rattle.rv_asm.specs.Lines.{listed};
+ghost use Rattle.rv_asm.specs.Seen.{seen};
 ghost use Rattle.rv_monitor.specs.Laws.{IsReached};
 ghost use Rattle.rv_recording.specs.Recording.{first_board};
-ghost use Rattle.rv_lab.specs.State.{setup, registers_of};
+ghost use Rattle.rv_lab.specs.State.{listing, registers_of, setup};
 ghost use Rattle.rv_operands.specs.Operands.{operand_text};
 ghost use Rattle.rv_lab.specs.declared.command.Command.TheVariants.{StepOnce};
 ghost use Rattle.rv_lab.specs.Commands.{IsWithin, Leaves, Obeys, call_limit, ready};
@@ -17,7 +18,7 @@ use crate::fault::LabFault;
 use crate::plan::Plan;
 use crate::registers::registers_of;
 use rv_answers::{Answer, Registers};
-use rv_asm::{Listing, Program, assemble, list};
+use rv_asm::{Listing, Places, Program, list};
 use rv_base::NoMemory;
 use rv_board::BootedBoard;
 use rv_recording::Recording;
@@ -69,7 +70,7 @@ pub(crate) struct Last {
 pub struct Lab {
     pub(crate) alloc: Global,
     pub(crate) source: Vec<u8>,
-    pub(crate) listing: Listing,
+    pub(crate) places: Places,
     pub(crate) recording: Recording,
     pub(crate) last: Last,
     /// The most steps of one call: a longer run goes on by `go_on`.
@@ -85,7 +86,7 @@ impl Drop for Lab {
         let Lab {
             alloc: _,
             source: _,
-            listing: _,
+            places: _,
             recording: _,
             last: _,
             piece: _,
@@ -104,7 +105,7 @@ impl Model for Lab {
 
     ghost coded = { Prim.hlevel (codes, plic_code, set.code {R = nat_cmp} coded_ℕ) };
 
-    ghost view = { λ l. record { source = l.source.items; listing = l.listing; recording = l.recording; registers = l.last.registers; before = l.last.steps; again = l.last.command; count = l.last.count; listed = l.last.listed; plan = l.last.plan; piece = l.piece } };
+    ghost view = { λ l. record { source = l.source.items; places = l.places; recording = l.recording; registers = l.last.registers; before = l.last.steps; again = l.last.command; count = l.last.count; listed = l.last.listed; plan = l.last.plan; piece = l.piece } };
 }
 
 impl Lab {
@@ -120,13 +121,12 @@ impl Lab {
         ensures err { IfErr result (λ e. OpensLab source.now inputs.now sizes.pages sizes.slots (Err e)) }
         ensures sizes { IfOk result (λ l.
             (l.recording.pages ≡ sizes.pages) × (l.recording.slots ≡ sizes.slots)) }
-        ensures listing { IfOk result (λ l. listed source.now ≡ Ok l.listing) }
+        ensures listing { IfOk result (λ l. listed source.now ≡ Ok (listing l)) }
         ensures begins { IfOk result (λ l. (l.source ≡ source.now) × (l.before ≡ 0)
             × (l.registers ≡ registers_of l.recording.session.timed.board) × (l.again ≡ StepOnce) × (l.count ≡ 1)
             × (l.listed ≡ 0) × (l.plan ≡ None) × (l.piece ≡ 1000000)) }
     {
-        let program = assemble(alloc, source)?;
-        let listing = list(alloc, source)?;
+        let (program, places) = list(alloc, source)?;
         let (pages, slots) = (u32::from(sizes.pages), u32::from(sizes.slots));
         let recording = Recording::open(alloc, program, inputs, pages, slots)?;
         let Ok(source) = Vec::from_slice(alloc, source) else {
@@ -144,7 +144,7 @@ impl Lab {
         Ok(Lab {
             alloc,
             source,
-            listing,
+            places,
             recording,
             last,
             piece: PIECE,
@@ -175,13 +175,25 @@ impl Lab {
     }
 
     /// Returns the program of the source.
-    pub(crate) fn program(&self) -> &Program {
-        self.listing.program()
+    pub(crate) fn program(&self) -> &Program
+        ensures { result.now ≡ self.now.recording.session.program }
+    {
+        self.recording.session().program()
+    }
+
+    /// Returns the lines of the source.
+    pub(crate) fn listing(&self) -> Listing<'_>
+        ensures { seen result ≡ listing self.now }
+    {
+        Listing {
+            program: self.program(),
+            places: &self.places,
+        }
     }
 
     /// Appends the source's name and size, and where the board stands.
     pub fn greet(&self, name: &str, answer: &mut Answer) {
-        let lines = self.listing.len() as u64;
+        let lines = self.listing().len() as u64;
         let bytes = self.program().bytes().len() as u64;
         let form = ": %d line%{s||s}, %d byte%{s||s} from 80000000; `help` shows the commands\n";
         answer.say(name);

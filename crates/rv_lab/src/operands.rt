@@ -2,7 +2,7 @@
 ghost use Rattle.std.specs.Prelude.{◌≡◌, ◌<◌, OnSome};
 ghost use Rattle.rv_base.specs.Words.{words};
 ghost use Rattle.rv_operands.specs.Operands.{address};
-ghost use Rattle.rv_lab.specs.State.{board};
+ghost use Rattle.rv_lab.specs.State.{board, listing};
 ghost use Rattle.rv_lab.specs.Words.{count_of};
 
 use crate::lab::Lab;
@@ -25,11 +25,11 @@ pub(crate) fn count_or(text: &[u8], usual: u64, most: u64) -> Option<u64>
 impl Lab {
     /// Returns what operands speak of.
     pub(crate) fn scope(&self) -> Scope<'_>
-        ensures listing { result.listing.now ≡ self.now.listing }
+        ensures listing { seen result.listing ≡ listing self.now }
         ensures board { result.board.now ≡ board self.now }
     {
         Scope {
-            listing: &self.listing,
+            listing: self.listing(),
             board: self.board(),
         }
     }
@@ -51,7 +51,7 @@ impl Lab {
 
     /// Reads an address. Where a word is none, that is answered.
     pub(crate) fn address_of(&self, command: &str, word: &[u8], answer: &mut Answer) -> Option<u32>
-        ensures value { result ≡ address self.now.listing (board self.now) word.now }
+        ensures value { result ≡ address (listing self.now) (board self.now) word.now }
         ensures quiet { OnSome result (answer.new ≡ answer.old) }
     {
         let address = self.scope().address(word);

@@ -1,10 +1,12 @@
 //! The source with addresses and words.
 ghost use Rattle.std.specs.Prelude.{◌≡◌, ◌-◌, ◌≤◌, OnSome, IfSome, length};
 ghost use Rattle.rv_base.specs.Words.{words};
+ghost use Rattle.rv_asm.specs.Seen.{seen};
 ghost use Rattle.rv_answers.specs.Answer.{Appended};
 ghost use Rattle.rv_lab.specs.declared.command.Command.TheVariants.{List};
 ghost use Rattle.rv_lab.specs.Commands.{Leaves};
 ghost use Rattle.rv_lab.specs.Lines.{bytes_at, excerpt, excerpt_round, line_count, next_excerpt, row_of, rows_or, with_listed};
+ghost use Rattle.rv_lab.specs.State.{listing};
 ghost use Rattle.rv_lab.specs.Rows.{is_here, is_marked, length_text, line_of, line_rows, line_word, list_told, more_told};
 
 use crate::lab::Lab;
@@ -43,8 +45,8 @@ impl Excerpt {
 }
 
 /// Returns the address of a line, if it has bytes.
-fn bytes_at(listing: &Listing, line: usize) -> Option<u32>
-    ensures { result ≡ bytes_at listing.now line }
+fn bytes_at(listing: Listing, line: usize) -> Option<u32>
+    ensures { result ≡ bytes_at (seen listing.entry) line }
 {
     if listing.bytes(line).is_empty() {
         return None;
@@ -53,8 +55,8 @@ fn bytes_at(listing: &Listing, line: usize) -> Option<u32>
 }
 
 /// Returns the number of lines.
-fn line_count(listing: &Listing) -> usize
-    ensures { result ≡ line_count listing.now }
+fn line_count(listing: Listing) -> usize
+    ensures { result ≡ line_count (seen listing.entry) }
 {
     listing.len()
 }
@@ -64,7 +66,7 @@ impl Lab {
     fn is_here(&self, line: usize) -> bool
         ensures { result ≡ is_here self.now line }
     {
-        match line_at(&self.listing, self.board().pc()) {
+        match line_at(self.listing(), self.board().pc()) {
             Some(here) => here == line,
             None => false,
         }
@@ -74,7 +76,7 @@ impl Lab {
     fn is_marked(&self, line: usize) -> bool
         ensures { result ≡ is_marked self.now line }
     {
-        match bytes_at(&self.listing, line) {
+        match bytes_at(self.listing(), line) {
             Some(address) => self.recording.session().has_break(address),
             None => false,
         }
@@ -84,10 +86,10 @@ impl Lab {
     fn line_word(&self, line: usize) -> Option<u32>
         ensures { result ≡ line_word self.now line }
     {
-        if self.listing.bytes(line).len() < 4 {
+        if self.listing().bytes(line).len() < 4 {
             return None;
         }
-        word_at(self.board(), bytes_at(&self.listing, line)?)
+        word_at(self.board(), bytes_at(self.listing(), line)?)
     }
 
     /// Returns the row of a line.
@@ -98,9 +100,9 @@ impl Lab {
         Row {
             is_here: self.is_here(line),
             is_marked: self.is_marked(line),
-            address: bytes_at(&self.listing, line),
+            address: bytes_at(self.listing(), line),
             word: self.line_word(line),
-            has_more: self.listing.bytes(line).len() > 4,
+            has_more: self.listing().bytes(line).len() > 4,
         }
     }
 
@@ -125,9 +127,9 @@ impl Lab {
     fn append_excerpt(&self, excerpt: Excerpt, answer: &mut Answer)
         requires { 1 ≤ excerpt.first }
         ensures { Appended answer.old answer.new
-            (rows_or (length_text (line_count self.now.listing)) self.now excerpt) }
+            (rows_or (length_text (line_count (listing self.now))) self.now excerpt) }
     {
-        let last = line_count(&self.listing);
+        let last = line_count(self.listing());
         if last < excerpt.first {
             return append_length(last, answer);
         }
@@ -140,7 +142,7 @@ impl Lab {
         ensures { self.new ≡ with_listed self.old excerpt }
     {
         let end = (excerpt.first - 1).saturating_add(excerpt.count);
-        self.last.listed = end.min(line_count(&self.listing));
+        self.last.listed = end.min(line_count(self.listing()));
     }
 
     /// Returns the line that a word stands for: its number, or the line at an address. Where there is none,
@@ -153,7 +155,7 @@ impl Lab {
             return Some(line as usize);
         }
         let address = self.address_of("l", word, answer)?;
-        let line = line_at(&self.listing, address);
+        let line = line_at(self.listing(), address);
         if line.is_none() {
             answer.say("l: no line of the source is at ");
             answer.word(address);
@@ -170,7 +172,7 @@ impl Lab {
         ensures quiet { OnSome result (answer.new ≡ answer.old) }
     {
         let Some((word, rest)) = first_word(operands) else {
-            let here = line_at(&self.listing, self.board().pc());
+            let here = line_at(self.listing(), self.board().pc());
             return Some(Excerpt::round(here.unwrap_or(1), USUAL_LINES));
         };
         let line = self.line_of(word, answer)?;
@@ -198,7 +200,7 @@ impl Lab {
         ensures { Appended answer.old answer.new (more_told self.now) }
     {
         let listed = self.last.listed;
-        if line_count(&self.listing) <= listed {
+        if line_count(self.listing()) <= listed {
             return answer.say("that was the last line\n");
         }
         self.append_lines(listed + 1, USUAL_LINES as usize, answer);
@@ -211,6 +213,6 @@ impl Lab {
     {
         self.append_more(answer);
         let end = self.last.listed.saturating_add(USUAL_LINES as usize);
-        self.last.listed = end.min(line_count(&self.listing));
+        self.last.listed = end.min(line_count(self.listing()));
     }
 }

@@ -163,7 +163,7 @@ impl Lab {
         answer.say("  ");
         self.append_place(trap.epc, answer);
         answer.end();
-        if self.listing.line_at(trap.epc).is_some() {
+        if self.listing().line_at(trap.epc).is_some() {
             answer.say("  ");
             append_instruction_at(board, trap.epc, answer);
             answer.end();

@@ -2,6 +2,7 @@
 ghost use Rattle.std.specs.Prelude.{◌≡◌};
 ghost use Rattle.rv_base.specs.Tables.{lookup};
 ghost use Rattle.rv_base.specs.Words.{words};
+ghost use Rattle.rv_asm.specs.Seen.{seen};
 ghost use Rattle.rv_operands.specs.Operands.{condition, word_condition, relations, watched};
 ghost use Rattle.rv_operands.specs.Words.{at_place, named_event, size_from};
 
@@ -35,7 +36,7 @@ impl<'a> Scope<'a> {
     /// Returns what a word watches: a register, or the word of memory at an address between brackets.
     #[tactic(auto, unfolding(crate::specs::Operands::watched))]
     fn watched(&self, word: &[u8]) -> Option<Watched>
-        ensures { result ≡ watched self.now.listing.now self.now.board.now word.now }
+        ensures { result ≡ watched (seen self.now.listing) self.now.board.now word.now }
     {
         if let Some(register) = reg_named(word) {
             return Some(Watched::Register(register));
@@ -46,7 +47,7 @@ impl<'a> Scope<'a> {
 
     /// Returns the number of bytes of a line, or of the next that has some, or 1 where none has.
     fn size(&self, line: usize) -> usize
-        ensures { result ≡ size_from self.now.listing.now line }
+        ensures { result ≡ size_from (seen self.now.listing) line }
     {
         let listing = self.listing;
         match line_with_bytes(listing, line) {
@@ -57,7 +58,7 @@ impl<'a> Scope<'a> {
 
     /// Returns the condition of a place in the source or in memory: pc is there.
     fn at(&self, word: &[u8]) -> Option<Condition>
-        ensures { result ≡ at_place self.now.listing.now self.now.board.now word.now }
+        ensures { result ≡ at_place (seen self.now.listing) self.now.board.now word.now }
     {
         let address = self.address(word)?;
         let size = match line_number(word) {
@@ -84,7 +85,7 @@ impl<'a> Scope<'a> {
     /// Returns the condition of one word: that what it watches changes, what it names, or that pc is there.
     #[tactic(auto, unfolding(crate::specs::Operands::word_condition))]
     fn word_condition(&self, word: &[u8]) -> Option<Condition>
-        ensures { result ≡ word_condition self.now.listing.now self.now.board.now word.now }
+        ensures { result ≡ word_condition (seen self.now.listing) self.now.board.now word.now }
     {
         if let Some(watched) = self.watched(word) {
             // A copy: for the borrow checker the call moves its argument.
@@ -101,7 +102,7 @@ impl<'a> Scope<'a> {
     /// Reads the operands of `until`.
     #[tactic(auto, unfolding(crate::specs::Operands::condition))]
     pub fn condition(&self, operands: &[u8]) -> Option<Condition>
-        ensures { result ≡ condition self.now.listing.now self.now.board.now (words operands.now) }
+        ensures { result ≡ condition (seen self.now.listing) self.now.board.now (words operands.now) }
     {
         let (word, rest) = first_word(operands)?;
         let Some((sign, rest)) = first_word(rest) else {

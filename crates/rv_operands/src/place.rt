@@ -5,6 +5,7 @@ ghost use Rattle.std.specs.Option.{option_map};
 ghost use Rattle.rv_base.specs.Tables.{lookup};
 ghost use Rattle.rv_base.specs.Words.{words};
 ghost use Rattle.rv_commands.specs.Addresses.{address_of};
+ghost use Rattle.rv_asm.specs.Seen.{seen};
 ghost use Rattle.rv_isa.specs.Names.{register_names};
 ghost use Rattle.rv_program.specs.Program.{value_of};
 ghost use Rattle.rv_operands.specs.Operands.{added, address, base_value, break_address, line_with_bytes, sum, word_value};
@@ -21,7 +22,7 @@ use rv_isa::reg_named;
 #[derive(Clone, Copy)]
 pub struct Scope<'a> {
     /// The lines of the source.
-    pub listing: &'a Listing,
+    pub listing: Listing<'a>,
     /// The board.
     pub board: &'a BootedBoard,
 }
@@ -61,8 +62,8 @@ fn sign_place(word: &[u8]) -> usize
 }
 
 /// Returns the first line from this one on that has bytes.
-pub fn line_with_bytes(listing: &Listing, from: usize) -> Option<usize>
-    ensures { result ≡ line_with_bytes listing.now from }
+pub fn line_with_bytes(listing: Listing, from: usize) -> Option<usize>
+    ensures { result ≡ line_with_bytes (seen listing.entry) from }
 {
     for line in from..=listing.len() {
         if !listing.bytes(line).is_empty() {
@@ -102,13 +103,13 @@ impl<'a> Scope<'a> {
     /// Returns the value of a name, or of `0x` and a number.
     #[tactic(auto, unfolding(rv_commands::specs::Addresses::address_of))]
     fn symbol(&self, word: &[u8]) -> Option<u32>
-        ensures { result ≡ address_of (value_of self.now.listing.now.assembly.symbols) word.now }
+        ensures { result ≡ address_of (value_of (seen self.now.listing).assembly.symbols) word.now }
     {
         if word.starts_with(b"0x") {
             return hexadecimal(word.split_at(2).1);
         }
-        let listing = self.listing;
-        let value = listing.program().symbol(word)?;
+        let program = self.listing.program;
+        let value = program.symbol(word)?;
         Some(low_word(value.cast_unsigned()))
     }
 
@@ -124,7 +125,7 @@ impl<'a> Scope<'a> {
     /// Returns the value of a name, a number after `0x`, `pc` or a register.
     #[tactic(auto, using(crate::proofs::Lines::base_told))]
     fn base(&self, word: &[u8]) -> Option<u32>
-        ensures { result ≡ base_value self.now.listing.now self.now.board.now word.now }
+        ensures { result ≡ base_value (seen self.now.listing) self.now.board.now word.now }
     {
         if let Some(value) = self.symbol(word) {
             return Some(value);
@@ -139,7 +140,7 @@ impl<'a> Scope<'a> {
     /// Returns the value of a base with what is added.
     #[tactic(auto, unfolding(crate::specs::Operands::sum))]
     pub(crate) fn sum(&self, word: &[u8]) -> Option<u32>
-        ensures { result ≡ sum (base_value self.now.listing.now self.now.board.now) word.now }
+        ensures { result ≡ sum (base_value (seen self.now.listing) self.now.board.now) word.now }
     {
         let Sum { base, added } = split_sum(word);
         let value = self.base(base)?;
@@ -150,7 +151,7 @@ impl<'a> Scope<'a> {
     /// Returns the address that a word stands for: that of a line, or a base with what is added.
     #[tactic(auto, unfolding(crate::specs::Operands::address))]
     pub fn address(&self, word: &[u8]) -> Option<u32>
-        ensures { result ≡ address self.now.listing.now self.now.board.now word.now }
+        ensures { result ≡ address (seen self.now.listing) self.now.board.now word.now }
     {
         match line_number(word) {
             Some(line) => {
@@ -163,7 +164,7 @@ impl<'a> Scope<'a> {
 
     /// Returns the value of a base, which is 0 where there is only a sign.
     fn base_or_zero(&self, word: &[u8]) -> Option<u32>
-        ensures { result ≡ base_or_zero self.now.listing.now self.now.board.now word.now }
+        ensures { result ≡ base_or_zero (seen self.now.listing) self.now.board.now word.now }
     {
         if word.is_empty() {
             return Some(0);
@@ -174,7 +175,7 @@ impl<'a> Scope<'a> {
     /// Returns the value that a word stands for: a number, or a base with what is added.
     #[tactic(auto, unfolding(crate::specs::Operands::word_value, crate::specs::Operands::sum))]
     pub fn value(&self, word: &[u8]) -> Option<u32>
-        ensures { result ≡ word_value self.now.listing.now self.now.board.now word.now }
+        ensures { result ≡ word_value (seen self.now.listing) self.now.board.now word.now }
     {
         if let Some(value) = number(word) {
             return Some(value);
@@ -187,7 +188,7 @@ impl<'a> Scope<'a> {
 
     /// Returns the address of the first line from this one on that has bytes.
     fn next_address(&self, line: usize) -> Option<u32>
-        ensures { result ≡ next_address self.now.listing.now line }
+        ensures { result ≡ next_address (seen self.now.listing) line }
     {
         let listing = self.listing;
         listing.address(line_with_bytes(listing, line)?)
@@ -197,7 +198,7 @@ impl<'a> Scope<'a> {
     /// the next one that has some.
     #[tactic(auto, unfolding(crate::specs::Operands::break_address))]
     pub fn break_address(&self, operands: &[u8]) -> Option<u32>
-        ensures { result ≡ break_address self.now.listing.now self.now.board.now (words operands.now) }
+        ensures { result ≡ break_address (seen self.now.listing) self.now.board.now (words operands.now) }
     {
         let word = only_word(operands)?;
         match line_number(word) {

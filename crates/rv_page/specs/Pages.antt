@@ -4,7 +4,7 @@ use Rattle.std.specs.Prelude.{◌≡◌, ◌≢◌, ℕ, false, None, IfSome, Ok
 use Rattle.std.specs.Option.{option_map_or}
 use Rattle.rv_asm.specs.Lines.{listed}
 use Rattle.rv_lab.specs.Opening.{OpensLab}
-use Rattle.rv_lab.specs.State.{LabState}
+use Rattle.rv_lab.specs.State.{LabState, listing}
 use Rattle.rv_lab.specs.declared.fault.LabFault.{LabFault}
 use Rattle.rv_lab.specs.declared.fault.LabFault.TheVariants.{OutOfMemory}
 use Rattle.rv_page.specs.declared.state.State.{State}
@@ -37,7 +37,7 @@ pub record IsOpened (source inputs : List ℕ) (pages slots : ℕ) (l : LabState
   pub session : OpensLab source inputs pages slots (Ok l.recording.session)
   pub sizes : (l.recording.pages ≡ pages) × (l.recording.slots ≡ slots)
   pub text : l.source ≡ source
-  pub listing : listed source ≡ Ok l.listing
+  pub listing : listed source ≡ Ok (listing l)
   pub plan : l.plan ≡ None
 
 -- there is no such lab, for a fault of the source, the timed list or the board

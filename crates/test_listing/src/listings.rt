@@ -21,7 +21,11 @@ fn push_line(
 
 /// Returns the listing of a source as a text.
 fn text_of(alloc: Global, source: &[u8]) -> Result<Vec<u8>, &'static str> {
-    let listing = list(alloc, source).ok().ok_or("the source is refused")?;
+    let (program, places) = list(alloc, source).ok().ok_or("the source is refused")?;
+    let listing = Listing {
+        program: &program,
+        places: &places,
+    };
     let mut out = Vec::new(alloc);
     for index in 0..listing.len() {
         push_line(alloc, &mut out, &listing, index + 1)
@@ -132,9 +136,13 @@ fn check_labels(rt: &impl Abort, alloc: Global, listing: &Listing) -> Result<(),
 
 #[test]
 fn finds_lines_and_labels(rt: HostRuntime) -> Result<(), Fail> {
-    let listing = list(rt.alloc(), SOURCE)
+    let (program, places) = list(rt.alloc(), SOURCE)
         .ok()
         .ok_or("the source is refused")?;
+    let listing = Listing {
+        program: &program,
+        places: &places,
+    };
     check_lines(&rt, &listing);
     check_labels(&rt, rt.alloc(), &listing)
 }

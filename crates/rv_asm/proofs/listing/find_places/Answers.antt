@@ -5,7 +5,7 @@ use Rattle.rv_asm.specs.Assembly.{all_parsed}
 use Rattle.rv_asm.specs.Counted.{joined, up_to}
 use Rattle.rv_asm.specs.Steps.{Known, known_before}
 use Rattle.rv_asm.proofs.Reading.{begun, laid_out-zero, up_to_laid_out, read_more}
-use Rattle.rv_asm.proofs.Lined.{layout_more, addresses_pushed, labels_more}
+use Rattle.rv_asm.proofs.Lined.{layout_more, addresses_pushed, labels_more, lie_in_order}
 use Rattle.rv_asm.proofs.listing.find_places.Goals as goal
 
 pub loop-text-init : goal.loop-text-init
@@ -61,3 +61,8 @@ loop-text-preserved c =
           c.loop-text.invariant.labels took.appends;
       counted = omega (arith, c.loop-text.invariant.counted, ap length cut);
     }
+
+pub invariant_of-result : goal.invariant_of-result
+invariant_of-result c =
+    rw (c.loop-text.invariant.addresses, c.loop-text.invariant.labels)
+    (lie_in_order (all_parsed (lines c.args.source.now)) c.loop-text.number)
