@@ -1,7 +1,7 @@
 -- The listing of an accepted source.
 use Rattle.std.proofs.Common.{◌≡◌, ℕ, zero, suc, ◌+◌, ◌-◌, ◌<◌, ◌≤◌, Bool, true, false, cond, List, [], ◌∷◌, ◌++◌, length, drop, get_or, slice_range, refl, sym, ap, ◌∙◌, arith, length-append, length-drop, append-nil, append_assoc, add-one, add-zero, add-suc}
-use Rattle.std.specs.Prelude.{Option, None, Some, nat_lt, ◌&&◌, Result, Ok, Err}
-use Rattle.std.specs.Option.{option_or, option_map_or}
+use Rattle.std.specs.Prelude.{Option, None, Some, IfSome, nat_lt, ◌&&◌, Result, Ok, Err}
+use Rattle.std.specs.Option.{option_map, option_or, option_map_or}
 use Rattle.std.specs.Result.{result_err, result_unwrap_or}
 use Rattle.std.specs.List.{All}
 use Rattle.std.specs.List.Sorted.{IsNonDecreasing, IsNonDecreasingBy}
@@ -17,6 +17,7 @@ use Rattle.rv_source.specs.declared.line.Label.{Label}
 use Rattle.rv_source.specs.declared.line.Label.TheVariants as label
 use Rattle.rv_program.specs.Program.{Assembly}
 use Rattle.rv_program.specs.declared.fault.FaultKind.{FaultKind}
+use Rattle.rv_program.specs.Faults.{Gives}
 use Rattle.rv_program.specs.declared.fault.AsmFault.{AsmFault}
 use Rattle.rv_asm.specs.Layout.{line_at, definitions, phase_two_fault, labels_in}
 use Rattle.rv_asm.specs.Assembly.{all_parsed, line_bytes, assembled}
@@ -24,7 +25,8 @@ use Rattle.rv_asm.specs.Counted.{phase_three_fault, address, joined, first, firs
 use Rattle.rv_asm.proofs.Counting.{joined_is, up_to_is, assembled_is}
 use Rattle.rv_asm.specs.Lines.{Listed, Located, listed, bytes_of, end_of}
 use Rattle.rv_asm.specs.Steps.{Known, known_before, laid_out, after_line}
-use Rattle.rv_asm.specs.Looked.{LabelsRise, LieInOrder, AreLinesOf}
+use Rattle.rv_asm.specs.Looked.{LabelsRise, LieInOrder, AreLinesOf, located, with_line}
+use Rattle.rv_asm.specs.Taken.{so_far, Without}
 use Rattle.rv_asm.proofs.Listed.{size_listed, none_last, none_before}
 use Rattle.rv_asm.proofs.Whole.{length-parsed}
 use Rattle.rv_asm.proofs.Reading.{SoFar, known_is, read_line_at, laid_out_more}
@@ -319,23 +321,30 @@ module _ (texts rest : List (List ℕ)) (n : ℕ) (so : SoFar texts rest n) (tex
   pub layout_more : laid_out (all_parsed texts) (n + 1) ≡ Ok new
   layout_more = sym (laid_out_more texts rest n so text after cut line is) ∙ (rw (old, next) refl)
 
-  pub addresses_more : (xs : List ℕ) → xs ≡ up_to (address (all_parsed texts)) n →
-      xs ++ new.address ∷ [] ≡ up_to (address (all_parsed texts)) (n + 1)
-  unfolding up_to
-  addresses_more xs h =
-      let e : new.address ≡ address (all_parsed texts) (n + 1) = ap (λ (s : Known). s.address)
-      (known_is (all_parsed texts) (n + 1) new layout_more) in
-      rw (e, h, add-one) refl
+-- ---- the notes of lines
 
-  pub addresses_pushed : (xs ys : List ℕ) → ys ≡ xs ++ new.address ∷ [] →
-      xs ≡ up_to (address (all_parsed texts)) n →
-      ys ≡ up_to (address (all_parsed texts)) (n + 1)
-  addresses_pushed xs ys e h = e ∙ addresses_more xs h
+pub noted_begun : (ls : List Parsed) (notes : Option Located) → IfSome notes (λ n. n ≡ located [] 0) →
+    notes ≡ option_map (λ _. located ls 0) notes
+unfolding known_before up_to joined
+noted_begun ls None h = refl
+noted_begun ls (Some n) h = rw h refl
 
-  pub labels_more : (xs ys : List (List ℕ × ℕ)) → xs ≡ labels (all_parsed texts) n →
-      ys ≡ xs ++ labels_in known.address line.labels → ys ≡ labels (all_parsed texts) (n + 1)
-  unfolding joined
-  labels_more xs ys h e =
-      let here : known.address ≡ address (all_parsed texts) n = ap (λ (s : Known). s.address)
-      (known_is (all_parsed texts) n known old) in
-      rw (e, h, here, ← read_line_at texts rest n so text after cut line is, add-one) refl
+noted_by : (ls : List Parsed) (n : ℕ) (first : Option Located) →
+    option_map (with_line (address ls n) (line_at ls n).labels (address ls (suc n))) (option_map (λ _. located ls n) first)
+    ≡ option_map (λ _. located ls (suc n)) first
+unfolding up_to joined
+noted_by ls n None = refl
+noted_by ls n (Some p) = refl
+
+pub noted_line : (A : Type 0) (ls : List Parsed) (n : ℕ) (old new : Option AsmFault) (known after : Known)
+    (first notes more : Option Located) (line : Parsed) → line_at ls n ≡ line
+    → Gives (λ s. s) (so_far old known) (laid_out ls n) → Gives (λ s. s) (so_far new after) (laid_out ls (n + 1))
+    → Without old (notes ≡ option_map (λ _. located ls n) first) → Without new ((old ≡ None) × A)
+    → Without new (more ≡ option_map (with_line known.address line.labels after.address) notes)
+    → Without new (more ≡ option_map (λ _. located ls (n + 1)) first)
+noted_line A ls n old (Some fault) known after first notes more line at before now so_far none adds = tt
+noted_line A ls n (Some fault) None known after first notes more line at before now so_far none adds = absurd cc
+noted_line A ls n None None known after first notes more line at before now so_far none adds =
+    let here = known_is ls n known before in
+    let end = known_is ls (n + 1) after now in
+    rw (adds, so_far, here, end, ← at, add-one) (noted_by ls n first)

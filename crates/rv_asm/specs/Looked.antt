@@ -1,23 +1,28 @@
 -- The lines of a listing, one by one, and looked up.
 -- The language is this project's own: docs/ASSEMBLER.md.
 -- Not to audit: private contracts alone cite this.
-use Rattle.std.specs.Prelude.{◌≡◌, ℕ, suc, ◌<◌, List, ◌++◌, length, get_or, Ok}
+use Rattle.std.specs.Prelude.{◌≡◌, ℕ, suc, ◌<◌, List, [], ◌∷◌, ◌++◌, length, get_or, Ok}
 use Rattle.std.specs.List.{flat_map, range_with_len}
 use Rattle.std.specs.List.Sorted.{IsNonDecreasing, IsNonDecreasingBy}
 use Rattle.rv_base.specs.Limits.{ram_base}
-use Rattle.rv_source.specs.Reading.{Parsed, parsed}
+use Rattle.rv_source.specs.Reading.{Parsed}
+use Rattle.rv_source.specs.declared.line.Label.{Label}
 use Rattle.rv_base.specs.Lines.{lines}
 use Rattle.rv_asm.specs.Assembly.{all_parsed, line_bytes}
 use Rattle.rv_asm.specs.Lines.{Listed, Located, bytes_of}
 use Rattle.rv_asm.specs.Layout.{labels_in}
-use Rattle.rv_asm.specs.Steps.{Known, after_line}
+use Rattle.rv_asm.specs.Counted.{address, labels, up_to}
 
--- line k is read and laid out, and its labels are appended
-pub record Lists (k : ℕ) (text : List ℕ) (old new : Known) (labels more : List (List ℕ × ℕ)) : Type 0 where
-  pub line : Parsed
-  pub read : parsed text ≡ Ok line
-  pub after : after_line k old line ≡ Ok new
-  pub appends : more ≡ labels ++ labels_in old.address line.labels
+-- with a line more, from an address up to another
+abbrev pub with_line : ℕ → List Label → ℕ → Located → Located
+with_line here ls end p = record {
+  addresses = p.addresses ++ end ∷ [];
+  labels = p.labels ++ labels_in here ls;
+}
+
+-- the first n lines
+abbrev pub located : List Parsed → ℕ → Located
+located ls n = record { addresses = up_to (address ls) n; labels = labels ls n }
 
 -- the addresses of labels never fall
 abbrev pub LabelsRise : List (List ℕ × ℕ) → Type 0

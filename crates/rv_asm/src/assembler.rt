@@ -1,6 +1,7 @@
 //! The phases of assembly, from a source to its image.
-ghost use Rattle.std.specs.Prelude.{◌≡◌, ◌+◌, ◌≤◌, ◌<◌, [], None, Result, Ok, IfOk, IfErr, OnOk, length};
+ghost use Rattle.std.specs.Prelude.{◌≡◌, ◌+◌, ◌≤◌, ◌<◌, [], None, Result, Ok, IfOk, IfErr, IfSome, OnOk, length};
 ghost use Rattle.std.specs.List.{All};
+ghost use Rattle.std.specs.Option.{option_map};
 ghost use Rattle.rv_base.specs.Lines.{lines};
 ghost use Rattle.rv_source.specs.Reading.{parsed, line_form};
 ghost use Rattle.rv_program.specs.declared.fault.AsmFault.{AsmFault};
@@ -8,9 +9,11 @@ ghost use Rattle.rv_program.specs.Faults.{Gives, kind_of};
 ghost use Rattle.rv_program.specs.Kept.{IsFaultAt};
 ghost use Rattle.rv_asm.specs.Assembly.{all_parsed, assembled};
 ghost use Rattle.rv_asm.specs.Steps.{Known as KnownValue, AddsLine, Writes, start, extended, lines_laid_out, image_of};
+ghost use Rattle.rv_asm.specs.Looked.{located};
 ghost use Rattle.rv_asm.specs.Taken.{so_far, Without, IsUnread, Takes};
 
 use crate::layout::Known;
+use crate::notes::{Notes, note};
 use crate::placement::PlacedStatement;
 use crate::symbols::Symbols;
 use crate::{AsmFault, FaultKind, Program};
@@ -36,11 +39,12 @@ fn take<'a>(
     text: &'a [u8],
     known: &mut Known,
     items: &mut Vec<PlacedStatement<'a>>,
+    notes: &mut Option<Notes>,
     fault: &mut Option<AsmFault>,
 ) -> Result<(), AsmFault>
     requires up_to { IfOk (so_far fault.old known.old) (λ l. All (λ d. d.line ≤ number) l.definitions.locals) }
     requires counted { number < 0xffffffffffffffff }
-    ensures ok { OnOk result (Takes number text.now fault.old known.old items.old.items fault.new known.new items.new.items) }
+    ensures ok { OnOk result (Takes number text.now fault.old known.old items.old.items notes.old fault.new known.new items.new.items notes.new) }
     ensures err { IfErr result (IsUnread number text.now) }
 {
     let line = match read_line_form(alloc, text) {
@@ -54,29 +58,37 @@ fn take<'a>(
     if fault.is_some() {
         return Ok(());
     }
+    let here = known.address();
     if let Err(kind) = known.add(alloc, number, text, line.labels(), &statement, items) {
         *fault = Some(AsmFault::at(number + 1, kind));
+        return Ok(());
     }
-    Ok(())
+    match note(alloc, notes, here, line.labels(), known.address()) {
+        Ok(()) => Ok(()),
+        Err(_) => Err(unread(number, LineFault::OutOfMemory)),
+    }
 }
 
-/// Performs phases one and two line by line. A fault of phase two is kept until all lines are read, since a
-/// fault of phase one on a later line takes precedence.
+/// Performs phases one and two line by line, with notes of the lines if they are wanted. A fault of phase two
+/// is kept until all lines are read, since a fault of phase one on a later line takes precedence.
 pub fn lay_out<'a>(
     alloc: Global,
     source: &'a [u8],
     known: &mut Known,
     items: &mut Vec<PlacedStatement<'a>>,
+    notes: &mut Option<Notes>,
 ) -> Result<(), AsmFault>
     requires known { known.old ≡ start }
     requires items { items.old.items ≡ [] }
+    requires notes { IfSome notes.old (λ n. n ≡ located [] 0) }
     ensures layout { Gives (λ _. known.new) result (lines_laid_out (lines source.now)) }
     ensures items { OnOk result (Writes (all_parsed (lines source.now)) (length (lines source.now)) items.new.items) }
+    ensures notes { OnOk result (notes.new ≡ option_map (λ _. located (all_parsed (lines source.now)) (length (lines source.now))) notes.old) }
 {
     let mut fault = None;
     let mut number: usize = 0;
     for text in cut_lines(source) {
-        if let Err(unread) = take(alloc, number, text, known, items, &mut fault) {
+        if let Err(unread) = take(alloc, number, text, known, items, notes, &mut fault) {
             return Err(unread);
         }
         number += 1;
@@ -104,6 +116,23 @@ pub fn image(
     Ok(out)
 }
 
+/// Assembles a source into its image and its names, with notes of its lines if they are wanted.
+pub fn assemble_noting(
+    alloc: Global,
+    source: &[u8],
+    notes: &mut Option<Notes>,
+) -> Result<Program, AsmFault>
+    requires { IfSome notes.old (λ n. n ≡ located [] 0) }
+    ensures program { Gives (λ p. p) result (assembled source.now) }
+    ensures notes { OnOk result (notes.new ≡ option_map (λ _. located (all_parsed (lines source.now)) (length (lines source.now))) notes.old) }
+{
+    let mut known = Known::new(alloc);
+    let mut items = Vec::new(alloc);
+    lay_out(alloc, source, &mut known, &mut items, notes)?;
+    let bytes = image(alloc, &items, known.symbols())?;
+    Ok(Program::new(bytes, known.into_names()))
+}
+
 /// Assembles a source into its image and its names.
 ///
 /// # Errors
@@ -113,9 +142,5 @@ pub fn image(
 pub fn assemble(alloc: Global, source: &[u8]) -> Result<Program, AsmFault>
     ensures { Gives (λ p. p) result (assembled source.now) }
 {
-    let mut known = Known::new(alloc);
-    let mut items = Vec::new(alloc);
-    lay_out(alloc, source, &mut known, &mut items)?;
-    let bytes = image(alloc, &items, known.symbols())?;
-    Ok(Program::new(bytes, known.into_names()))
+    assemble_noting(alloc, source, &mut None)
 }

@@ -21,6 +21,7 @@ mod kept;
 mod layout;
 mod listing;
 mod locals;
+mod notes;
 mod origins;
 mod placement;
 mod single;

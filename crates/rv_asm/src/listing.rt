@@ -11,79 +11,15 @@ ghost use Rattle.rv_asm.specs.Lines.{listed, bytes_of, end_of, listing_of};
 ghost use Rattle.rv_asm.specs.Layout.{labels_in};
 ghost use Rattle.rv_asm.specs.Counted.{address, labels, up_to};
 ghost use Rattle.rv_asm.specs.Kept.{last_of};
-ghost use Rattle.rv_asm.specs.Looked.{Lists, LabelsRise};
+ghost use Rattle.rv_asm.specs.Looked.{LabelsRise};
 
-use crate::assembler::assemble;
-use crate::layout::Known;
+use crate::assembler::assemble_noting;
+use crate::notes::{Notes, PlacedName};
 use crate::{AsmFault, Program};
-use rv_base::{NoMemory, RAM_BASE, cut_lines};
-use rv_source::{Label, Name, read_line_form};
+use rv_base::RAM_BASE;
+use rv_source::Name;
 use std::alloc::Global;
 use std::marker::Model;
-
-/// A name that a line defines as a label, with its address.
-#[derive(Drop)]
-pub struct PlacedName {
-    name: Vec<u8>,
-    address: u32,
-}
-
-impl Model for PlacedName {
-    ghost use Rattle.std.specs.Prelude.{List, ℕ};
-
-    ghost Value = { List ℕ × ℕ };
-
-    ghost view = { λ p. (p.name.items, p.address) };
-}
-
-/// Appends the names of labels at an address.
-fn push_names(
-    alloc: Global,
-    address: u32,
-    labels: &[Label],
-    out: &mut Vec<PlacedName>,
-) -> Result<(), NoMemory>
-    ensures { OnOk result (out.new.items ≡ out.old.items ++ labels_in address labels.now) }
-{
-    let [first, rest @ ..] = labels else {
-        return Ok(());
-    };
-    if let Label::Name(name) = first {
-        let name = name.bytes().to_vec(alloc)?;
-        if out.push(PlacedName { name, address }).is_err() {
-            return Err(NoMemory);
-        }
-    }
-    push_names(alloc, address, rest, out)
-}
-
-/// Lays out a line of an accepted source, and appends its labels. That such a line has no fault isn't used:
-/// one would be answered as out of memory.
-#[tactic(auto, using(rv_source::proofs::Parsed::as_parsed))]
-pub fn pass(
-    alloc: Global,
-    number: usize,
-    text: &[u8],
-    known: &mut Known,
-    labels: &mut Vec<PlacedName>,
-) -> Result<(), NoMemory>
-    requires up_to { All (λ d. d.line ≤ number) known.old.definitions.locals }
-    requires counted { number < 0xffffffffffffffff }
-    ensures { OnOk result (Lists number text.now known.old known.new labels.old.items labels.new.items) }
-{
-    let Ok(line) = read_line_form(alloc, text) else {
-        return Err(NoMemory);
-    };
-    let Ok(statement) = line.statement() else {
-        return Err(NoMemory);
-    };
-    push_names(alloc, known.address(), line.labels(), labels)?;
-    let mut items = Vec::new(alloc);
-    match known.add(alloc, number, text, line.labels(), &statement, &mut items) {
-        Ok(()) => Ok(()),
-        Err(_) => Err(NoMemory),
-    }
-}
 
 /// Where the lines of an accepted source lie, and its labels.
 pub struct Places {
@@ -113,26 +49,17 @@ impl Model for Places {
     ghost invariant = { λ p. LieInOrder (record { addresses = p.addresses.items; labels = p.labels.items }) };
 }
 
-/// Returns the addresses and the labels of an accepted source.
-fn find_places(alloc: Global, source: &[u8]) -> Result<Places, NoMemory>
-    ensures addresses { IfOk result (λ p. p.addresses ≡ up_to (address (all_parsed (lines source.now))) (length (lines source.now))) }
-    ensures labels { IfOk result (λ p. p.labels ≡ labels (all_parsed (lines source.now)) (length (lines source.now))) }
-{
-    let mut known = Known::new(alloc);
-    let mut labels = Vec::new(alloc);
-    let mut addresses = Vec::new(alloc);
-    if addresses.push(known.address()).is_err() {
-        return Err(NoMemory);
+impl Places {
+    ghost use Rattle.std.specs.Prelude.{◌≡◌};
+    ghost use Rattle.rv_asm.specs.Looked.{LieInOrder};
+
+    fn of(notes: Notes) -> Places
+        requires { LieInOrder notes }
+        ensures { result ≡ notes }
+    {
+        let Notes { addresses, labels } = notes;
+        Places { addresses, labels }
     }
-    let mut number: usize = 0;
-    for text in cut_lines(source) {
-        pass(alloc, number, text, &mut known, &mut labels)?;
-        if addresses.push(known.address()).is_err() {
-            return Err(NoMemory);
-        }
-        number += 1;
-    }
-    Ok(Places { addresses, labels })
 }
 
 /// Returns how many numbers are no greater than `most`.
@@ -257,8 +184,8 @@ fn part(bytes: &[u8], start: usize, end: usize) -> &[u8]
     &bytes[start.min(end)..end]
 }
 
-/// Returns the program of a source, and the places of its lines. It assembles the source, and then reads it
-/// again: 4 bytes for each line and some 50 for each label are kept beside the program.
+/// Returns the program of a source, and the places of its lines: 4 bytes for each line and some 50 for each
+/// label are kept beside the program.
 ///
 /// # Errors
 ///
@@ -269,9 +196,10 @@ pub fn list(alloc: Global, source: &[u8]) -> Result<(Program, Places), AsmFault>
     ensures image { IfOk result (λ l. flat_map (λ k. bytes_of (listing_of l.0 l.1) (suc k)) (range_with_len 0 (length (lines source.now))) ≡ l.0.bytes) }
     ensures end { IfOk result (λ l. end_of (listing_of l.0 l.1) ≡ ram_base + length l.0.bytes) }
 {
-    let program = assemble(alloc, source)?;
-    match find_places(alloc, source) {
-        Ok(places) => Ok((program, places)),
-        Err(NoMemory) => Err(AsmFault::at(0, crate::FaultKind::OutOfMemory)),
+    let mut notes = Some(Notes::new(alloc)?);
+    let program = assemble_noting(alloc, source, &mut notes)?;
+    match notes {
+        Some(notes) => Ok((program, Places::of(notes))),
+        None => unreachable!(),
     }
 }

@@ -1,5 +1,5 @@
 use Rattle.std.proofs.Common.{length}
-use Rattle.rv_asm.proofs.listing.+push_names.Given as goal
+use Rattle.rv_asm.proofs.notes.+push_names.Given as goal
 
 abbrev pub decreases-push_names : goal.decreases-push_names
 decreases-push_names l = length l.labels.now

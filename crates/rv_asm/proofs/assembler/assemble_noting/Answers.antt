@@ -5,10 +5,10 @@ use Rattle.rv_asm.specs.Assembly.{all_parsed}
 use Rattle.rv_asm.specs.Steps.{lines_laid_out, written}
 use Rattle.rv_asm.proofs.Runs.{fails_bind}
 use Rattle.rv_asm.proofs.Whole.{whole, finished, program_of, image_fits}
-use Rattle.rv_asm.proofs.assembler.assemble.Goals as goal
+use Rattle.rv_asm.proofs.assembler.assemble_noting.Goals as goal
 
-pub returns-in_err-lay_out : goal.returns-in_err-lay_out
-returns-in_err-lay_out c =
+pub returns-in_err-lay_out-clause-program : goal.returns-in_err-lay_out-clause-program
+returns-in_err-lay_out-clause-program c =
     let p = err_from_is_err_and c.from_residual.result c.from_residual.ensures.1 in
     let fault = c.in_err-lay_out.field-0.0 in
     let texts = lines c.args.source.now in
@@ -16,8 +16,8 @@ returns-in_err-lay_out c =
     c.in_err-lay_out.ensures.layout in
     rw (p.1, p.2, whole c.args.source.now) f
 
-pub returns-in_err-bytes : goal.returns-in_err-bytes
-returns-in_err-bytes c =
+pub returns-in_err-bytes-clause-program : goal.returns-in_err-bytes-clause-program
+returns-in_err-bytes-clause-program c =
     let p = err_from_is_err_and c.from_residual-in_err-bytes.result c.from_residual-in_err-bytes.ensures.1 in
     let fault = c.in_err-bytes.field-0.0 in
     let texts = lines c.args.source.now in
@@ -35,8 +35,8 @@ new-requires c =
     image_fits c.args.source.now c.lay_out.new.known c.in_ok-bytes.bytes.items
     c.in_ok-lay_out.ensures.layout image
 
-pub returns : goal.returns
-returns c =
+pub returns-clause-program : goal.returns-clause-program
+returns-clause-program c =
     let ds = c.lay_out.new.known.definitions in
     let image = rw (c.symbols.ensures, c.deref.ensures.value, c.in_ok-lay_out.ensures.items ds) at
     c.in_ok-bytes.ensures in
