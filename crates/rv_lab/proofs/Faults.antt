@@ -1,7 +1,8 @@
 -- The faults of a source and of an opening are those of the lab.
-use Rattle.std.proofs.Common.{◌≡◌, ℕ, List, Ok, Err}
+use Rattle.std.proofs.Common.{◌≡◌, ℕ, List, Result, Ok, Err, subst}
 use Rattle.rv_asm.specs.Assembly.{assembled}
 use Rattle.rv_monitor.specs.Opening.{Opens}
+use Rattle.rv_monitor.specs.State.{SessionState}
 use Rattle.rv_monitor.specs.declared.opening.OpenFault.{OpenFault}
 use Rattle.rv_monitor.specs.declared.opening.OpenFault.TheVariants as opening
 use Rattle.rv_program.specs.Kept.{Fails, FailsBy}
@@ -10,7 +11,7 @@ use Rattle.rv_program.specs.declared.fault.AsmFault.{AsmFault}
 use Rattle.rv_program.specs.declared.fault.FaultKind.{FaultKind}
 use Rattle.rv_program.specs.declared.fault.FaultKind.TheVariants as kind
 use Rattle.rv_lab.specs.Faults.{source_fault, unopened_fault}
-use Rattle.rv_lab.specs.Opening.{OpensLab}
+use Rattle.rv_lab.specs.Opening.{OpensBy, OpensLab}
 
 module _ (source inputs : List ℕ) (pages slots : ℕ) where
   refused_by : (kind : FaultKind) (why : AsmFault) → FailsBy kind why (assembled source)
@@ -33,10 +34,20 @@ module _ (source inputs : List ℕ) (pages slots : ℕ) where
       → OpensLab source inputs pages slots (Err (source_fault why.kind why))
   source_refused why h = refused_by why.kind why h
 
+  -- what the program opens is what the source opens
+  pub opens_by : (program : Assembly) (p s : ℕ) (opened : Result SessionState OpenFault)
+      → assembled source ≡ Ok program → p ≡ pages → s ≡ slots → Opens program inputs p s 9999999999 opened
+      → OpensBy source inputs pages slots opened
+  opens_by program p s opened is one two h = (
+    program,
+    is,
+    subst (λ n. Opens program inputs n slots 9999999999 opened) one
+        (subst (λ n. Opens program inputs p n 9999999999 opened) two h),
+  )
+
   -- a program that opens no session
-  pub opening_refused : (program : Assembly) (why : OpenFault) → assembled source ≡ Ok program
-      → Opens program inputs pages slots 9999999999 (Err why)
+  pub opening_refused : (why : OpenFault) → OpensBy source inputs pages slots (Err why)
       → OpensLab source inputs pages slots (Err (unopened_fault why))
-  opening_refused program (opening.Input n) is h = (program, is, h)
-  opening_refused program (opening.Board why) is h = (program, is, h)
-  opening_refused program opening.OutOfMemory is h = tt
+  opening_refused (opening.Input n) h = h
+  opening_refused (opening.Board why) h = h
+  opening_refused opening.OutOfMemory h = tt

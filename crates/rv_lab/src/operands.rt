@@ -2,6 +2,7 @@
 ghost use Rattle.std.specs.Prelude.{◌≡◌, ◌<◌, OnSome};
 ghost use Rattle.rv_base.specs.Words.{words};
 ghost use Rattle.rv_operands.specs.Operands.{address};
+ghost use Rattle.rv_asm.specs.Seen.{seen};
 ghost use Rattle.rv_lab.specs.State.{board, listing};
 ghost use Rattle.rv_lab.specs.Words.{count_of};
 
