@@ -18,18 +18,16 @@ use Rattle.rv_program.specs.Program.{Assembly}
 use Rattle.rv_commands.specs.declared.command.Command.{Command}
 use Rattle.rv_commands.specs.declared.command.Command.TheVariants.{Step, Go, SetBreak, ClearBreak, Registers, ControlRegister, Memory, Instruction, Traps, Edges, Quit, Nothing}
 use Rattle.rv_monitor.specs.Commands.{Leaves, LeavesRefused}
-use Rattle.rv_monitor.specs.TimedCalls.{going_for, most_of}
+use Rattle.rv_monitor.specs.TimedCalls.{going_for}
 use Rattle.rv_monitor.specs.Events.{events_of}
 use Rattle.rv_monitor.specs.Laws.{IsReached}
 use Rattle.rv_monitor.specs.Resumed.{resumed, resumed_at}
 use Rattle.rv_monitor.specs.State.{Addresses, SessionState, TimedState, begun, after, with_due, given, with_break, without_break}
 use Rattle.rv_monitor.specs.State as monitor
-use Rattle.rv_monitor.specs.Stops.{Took, WasRefused, stop_of, TakesStep}
-use Rattle.rv_monitor.specs.TimedCalls.{HasStopped, IsRefused}
+use Rattle.rv_monitor.specs.Stops.{Took, WasRefused, TakesStep}
 use Rattle.rv_monitor.specs.declared.stop.Stop.{Stop}
 use Rattle.rv_monitor.proofs.Given.{given_stands, reached_steps}
 use Rattle.rv_monitor.proofs.Resumed.{resumed_back}
-use Rattle.rv_monitor.proofs.SessionCalls.{took_was, took_others, refused_was, refused_others, on_was, on_others}
 use Rattle.rv_monitor.proofs.Reached.{begun_stands, stopped_stands, refused_stands, step_stands, due_is_reached}
 use Rattle.rv_monitor.specs.Opening.{Opens}
 use Rattle.rv_recording.specs.Recording.{RecordingState, gone_back}
@@ -96,10 +94,9 @@ opened_is program text pages slots s opens small ks none =
 
 -- ---- what calls leave
 
-inputs_kept : (a : Addresses) (most : ℕ) (old new : TimedState) (n : ℕ) → new ≡ after old n
-    → new.inputs ≡ old.inputs
+inputs_kept : (old new : TimedState) (n : ℕ) → new ≡ after old n → new.inputs ≡ old.inputs
 unfolding after
-inputs_kept a most old new n e = ap (λ u. u.inputs) e
+inputs_kept old new n e = ap (λ u. u.inputs) e
 
 due_kept : (old new : TimedState) → new ≡ with_due old → new.inputs ≡ old.inputs
 unfolding with_due
@@ -173,24 +170,23 @@ module _ (s new : SessionState) (p q : ℕ) (ks : List KeptBoard) (h : Stands s 
   unchanged : new ≡ s → Stands new p q ks
   unchanged e = same_timed (ap (λ u. u.program) e) (ap (λ u. u.limit) e) (ap (λ u. u.timed) e)
 
-  stopped : (a : Addresses) (most : ℕ) (stop : Stop) → HasStopped a most s.timed new.timed stop
-      → new ≡ record s { timed = new.timed } → Stands new p q ks
-  stopped a most stop st e =
-      timed_stands e (stopped_stands first s.timed new.timed h.0.reached a most stop st)
-      (inputs_kept a most s.timed new.timed _ st.state)
-
-  refused : (a : Addresses) (most : ℕ) → IsRefused a most s.timed new.timed
-      → new ≡ record s { timed = new.timed } → Stands new p q ks
-  refused a most re e =
-      timed_stands e (refused_stands first s.timed new.timed h.0.reached a most re)
-      (refused_kept s.timed new.timed _ re.state)
+  -- nothing but the board with its inputs changed
+  timed_alone : (t : TimedState) → new ≡ record s { timed = t } → new ≡ record s { timed = new.timed }
+  timed_alone t e = e ∙ ap (λ u. record s { timed = u }) (sym (ap (λ u. u.timed) e))
 
   took : (a : Addresses) (n : ℕ) → Took a n s new → Stands new p q ks
   took a n t =
-      stopped a (most_of s n) (stop_of a s new) (took_was a n s new t) (took_others a n s new t)
+      let timed = ap (λ u. u.timed) t.state in
+      timed_stands (timed_alone (after s.timed t.count) t.state)
+      (stopped_stands first s.timed new.timed h.0.reached a t.count t.going timed)
+      (inputs_kept s.timed new.timed t.count timed)
 
   was_refused : (a : Addresses) (n : ℕ) → WasRefused a n s new → Stands new p q ks
-  was_refused a n w = refused a (most_of s n) (refused_was a n s new w) (refused_others a n s new w)
+  was_refused a n w =
+      let timed = ap (λ u. u.timed) w.state in
+      timed_stands (timed_alone (with_due (after s.timed w.count)) w.state)
+      (refused_stands first s.timed new.timed h.0.reached a w.count (λ i l. w.going i (omega arith)) timed)
+      (refused_kept s.timed new.timed w.count timed)
 
   pub called : (a : Addresses) (n : ℕ) (r : Result Stop NoMemory) → OnOk r (Took a n s new)
       → OnErr r (WasRefused a n s new) → Stands new p q ks
@@ -202,7 +198,7 @@ module _ (s new : SessionState) (p q : ℕ) (ks : List KeptBoard) (h : Stands s 
       let timed = ap (λ u. u.timed) t.1 in
       let running = none_is (halted_of s.timed.board) (and_left _ _ t.0) in
       timed_stands (t.1 ∙ ap (λ (u : TimedState). record s { timed = u }) (sym timed))
-      (step_stands first s.timed new.timed h.0.reached running timed) (inputs_kept set.empty 1 s.timed new.timed 1 timed)
+      (step_stands first s.timed new.timed h.0.reached running timed) (inputs_kept s.timed new.timed 1 timed)
   one_step (Ok None) t = unchanged t.1
   one_step (Err refusal) t =
       let timed = ap (λ u. u.timed) t.1 in
@@ -280,36 +276,28 @@ module _ (s new : SessionState) (p q : ℕ) (ks : List KeptBoard) (h : Stands s 
 
   module _ (board : BoardState) (k n : ℕ) (run_is : board ≡ run first (events_of s.timed.inputs 0 k))
       (before : k ≤ n) (below : n ≤ s.timed.taken) (within : s.timed.taken ≤ s.limit) where
-    same_most : min (n - k) (s.limit - k) ≡ n - k
-    same_most = omega arith
-
     module _ (t : Took set.empty (n - k) (resumed_at s board k) new) where
-      abbrev stop : Stop
-      stop = stop_of set.empty (resumed_at s board k) new
-
-      st : HasStopped set.empty (n - k) (resumed board s.timed.inputs k) new.timed stop
-      st =
-          subst (λ (m : ℕ). HasStopped set.empty m (resumed board s.timed.inputs k) new.timed stop) same_most
-          (on_was (n - k) s new board k t)
-
-      e : new ≡ record s { timed = new.timed }
-      e = on_others (n - k) s new board k t
-
       back_is : new.timed ≡ after (begun first s.timed.inputs) n
-      back_is = resumed_back first s.timed h.0.reached board k n new.timed stop run_is before below st
+      back_is =
+          resumed_back first s.timed h.0.reached board k n new.timed run_is before below t.count
+          (omega (arith, t.within)) (λ l. t.least (omega (arith, l))) (ap (λ u. u.timed) t.state)
 
       goes : (j : ℕ) → j < n → halted_of (after (begun first s.timed.inputs) j).board ≡ None
       goes j l = h.0.reached.running j (omega arith)
 
+      alone : new ≡ record s { timed = new.timed }
+      alone = timed_alone (after (resumed board s.timed.inputs k) t.count) t.state
+
       pub back_stands : Stands new p q ks
       back_stands =
-          timed_stands e (reached_steps first s.timed.inputs n new.timed h.0.reached.rising back_is goes)
-          (inputs_kept set.empty n (begun first s.timed.inputs) new.timed n back_is)
+          timed_stands alone
+          (reached_steps first s.timed.inputs n new.timed h.0.reached.rising back_is goes)
+          (inputs_kept (begun first s.timed.inputs) new.timed n back_is)
 
       pub went_back : after_call ≡ gone_back (record { session = s; pages = p; slots = q }) n
       went_back =
           ap (λ (u : SessionState). record { session = u; pages = p; slots = q })
-          (e ∙ ap (λ (t : TimedState). record s { timed = t }) back_is)
+          (alone ∙ ap (λ (t : TimedState). record s { timed = t }) back_is)
 
     pub back_any : (r : Result Stop NoMemory) → OnOk r (Took set.empty (n - k) (resumed_at s board k) new)
         → OnErr r (new ≡ s) → Stands new p q ks
