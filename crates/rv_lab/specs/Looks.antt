@@ -7,7 +7,6 @@ use Rattle.std.specs.Int.{div_ceil}
 use Rattle.std.specs.List.{flat_map, position_or_len, range_with_len}
 use Rattle.std.specs.Option.{option_map, option_map_or}
 use Rattle.rv_base.specs.Digits.{hex}
-use Rattle.rv_base.specs.Limits.{ram_base}
 use Rattle.rv_base.specs.Lines.{lines}
 use Rattle.rv_base.specs.Tables.{lookup}
 use Rattle.rv_base.specs.Words.{words}

@@ -10,7 +10,6 @@ use Rattle.std.specs.Option.{option_map, option_map_or, option_or}
 use Rattle.std.specs.Borrow.{Bor}
 use Rattle.rv_base.specs.Lines.{lines}
 use Rattle.rv_base.specs.Digits.{hex}
-use Rattle.rv_base.specs.Limits.{ram_base}
 use Rattle.rv_isa.specs.Number.{truth}
 use Rattle.rv_pmp.specs.Mode.{is_machine}
 use Rattle.rv_pmp.specs.declared.mode.Mode.{Mode}
@@ -21,7 +20,7 @@ use Rattle.rv_monitor.specs.Views.{byte_at_offset, word_at}
 use Rattle.rv_base.specs.Tables.{lookup}
 use Rattle.rv_isa.specs.Names.{register_names}
 use Rattle.rv_operands.specs.Words.{only_of}
-use Rattle.rv_asm.specs.Lines.{Listed, address_of, bytes_of}
+use Rattle.rv_asm.specs.Lines.{Listed, bytes_of}
 use Rattle.rv_operands.specs.Operands.{address, line_number}
 use Rattle.rv_answers.specs.Answer.{Written, Appended, padded}
 use Rattle.rv_answers.specs.Control.{bits_told}
