@@ -3,4 +3,6 @@ pub mod Digits
 pub mod Obeyed
 pub mod Refusals
 pub mod OneRun
+pub mod OneList
+pub mod OneOpening
 pub mod OneOutput

@@ -1,6 +1,6 @@
 -- The results of a run, by those of its parts and by what the texts mean.
 use Rattle.std.proofs.Common.{◌≡◌, Option, Some, None, Ok, Err, subst}
-use Rattle.std.specs.Prelude.{ℕ, true, false, IfSome, IsErrAnd, List, Result, length, take}
+use Rattle.std.specs.Prelude.{◌≢◌, ℕ, true, false, IfSome, IsErrAnd, List, Result, length, take}
 use Rattle.rv_words.specs.declared.Options.{Options}
 use Rattle.rv_texts.specs.Calls.{GaveIf, Readers, Texts, WroteBeginning}
 use Rattle.rv_texts.specs.Readers.{Reads}
@@ -13,7 +13,6 @@ use Rattle.rv_cli.specs.declared.fault.CliFault.{CliFault}
 use Rattle.rv_cli.specs.declared.fault.CliFault.TheVariants.{ReadSource, ReadInput, ReadCommands, Source, Input, BadPages, BadSlots, ImageTooLarge, OutOfMemory, Write}
 use Rattle.rv_texts.specs.declared.fault.TextName.TheVariants as text
 use Rattle.rv_cli.specs.declared.fault.Ending.{Ending}
-use Rattle.rv_cli.specs.Meanings.{RefusedBy}
 use Rattle.rv_cli.specs.Output.{IsOutput}
 use Rattle.rv_cli.specs.Run.{Runs}
 
@@ -43,20 +42,20 @@ refused_unread r out options (read.Unreadable text.Input) h = h
 refused_unread r out options (read.Unreadable text.Commands) h = h
 refused_unread r out options read.OutOfMemory h = h
 
--- the texts were read, and are refused by what they mean
+-- the texts were read, and are refused by what they mean, unless memory ran out
 pub refused_by : (r : Readers) (out : Side) (options : Options) (texts : Texts) (fault : CliFault) →
     Reads r (Ok texts)
-    → RefusedBy (IsOutput texts options) fault → Runs r out options (Err fault)
-refused_by r out options texts (Source fault) g h = (texts, g, h)
-refused_by r out options texts (Input line) g h = (texts, g, h)
-refused_by r out options texts BadPages g h = (texts, g, h)
-refused_by r out options texts BadSlots g h = (texts, g, h)
-refused_by r out options texts ImageTooLarge g h = (texts, g, h)
+    → (fault ≢ OutOfMemory → IsOutput texts options (Err fault)) → Runs r out options (Err fault)
+refused_by r out options texts (Source fault) g h = (texts, g, h (λ e. cc))
+refused_by r out options texts (Input line) g h = (texts, g, h (λ e. cc))
+refused_by r out options texts BadPages g h = (texts, g, h (λ e. cc))
+refused_by r out options texts BadSlots g h = (texts, g, h (λ e. cc))
+refused_by r out options texts ImageTooLarge g h = (texts, g, h (λ e. cc))
 refused_by r out options texts OutOfMemory g h = are_sound r texts g
-refused_by r out options texts ReadSource g h = absurd h
-refused_by r out options texts ReadInput g h = absurd h
-refused_by r out options texts ReadCommands g h = absurd h
-refused_by r out options texts Write g h = absurd h
+refused_by r out options texts ReadSource g h = absurd (h (λ e. cc))
+refused_by r out options texts ReadInput g h = absurd (h (λ e. cc))
+refused_by r out options texts ReadCommands g h = absurd (h (λ e. cc))
+refused_by r out options texts Write g h = absurd (h (λ e. cc))
 
 -- the text that the run prints was written
 pub ended : (r : Readers) (out : Side) (options : Options) (texts : Texts) (text bytes : List ℕ)

@@ -2,8 +2,11 @@
 -- Not to audit: `?` takes these steps, and `Runs` says of each fault when it comes.
 use Rattle.rv_board.specs.declared.event.BootFault.{BootFault}
 use Rattle.rv_board.specs.declared.event.BootFault.TheVariants as boot_fault
-use Rattle.rv_opening.specs.declared.fault.OpenFault.{OpenFault}
-use Rattle.rv_opening.specs.declared.fault.OpenFault.TheVariants as open_fault
+use Rattle.rv_monitor.specs.declared.opening.OpenFault.{OpenFault}
+use Rattle.rv_monitor.specs.declared.opening.OpenFault.TheVariants as open_fault
+use Rattle.rv_program.specs.declared.fault.AsmFault.{AsmFault}
+use Rattle.rv_program.specs.declared.fault.FaultKind.{FaultKind}
+use Rattle.rv_program.specs.declared.fault.FaultKind.TheVariants as kind
 use Rattle.rv_texts.specs.declared.fault.ReadFault.{ReadFault}
 use Rattle.rv_texts.specs.declared.fault.ReadFault.TheVariants as read
 use Rattle.rv_texts.specs.declared.fault.TextName.{TextName}
@@ -29,9 +32,13 @@ unbooted_fault boot_fault.BadSlots = cli.BadSlots
 unbooted_fault boot_fault.ImageTooLarge = cli.ImageTooLarge
 unbooted_fault boot_fault.OutOfMemory = cli.OutOfMemory
 
--- the fault of texts that open no session
+-- the fault of a source that is not assembled, by the kind of the assembler's fault
+abbrev pub source_fault : FaultKind → AsmFault → CliFault
+source_fault kind.OutOfMemory why = cli.OutOfMemory
+source_fault other why = cli.Source why
+
+-- the fault of a program that opens no session
 abbrev pub unopened_fault : OpenFault → CliFault
-unopened_fault (open_fault.Source fault) = cli.Source fault
 unopened_fault (open_fault.Input line) = cli.Input line
 unopened_fault (open_fault.Board why) = unbooted_fault why
 unopened_fault open_fault.OutOfMemory = cli.OutOfMemory

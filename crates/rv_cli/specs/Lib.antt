@@ -1,6 +1,5 @@
 pub mod Conversions
 pub mod Faults
-pub mod OneOutput
 pub mod Meanings
 pub mod Numbered
 pub mod Output

@@ -5,18 +5,23 @@ use Rattle.std.specs.FinSet as set
 use Rattle.std.specs.Fmt.{decimal}
 use Rattle.std.specs.List.{ends_with}
 use Rattle.std.specs.Option.{option_map_or}
+use Rattle.rv_asm.specs.Assembly.{assembled}
 use Rattle.rv_base.specs.Digits.{hex}
 use Rattle.rv_base.specs.Lines.{lines}
 use Rattle.rv_board.specs.BoardState.{BoardState}
+use Rattle.rv_board.specs.declared.event.BootFault.TheVariants as boot_fault
 use Rattle.rv_commands.specs.declared.command.Command.TheVariants.{Quit}
 use Rattle.rv_monitor.specs.Commands.{Leaves, Took, answer, command_in}
 use Rattle.rv_monitor.specs.State.{SessionState}
 use Rattle.rv_monitor.specs.Views.{line}
-use Rattle.rv_opening.specs.Opening.{Opens}
-use Rattle.rv_opening.specs.declared.fault.OpenFault.{OpenFault}
-use Rattle.rv_opening.specs.declared.fault.OpenFault.TheVariants.{OutOfMemory}
+use Rattle.rv_monitor.specs.Opening.{Opens}
+use Rattle.rv_monitor.specs.declared.opening.OpenFault.{OpenFault}
+use Rattle.rv_monitor.specs.declared.opening.OpenFault.TheVariants as opening
+use Rattle.rv_program.specs.Program.{Assembly}
 use Rattle.rv_texts.specs.Readers.{EachText}
 use Rattle.rv_words.specs.declared.Options.{Options}
+use Rattle.rv_cli.specs.declared.fault.CliFault.{CliFault}
+use Rattle.rv_cli.specs.declared.fault.CliFault.TheVariants.{Source, Input, BadPages, BadSlots, ImageTooLarge}
 use Rattle.rv_cli.specs.declared.fault.Ending.{Ending}
 use Rattle.rv_cli.specs.declared.fault.Ending.TheVariants.{Halted, Running}
 
@@ -53,12 +58,24 @@ Does (Some commands) old new text = Obeys (lines commands) old new text
 
 -- ---- the run
 
--- the text that a run prints and how it ends, or the first fault of its texts and sizes: a fault of the
--- opening is the run's; a session that is opened, with the steps of the options as its limit, does what is
--- asked, and then the answers and the board are printed, and the run ends by the board's halt
-abbrev pub IsOutput : EachText (List ℕ) → Options → Result (List ℕ × Ending) OpenFault → Type 0
-IsOutput t o (Err fault) = (fault ≢ OutOfMemory) × Opens t.source t.inputs o.pages o.slots o.steps (Err fault)
+-- what the program of the source, which is assembled, opens with the timed list: a session on a board of the
+-- options, with their steps as its limit; or the first fault of the list and the board
+abbrev pub OpensFor : EachText (List ℕ) → Options → Result SessionState OpenFault → Type 0
+OpensFor t o opening =
+    (program : Assembly) × (assembled t.source ≡ Ok program)
+    × Opens program t.inputs o.pages o.slots o.steps opening
+
+-- the text that a run prints and how it ends, or the first fault of its texts and sizes: a session that is
+-- opened does what is asked, and then the answers and the board are printed, and the run ends by the board's
+-- halt; the fault is the source's, or one of the opening
+abbrev pub IsOutput : EachText (List ℕ) → Options → Result (List ℕ × Ending) CliFault → Type 0
 IsOutput t o (Ok done) =
-    (old new : SessionState) × (answers : List ℕ) × Opens t.source t.inputs o.pages o.slots o.steps (Ok old)
+    (old new : SessionState) × (answers : List ℕ) × OpensFor t o (Ok old)
     × Does t.commands old new answers × (done.0 ≡ answers ++ printed new.timed.board)
     × (done.1 ≡ option_map_or (λ code. Halted code) new.timed.board.machine.bus.halt Running)
+IsOutput t o (Err (Source fault)) = assembled t.source ≡ Err fault
+IsOutput t o (Err (Input n)) = OpensFor t o (Err (opening.Input n))
+IsOutput t o (Err BadPages) = OpensFor t o (Err (opening.Board boot_fault.BadPages))
+IsOutput t o (Err BadSlots) = OpensFor t o (Err (opening.Board boot_fault.BadSlots))
+IsOutput t o (Err ImageTooLarge) = OpensFor t o (Err (opening.Board boot_fault.ImageTooLarge))
+IsOutput t o (Err other) = ⊥

@@ -5,17 +5,14 @@ use Rattle.rv_words.specs.declared.Options.{Options}
 use Rattle.rv_texts.specs.Readers.{EachText, Reads}
 use Rattle.rv_texts.specs.Texts.{Side, Wrote}
 use Rattle.rv_texts.specs.declared.fault.ReadFault.TheVariants as unread
-use Rattle.rv_opening.specs.declared.fault.OpenFault.{OpenFault}
 use Rattle.rv_cli.specs.Output.{IsOutput}
-use Rattle.rv_board.specs.declared.event.BootFault.TheVariants as boot_fault
-use Rattle.rv_opening.specs.declared.fault.OpenFault.TheVariants as opening
 use Rattle.rv_texts.specs.declared.fault.TextName.TheVariants as text
 use Rattle.rv_cli.specs.declared.fault.CliFault.{CliFault}
-use Rattle.rv_cli.specs.declared.fault.CliFault.TheVariants.{ReadSource, ReadInput, ReadCommands, Source, Input, BadPages, BadSlots, ImageTooLarge, OutOfMemory, Write}
+use Rattle.rv_cli.specs.declared.fault.CliFault.TheVariants.{ReadSource, ReadInput, ReadCommands, OutOfMemory, Write}
 use Rattle.rv_cli.specs.declared.fault.Ending.{Ending}
 
 -- the texts were read, and this is their output
-abbrev pub HasOutput : EachText Side → Options → Result (List ℕ × Ending) OpenFault → Type 0
+abbrev pub HasOutput : EachText Side → Options → Result (List ℕ × Ending) CliFault → Type 0
 HasOutput r options output = (texts : EachText (List ℕ)) × Reads r (Ok texts) × IsOutput texts options output
 
 -- a row a result: the text that the run prints was written, and nothing else; or there is a fault of the
@@ -25,11 +22,7 @@ Runs r out options (Ok end) = (text : List ℕ) × HasOutput r options (Ok (text
 Runs r out options (Err ReadSource) = Reads r (Err (unread.Unreadable text.Source))
 Runs r out options (Err ReadInput) = Reads r (Err (unread.Unreadable text.Input))
 Runs r out options (Err ReadCommands) = Reads r (Err (unread.Unreadable text.Commands))
-Runs r out options (Err (Source fault)) = HasOutput r options (Err (opening.Source fault))
-Runs r out options (Err (Input line)) = HasOutput r options (Err (opening.Input line))
-Runs r out options (Err BadPages) = HasOutput r options (Err (opening.Board boot_fault.BadPages))
-Runs r out options (Err BadSlots) = HasOutput r options (Err (opening.Board boot_fault.BadSlots))
-Runs r out options (Err ImageTooLarge) = HasOutput r options (Err (opening.Board boot_fault.ImageTooLarge))
 Runs r out options (Err OutOfMemory) = Reads r (Err unread.OutOfMemory)
 Runs r out options (Err Write) =
     (done : List ℕ × Ending) × (n : ℕ) × HasOutput r options (Ok done) × Wrote out (take n done.0) true
+Runs r out options (Err fault) = HasOutput r options (Err fault)

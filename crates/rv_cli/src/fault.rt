@@ -8,8 +8,8 @@ ghost use Rattle.rv_cli.specs.Conversions.{unreadable};
 
 use rv_base::NoMemory;
 use rv_board::BootFault;
-use rv_opening::OpenFault;
-use rv_program::AsmFault;
+use rv_monitor::OpenFault;
+use rv_program::{AsmFault, FaultKind};
 use rv_texts::{OutFailed, ReadFault, TextName};
 use std::{fmt, io};
 use thiserror::Error;
@@ -120,7 +120,22 @@ impl From<BootFault> for CliFault {
     }
 }
 
-/// The fault of texts that open no session.
+/// The fault of a source that is not assembled.
+impl From<AsmFault> for CliFault {
+    ghost use Rattle.std.specs.Prelude.{◌≡◌};
+    ghost use Rattle.rv_cli.specs.Conversions.{source_fault};
+
+    ghost from_gives = { λ why fault. fault ≡ source_fault why.kind why };
+
+    fn from(why: AsmFault) -> Self {
+        match why.kind {
+            FaultKind::OutOfMemory => CliFault::OutOfMemory,
+            _ => CliFault::Source(why),
+        }
+    }
+}
+
+/// The fault of a program that opens no session.
 impl From<OpenFault> for CliFault {
     ghost use Rattle.std.specs.Prelude.{◌≡◌};
     ghost use Rattle.rv_cli.specs.Conversions.{unopened_fault};
@@ -129,7 +144,6 @@ impl From<OpenFault> for CliFault {
 
     fn from(why: OpenFault) -> Self {
         match why {
-            OpenFault::Source(fault) => CliFault::Source(fault),
             OpenFault::Input(line) => CliFault::Input(line),
             OpenFault::Board(why) => CliFault::from(why),
             OpenFault::OutOfMemory => CliFault::OutOfMemory,

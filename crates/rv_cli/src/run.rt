@@ -1,19 +1,19 @@
 //! A run, from its texts to the text that is printed.
-ghost use Rattle.std.specs.Prelude.{◌≡◌, ◌≢◌, IfErr, IfOk, IfSome, Ok, false, is_some};
-ghost use Rattle.rv_cli.specs.Output.{IsOutput};
-ghost use Rattle.rv_cli.specs.Meanings.{IsRunOf, OpensFor, RefusedBy};
+ghost use Rattle.std.specs.Prelude.{◌≡◌, ◌≢◌, Err, IfErr, IfOk, IfSome, Ok, false, is_some};
+ghost use Rattle.rv_cli.specs.Output.{IsOutput, OpensFor};
+ghost use Rattle.rv_cli.specs.Meanings.{IsRunOf};
 ghost use Rattle.rv_cli.specs.Run.{Runs};
 ghost use Rattle.rv_texts.specs.Texts.{side, side_if};
 ghost use Rattle.rv_texts.specs.Within.{AreWithin};
-ghost use Rattle.rv_cli.specs.declared.fault.CliFault.TheVariants.{ReadInput, ReadSource, Write};
+ghost use Rattle.rv_cli.specs.declared.fault.CliFault.TheVariants.{OutOfMemory, ReadInput, ReadSource, Write};
 
 use crate::fault::{CliFault, Ending};
 use crate::print::{ending, print_board};
 use crate::session::run_session;
+use rv_asm::assemble;
 use rv_base::NoMemory;
 use rv_cache::{DecodeCache, Decoded};
-use rv_monitor::Session;
-use rv_opening::{OpenFault, open_session};
+use rv_monitor::{Session, open_session};
 use rv_ram::{ByteMemory, PagedRam};
 use rv_texts::{TextIn, TextOut, Texts, read_texts, write_whole};
 use rv_words::Options;
@@ -40,24 +40,28 @@ fn print_session<M: ByteMemory, C: Decoded>(
     Ok(Printed { text, ending })
 }
 
-/// Opens the session of the texts, on a board of the options and with their limit.
+/// Assembles the source, and opens the session of its program with the timed list, on a board of the options and
+/// with their limit.
 fn open(
     alloc: Global,
     texts: &Texts,
     options: Options,
-) -> Result<Session<PagedRam, DecodeCache>, OpenFault>
-    ensures { OpensFor texts.now options result }
+) -> Result<Session<PagedRam, DecodeCache>, CliFault>
+    ensures ok { IfOk result (λ s. OpensFor texts.now options (Ok s)) }
+    ensures err { IfErr result (λ fault. fault ≢ OutOfMemory → IsOutput texts.now options (Err fault)) }
 {
+    let program = assemble(alloc, texts.source())?;
     let pages = u32::from(options.pages);
     let slots = u32::from(options.slots);
     let limit = u64::from(options.steps);
-    open_session(alloc, texts.source(), texts.inputs(), pages, slots, limit)
+    let session = open_session(alloc, program, texts.inputs(), pages, slots, limit)?;
+    Ok(session)
 }
 
 /// Opens the session of the texts, and runs it.
 fn open_and_run(alloc: Global, texts: &Texts, options: Options) -> Result<Printed, CliFault>
     ensures ok { IfOk result (λ p. IsOutput texts.now options (Ok (p.text.items, p.ending))) }
-    ensures err { IfErr result (RefusedBy (IsOutput texts.now options)) }
+    ensures err { IfErr result (λ fault. fault ≢ OutOfMemory → IsOutput texts.now options (Err fault)) }
 {
     let mut session = open(alloc, texts, options)?;
     let printed = print_session(alloc, &mut session, texts)?;

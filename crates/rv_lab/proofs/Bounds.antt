@@ -1,9 +1,8 @@
 -- How many steps a call takes.
 use Rattle.std.proofs.Common.{◌≡◌, ◌∙◌, ℕ, ◌+◌, ◌*◌, ◌-◌, ◌≤◌, Bool, true, false, List, [], ◌∷◌, refl, sym, ap, subst, arith, inl, inr}
 use Rattle.std.proofs.lemmas.Bool.Decides.{nat_tests}
-use Rattle.std.specs.Prelude.{◌&&◌, if◌then◌else◌, fold, length, max, min, nat_le, nat_lt, MatchOption, Option, Some, None, Result, Ok, Err, OnErr, OnOk, unwrap_or}
+use Rattle.std.specs.Prelude.{◌&&◌, if◌then◌else◌, fold, length, max, min, nat_le, nat_lt, MatchOption, Option, Some, None, unwrap_or}
 use Rattle.std.specs.FinSet as set
-use Rattle.rv_base.specs.declared.memory.NoMemory.{NoMemory}
 use Rattle.std.specs.List.{list_all}
 use Rattle.rv_base.specs.Numbers.{digit_value, number_in}
 use Rattle.rv_base.specs.Words.{words}
@@ -16,13 +15,12 @@ use Rattle.rv_monitor.specs.Commands.{command_in}
 use Rattle.rv_monitor.specs.State.{Addresses, SessionState, TimedState, after, given, with_due, with_break, without_break}
 use Rattle.rv_monitor.specs.Stops.{Took}
 use Rattle.rv_recording.specs.Recording.{gone_back}
-use Rattle.rv_recording.specs.Until.{HasRun}
-use Rattle.rv_operands.specs.Operands.{break_address, bytes_inputs, condition, operand_text}
+use Rattle.rv_operands.specs.Operands.{bytes_inputs, condition}
 use Rattle.rv_lab.specs.Commands as lab
 use Rattle.rv_lab.specs.Commands.{Begins, Breaks, GoesOn, InSession, IsWithin, Monitors, Obeys, Repeats, RunsFor, Starts, Steps, With, begun, call_limit, monitored_run, ready, run_of, with_inputs, with_session}
-use Rattle.rv_lab.specs.Lines.{excerpt, with_listed}
+use Rattle.rv_lab.specs.Lines.{with_listed}
 use Rattle.rv_lab.specs.Refusals.{Leads, RunsOut, StopsShort, by_hand, due, nowhere, steps}
-use Rattle.rv_lab.specs.State.{LabState, board, timed}
+use Rattle.rv_lab.specs.State.{LabState, timed}
 use Rattle.rv_lab.specs.Words.{count_of, line_command}
 use Rattle.rv_lab.specs.declared.command.Command.{Command}
 use Rattle.rv_lab.specs.declared.command.Command.TheVariants.{Step, Over, Moves, Break, Clear, Receive, Line, Monitor, Again, StepOnce}

@@ -1,8 +1,7 @@
 -- The rows of the breakpoints.
-use Rattle.std.proofs.Common.{◌≡◌, ◌∙◌, ℕ, zero, suc, ◌+◌, ◌-◌, ◌<◌, ◌≤◌, ◌^◌, true, false, List, [], ◌++◌, codes, refl, sym, ap, subst, arith}
-use Rattle.std.specs.Prelude.{if◌then◌else◌, Option, Some, None}
+use Rattle.std.proofs.Common.{◌≡◌, ℕ, zero, suc, ◌+◌, ◌-◌, ◌<◌, ◌≤◌, true, false, [], ◌++◌, codes, refl, sym, subst, arith}
+use Rattle.std.specs.Prelude.{Option, Some, None}
 use Rattle.std.specs.FinSet as set
-use Rattle.std.specs.List.{flat_map, range_with_len}
 use Rattle.rv_answers.specs.Answer.{Written, Appended}
 use Rattle.rv_answers.proofs.Pieces.{next, nothing}
 use Rattle.rv_recording.specs.Breaks.{IsNext}

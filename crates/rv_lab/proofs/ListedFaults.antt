@@ -1,5 +1,5 @@
--- The fault of a source's listing is that of the source.
-use Rattle.std.proofs.Common.{◌≡◌, List, ℕ, Result, Ok, Err}
+-- The program of a source's listing, or its fault, is that of the source.
+use Rattle.std.proofs.Common.{◌≡◌, ◌∙◌, List, ℕ, Result, Ok, Err, ap, refl, sym}
 use Rattle.rv_asm.specs.Assembly.{assembled}
 use Rattle.rv_asm.specs.Lines.{Listed, listed}
 use Rattle.rv_program.specs.Program.{Assembly}
@@ -18,6 +18,16 @@ is_assembled : (source : List ℕ) (fault : AsmFault) → listed source ≡ Err 
     → assembled source ≡ Err fault
 unfolding listed
 is_assembled source fault is = bound_fault (assembled source) _ fault is
+
+bound_made : (made : Result Assembly AsmFault) (more : Assembly → Listed) (l : Listed)
+    → ((a : Assembly) → (more a).assembly ≡ a) → (made >>= λ a. Ok (more a)) ≡ Ok l → made ≡ Ok l.assembly
+bound_made (Ok a) more l same is =
+    let found : more a ≡ l = cc in ap (λ b. Ok b) (sym (same a) ∙ ap (λ (m : Listed). m.assembly) found)
+bound_made (Err fault) more l same is = absurd cc
+
+pub made_of : (source : List ℕ) (l : Listed) → listed source ≡ Ok l → assembled source ≡ Ok l.assembly
+unfolding listed
+made_of source l is = bound_made (assembled source) _ l (λ a. refl) is
 
 fails_by : (kind : FaultKind) (source : List ℕ) (fault : AsmFault) → FailsBy kind fault (listed source)
     → FailsBy kind fault (assembled source)

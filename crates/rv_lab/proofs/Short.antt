@@ -1,7 +1,7 @@
 -- Calls that stopped short, for memory, of what they do.
-use Rattle.std.proofs.Common.{◌≡◌, ◌≢◌, ◌∙◌, ℕ, zero, suc, ◌+◌, ◌-◌, ◌<◌, ◌≤◌, true, List, [], ◌∷◌, length, take, drop, get_or, refl, sym, ap, subst, arith, inl, inr}
+use Rattle.std.proofs.Common.{◌≡◌, ◌≢◌, ◌∙◌, ℕ, zero, suc, ◌+◌, ◌-◌, ◌<◌, ◌≤◌, true, List, [], ◌∷◌, length, take, drop, get_or, refl, sym, ap, subst, arith, inr}
 use Rattle.std.proofs.lemmas.List.{take_all}
-use Rattle.std.specs.Prelude.{◌⊎◌, ◌==◌, min, fold, Bool, false, if◌then◌else◌, Option, Some, None, Result, Ok, Err, OnErr, OnOk, MatchOption, max, unwrap_or}
+use Rattle.std.specs.Prelude.{◌==◌, min, fold, Bool, false, if◌then◌else◌, Option, Some, None, Result, Ok, Err, OnErr, OnOk, MatchOption, max, unwrap_or}
 use Rattle.std.specs.FinSet as set
 use Rattle.rv_base.specs.declared.memory.NoMemory.{NoMemory}
 use Rattle.rv_lists.specs.Timed.{never_falls}
@@ -9,7 +9,6 @@ use Rattle.rv_lists.specs.declared.input.Input.{Input}
 use Rattle.rv_monitor.specs.Commands as monitor
 use Rattle.rv_monitor.specs.Commands.{command_in}
 use Rattle.rv_monitor.specs.State.{Addresses, IsInTime, SessionState, TimedState, after, given, with_due}
-use Rattle.rv_monitor.specs.TimedCalls.{most_of}
 use Rattle.rv_monitor.specs.Stops.{TakesStep, WasRefused, may_step, steps_between}
 use Rattle.rv_monitor.specs.Stops as stops
 use Rattle.rv_monitor.proofs.Steps.{after_due, after_more, after_rises}
@@ -78,8 +77,7 @@ module _ (a : Addresses) (n : ℕ) (s new : SessionState) (rising : never_falls 
   some_taken : WasRefused a n s new → TookShort a n s new
   some_taken w =
       let is = ap (λ (u : SessionState). u.timed) w.state in
-      let t = takes_from a n s (most_of s n - (w.count + 1)) (w.count + 1) (omega (arith, w.within))
-      (λ i l. w.going i (omega (arith, l))) in (
+      let t = takes_from a n s (w.count + 1) (omega (arith, w.within)) (λ i l. w.going i (omega (arith, l))) in (
         record s { timed = after s.timed t.0 },
         t.2,
         subst (Leads s.timed) (sym is) (to_due s.timed w.count),
@@ -87,21 +85,6 @@ module _ (a : Addresses) (n : ℕ) (s new : SessionState) (rising : never_falls 
             (from_due s.timed w.count t.0 (omega (arith, t.1)) rising),
         w.state ∙ ap (λ (u : TimedState). record s { timed = u }) (sym is),
       )
-
-  none_taken : new ≡ s → TookShort a n s new
-  none_taken e =
-      let is = ap (λ (u : SessionState). u.timed) e in
-      let t = takes_from a n s (most_of s n) 0 (omega arith) (λ i l. absurd (omega (arith, l))) in (
-        record s { timed = after s.timed t.0 },
-        t.2,
-        subst (Leads s.timed) (sym is) nowhere,
-        subst (λ (u : TimedState). Leads u (after s.timed t.0)) (sym is) (to_steps s.timed t.0),
-        e ∙ ap (λ (u : TimedState). record s { timed = u }) (sym is),
-      )
-
-  taken : (new ≡ s) ⊎ WasRefused a n s new → TookShort a n s new
-  taken (inl e) = none_taken e
-  taken (inr w) = some_taken w
 
 module _ (n : ℕ) (old new : SessionState) (rising : never_falls old.timed.inputs ≡ true) where
   step_short : WasRefused set.empty n old new → RunsShort goal.Count n old new
@@ -118,9 +101,7 @@ module _ (n : ℕ) (old new : SessionState) (rising : never_falls old.timed.inpu
     timed_due = ap (λ (s : SessionState). s.timed) w.state
 
     run : (m : ℕ) × (count < m) × (end : End) × HasRun reached n old (record old { timed = after old.timed m }) end
-    run =
-        runs_from reached n (record { session = old; pages = 0; slots = 0 }) (most_of old n - count - 1) count
-        (omega (arith, w.within)) w.going
+    run = runs_from reached n old count w.within w.going
 
     run_short : (d : SessionState) × ((end : End) × HasRun reached n old d end) × Leads old.timed new.timed
         × Leads new.timed d.timed × (new ≡ record old { timed = new.timed })

@@ -8,7 +8,7 @@ use Rattle.rv_answers.specs.Answer.{Written, Appended}
 use Rattle.rv_answers.specs.Places.{row_text}
 use Rattle.rv_answers.specs.declared.rows.Row.{Row}
 use Rattle.rv_answers.proofs.Pieces.{next_from}
-use Rattle.rv_lab.specs.State.{LabState}
+use Rattle.rv_lab.specs.State.{LabState, listing}
 use Rattle.rv_lab.specs.Lines.{line_count, line_row, row_of}
 use Rattle.rv_lab.specs.Rows.{line_rows, more_told}
 
@@ -83,14 +83,14 @@ all_rows l first count passed a b low high there o =
 -- ---- what follows the last list
 
 module _ (l : LabState) (a b : Written) where
-  pub nothing_more : line_count l.listing ≤ l.listed → Appended a b (codes "that was the last line\n")
+  pub nothing_more : line_count (listing l) ≤ l.listed → Appended a b (codes "that was the last line\n")
       → Appended a b (more_told l)
   unfolding line_rows
   nothing_more h o =
-      let behind : nat_lt (line_count l.listing) (l.listed + 1) ≡ true = grind (arith, nat_tests) in rw behind o
+      let behind : nat_lt (line_count (listing l)) (l.listed + 1) ≡ true = grind (arith, nat_tests) in rw behind o
 
-  pub more_there : l.listed < line_count l.listing → Appended a b (line_rows l (l.listed + 1) 11)
+  pub more_there : l.listed < line_count (listing l) → Appended a b (line_rows l (l.listed + 1) 11)
       → Appended a b (more_told l)
   unfolding line_rows
   more_there h o =
-      let there : nat_lt (line_count l.listing) (l.listed + 1) ≡ false = grind (arith, nat_tests) in rw there o
+      let there : nat_lt (line_count (listing l)) (l.listed + 1) ≡ false = grind (arith, nat_tests) in rw there o

@@ -16,7 +16,7 @@ use Rattle.rv_recording.specs.Until.{HasRun, comes}
 use Rattle.rv_recording.specs.Out.{open_at}
 use Rattle.rv_recording.specs.declared.until.End.{End}
 use Rattle.rv_operands.specs.Operands.{break_address, bytes_inputs, condition, operand_text}
-use Rattle.rv_lab.specs.State.{LabState, board, registers_of, timed}
+use Rattle.rv_lab.specs.State.{LabState, board, listing, registers_of, timed}
 use Rattle.rv_lab.specs.declared.plan.Plan.{Plan}
 use Rattle.rv_lab.specs.declared.plan.Goal.{Goal}
 use Rattle.rv_lab.specs.declared.plan.Goal.TheVariants as goal
@@ -106,7 +106,7 @@ Monitors line old new = MatchOption (monitored_run line old.recording.session)
 
 -- breakpoints changed at the address of some operands
 abbrev pub Breaks : (SessionState → ℕ → SessionState) → List ℕ → LabState → LabState → Type 0
-Breaks changed text old new = With (break_address old.listing (board old) (words text))
+Breaks changed text old new = With (break_address (listing old) (board old) (words text))
     (λ a before after. after ≡ with_session before (changed before.recording.session a)) old new
 
 -- an empty line
@@ -124,7 +124,7 @@ Leaves (Moves Go) text old new = With (count_of 1000000 1000000000 (words text))
 Leaves Over text old new = Begins (goal.Out 0) 1000000 old new
 Leaves (Moves Finish) text old new = Begins (goal.Out 1) 1000000 old new
 Leaves (Moves Until) text old new =
-    With (condition old.listing (board old) (words text)) (λ c. Begins (goal.Until c) 1000000) old new
+    With (condition (listing old) (board old) (words text)) (λ c. Begins (goal.Until c) 1000000) old new
 Leaves (Moves Trace) text old new =
     With (count_of 10 1000 (words text)) (λ n l. InSession (RunsFor goal.Count n) (begun l)) old new
 Leaves (Moves Back) text old new =

@@ -14,7 +14,7 @@ use Rattle.rv_operands.specs.Operands.{address, line_number}
 use Rattle.rv_answers.specs.Places.{instruction_text, row_text}
 use Rattle.rv_answers.specs.declared.rows.Row.{Row}
 use Rattle.rv_lab.specs.declared.source.Excerpt.{Excerpt}
-use Rattle.rv_lab.specs.State.{LabState, board}
+use Rattle.rv_lab.specs.State.{LabState, board, listing}
 use Rattle.rv_lab.specs.Words.{count_of}
 
 -- ---- addresses
@@ -37,12 +37,12 @@ label_text l a =
 -- an address with its label, and the instruction there
 unfoldable pub instruction_at : LabState → ℕ → List ℕ
 instruction_at l a =
-    hex 8 a ++ label_text l.listing a ++ codes "  " ++ instruction_text (word_at (board l) a) ++ codes "\n"
+    hex 8 a ++ label_text (listing l) a ++ codes "  " ++ instruction_text (word_at (board l) a) ++ codes "\n"
 
 -- of pc, or of the address of a word
 unfoldable pub instruction_told : LabState → List (List ℕ) → Option (List ℕ)
 instruction_told l [] = Some (instruction_at l (board l).machine.pc)
-instruction_told l (word ∷ more) = option_map (instruction_at l) (address l.listing (board l) word)
+instruction_told l (word ∷ more) = option_map (instruction_at l) (address (listing l) (board l) word)
 
 -- ---- `l`
 
@@ -54,12 +54,12 @@ bytes_at l n = if length (bytes_of l n) == 0 then None else address_of l n
 -- address if it has bytes, its first word if it has four bytes, and whether it has more
 unfoldable pub row_of : LabState → ℕ → Row
 row_of l n = record {
-  is_here = option_map_or (λ here. here == n) (line_at l.listing (board l).machine.pc) false;
-  is_marked = option_map_or (set.contains l.recording.session.breakpoints.addresses) (bytes_at l.listing n) false;
-  address = bytes_at l.listing n;
-  word = if nat_lt (length (bytes_of l.listing n)) 4 then None
-      else option_and_then (word_at (board l)) (bytes_at l.listing n);
-  has_more = nat_lt 4 (length (bytes_of l.listing n));
+  is_here = option_map_or (λ here. here == n) (line_at (listing l) (board l).machine.pc) false;
+  is_marked = option_map_or (set.contains l.recording.session.breakpoints.addresses) (bytes_at (listing l) n) false;
+  address = bytes_at (listing l) n;
+  word = if nat_lt (length (bytes_of (listing l) n)) 4 then None
+      else option_and_then (word_at (board l)) (bytes_at (listing l) n);
+  has_more = nat_lt 4 (length (bytes_of (listing l) n));
 }
 
 -- its row, with its text
@@ -73,7 +73,7 @@ line_count l = length l.addresses - 1
 -- the rows of an excerpt, of those lines that the source has, or a text where it would begin behind the last
 abbrev pub rows_or : List ℕ → LabState → Excerpt → List ℕ
 rows_or text l e =
-    if nat_lt (line_count l.listing) e.first then text
+    if nat_lt (line_count (listing l)) e.first then text
     else flat_map (line_row l) (range_with_len e.first (min e.count (length (lines l.source) + 1 - e.first)))
 
 -- ---- which lines are listed
@@ -85,10 +85,10 @@ excerpt_round line count = record { first = max 1 (line - count / 2); count = co
 -- `l`: round pc's line, or the line of a word, by its number or at an address; 11 lines, or as many as the
 -- next word says
 unfoldable pub excerpt : LabState → List (List ℕ) → Option Excerpt
-excerpt l [] = Some (excerpt_round (unwrap_or (line_at l.listing (board l).machine.pc) 1) 11)
+excerpt l [] = Some (excerpt_round (unwrap_or (line_at (listing l) (board l).machine.pc) 1) 11)
 excerpt l (word ∷ more) =
     option_and_then (λ line. option_map (excerpt_round line) (count_of 11 1000 more))
-    (option_or (line_number word) (option_and_then (line_at l.listing) (address l.listing (board l) word)))
+    (option_or (line_number word) (option_and_then (line_at (listing l)) (address (listing l) (board l) word)))
 
 -- an empty line after it: the 11 lines that follow
 abbrev pub next_excerpt : LabState → Excerpt
@@ -96,4 +96,4 @@ next_excerpt l = record { first = l.listed + 1; count = 11 }
 
 -- the lab that listed an excerpt
 abbrev pub with_listed : LabState → Excerpt → LabState
-with_listed l e = record l { listed = min (e.first - 1 + e.count) (line_count l.listing) }
+with_listed l e = record l { listed = min (e.first - 1 + e.count) (line_count (listing l)) }

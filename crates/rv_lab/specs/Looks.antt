@@ -7,7 +7,6 @@ use Rattle.std.specs.Int.{div_ceil}
 use Rattle.std.specs.List.{flat_map, position_or_len, range_with_len}
 use Rattle.std.specs.Option.{option_map, option_map_or}
 use Rattle.rv_base.specs.Digits.{hex}
-use Rattle.rv_base.specs.Limits.{ram_base}
 use Rattle.rv_base.specs.Lines.{lines}
 use Rattle.rv_base.specs.Tables.{lookup}
 use Rattle.rv_base.specs.Words.{words}
@@ -27,7 +26,7 @@ use Rattle.rv_answers.specs.Memory.{bytes_row, escaped, extent, words_row}
 use Rattle.rv_answers.specs.Traps.{trap_text}
 use Rattle.rv_answers.specs.declared.extent.Format.{Format}
 use Rattle.rv_answers.specs.declared.extent.Format.TheVariants.{Bytes, Words, Text}
-use Rattle.rv_lab.specs.State.{LabState, board, registers_of, timed}
+use Rattle.rv_lab.specs.State.{LabState, board, listing, registers_of, timed}
 use Rattle.rv_lab.specs.Devices.{csr_told, devices_told, edges_told}
 use Rattle.rv_lab.specs.Lines.{excerpt, instruction_told, label_text, line_at, line_count, next_excerpt, rows_or}
 use Rattle.rv_lab.specs.declared.command.Command.{Command}
@@ -40,15 +39,15 @@ use Rattle.rv_lab.specs.declared.command.Command.TheVariants as command
 -- there and its instruction
 unfoldable pub place : LabState → ℕ → List ℕ
 place l a =
-    hex 8 a ++ label_text l.listing a ++ codes "  "
+    hex 8 a ++ label_text (listing l) a ++ codes "  "
     ++ option_map_or (λ n. padded 6 (decimal n ++ codes ":") ++ shown (get_or (lines l.source) (n - 1) []))
-    (line_at l.listing a) (instruction_text (word_at (board l) a))
+    (line_at (listing l) a) (instruction_text (word_at (board l) a))
 
 -- the number of its line, its label, and the address
 unfoldable pub short_place : LabState → ℕ → List ℕ
 short_place l a =
-    option_map_or (λ n. codes " line " ++ decimal n) (line_at l.listing a) []
-    ++ label_text l.listing a ++ codes " (" ++ hex 8 a ++ codes ")"
+    option_map_or (λ n. codes " line " ++ decimal n) (line_at (listing l) a) []
+    ++ label_text (listing l) a ++ codes " (" ++ hex 8 a ++ codes ")"
 
 -- ---- `w`
 
@@ -81,7 +80,7 @@ unfoldable pub all_registers : LabState → List ℕ
 all_registers l =
     let b = board l in
     registers_text l.registers (registers_of b) ++ (codes "  pc   " ++ hex 8 b.machine.pc
-    ++ label_text l.listing b.machine.pc ++ codes "  "
+    ++ label_text (listing l) b.machine.pc ++ codes "  "
     ++ filled (codes "%{user|machine} mode\n") (truth (is_machine b.machine.mode) ∷ []))
 
 unfoldable pub registers_told : LabState → List (List ℕ) → Option (List ℕ)
@@ -114,7 +113,7 @@ unfoldable pub memory_told : LabState → List (List ℕ) → Option (List ℕ)
 memory_told l [] = None
 memory_told l (word ∷ more) =
     option_and_then (λ a. option_map (λ e. memory_shown (board l) a e.count e.format) (extent more))
-    (address l.listing (board l) word)
+    (address (listing l) (board l) word)
 
 -- ---- `t`
 
@@ -142,7 +141,7 @@ told ControlRegister operands l = csr_told l (words operands)
 told Memory operands l = memory_told l (words operands)
 told Instruction operands l = instruction_told l (words operands)
 told command.List operands l =
-    let n = line_count l.listing in
+    let n = line_count (listing l) in
     let size = filled (codes "the source has %d line%{s||s}\n") (n ∷ n ∷ []) in
     option_map (rows_or size l) (excerpt l (words operands))
 told Traps operands l =

@@ -10,7 +10,6 @@ use Rattle.std.specs.Option.{option_map, option_map_or, option_or}
 use Rattle.std.specs.Borrow.{Bor}
 use Rattle.rv_base.specs.Lines.{lines}
 use Rattle.rv_base.specs.Digits.{hex}
-use Rattle.rv_base.specs.Limits.{ram_base}
 use Rattle.rv_isa.specs.Number.{truth}
 use Rattle.rv_pmp.specs.Mode.{is_machine}
 use Rattle.rv_pmp.specs.declared.mode.Mode.{Mode}
@@ -21,7 +20,7 @@ use Rattle.rv_monitor.specs.Views.{byte_at_offset, word_at}
 use Rattle.rv_base.specs.Tables.{lookup}
 use Rattle.rv_isa.specs.Names.{register_names}
 use Rattle.rv_operands.specs.Words.{only_of}
-use Rattle.rv_asm.specs.Lines.{Listed, address_of, bytes_of}
+use Rattle.rv_asm.specs.Lines.{Listed, bytes_of}
 use Rattle.rv_operands.specs.Operands.{address, line_number}
 use Rattle.rv_answers.specs.Answer.{Written, Appended, padded}
 use Rattle.rv_answers.specs.Control.{bits_told}
@@ -33,7 +32,7 @@ use Rattle.rv_recording.specs.declared.until.End.TheVariants as ends
 use Rattle.std.specs.Fmt.{decimal}
 use Rattle.rv_lab.specs.Lines.{bytes_at, excerpt, line_at, line_count, line_row, next_excerpt, rows_or}
 use Rattle.rv_lab.specs.Looks.{place, told, trap_rows}
-use Rattle.rv_lab.specs.State.{LabState, board}
+use Rattle.rv_lab.specs.State.{LabState, board, listing}
 use Rattle.rv_lab.specs.Words.{commands, count_of}
 use Rattle.rv_lab.specs.declared.command.Command.{Command}
 use Rattle.rv_lab.specs.declared.command.Command.TheVariants.{Nothing}
@@ -65,7 +64,7 @@ register_of names = option_and_then (λ name. lookup name register_names) (only_
 abbrev pub line_or_instruction : LabState → ℕ → List ℕ
 line_or_instruction l a =
     option_map_or (λ n. padded 6 (decimal n ++ codes ":") ++ shown (get_or (lines l.source) (n - 1) []))
-    (line_at l.listing a) (instruction_text (word_at (board l) a))
+    (line_at (listing l) a) (instruction_text (word_at (board l) a))
 
 -- the last label at an address of the image or before it, with the distance from it
 unfoldable pub label_at : Listed → ℕ → Option (List ℕ × ℕ)
@@ -77,18 +76,18 @@ label_at l a =
 
 -- pc is at one of the bytes of line n
 abbrev pub is_here : LabState → ℕ → Bool
-is_here l n = option_map_or (λ here. here == n) (line_at l.listing (board l).machine.pc) false
+is_here l n = option_map_or (λ here. here == n) (line_at (listing l) (board l).machine.pc) false
 
 -- a breakpoint is at its address
 abbrev pub is_marked : LabState → ℕ → Bool
 is_marked l n =
-    option_map_or (set.contains l.recording.session.breakpoints.addresses) (bytes_at l.listing n) false
+    option_map_or (set.contains l.recording.session.breakpoints.addresses) (bytes_at (listing l) n) false
 
 -- its first word, if it has four bytes
 abbrev pub line_word : LabState → ℕ → Option ℕ
 line_word l n =
-    if nat_lt (length (bytes_of l.listing n)) 4 then None
-    else option_and_then (word_at (board l)) (bytes_at l.listing n)
+    if nat_lt (length (bytes_of (listing l) n)) 4 then None
+    else option_and_then (word_at (board l)) (bytes_at (listing l) n)
 
 -- the rows of some lines from one on: of those that the source has
 unfoldable pub line_rows : LabState → (first count : ℕ) → List ℕ
@@ -98,14 +97,14 @@ line_rows l first count =
 -- the line that a word stands for: its number, or the line at an address
 abbrev pub line_of : LabState → List ℕ → Option ℕ
 line_of l word =
-    option_or (line_number word) (option_and_then (line_at l.listing) (address l.listing (board l) word))
+    option_or (line_number word) (option_and_then (line_at (listing l)) (address (listing l) (board l) word))
 
 -- how many lines a source has
 abbrev pub length_text : ℕ → List ℕ
 length_text n = filled (codes "the source has %d line%{s||s}\n") (n ∷ n ∷ [])
 
 abbrev pub list_told : LabState → List (List ℕ) → Option (List ℕ)
-list_told l words = option_map (rows_or (length_text (line_count l.listing)) l) (excerpt l words)
+list_told l words = option_map (rows_or (length_text (line_count (listing l))) l) (excerpt l words)
 
 abbrev pub more_told : LabState → List ℕ
 more_told l = rows_or (codes "that was the last line\n") l (next_excerpt l)

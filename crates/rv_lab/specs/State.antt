@@ -4,7 +4,7 @@ use Rattle.std.specs.Prelude.{ℕ, List, Option, map, slice_index}
 use Rattle.rv_program.specs.Program.{Assembly}
 use Rattle.std.specs.List.{range_with_len}
 use Rattle.rv_board.specs.BoardState.{BoardState}
-use Rattle.rv_asm.specs.Lines.{Listed}
+use Rattle.rv_asm.specs.Lines.{Listed, Located, listing_of}
 use Rattle.rv_monitor.specs.State.{TimedState}
 use Rattle.rv_recording.specs.Recording.{RecordingState}
 use Rattle.rv_lab.specs.declared.command.Command.{Command}
@@ -14,12 +14,12 @@ use Rattle.rv_lab.specs.declared.plan.Plan.{Plan}
 abbrev pub registers_of : BoardState → List ℕ
 registers_of b = map (slice_index b.machine.registers) (range_with_len 0 32)
 
--- a source with its listing and the recording of its image; the registers and the number of steps before the
--- last command that moved the board; what an empty line repeats, the steps of the last `s`, and the last line
--- of the last `l`; the run that isn't over; and the most steps of a call
+-- a source with the places of its lines and the recording of its program; the registers and the number of steps
+-- before the last command that moved the board; what an empty line repeats, the steps of the last `s`, and the
+-- last line of the last `l`; the run that isn't over; and the most steps of a call
 pub record LabState : Type 0 where
   pub source : List ℕ
-  pub listing : Listed
+  pub places : Located
   pub recording : RecordingState
   pub registers : List ℕ
   pub before : ℕ
@@ -29,10 +29,14 @@ pub record LabState : Type 0 where
   pub plan : Option Plan
   pub piece : ℕ
 
--- what no command changes: the source, its listing, the program, the sizes of its board, and the steps of a
--- call
-abbrev pub setup : LabState → List ℕ × Listed × Assembly × ℕ × ℕ × ℕ
-setup l = (l.source, l.listing, l.recording.session.program, l.recording.pages, l.recording.slots, l.piece)
+-- the listing of the source
+abbrev pub listing : LabState → Listed
+listing l = listing_of l.recording.session.program l.places
+
+-- what no command changes: the source, the places of its lines, the program (and so the listing), the sizes of
+-- its board, and the steps of a call
+abbrev pub setup : LabState → List ℕ × Located × Assembly × ℕ × ℕ × ℕ
+setup l = (l.source, l.places, l.recording.session.program, l.recording.pages, l.recording.slots, l.piece)
 
 -- the board with its inputs, and the board alone
 abbrev pub timed : LabState → TimedState

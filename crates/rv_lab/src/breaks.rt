@@ -5,7 +5,7 @@ ghost use Rattle.rv_lab.specs.declared.command.Command.TheVariants as command;
 ghost use Rattle.rv_operands.specs.Operands.{break_address};
 ghost use Rattle.rv_lab.specs.Commands.{Leaves};
 ghost use Rattle.rv_answers.specs.Answer.{Appended};
-ghost use Rattle.rv_lab.specs.State.{board, setup};
+ghost use Rattle.rv_lab.specs.State.{board, listing, setup};
 ghost use Rattle.rv_lab.specs.Looks.{break_rows, breaks_told, place};
 ghost use Rattle.rv_lab.specs.Rows.{Tells};
 
@@ -17,7 +17,7 @@ use rv_operands::{line_number, only_word};
 impl Lab {
     /// Returns the address of a breakpoint, where its operands have one.
     fn break_address(&self, operands: &[u8]) -> Option<u32>
-        ensures { result ≡ break_address self.now.listing (board self.now) (words operands.now) }
+        ensures { result ≡ break_address (listing self.now) (board self.now) (words operands.now) }
     {
         self.scope().break_address(operands)
     }

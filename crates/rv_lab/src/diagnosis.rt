@@ -1,9 +1,9 @@
 //! Why a source, a timed list or a board is refused.
+use crate::fault::LabFault;
 use rv_answers::Answer;
 use rv_asm::diagnose;
 use rv_base::NoMemory;
 use rv_board::BootFault;
-use rv_opening::OpenFault;
 use rv_sentences::append_report;
 
 /// Appends what is wrong with each faulty line of a source, as compilers print it.
@@ -22,21 +22,21 @@ fn report(file: &str, source: &[u8], answer: &mut Answer) {
 
 /// Appends why there is no lab: of a source each faulty line of its first phase that has one, as compilers
 /// print them.
-pub fn append_diagnosis(file: &str, source: &[u8], fault: OpenFault, answer: &mut Answer) {
+pub fn append_diagnosis(file: &str, source: &[u8], fault: LabFault, answer: &mut Answer) {
     match fault {
-        OpenFault::Source(_) => report(file, source, answer),
-        OpenFault::Input(line) => {
+        LabFault::Source(_) => report(file, source, answer),
+        LabFault::Input(line) => {
             answer.say("input line ");
             answer.number(line as u64);
             answer.say(
                 ": refused: it is no STEP rx HH .. or STEP line N V, or STEP is lower than before\n",
             );
         }
-        OpenFault::Board(BootFault::ImageTooLarge) => {
+        LabFault::Board(BootFault::ImageTooLarge) => {
             answer.say("image too large for the pages: --pages P gives more\n");
         }
-        OpenFault::Board(BootFault::BadPages) => answer.say("bad pages: 1 to 4096 are wanted\n"),
-        OpenFault::Board(_) => answer.say("bad slots: a power of two from 64 to 4096 is wanted\n"),
-        OpenFault::OutOfMemory => answer.say("out of memory\n"),
+        LabFault::Board(BootFault::BadPages) => answer.say("bad pages: 1 to 4096 are wanted\n"),
+        LabFault::Board(_) => answer.say("bad slots: a power of two from 64 to 4096 is wanted\n"),
+        LabFault::OutOfMemory => answer.say("out of memory\n"),
     }
 }

@@ -10,13 +10,11 @@ ghost use Rattle.rv_lab.specs.Saved.{steps_text};
 ghost use Rattle.rv_lists.specs.Text.{list_text};
 
 use crate::lab::{Lab, Next};
+use crate::run::MOST_STEPS;
 use rv_answers::Answer;
 use rv_base::{NoMemory, first_word, has_word};
 use rv_lists::{Input, line_input};
 use rv_operands::{only_word, read_bytes_inputs};
-
-/// The most steps of a command of the monitor.
-const MOST_STEPS: u64 = 1_000_000_000;
 
 /// Returns the name under which a command line asks to save, if it has one.
 pub fn saved_name<'a>(line: &'a [u8]) -> Option<&'a [u8]> {

@@ -3,24 +3,24 @@ ghost use Rattle.std.specs.Prelude.{◌≡◌, ◌≤◌, max, false, Err, IfErr
 ghost use Rattle.rv_asm.specs.Lines.{listed};
 ghost use Rattle.rv_asm.specs.Seen.{seen};
 ghost use Rattle.rv_monitor.specs.Laws.{IsReached};
-ghost use Rattle.rv_opening.specs.Opening.{Opens};
-ghost use Rattle.rv_recording.specs.Recording.{first_board, last_step};
-ghost use Rattle.rv_lab.specs.State.{setup, registers_of};
+ghost use Rattle.rv_recording.specs.Recording.{first_board};
+ghost use Rattle.rv_lab.specs.State.{listing, registers_of, setup};
 ghost use Rattle.rv_operands.specs.Operands.{operand_text};
 ghost use Rattle.rv_lab.specs.declared.command.Command.TheVariants.{StepOnce};
 ghost use Rattle.rv_lab.specs.Commands.{IsWithin, Leaves, Obeys, call_limit, ready};
 ghost use Rattle.rv_lab.specs.Refusals.{RunsOut};
 ghost use Rattle.rv_lab.specs.Looks.{told};
+ghost use Rattle.rv_lab.specs.Opening.{OpensLab};
 ghost use Rattle.rv_lab.specs.Words.{line_command};
 
 use crate::command::{Command, CommandLine, read_command};
+use crate::fault::LabFault;
 use crate::plan::Plan;
 use crate::registers::registers_of;
 use rv_answers::{Answer, Registers};
 use rv_asm::{Listing, Places, Program, list};
 use rv_base::NoMemory;
 use rv_board::BootedBoard;
-use rv_opening::OpenFault;
 use rv_recording::Recording;
 use std::alloc::Global;
 use std::marker::Model;
@@ -70,7 +70,6 @@ pub(crate) struct Last {
 pub struct Lab {
     pub(crate) alloc: Global,
     pub(crate) source: Vec<u8>,
-    pub(crate) program: Program,
     pub(crate) places: Places,
     pub(crate) recording: Recording,
     pub(crate) last: Last,
@@ -87,7 +86,6 @@ impl Drop for Lab {
         let Lab {
             alloc: _,
             source: _,
-            program: _,
             places: _,
             recording: _,
             last: _,
@@ -101,14 +99,13 @@ impl Model for Lab {
     ghost use Rattle.std.specs.FinSet as set;
     ghost use Rattle.std.specs.Ordering.{nat_cmp};
     ghost use Rattle.rv_plic.specs.Codes.{plic_code};
-    ghost use Rattle.rv_asm.specs.Lines.{listing_of};
     ghost use Rattle.rv_lab.specs.State.{LabState};
 
     ghost Value = { LabState };
 
     ghost coded = { Prim.hlevel (codes, plic_code, set.code {R = nat_cmp} coded_ℕ) };
 
-    ghost view = { λ l. record { source = l.source.items; listing = listing_of l.program l.places; recording = l.recording; registers = l.last.registers; before = l.last.steps; again = l.last.command; count = l.last.count; listed = l.last.listed; plan = l.last.plan; piece = l.piece } };
+    ghost view = { λ l. record { source = l.source.items; places = l.places; recording = l.recording; registers = l.last.registers; before = l.last.steps; again = l.last.command; count = l.last.count; listed = l.last.listed; plan = l.last.plan; piece = l.piece } };
 }
 
 impl Lab {
@@ -118,23 +115,22 @@ impl Lab {
     ///
     /// The first fault of the source, the timed list and the board, in this order; `OutOfMemory` may come in
     /// place of any result.
-    pub fn open(alloc: Global, source: &[u8], inputs: &[u8], sizes: Sizes) -> Result<Lab, OpenFault>
+    pub fn open(alloc: Global, source: &[u8], inputs: &[u8], sizes: Sizes) -> Result<Lab, LabFault>
         ensures opens { IfOk result (λ l.
-            Opens source.now inputs.now sizes.pages sizes.slots last_step (Ok l.recording.session)) }
-        ensures err { IfErr result (λ e.
-            Opens source.now inputs.now sizes.pages sizes.slots last_step (Err e)) }
+            OpensLab source.now inputs.now sizes.pages sizes.slots (Ok l.recording.session)) }
+        ensures err { IfErr result (λ e. OpensLab source.now inputs.now sizes.pages sizes.slots (Err e)) }
         ensures sizes { IfOk result (λ l.
             (l.recording.pages ≡ sizes.pages) × (l.recording.slots ≡ sizes.slots)) }
-        ensures listing { IfOk result (λ l. listed source.now ≡ Ok l.listing) }
+        ensures listing { IfOk result (λ l. listed source.now ≡ Ok (listing l)) }
         ensures begins { IfOk result (λ l. (l.source ≡ source.now) × (l.before ≡ 0)
             × (l.registers ≡ registers_of l.recording.session.timed.board) × (l.again ≡ StepOnce) × (l.count ≡ 1)
             × (l.listed ≡ 0) × (l.plan ≡ None) × (l.piece ≡ 1000000)) }
     {
         let (program, places) = list(alloc, source)?;
         let (pages, slots) = (u32::from(sizes.pages), u32::from(sizes.slots));
-        let recording = Recording::open(alloc, source, inputs, pages, slots)?;
+        let recording = Recording::open(alloc, program, inputs, pages, slots)?;
         let Ok(source) = Vec::from_slice(alloc, source) else {
-            return Err(OpenFault::OutOfMemory);
+            return Err(LabFault::OutOfMemory);
         };
         let last = Last {
             registers: registers_of(recording.session().board()),
@@ -148,7 +144,6 @@ impl Lab {
         Ok(Lab {
             alloc,
             source,
-            program,
             places,
             recording,
             last,
@@ -180,16 +175,18 @@ impl Lab {
     }
 
     /// Returns the program of the source.
-    pub(crate) fn program(&self) -> &Program {
-        &self.program
+    pub(crate) fn program(&self) -> &Program
+        ensures { result.now ≡ self.now.recording.session.program }
+    {
+        self.recording.session().program()
     }
 
     /// Returns the lines of the source.
     pub(crate) fn listing(&self) -> Listing<'_>
-        ensures { seen result ≡ self.now.listing }
+        ensures { seen result ≡ listing self.now }
     {
         Listing {
-            program: &self.program,
+            program: self.program(),
             places: &self.places,
         }
     }

@@ -8,6 +8,7 @@ mod control;
 mod devices;
 mod diagnosis;
 mod execute;
+mod fault;
 mod help;
 mod inputs;
 mod lab;
@@ -26,7 +27,7 @@ mod until;
 mod why;
 
 pub use diagnosis::append_diagnosis;
+pub use fault::LabFault;
 pub use inputs::saved_name;
 pub use lab::{Lab, Next, Sizes};
 pub use rv_answers::Answer;
-pub use rv_opening::OpenFault;

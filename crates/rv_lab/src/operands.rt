@@ -3,7 +3,8 @@ ghost use Rattle.std.specs.Prelude.{◌≡◌, ◌<◌, OnSome};
 ghost use Rattle.rv_base.specs.Words.{words};
 ghost use Rattle.rv_asm.specs.Seen.{seen};
 ghost use Rattle.rv_operands.specs.Operands.{address};
-ghost use Rattle.rv_lab.specs.State.{board};
+ghost use Rattle.rv_asm.specs.Seen.{seen};
+ghost use Rattle.rv_lab.specs.State.{board, listing};
 ghost use Rattle.rv_lab.specs.Words.{count_of};
 
 use crate::lab::Lab;
@@ -26,7 +27,7 @@ pub(crate) fn count_or(text: &[u8], usual: u64, most: u64) -> Option<u64>
 impl Lab {
     /// Returns what operands speak of.
     pub(crate) fn scope(&self) -> Scope<'_>
-        ensures listing { seen result.listing ≡ self.now.listing }
+        ensures listing { seen result.listing ≡ listing self.now }
         ensures board { result.board.now ≡ board self.now }
     {
         Scope {
@@ -52,7 +53,7 @@ impl Lab {
 
     /// Reads an address. Where a word is none, that is answered.
     pub(crate) fn address_of(&self, command: &str, word: &[u8], answer: &mut Answer) -> Option<u32>
-        ensures value { result ≡ address self.now.listing (board self.now) word.now }
+        ensures value { result ≡ address (listing self.now) (board self.now) word.now }
         ensures quiet { OnSome result (answer.new ≡ answer.old) }
     {
         let address = self.scope().address(word);

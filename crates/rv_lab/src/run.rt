@@ -21,7 +21,7 @@ use rv_recording::{End, LAST_STEP};
 /// How many steps `c` and `until` take where no number is given.
 pub(crate) const USUAL_STEPS: u64 = 1_000_000;
 
-/// The most steps of a command.
+/// The most steps of a command, of the lab and of the monitor.
 pub(crate) const MOST_STEPS: u64 = 1_000_000_000;
 
 /// The most lines of a trace.

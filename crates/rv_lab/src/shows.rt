@@ -7,7 +7,7 @@ ghost use Rattle.rv_answers.specs.Traps.{trap_text};
 ghost use Rattle.rv_lab.specs.Looks.{all_registers, memory_told, registers_told, short_place, trap_rows};
 ghost use Rattle.rv_lab.specs.Lines.{instruction_at, instruction_told, label_text};
 ghost use Rattle.rv_lab.specs.Rows.{comes_again, pc_text, register_of, traps_told};
-ghost use Rattle.rv_lab.specs.State.{board};
+ghost use Rattle.rv_lab.specs.State.{board, listing};
 
 use crate::lab::Lab;
 use crate::memory::{append_instruction_at, append_memory};
@@ -42,7 +42,7 @@ impl Lab {
     #[tactic(auto, using(rv_answers::proofs::Pieces::then))]
     fn append_pc(&self, answer: &mut Answer)
         ensures { Appended answer.old answer.new (pc_text (board self.now).machine.pc
-            (label_text self.now.listing (board self.now).machine.pc) (board self.now).machine.mode) }
+            (label_text (listing self.now) (board self.now).machine.pc) (board self.now).machine.mode) }
     {
         let board = self.board();
         answer.say("  pc   ");

@@ -6,6 +6,7 @@ ghost use Rattle.rv_answers.specs.Answer.{Appended};
 ghost use Rattle.rv_lab.specs.declared.command.Command.TheVariants.{List};
 ghost use Rattle.rv_lab.specs.Commands.{Leaves};
 ghost use Rattle.rv_lab.specs.Lines.{bytes_at, excerpt, excerpt_round, line_count, next_excerpt, row_of, rows_or, with_listed};
+ghost use Rattle.rv_lab.specs.State.{listing};
 ghost use Rattle.rv_lab.specs.Rows.{is_here, is_marked, length_text, line_of, line_rows, line_word, list_told, more_told};
 
 use crate::lab::Lab;
@@ -126,7 +127,7 @@ impl Lab {
     fn append_excerpt(&self, excerpt: Excerpt, answer: &mut Answer)
         requires { 1 ≤ excerpt.first }
         ensures { Appended answer.old answer.new
-            (rows_or (length_text (line_count self.now.listing)) self.now excerpt) }
+            (rows_or (length_text (line_count (listing self.now))) self.now excerpt) }
     {
         let last = line_count(self.listing());
         if last < excerpt.first {

@@ -6,7 +6,7 @@ ghost use Rattle.rv_lab.specs.Lines.{label_text};
 ghost use Rattle.rv_lab.specs.Looks.{place, short_place, where_told};
 ghost use Rattle.rv_lab.specs.Rows.{halted_text, line_or_instruction, stop_word};
 ghost use Rattle.rv_monitor.specs.Views.{stop_text};
-ghost use Rattle.rv_lab.specs.State.{board};
+ghost use Rattle.rv_lab.specs.State.{board, listing};
 
 use crate::lab::Lab;
 use crate::memory::append_instruction_at;
@@ -26,7 +26,7 @@ impl Lab {
     /// Appends the nearest label before an address with its distance, as `<loop+8>`, if the address is in the
     /// image.
     pub(crate) fn append_label(&self, address: u32, answer: &mut Answer)
-        ensures { Appended answer.old answer.new (label_text self.now.listing address) }
+        ensures { Appended answer.old answer.new (label_text (listing self.now) address) }
     {
         append_near(self.listing(), address, answer);
     }

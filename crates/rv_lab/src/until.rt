@@ -2,7 +2,7 @@
 ghost use Rattle.std.specs.Prelude.{◌≡◌};
 ghost use Rattle.rv_base.specs.Words.{words};
 ghost use Rattle.rv_operands.specs.Operands.{condition};
-ghost use Rattle.rv_lab.specs.State.{board};
+ghost use Rattle.rv_lab.specs.State.{board, listing};
 
 use crate::lab::Lab;
 use rv_answers::Answer;
@@ -11,7 +11,7 @@ use rv_recording::Condition;
 impl Lab {
     /// Reads a condition. Where there is none, that is answered.
     pub(crate) fn read_condition(&self, operands: &[u8], answer: &mut Answer) -> Option<Condition>
-        ensures { result ≡ condition self.now.listing (board self.now) (words operands.now) }
+        ensures { result ≡ condition (listing self.now) (board self.now) (words operands.now) }
     {
         let condition = self.scope().condition(operands);
         if condition.is_none() {

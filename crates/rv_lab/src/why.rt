@@ -3,6 +3,7 @@ use crate::control::{MSTATUS, MTVEC, csr_word};
 use crate::lab::Lab;
 use crate::memory::{append_instruction_at, instruction_at};
 use rv_answers::{Answer, append_cause, append_entry, has_bit, register_name};
+use rv_asm::assemble;
 use rv_base::NoMemory;
 use rv_board::{BootedBoard, TrapRecord};
 use rv_hart::Outcome;
@@ -10,7 +11,7 @@ use rv_isa::{Operation, Reg, decode};
 use rv_recording::Recording;
 
 /// How many steps are looked at.
-const MOST_STEPS: u64 = 20_000_000;
+const MOST_EXPLAINED: u64 = 20_000_000;
 
 /// Returns whether the board, which has just trapped, comes to no instruction of a handler.
 fn has_no_handler(board: &BootedBoard) -> bool {
@@ -183,7 +184,10 @@ impl Lab {
     fn recorded_again(&self) -> Result<Recording, NoMemory> {
         let inputs = self.recording.inputs_text(self.alloc)?;
         let (pages, slots) = (self.recording.pages(), self.recording.slots());
-        match Recording::open(self.alloc, &self.source, &inputs, pages, slots) {
+        let Ok(program) = assemble(self.alloc, &self.source) else {
+            return Err(NoMemory);
+        };
+        match Recording::open(self.alloc, program, &inputs, pages, slots) {
             Ok(run) => Ok(run),
             Err(_) => Err(NoMemory),
         }
@@ -191,7 +195,7 @@ impl Lab {
 
     /// Explains the first trap of a run that met no handler, and returns whether there was one.
     fn explain_first(&self, run: &mut Recording, answer: &mut Answer) -> Result<bool, NoMemory> {
-        let Some(trap) = run_to_trap(run, self.steps().min(MOST_STEPS))? else {
+        let Some(trap) = run_to_trap(run, self.steps().min(MOST_EXPLAINED))? else {
             return Ok(false);
         };
         let board = run.session().board();

@@ -15,3 +15,4 @@ pub mod SessionCalls
 pub mod Resumed
 pub mod Words
 pub mod Silent
+pub mod OpenFaults

@@ -5,9 +5,8 @@ use Rattle.std.proofs.lemmas.Bool.{cases_lt}
 use Rattle.rv_board.specs.State.{BoardState, halted_of}
 use Rattle.rv_lists.specs.declared.input.TimedInput.{TimedInput}
 use Rattle.rv_lists.specs.Timed.{never_falls}
-use Rattle.rv_monitor.specs.declared.stop.Stop.{Stop}
 use Rattle.rv_monitor.specs.State.{Addresses, TimedState, IsInTime, begun, after, with_due}
-use Rattle.rv_monitor.specs.TimedCalls.{HasStopped, IsRefused}
+use Rattle.rv_monitor.specs.Stops.{stop_after}
 use Rattle.rv_monitor.specs.Laws.{IsReached}
 use Rattle.rv_monitor.proofs.Times.{from_first}
 use Rattle.rv_monitor.proofs.Steps.{after_none, after_more, after_due, after_rises, halted_due, in_time_due, in_time_after}
@@ -105,17 +104,15 @@ module _ (board : BoardState) (s : TimedState) (r : IsReached board s) where
 -- ---- what calls leave
 
 module _ (board : BoardState) (old new : TimedState) (r : IsReached board old) where
-  pub stopped_stands : (a : Addresses) (most : ℕ) (stop : Stop) → HasStopped a most old new stop
-      → IsReached board new
-  stopped_stands a most stop s =
-      subst (IsReached board) (sym s.state)
-      (after_stands board old r s.count (λ j l. running a (after old j).board j (s.going j l)))
+  module _ (a : Addresses) (n : ℕ) (going : (i : ℕ) → i < n → stop_after a (after old i).board i ≡ None) where
+    gone_on : IsReached board (after old n)
+    gone_on = after_stands board old r n (λ j l. running a (after old j).board j (going j l))
 
-  pub refused_stands : (a : Addresses) (most : ℕ) → IsRefused a most old new → IsReached board new
-  refused_stands a most s =
-      subst (IsReached board) (sym s.state)
-      (due_stands board (after old s.count)
-      (after_stands board old r s.count (λ j l. running a (after old j).board j (s.going j (omega arith)))))
+    pub stopped_stands : new ≡ after old n → IsReached board new
+    stopped_stands is = subst (IsReached board) (sym is) gone_on
+
+    pub refused_stands : new ≡ with_due (after old n) → IsReached board new
+    refused_stands is = subst (IsReached board) (sym is) (due_stands board (after old n) gone_on)
 
   pub step_stands : halted_of old.board ≡ None → new ≡ after old 1 → IsReached board new
   step_stands halt is =

@@ -1,6 +1,6 @@
 -- Boards that go on after some of their steps.
 use Rattle.std.proofs.Common.{◌≡◌, ◌∙◌, ℕ, zero, suc, ◌+◌, ◌-◌, ◌<◌, ◌≤◌, Bool, true, false, cond, List, [], ◌∷◌, length, get_or, drop, refl, sym, ap, subst, arith, zero-add, inl, inr, ⊎_elim}
-use Rattle.std.specs.Prelude.{◌⊎◌, nat_eq, nat_lt, map, filter, is_some, Result, Ok, Err, OnErr, IfOk}
+use Rattle.std.specs.Prelude.{◌⊎◌, nat_eq, nat_lt, map, filter, is_some, IsSome, Result, Ok, Err, OnErr, IfOk}
 use Rattle.std.specs.FinSet as set
 use Rattle.std.proofs.lemmas.Bool.{cases_lt, eqb-true, false≢true, lt-ltb}
 use Rattle.rv_base.specs.declared.memory.NoMemory.{NoMemory}
@@ -13,6 +13,7 @@ use Rattle.rv_monitor.specs.Events.{event_of, inputs_at, events_of}
 use Rattle.rv_monitor.specs.Laws.{IsReached}
 use Rattle.rv_monitor.specs.Resumed.{resumed}
 use Rattle.rv_monitor.specs.State.{TimedState, IsInTime, count_before, begun, after, with_due}
+use Rattle.rv_monitor.specs.Stops.{stop_after}
 use Rattle.rv_monitor.specs.TimedCalls.{HasStopped}
 use Rattle.rv_monitor.proofs.Times.{from, of, from_first, from_place, from_earlier, none_before, late_from, late_of, late_count, count_most}
 use Rattle.rv_monitor.proofs.Steps.{after_more}
@@ -132,9 +133,10 @@ module _ (first : BoardState) (s : TimedState) (r : IsReached first s) where
 
   -- ---- the steps that are left are taken again
 
-  module _ (b : BoardState) (k n : ℕ) (new : TimedState) (stop : Stop) (h : b ≡ run first (events_of s.inputs 0 k))
-      (below : k ≤ n) (within : n ≤ s.taken)
-      (st : HasStopped set.empty (n - k) (resumed b s.inputs k) new stop) where
+  module _ (b : BoardState) (k n : ℕ) (new : TimedState) (h : b ≡ run first (events_of s.inputs 0 k))
+      (below : k ≤ n) (within : n ≤ s.taken) (count : ℕ) (most : count ≤ n - k)
+      (least : count < n - k → IsSome (stop_after set.empty new.board count))
+      (state : new ≡ after (resumed b s.inputs k) count) where
     resumed_is : resumed b s.inputs k ≡ after from_reset_on k
     resumed_is =
         ap (λ (c : BoardState). resumed c s.inputs k) h ∙ sym (after_begun first s.inputs k)
@@ -143,14 +145,14 @@ module _ (first : BoardState) (s : TimedState) (r : IsReached first s) where
     on j = ap (λ u. after u j) resumed_is ∙ after_more from_reset_on k j r.rising
 
     -- the board hadn't halted before any of them
-    all_taken : k + st.count ≡ n
+    all_taken : k + count ≡ n
     all_taken = ⊎_elim
         (λ less.
-        let halt = ap (λ u. halted_of u.board) (st.state ∙ on st.count) ∙ r.running (k + st.count) (omega arith) in
-        let none = no_reason set.empty new.board st.count halt (λ above. sym (no_member (pc_of new.board))) in
-        absurd (false≢true (ap is_some (sym none) ∙ st.least (omega arith))))
-        (λ enough. omega (arith, st.within))
-        (cases_lt (k + st.count) n)
+        let halt = ap (λ u. halted_of u.board) (state ∙ on count) ∙ r.running (k + count) (omega arith) in
+        let none = no_reason set.empty new.board count halt (λ above. sym (no_member (pc_of new.board))) in
+        absurd (false≢true (ap is_some (sym none) ∙ least (omega arith))))
+        (λ enough. omega (arith, most))
+        (cases_lt (k + count) n)
 
     pub resumed_back : new ≡ after from_reset_on n
-    resumed_back = st.state ∙ (on st.count ∙ ap (after from_reset_on) all_taken)
+    resumed_back = state ∙ (on count ∙ ap (after from_reset_on) all_taken)

@@ -7,6 +7,8 @@ pub mod Laws
 pub mod Commands
 pub mod Answers
 pub mod Filter
+pub mod OpenFaults
+pub mod Opening
 pub mod Numbers
 pub mod Room
 pub mod Views

@@ -1,16 +1,18 @@
-//! A session: a board with its timed inputs and breakpoints, which takes steps up to a limit; the commands
-//! over it, and the text that they print of a board.
+//! A session: a board with its timed inputs and breakpoints, which takes steps up to a limit; its opening from a
+//! program and a timed list, the commands over it, and the text that they print of a board.
 #![tactic(auto)]
 
 mod breakpoints;
 mod command;
 mod filter;
+mod opening;
 mod session;
 mod stop;
 mod timed;
 mod views;
 
 pub use command::Next;
+pub use opening::{OpenFault, open_session};
 pub use rv_lists::{Timeline, TimelineFault};
 pub use session::{Session, breakpoints_are_a_set, calls_join, given_as_listed};
 pub use stop::Stop;

@@ -3,11 +3,10 @@
 use Rattle.std.specs.Prelude.{◌≡◌, ◌≢◌, ℕ, false, None, IfSome, Ok, Err, List, [], max, take, drop}
 use Rattle.std.specs.Option.{option_map_or}
 use Rattle.rv_asm.specs.Lines.{listed}
-use Rattle.rv_opening.specs.Opening.{Opens}
-use Rattle.rv_opening.specs.declared.fault.OpenFault.{OpenFault}
-use Rattle.rv_opening.specs.declared.fault.OpenFault.TheVariants.{OutOfMemory}
-use Rattle.rv_recording.specs.Recording.{last_step}
-use Rattle.rv_lab.specs.State.{LabState}
+use Rattle.rv_lab.specs.Opening.{OpensLab}
+use Rattle.rv_lab.specs.State.{LabState, listing}
+use Rattle.rv_lab.specs.declared.fault.LabFault.{LabFault}
+use Rattle.rv_lab.specs.declared.fault.LabFault.TheVariants.{OutOfMemory}
 use Rattle.rv_page.specs.declared.state.State.{State}
 
 -- ---- the lab
@@ -35,16 +34,16 @@ sent s = option_map_or (λ l. l.recording.session.timed.board.machine.bus.serial
 
 -- the lab of a source with a timed list on a board of these sizes, before its first command
 pub record IsOpened (source inputs : List ℕ) (pages slots : ℕ) (l : LabState) : Type 0 where
-  pub session : Opens source inputs pages slots last_step (Ok l.recording.session)
+  pub session : OpensLab source inputs pages slots (Ok l.recording.session)
   pub sizes : (l.recording.pages ≡ pages) × (l.recording.slots ≡ slots)
   pub text : l.source ≡ source
-  pub listing : listed source ≡ Ok l.listing
+  pub listing : listed source ≡ Ok (listing l)
   pub plan : l.plan ≡ None
 
 -- there is no such lab, for a fault of the source, the timed list or the board
 abbrev pub IsRefused : List ℕ → List ℕ → (pages slots : ℕ) → Type 0
 IsRefused source inputs pages slots =
-    (fault : OpenFault) × Opens source inputs pages slots last_step (Err fault) × (fault ≢ OutOfMemory)
+    (fault : LabFault) × OpensLab source inputs pages slots (Err fault) × (fault ≢ OutOfMemory)
 
 -- ---- texts
 

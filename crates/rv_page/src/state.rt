@@ -6,7 +6,7 @@ ghost use Rattle.rv_lab.specs.Words.{line_command};
 ghost use Rattle.rv_page.specs.Pages.{IsOpened, IsRefused, OfLabs, empty, in_pieces, sent, taken};
 
 use rv_base::NoMemory;
-use rv_lab::{Answer, Lab, Next, OpenFault, Sizes, append_diagnosis};
+use rv_lab::{Answer, Lab, LabFault, Next, Sizes, append_diagnosis};
 use std::alloc::Global;
 
 /// A lab or none, and the text of the last answer.
@@ -75,7 +75,7 @@ impl State {
                 self.lab = Some(lab);
                 OPEN
             }
-            Err(OpenFault::OutOfMemory) => NO_MEMORY,
+            Err(LabFault::OutOfMemory) => NO_MEMORY,
             Err(fault) => {
                 append_diagnosis("source", source, fault, &mut self.answer);
                 REFUSED

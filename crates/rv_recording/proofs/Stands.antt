@@ -3,34 +3,33 @@ use Rattle.std.proofs.Common.{◌≡◌, ◌∙◌, ℕ, ◌-◌, ◌*◌, ◌<�
 use Rattle.std.proofs.lemmas.Bool.Decides.{nat_tests}
 use Rattle.std.specs.FinSet as set
 use Rattle.std.specs.List.{list_all}
-use Rattle.std.specs.Prelude.{◌⊎◌, ◌&&◌, nat_le, nat_lt, is_none, min, Option, Some, None, Result, Ok, Err, OnOk, OnErr, OnOk}
+use Rattle.std.specs.Prelude.{◌⊎◌, ◌&&◌, nat_le, nat_lt, is_none, min, if◌then◌else◌, option_and_then, Option, Some, None, Result, Ok, Err, OnOk, OnErr, OnOk}
 use Rattle.rv_base.specs.declared.memory.NoMemory.{NoMemory}
 use Rattle.rv_hart.specs.declared.trap.Outcome.{Outcome}
 use Rattle.rv_board.specs.Boot.{boot_fault, reset}
 use Rattle.rv_board.specs.Move.{run}
 use Rattle.rv_board.specs.State.{BoardState, halted_of}
 use Rattle.rv_lists.specs.Reading.{HasSteps}
-use Rattle.rv_lists.specs.Timed.{never_falls, inserted}
+use Rattle.rv_base.specs.Lines.{lines}
+use Rattle.rv_lists.specs.Timed.{IsRead, all_of, inserted, never_falls, timed, timed_line}
 use Rattle.rv_lists.specs.declared.input.Input.{Input}
 use Rattle.rv_lists.specs.declared.input.TimedInput.{TimedInput}
 use Rattle.rv_program.specs.Program.{Assembly}
 use Rattle.rv_commands.specs.declared.command.Command.{Command}
 use Rattle.rv_commands.specs.declared.command.Command.TheVariants.{Step, Go, SetBreak, ClearBreak, Registers, ControlRegister, Memory, Instruction, Traps, Edges, Quit, Nothing}
 use Rattle.rv_monitor.specs.Commands.{Leaves, LeavesRefused}
-use Rattle.rv_monitor.specs.TimedCalls.{going_for, most_of}
+use Rattle.rv_monitor.specs.TimedCalls.{going_for}
 use Rattle.rv_monitor.specs.Events.{events_of}
 use Rattle.rv_monitor.specs.Laws.{IsReached}
 use Rattle.rv_monitor.specs.Resumed.{resumed, resumed_at}
 use Rattle.rv_monitor.specs.State.{Addresses, SessionState, TimedState, begun, after, with_due, given, with_break, without_break}
 use Rattle.rv_monitor.specs.State as monitor
-use Rattle.rv_monitor.specs.Stops.{Took, WasRefused, stop_of, TakesStep}
-use Rattle.rv_monitor.specs.TimedCalls.{HasStopped, IsRefused}
+use Rattle.rv_monitor.specs.Stops.{Took, WasRefused, TakesStep}
 use Rattle.rv_monitor.specs.declared.stop.Stop.{Stop}
 use Rattle.rv_monitor.proofs.Given.{given_stands, reached_steps}
 use Rattle.rv_monitor.proofs.Resumed.{resumed_back}
-use Rattle.rv_monitor.proofs.SessionCalls.{took_was, took_others, refused_was, refused_others, on_was, on_others}
 use Rattle.rv_monitor.proofs.Reached.{begun_stands, stopped_stands, refused_stands, step_stands, due_is_reached}
-use Rattle.rv_opening.specs.Opening.{Opens}
+use Rattle.rv_monitor.specs.Opening.{Opens}
 use Rattle.rv_recording.specs.Recording.{RecordingState, gone_back}
 use Rattle.rv_recording.specs.Recorded.{IsRecorded}
 use Rattle.rv_recording.specs.Kept.{KeptBoard, AreKept, AreWithin}
@@ -62,35 +61,42 @@ Stands s p q ks =
     IsRecorded (record { session = s; pages = p; slots = q })
     × AreKept (reset s.program.bytes (4096 * p)) s.timed.inputs ks
 
-begun_is : (s : SessionState) (board : BoardState) (program : Assembly) (inputs : List TimedInput)
-    (pages slots : ℕ) → boot_fault (length program.bytes) pages slots ≡ None → never_falls inputs ≡ true
-    → HasSteps inputs → s ≡ monitor.new_session board inputs program 9999999999 → board ≡ reset program.bytes (4096 * pages)
-    → IsRecorded (record { session = s; pages = pages; slots = slots })
-begun_is s board program inputs pages slots boots rising small is booted =
-    subst (λ (u : SessionState). IsRecorded (record { session = u; pages = pages; slots = slots }))
-    (sym (is ∙ ap (λ (c : BoardState). monitor.new_session c inputs program 9999999999) booted))
-    (record {
-      boots = boots;
-      reached = begun_stands (reset program.bytes (4096 * pages)) inputs rising;
-      steps = small;
-      limit = refl;
-    })
+rises_by : (xs ys : List TimedInput) (rises : Bool) → never_falls xs ≡ rises
+    → (if rises then Some xs else None) ≡ Some ys → never_falls ys ≡ true
+rises_by xs ys true is e = let same : xs ≡ ys = cc in ap never_falls (sym same) ∙ is
+rises_by xs ys false is e = absurd cc
 
-pub opened_is : (source inputs : List ℕ) (pages slots : ℕ) (s : SessionState)
-    → Opens source inputs pages slots 9999999999 (Ok s) → never_falls s.timed.inputs ≡ true
-    → HasSteps s.timed.inputs → (ks : List KeptBoard) → ks ≡ [] → Stands s pages slots ks
-opened_is source inputs pages slots s opens rising small ks none = (
-  begun_is s (reset s.program.bytes (4096 * pages)) s.program s.timed.inputs pages slots opens.2 rising small
-      opens.3 refl,
-  subst (AreKept (reset s.program.bytes (4096 * pages)) s.timed.inputs) (sym none) tt,
-)
+-- the inputs of a timed list rise
+read_rises : (all : Option (List TimedInput)) (inputs : List TimedInput)
+    → option_and_then (λ xs. if never_falls xs then Some xs else None) all ≡ Some inputs
+    → never_falls inputs ≡ true
+read_rises None inputs e = absurd cc
+read_rises (Some xs) inputs e = rises_by xs inputs (never_falls xs) refl e
+
+rising : (text : List ℕ) (inputs : List TimedInput) → IsRead text (Ok inputs) → never_falls inputs ≡ true
+unfolding timed
+rising text inputs read = read_rises (all_of timed_line (lines text)) inputs read
+
+pub opened_is : (program : Assembly) (text : List ℕ) (pages slots : ℕ) (s : SessionState)
+    → Opens program text pages slots 9999999999 (Ok s) → HasSteps s.timed.inputs
+    → (ks : List KeptBoard) → ks ≡ [] → Stands s pages slots ks
+opened_is program text pages slots s opens small ks none =
+    let first = reset program.bytes (4096 * pages) in
+    subst (λ (u : SessionState). Stands u pages slots ks) (sym opens.2) (
+      record {
+        boots = opens.1;
+        reached = begun_stands first s.timed.inputs (rising text s.timed.inputs opens.0);
+        steps = small;
+        limit = refl;
+      },
+      subst (AreKept first s.timed.inputs) (sym none) tt,
+    )
 
 -- ---- what calls leave
 
-inputs_kept : (a : Addresses) (most : ℕ) (old new : TimedState) (n : ℕ) → new ≡ after old n
-    → new.inputs ≡ old.inputs
+inputs_kept : (old new : TimedState) (n : ℕ) → new ≡ after old n → new.inputs ≡ old.inputs
 unfolding after
-inputs_kept a most old new n e = ap (λ u. u.inputs) e
+inputs_kept old new n e = ap (λ u. u.inputs) e
 
 due_kept : (old new : TimedState) → new ≡ with_due old → new.inputs ≡ old.inputs
 unfolding with_due
@@ -164,24 +170,23 @@ module _ (s new : SessionState) (p q : ℕ) (ks : List KeptBoard) (h : Stands s 
   unchanged : new ≡ s → Stands new p q ks
   unchanged e = same_timed (ap (λ u. u.program) e) (ap (λ u. u.limit) e) (ap (λ u. u.timed) e)
 
-  stopped : (a : Addresses) (most : ℕ) (stop : Stop) → HasStopped a most s.timed new.timed stop
-      → new ≡ record s { timed = new.timed } → Stands new p q ks
-  stopped a most stop st e =
-      timed_stands e (stopped_stands first s.timed new.timed h.0.reached a most stop st)
-      (inputs_kept a most s.timed new.timed _ st.state)
-
-  refused : (a : Addresses) (most : ℕ) → IsRefused a most s.timed new.timed
-      → new ≡ record s { timed = new.timed } → Stands new p q ks
-  refused a most re e =
-      timed_stands e (refused_stands first s.timed new.timed h.0.reached a most re)
-      (refused_kept s.timed new.timed _ re.state)
+  -- nothing but the board with its inputs changed
+  timed_alone : (t : TimedState) → new ≡ record s { timed = t } → new ≡ record s { timed = new.timed }
+  timed_alone t e = e ∙ ap (λ u. record s { timed = u }) (sym (ap (λ u. u.timed) e))
 
   took : (a : Addresses) (n : ℕ) → Took a n s new → Stands new p q ks
   took a n t =
-      stopped a (most_of s n) (stop_of a s new) (took_was a n s new t) (took_others a n s new t)
+      let timed = ap (λ u. u.timed) t.state in
+      timed_stands (timed_alone (after s.timed t.count) t.state)
+      (stopped_stands first s.timed new.timed h.0.reached a t.count t.going timed)
+      (inputs_kept s.timed new.timed t.count timed)
 
   was_refused : (a : Addresses) (n : ℕ) → WasRefused a n s new → Stands new p q ks
-  was_refused a n w = refused a (most_of s n) (refused_was a n s new w) (refused_others a n s new w)
+  was_refused a n w =
+      let timed = ap (λ u. u.timed) w.state in
+      timed_stands (timed_alone (with_due (after s.timed w.count)) w.state)
+      (refused_stands first s.timed new.timed h.0.reached a w.count (λ i l. w.going i (omega arith)) timed)
+      (refused_kept s.timed new.timed w.count timed)
 
   pub called : (a : Addresses) (n : ℕ) (r : Result Stop NoMemory) → OnOk r (Took a n s new)
       → OnErr r (WasRefused a n s new) → Stands new p q ks
@@ -193,7 +198,7 @@ module _ (s new : SessionState) (p q : ℕ) (ks : List KeptBoard) (h : Stands s 
       let timed = ap (λ u. u.timed) t.1 in
       let running = none_is (halted_of s.timed.board) (and_left _ _ t.0) in
       timed_stands (t.1 ∙ ap (λ (u : TimedState). record s { timed = u }) (sym timed))
-      (step_stands first s.timed new.timed h.0.reached running timed) (inputs_kept set.empty 1 s.timed new.timed 1 timed)
+      (step_stands first s.timed new.timed h.0.reached running timed) (inputs_kept s.timed new.timed 1 timed)
   one_step (Ok None) t = unchanged t.1
   one_step (Err refusal) t =
       let timed = ap (λ u. u.timed) t.1 in
@@ -271,36 +276,28 @@ module _ (s new : SessionState) (p q : ℕ) (ks : List KeptBoard) (h : Stands s 
 
   module _ (board : BoardState) (k n : ℕ) (run_is : board ≡ run first (events_of s.timed.inputs 0 k))
       (before : k ≤ n) (below : n ≤ s.timed.taken) (within : s.timed.taken ≤ s.limit) where
-    same_most : min (n - k) (s.limit - k) ≡ n - k
-    same_most = omega arith
-
     module _ (t : Took set.empty (n - k) (resumed_at s board k) new) where
-      abbrev stop : Stop
-      stop = stop_of set.empty (resumed_at s board k) new
-
-      st : HasStopped set.empty (n - k) (resumed board s.timed.inputs k) new.timed stop
-      st =
-          subst (λ (m : ℕ). HasStopped set.empty m (resumed board s.timed.inputs k) new.timed stop) same_most
-          (on_was (n - k) s new board k t)
-
-      e : new ≡ record s { timed = new.timed }
-      e = on_others (n - k) s new board k t
-
       back_is : new.timed ≡ after (begun first s.timed.inputs) n
-      back_is = resumed_back first s.timed h.0.reached board k n new.timed stop run_is before below st
+      back_is =
+          resumed_back first s.timed h.0.reached board k n new.timed run_is before below t.count
+          (omega (arith, t.within)) (λ l. t.least (omega (arith, l))) (ap (λ u. u.timed) t.state)
 
       goes : (j : ℕ) → j < n → halted_of (after (begun first s.timed.inputs) j).board ≡ None
       goes j l = h.0.reached.running j (omega arith)
 
+      alone : new ≡ record s { timed = new.timed }
+      alone = timed_alone (after (resumed board s.timed.inputs k) t.count) t.state
+
       pub back_stands : Stands new p q ks
       back_stands =
-          timed_stands e (reached_steps first s.timed.inputs n new.timed h.0.reached.rising back_is goes)
-          (inputs_kept set.empty n (begun first s.timed.inputs) new.timed n back_is)
+          timed_stands alone
+          (reached_steps first s.timed.inputs n new.timed h.0.reached.rising back_is goes)
+          (inputs_kept (begun first s.timed.inputs) new.timed n back_is)
 
       pub went_back : after_call ≡ gone_back (record { session = s; pages = p; slots = q }) n
       went_back =
           ap (λ (u : SessionState). record { session = u; pages = p; slots = q })
-          (e ∙ ap (λ (t : TimedState). record s { timed = t }) back_is)
+          (alone ∙ ap (λ (t : TimedState). record s { timed = t }) back_is)
 
     pub back_any : (r : Result Stop NoMemory) → OnOk r (Took set.empty (n - k) (resumed_at s board k) new)
         → OnErr r (new ≡ s) → Stands new p q ks

@@ -12,7 +12,7 @@ ghost use Rattle.rv_monitor.specs.Room.{LacksRoom, NextWantsRoom};
 ghost use Rattle.rv_monitor.specs.State.{given, with_break, without_break};
 ghost use Rattle.rv_monitor.specs.Stops.{Took, WasRefused, stop_of, TakesStep};
 ghost use Rattle.rv_recording.specs.Recording.{first_board, gone_back, last_step, with_timed};
-ghost use Rattle.rv_opening.specs.Opening.{Opens};
+ghost use Rattle.rv_monitor.specs.Opening.{Opens};
 
 use crate::kept::KeptStates;
 use rv_base::NoMemory;
@@ -20,8 +20,8 @@ use rv_board::BootedBoard;
 use rv_cache::DecodeCache;
 use rv_hart::Outcome;
 use rv_lists::{Input, TimedInput, list_text};
-use rv_monitor::{Next, Session, Stop};
-use rv_opening::{OpenFault, open_session};
+use rv_monitor::{Next, OpenFault, Session, Stop, open_session};
+use rv_program::Program;
 use rv_ram::{ByteMemory, PagedRam};
 use std::alloc::Global;
 use std::marker::Model;
@@ -74,7 +74,7 @@ impl Model for Recording {
 }
 
 impl Recording {
-    /// Opens a session of a source and a timed list on a board of these sizes, and returns it as a recording
+    /// Opens a session of a program and a timed list on a board of these sizes, and returns it as a recording
     /// before its first step. It may take [`LAST_STEP`] steps.
     ///
     /// # Errors
@@ -82,22 +82,19 @@ impl Recording {
     /// As those of [`open_session`].
     pub fn open(
         alloc: Global,
-        source: &[u8],
+        program: Program,
         inputs: &[u8],
         pages: u32,
         slots: u32,
     ) -> Result<Recording, OpenFault>
-        ensures ok { IfOk result (λ r.
-            Opens source.now inputs.now pages slots last_step (Ok r.session)) }
+        ensures ok { IfOk result (λ r. Opens program inputs.now pages slots last_step (Ok r.session)) }
         ensures sizes { IfOk result (λ r. (r.pages ≡ pages) × (r.slots ≡ slots)) }
-        ensures err { IfErr result (λ e. Opens source.now inputs.now pages slots last_step (Err e)) }
+        ensures err { IfErr result (λ e. Opens program inputs.now pages slots last_step (Err e)) }
     {
-        let session = match open_session(alloc, source, inputs, pages, slots, LAST_STEP) {
+        let session = match open_session(alloc, program, inputs, pages, slots, LAST_STEP) {
             Ok(session) => session,
             Err(fault) => return Err(fault),
         };
-        // It tells that the steps of a timed list never fall.
-        let _inputs = session.inputs();
         Ok(Recording {
             alloc,
             session,

@@ -12,7 +12,7 @@ use crate::talk::{TalkFault, print_answer, talk};
 use crate::words::{Words, read_words};
 use clap::error::ErrorKind;
 use rv_base::TEXT_LIMIT;
-use rv_lab::{Answer, Lab, OpenFault, append_diagnosis};
+use rv_lab::{Answer, Lab, LabFault, append_diagnosis};
 use rv_words::refusal_status;
 use std::alloc::AllocError;
 use std::io::{self, Write};
@@ -41,12 +41,12 @@ fn read_file(rt: &HostRuntime, path: &str) -> Option<Vec<u8>> {
 }
 
 /// Reports why there is no lab, and returns the exit status.
-fn refuse(rt: &HostRuntime, words: &Words<'_>, source: &[u8], fault: OpenFault) -> u8 {
+fn refuse(rt: &HostRuntime, words: &Words<'_>, source: &[u8], fault: LabFault) -> u8 {
     let mut text = Answer::new(rt.alloc());
     append_diagnosis(words.source, source, fault, &mut text);
     report(rt, text.bytes());
     match fault {
-        OpenFault::OutOfMemory => FAILED,
+        LabFault::OutOfMemory => FAILED,
         _ => REFUSED,
     }
 }

@@ -1,20 +1,12 @@
--- Why nothing is opened, by the errors of its parts.
+-- Why no session is opened, by the errors of its parts.
 -- Not to audit: `?` takes these steps from the errors of the parts to the one of the opening, and the promise
 -- of `open_session` says of each of those when it comes.
-use Rattle.rv_program.specs.declared.fault.AsmFault.{AsmFault}
-use Rattle.rv_program.specs.declared.fault.FaultKind.{FaultKind}
-use Rattle.rv_program.specs.declared.fault.FaultKind.TheVariants as kind
 use Rattle.rv_board.specs.declared.event.BootFault.{BootFault}
 use Rattle.rv_board.specs.declared.event.BootFault.TheVariants as boot
 use Rattle.rv_lists.specs.declared.fault.TimelineFault.{TimelineFault}
 use Rattle.rv_lists.specs.declared.fault.TimelineFault.TheVariants as list
-use Rattle.rv_opening.specs.declared.fault.OpenFault.{OpenFault}
-use Rattle.rv_opening.specs.declared.fault.OpenFault.TheVariants.{Source, Input, Board, OutOfMemory}
-
--- the fault of a source that is not assembled, by the kind of the assembler's fault
-abbrev pub source_fault : FaultKind → AsmFault → OpenFault
-source_fault kind.OutOfMemory why = OutOfMemory
-source_fault other why = Source why
+use Rattle.rv_monitor.specs.declared.opening.OpenFault.{OpenFault}
+use Rattle.rv_monitor.specs.declared.opening.OpenFault.TheVariants.{Input, Board, OutOfMemory}
 
 -- the fault of a timed list that can't be read
 abbrev pub list_fault : TimelineFault → OpenFault
