@@ -5,16 +5,18 @@
 ghost use Rattle.std.specs.Prelude.{◌≡◌, All, codes, IfErr, IfOk, false, map, true};
 ghost use Rattle.clap.specs.Words.{FailsBy, app_of, fault_of, kind_of, matches_of, rule_of, takes};
 ghost use Rattle.clap.specs.Walk.{texts};
-ghost use Rattle.rv_words.specs.Board.{board_app, file_rule, source_rule};
-ghost use Rattle.rv_words.specs.Chain.{HasRule, IsLocal, board_rules, parsed_rule};
+ghost use Rattle.rv_words.specs.Board.{board_app, source_rule};
+ghost use Rattle.rv_words.specs.Chain.{HasRule, IsLocal, board_rules};
 ghost use Rattle.rv_words.specs.Parse.{IsBoardParse};
 ghost use Rattle.rv_words.specs.Read.{IsReadFrom};
 
+mod args;
 mod laws;
 mod origin;
 mod status;
 
-use clap::builder::ValueParser;
+use args::{number_arg, option_arg};
+pub use args::{input_arg, pages_arg, slots_arg};
 use clap::error::ErrorKind;
 use clap::{Arg, ArgAction, ArgMatches, Command, Error, value_parser};
 pub use laws::{help_is_answered, words_have_a_meaning};
@@ -58,53 +60,21 @@ fn source_arg<'a>(alloc: Global) -> Arg<'a>
         .default_value("-")
 }
 
-/// Returns the option `--name`, which takes a value that the help calls `value_name`.
-fn option_arg<'a>(alloc: Global, name: &'a str, value_name: &'a str, help: &'a str) -> Arg<'a>
-    ensures { HasRule result (file_rule name.entry.now) }
-{
-    Arg::new(alloc, name)
-        .long(name)
-        .value_name(value_name)
-        .help(help)
-        .action(ArgAction::Set)
-}
-
-/// Returns the option `--name`, which takes a number in a range and has a default.
-fn number_arg<'a>(
-    alloc: Global,
-    name: &'a str,
-    value_name: &'a str,
-    help: &'a str,
-    default: &'a str,
-    range: ValueParser<'a>,
-) -> Arg<'a>
-    ensures { HasRule result (parsed_rule name.entry.now default.entry.now range.entry) }
-{
-    option_arg(alloc, name, value_name, help)
-        .default_value(default)
-        .value_parser(range)
-}
-
 /// Returns the arguments of the command, in their order.
 fn board_args<'a>(alloc: Global) -> Result<Vec<Arg<'a>>, AllocError>
     ensures rules { IfOk result (λ args. map rule_of args.items ≡ board_rules) }
     ensures local { IfOk result (λ args. All IsLocal args.items) }
 {
-    let input = "the timed serial bytes and interrupt lines, a file";
     let commands = "the monitor's commands, a file";
     let steps = "the most steps, 0 to 1000000000";
     let most_steps = value_parser!(u32).range(0..=1_000_000_000);
-    let pages = "the pages of RAM of 4096 bytes each, 1 to 4096";
-    let page_counts = value_parser!(u16).range(1..=4096);
-    let slots = "the slots of the instruction cache, a power of two from 64 to 4096";
-    let slot_counts = value_parser!(u16).range(64..=4096);
     Ok(vec![in alloc;
         source_arg(alloc),
-        option_arg(alloc, "input", "F", input),
+        input_arg(alloc),
         option_arg(alloc, "commands", "F", commands),
         number_arg(alloc, "steps", "N", steps, "1000000", most_steps),
-        number_arg(alloc, "pages", "P", pages, "256", page_counts),
-        number_arg(alloc, "slots", "S", slots, "1024", slot_counts),
+        pages_arg(alloc),
+        slots_arg(alloc),
     ]?)
 }
 

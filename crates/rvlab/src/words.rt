@@ -1,7 +1,7 @@
 //! The words of the command line, read with `clap`: `rvlab SOURCE [--input F] [--pages P] [--slots S]`.
-use clap::builder::ValueParser;
-use clap::{Arg, ArgAction, ArgMatches, Command, Error, value_parser};
+use clap::{Arg, ArgAction, ArgMatches, Command, Error};
 use rv_lab::Sizes;
+use rv_words::{input_arg, pages_arg, slots_arg};
 use std::alloc::{AllocError, Global};
 
 /// What the words of the command line ask for.
@@ -24,44 +24,13 @@ fn source_arg<'a>(alloc: Global) -> Arg<'a> {
         .action(ArgAction::Set)
 }
 
-/// Returns the option `--input`.
-fn input_arg<'a>(alloc: Global) -> Arg<'a> {
-    Arg::new(alloc, "input")
-        .long("input")
-        .value_name("F")
-        .help("the timed serial bytes and interrupt lines, a file")
-        .action(ArgAction::Set)
-}
-
-/// Returns the option `--name`, which takes a number in a range and has a default.
-fn number_arg<'a>(
-    alloc: Global,
-    name: &'a str,
-    value_name: &'a str,
-    help: &'a str,
-    default: &'a str,
-    range: ValueParser<'a>,
-) -> Arg<'a> {
-    Arg::new(alloc, name)
-        .long(name)
-        .value_name(value_name)
-        .help(help)
-        .action(ArgAction::Set)
-        .default_value(default)
-        .value_parser(range)
-}
-
 /// Returns the arguments of the command, in their order.
 fn lab_args<'a>(alloc: Global) -> Result<Vec<Arg<'a>>, AllocError> {
-    let pages = "the pages of RAM of 4096 bytes each, 1 to 4096";
-    let page_counts = value_parser!(u16).range(1..=4096);
-    let slots = "the slots of the instruction cache, a power of two from 64 to 4096";
-    let slot_counts = value_parser!(u16).range(64..=4096);
     Ok(vec![in alloc;
         source_arg(alloc),
         input_arg(alloc),
-        number_arg(alloc, "pages", "P", pages, "256", page_counts),
-        number_arg(alloc, "slots", "S", slots, "1024", slot_counts),
+        pages_arg(alloc),
+        slots_arg(alloc),
     ]?)
 }
 
