@@ -157,63 +157,34 @@ zero_found addr (n ∷ ns) b each is =
     by true false is later = absurd cc
     by false b is later = later is
 
-number_mstatus : number_of (codes "mstatus") ≡ 0x300
+-- the numbers of the registers in the table
+numbers : (number_of (codes "mstatus") ≡ 0x300)
+    × (number_of (codes "misa") ≡ 0x301)
+    × (number_of (codes "mie") ≡ 0x304)
+    × (number_of (codes "mtvec") ≡ 0x305)
+    × (number_of (codes "mscratch") ≡ 0x340)
+    × (number_of (codes "mepc") ≡ 0x341)
+    × (number_of (codes "mcause") ≡ 0x342)
+    × (number_of (codes "mtval") ≡ 0x343)
+    × (number_of (codes "mip") ≡ 0x344)
+    × (number_of (codes "mcycle") ≡ 0xB00)
+    × (number_of (codes "mcycleh") ≡ 0xB80)
+    × (number_of (codes "minstret") ≡ 0xB02)
+    × (number_of (codes "minstreth") ≡ 0xB82)
 unfolding number_of csr_names
-number_mstatus = refl
-
-number_misa : number_of (codes "misa") ≡ 0x301
-unfolding number_of csr_names
-number_misa = refl
-
-number_mie : number_of (codes "mie") ≡ 0x304
-unfolding number_of csr_names
-number_mie = refl
-
-number_mtvec : number_of (codes "mtvec") ≡ 0x305
-unfolding number_of csr_names
-number_mtvec = refl
-
-number_mscratch : number_of (codes "mscratch") ≡ 0x340
-unfolding number_of csr_names
-number_mscratch = refl
-
-number_mepc : number_of (codes "mepc") ≡ 0x341
-unfolding number_of csr_names
-number_mepc = refl
-
-number_mcause : number_of (codes "mcause") ≡ 0x342
-unfolding number_of csr_names
-number_mcause = refl
-
-number_mtval : number_of (codes "mtval") ≡ 0x343
-unfolding number_of csr_names
-number_mtval = refl
-
-number_mip : number_of (codes "mip") ≡ 0x344
-unfolding number_of csr_names
-number_mip = refl
+numbers = (refl, refl, refl, refl, refl, refl, refl, refl, refl, refl, refl, refl, refl)
 
 pub number_mcycle : number_of (codes "mcycle") ≡ 0xB00
-unfolding number_of csr_names
-number_mcycle = refl
-
-number_mcycleh : number_of (codes "mcycleh") ≡ 0xB80
-unfolding number_of csr_names
-number_mcycleh = refl
+number_mcycle = numbers.9
 
 pub number_minstret : number_of (codes "minstret") ≡ 0xB02
-unfolding number_of csr_names
-number_minstret = refl
-
-number_minstreth : number_of (codes "minstreth") ≡ 0xB82
-unfolding number_of csr_names
-number_minstreth = refl
+number_minstret = numbers.11
 
 pub ruleset counter_numbers = (number_mcycle, number_minstret)
 
 same : (addr : ℕ) → is_config addr ≡ false → is_address addr ≡ false → Same (row_at addr) (register_at addr)
 unfolding table register_at row_at
-same addr config address = search (rules, more, number_mstatus, number_misa, number_mie, number_mtvec, number_mscratch, number_mepc, number_mcause, number_mtval, number_mip, number_mcycle, number_mcycleh, number_minstret, number_minstreth, zero_found, each_number, named_zero)
+same addr config address = search (rules, more, numbers.0, numbers.1, numbers.2, numbers.3, numbers.4, numbers.5, numbers.6, numbers.7, numbers.8, number_mcycle, numbers.10, number_minstret, numbers.12, zero_found, each_number, named_zero)
 
 -- ---- what is at an address, by the register there
 

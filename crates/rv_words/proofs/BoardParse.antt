@@ -1,5 +1,5 @@
 -- The matches of the words, by the command alone.
-use Rattle.std.proofs.Common.{◌≡◌, ◌∙◌, ◌<◌, ◌≤◌, ◌^◌, ap, subst, sym, refl, arith, ℕ, true, List, Option, Some, Result}
+use Rattle.std.proofs.Common.{◌≡◌, ◌∙◌, ◌<◌, ◌≤◌, ◌^◌, ap, subst, sym, refl, arith, ℕ, true, List, Option, Some, Result, length, false, None}
 use Rattle.std.specs.Prelude.{codes, pos, option_map}
 use Rattle.std.specs.Option.{option_map_or}
 use Rattle.std.specs.Borrow.{Bor}
@@ -12,14 +12,18 @@ use Rattle.rv_words.specs.Read.{number_of}
 use Rattle.clap.specs.Lexer.{without_minus}
 use Rattle.clap.specs.declared.builder.value_parser.ValueParser.TheVariants.{Signed}
 use Rattle.clap.specs.Built.{IsParsedFrom}
-use Rattle.clap.specs.Words.{App, HasMatchesOf, Row, Text, app_of, first_of, first_value, found_of, is_simple, is_simple_and_free, matches_of, one_of, one_text}
+use Rattle.clap.specs.Walk.{is_empty}
+use Rattle.std.specs.Str.{bytes_eq}
+use Rattle.std.specs.List.{slice_index_or}
+use Rattle.clap.specs.declared.builder.action.ArgAction.TheVariants.{Set}
+use Rattle.clap.specs.Words.{App, HasMatchesOf, Row, Rule, Text, app_of, first_of, first_value, found_of, is_simple, is_simple_and_free, matches_of, one_of, one_text}
 use Rattle.clap.specs.declared.builder.command.Command.{Command}
 use Rattle.clap.specs.declared.parser.matches.ArgMatches.{ArgMatches}
 use Rattle.clap.proofs.SimpleLemmas.{plain_fields}
 use Rattle.rv_words.specs.Board.{board_app, source_rule}
 use Rattle.rv_words.specs.Chain.{number_rule, pages_rule, slots_rule, steps_rule}
 use Rattle.rv_words.specs.Parse.{HasNumber, IsBoardParse}
-use Rattle.rv_words.proofs.Defaults.{HasDefaultAt, IsParseOf, are_simple_free, has_value, reads}
+use Rattle.rv_words.proofs.Defaults.{HasDefaultAt, IsParseOf, are_simple_free, has_value, only_at, reads}
 
 -- clap's meaning says the matches of the command
 pub board_simple : is_simple board_app ≡ true
@@ -34,61 +38,38 @@ board_simple_free : are_simple_free board_app.top.rules ≡ true
 unfolding board_app
 board_simple_free = refl
 
+-- the facts that make a rule of the command one with a default
+default_at : (k : ℕ) (r : Rule) → k < length board_app.top.rules → slice_index_or board_app.top.rules k r ≡ r
+    → only_at r.id k board_app.top.rules ≡ true → r.action ≡ Some Set → r.range ≡ None → 0 < length r.defaults
+    → is_empty r.id ≡ false → bytes_eq r.id (codes "help") ≡ false → bytes_eq r.id (codes "version") ≡ false
+    → HasDefaultAt board_app.top.rules k r
+default_at k r within at only action range defaults named no_help no_version = record {
+  within = within;
+  at = at;
+  only = only;
+  action = action;
+  range = range;
+  defaults = defaults;
+  named = named;
+  no_help = no_help;
+  no_version = no_version;
+}
+
 source_at : HasDefaultAt board_app.top.rules 0 source_rule
 unfolding board_app
-source_at = record {
-  within = omega arith;
-  at = refl;
-  only = refl;
-  action = refl;
-  range = refl;
-  defaults = omega arith;
-  named = refl;
-  no_help = refl;
-  no_version = refl;
-}
+source_at = default_at 0 source_rule (omega arith) refl refl refl refl (omega arith) refl refl refl
 
 steps_at : HasDefaultAt board_app.top.rules 3 steps_rule
 unfolding board_app
-steps_at = record {
-  within = omega arith;
-  at = refl;
-  only = refl;
-  action = refl;
-  range = refl;
-  defaults = omega arith;
-  named = refl;
-  no_help = refl;
-  no_version = refl;
-}
+steps_at = default_at 3 steps_rule (omega arith) refl refl refl refl (omega arith) refl refl refl
 
 pages_at : HasDefaultAt board_app.top.rules 4 pages_rule
 unfolding board_app
-pages_at = record {
-  within = omega arith;
-  at = refl;
-  only = refl;
-  action = refl;
-  range = refl;
-  defaults = omega arith;
-  named = refl;
-  no_help = refl;
-  no_version = refl;
-}
+pages_at = default_at 4 pages_rule (omega arith) refl refl refl refl (omega arith) refl refl refl
 
 slots_at : HasDefaultAt board_app.top.rules 5 slots_rule
 unfolding board_app
-slots_at = record {
-  within = omega arith;
-  at = refl;
-  only = refl;
-  action = refl;
-  range = refl;
-  defaults = omega arith;
-  named = refl;
-  no_help = refl;
-  no_version = refl;
-}
+slots_at = default_at 5 slots_rule (omega arith) refl refl refl refl (omega arith) refl refl refl
 
 parse_of : (c : Command) (m : ArgMatches) → app_of c ≡ board_app → IsParsedFrom c m →
     IsParseOf board_app.top.rules c m
