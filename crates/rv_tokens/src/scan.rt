@@ -160,7 +160,7 @@ fn character_front<'a>(line: &'a [u8]) -> Option<(Token<'a>, usize)>
 }
 
 /// Returns the longest token at the front of a line that begins with `"`, and its length.
-#[tactic(auto, using(crate::proofs::StringEnds::scanned_some, crate::proofs::StringEnds::scanned_more, crate::proofs::StringEnds::front_string, crate::proofs::StringEnds::front_bad, crate::proofs::StringEnds::front_unended, crate::proofs::StringEnds::begins_quoted, crate::proofs::Front::at_front))]
+#[tactic(auto, using(crate::proofs::StringEnds::string_steps, crate::proofs::Front::at_front))]
 fn string_front<'a>(line: &'a [u8]) -> Option<(Token<'a>, usize)>
     requires some { 0 < length line.now }
     requires first { slice_index line.now 0 ≡ 34 }
@@ -182,7 +182,7 @@ fn string_front<'a>(line: &'a [u8]) -> Option<(Token<'a>, usize)>
 }
 
 /// Returns the longest token at the front of a line that begins with `%`, and its length.
-#[tactic(auto, using(crate::proofs::Front::front_short, crate::proofs::Front::front_half, crate::proofs::Front::half_none))]
+#[tactic(auto, using(crate::proofs::Front::half_steps))]
 fn half_front<'a>(line: &'a [u8]) -> Option<(Token<'a>, usize)>
     requires some { 0 < length line.now }
     requires first { slice_index line.now 0 ≡ 37 }
