@@ -294,3 +294,5 @@ character_long xs long = search (rules, length-drop, length-take, between_none, 
 pub character_within : (line : List ℕ) (n : ℕ) → n ≤ length line → ((m : ℕ) → n < m → m ≤ length line → 6 < m)
     → get_or line 0 0 ≡ 39 → longest (token_in line) n ≡ front line
 character_within line n le long e = search (rules, longest_above, length-take, character_in, character_long)
+
+pub ruleset half_steps = (front_short, front_half, half_none)

@@ -299,3 +299,5 @@ front_bad text n so test e = search (rules, front_open, past_bad)
 pub begins_quoted : (line : List ℕ) → 0 < length line → get_or line 0 0 ≡ 34 → line ≡ 34 ∷ drop 1 line
 begins_quoted [] some e = absurd (omega arith)
 begins_quoted (b ∷ bs) some e = rw e refl
+
+pub ruleset string_steps = (scanned_some, scanned_more, front_string, front_bad, front_unended, begins_quoted)

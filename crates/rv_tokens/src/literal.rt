@@ -107,7 +107,7 @@ fn is_plain(quote: u8, b: u8) -> bool
 }
 
 /// Reads the text of a byte between two quotes: the byte itself, or an escape.
-#[tactic(auto, unfolding(crate::specs::Partial::spelled_by), using(crate::proofs::Escapes::as_spelled))]
+#[tactic(auto, using(crate::proofs::Escapes::as_spelled, crate::proofs::Escapes::backslash), unfolding(crate::specs::Partial::spelled_by))]
 fn byte_between(quote: u8, text: &[u8]) -> Option<u8>
     ensures { result ≡ spelled quote text.now }
 {

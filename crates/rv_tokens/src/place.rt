@@ -51,6 +51,7 @@ pub fn place_of(line: &[u8], index: usize) -> Option<Place>
 
 /// Returns the column of the first byte at which no token begins, in the rest of a line that has `total`
 /// bytes.
+#[tactic(auto, using(crate::proofs::Longest::longest_found))]
 fn stuck_in(total: usize, rest: &[u8]) -> Option<usize>
     requires { length rest.now ≤ total }
     ensures { IfSome result (λ column. column < total) }

@@ -160,6 +160,7 @@ fn character_front<'a>(line: &'a [u8]) -> Option<(Token<'a>, usize)>
 }
 
 /// Returns the longest token at the front of a line that begins with `"`, and its length.
+#[tactic(auto, using(crate::proofs::StringEnds::string_steps, crate::proofs::Front::at_front))]
 fn string_front<'a>(line: &'a [u8]) -> Option<(Token<'a>, usize)>
     requires some { 0 < length line.now }
     requires first { slice_index line.now 0 ≡ 34 }
@@ -181,6 +182,7 @@ fn string_front<'a>(line: &'a [u8]) -> Option<(Token<'a>, usize)>
 }
 
 /// Returns the longest token at the front of a line that begins with `%`, and its length.
+#[tactic(auto, using(crate::proofs::Front::half_steps))]
 fn half_front<'a>(line: &'a [u8]) -> Option<(Token<'a>, usize)>
     requires some { 0 < length line.now }
     requires first { slice_index line.now 0 ≡ 37 }
@@ -198,6 +200,7 @@ fn half_front<'a>(line: &'a [u8]) -> Option<(Token<'a>, usize)>
 }
 
 /// Returns the longest token at the front of a line that begins with any other byte, and its length.
+#[tactic(auto, using(crate::proofs::Front::front_sign))]
 fn sign_front<'a>(line: &'a [u8]) -> Option<(Token<'a>, usize)>
     requires some { 0 < length line.now }
     requires word { is_name_byte (slice_index line.now 0) ≡ false }
@@ -275,6 +278,7 @@ pub fn cut_line<'a>(alloc: Global, line: &'a [u8]) -> Result<Vec<Token<'a>>, Lin
 
 /// A law: a line is cut in exactly one way into tokens, each the longest at its place, or has exactly one
 /// fault. That is the result of `cut_line`.
+#[tactic(auto, using(crate::proofs::PartsLemmas::cut_means))]
 pub fn one_cut()
     ensures { (line : List ℕ) → (r : Result (List Token) LineFault) → IsCutInto line r ↔ (tokens line ≡ r) }
 {}
