@@ -6,7 +6,7 @@ use Rattle.std.specs.Str.{bytes_eq}
 use Rattle.rv_base.specs.Tables.{lookup}
 use Rattle.rv_answers.specs.Answer.{Written, Appended}
 use Rattle.rv_answers.specs.Control.{bits_told}
-use Rattle.rv_answers.specs.Parts.{bits_text, with_bits}
+use Rattle.rv_answers.specs.Support.Parts.{bits_text, with_bits}
 use Rattle.rv_answers.specs.declared.control.Bits.{Bits}
 use Rattle.rv_answers.specs.declared.control.Bits.TheVariants.{Status, Lines, Cause}
 use Rattle.rv_answers.proofs.Pieces.{nothing}

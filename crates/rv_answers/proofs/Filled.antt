@@ -14,7 +14,7 @@ use Rattle.rv_pmp.specs.declared.mode.Mode.TheVariants.{User, Machine}
 use Rattle.rv_answers.specs.Answer.{Written, Appended}
 use Rattle.rv_answers.specs.Forms.{filled}
 use Rattle.rv_answers.specs.Memory.{extent}
-use Rattle.rv_answers.specs.Parts.{extent_by, format_of, formats, mode_text, register_cell}
+use Rattle.rv_answers.specs.Support.Parts.{extent_by, format_of, formats, mode_text, register_cell}
 use Rattle.rv_answers.specs.Registers.{registers_text}
 use Rattle.rv_answers.specs.declared.extent.Extent.{Extent}
 use Rattle.rv_answers.specs.declared.extent.Format.{Format}

@@ -3,7 +3,7 @@ use Rattle.std.proofs.Common.{ℕ, ◌≤◌, List, arith}
 use Rattle.std.specs.Prelude.{Bool, true, false, if◌then◌else◌, Some, None, IfSome, codes}
 use Rattle.std.specs.Str.{bytes_eq}
 use Rattle.rv_base.specs.Tables.{lookup}
-use Rattle.rv_answers.specs.Parts.{formats}
+use Rattle.rv_answers.specs.Support.Parts.{formats}
 use Rattle.rv_answers.specs.declared.extent.Format.{Format}
 use Rattle.rv_answers.specs.declared.extent.Format.TheVariants.{Bytes, Words, Text}
 

@@ -8,7 +8,7 @@ use Rattle.std.proofs.lemmas.List.Sums.{fails_before_first, prefix_len-le-length
 use Rattle.std.proofs.lemmas.List.Splits.{length-slice_split, slice_split_first, slice_split_none}
 use Rattle.rv_answers.specs.Answer.{Written, Appended}
 use Rattle.rv_answers.specs.Forms.{filled, piece}
-use Rattle.rv_answers.specs.Parts.{choice, is_place, piece_by, pieces}
+use Rattle.rv_answers.specs.Support.Parts.{choice, is_place, piece_by, pieces}
 use Rattle.rv_answers.proofs.Pieces.{then}
 
 -- ---- texts with `|` between them

@@ -20,7 +20,7 @@ use Rattle.rv_pmp.specs.Pmp.{PmpState, entry_at, matches}
 use Rattle.rv_answers.specs.Answer.{Written, Appended}
 use Rattle.rv_answers.specs.Forms.{filled}
 use Rattle.rv_answers.specs.Protection.{entries_on, entry_text, halves, protection_text, region_text, rights}
-use Rattle.rv_answers.specs.Parts.{letters}
+use Rattle.rv_answers.specs.Support.Parts.{letters}
 use Rattle.rv_answers.proofs.Pieces.{then}
 
 -- the last of some numbers

@@ -4,7 +4,7 @@ use Rattle.std.specs.List.{flat_map, range_with_len}
 use Rattle.std.proofs.lemmas.Bool.{le-leb, lt-ltb}
 use Rattle.rv_plic.specs.Gateways.{PlicState}
 use Rattle.rv_plic.specs.Plic.{at, priority_of}
-use Rattle.rv_plic.specs.Registers.{reg_at}
+use Rattle.rv_plic.specs.Support.Registers.{reg_at}
 use Rattle.rv_plic.specs.Sources.{sources, word_of}
 use Rattle.rv_plic.proofs.Rows.{loads}
 use Rattle.rv_answers.specs.Answer.{Written, Appended}

@@ -4,7 +4,7 @@ use Rattle.rv_isa.specs.Number.{bit}
 use Rattle.rv_answers.specs.Answer.{Written, Appended}
 use Rattle.rv_answers.specs.Forms.{filled}
 use Rattle.rv_answers.specs.Interrupts.{interrupt_row, interrupts_text}
-use Rattle.rv_answers.specs.Parts.{in_user_mode}
+use Rattle.rv_answers.specs.Support.Parts.{in_user_mode}
 use Rattle.rv_answers.specs.declared.interrupts.Interrupts.{Interrupts}
 use Rattle.rv_answers.proofs.Pieces.{then, nothing}
 

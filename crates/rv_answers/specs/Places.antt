@@ -5,7 +5,7 @@ use Rattle.std.specs.Prelude.{ℕ, ◌==◌, List, [], ◌++◌, codes, if◌the
 use Rattle.std.specs.Fmt.{decimal}
 use Rattle.std.specs.Option.{option_map_or}
 use Rattle.rv_base.specs.Digits.{hex}
-use Rattle.rv_isa.specs.Meaning.{means}
+use Rattle.rv_isa.specs.Support.Meaning.{means}
 use Rattle.rv_isa.specs.Text.{text}
 use Rattle.rv_answers.specs.Answer.{padded}
 use Rattle.rv_answers.specs.Shown.{shown}

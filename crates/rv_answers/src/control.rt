@@ -4,7 +4,7 @@ ghost use Rattle.rv_base.specs.Tables.{lookup};
 ghost use Rattle.rv_isa.specs.Number as number;
 ghost use Rattle.rv_answers.specs.Answer.{Appended};
 ghost use Rattle.rv_answers.specs.Control.{bits_told};
-ghost use Rattle.rv_answers.specs.Parts.{bits_text, with_bits};
+ghost use Rattle.rv_answers.specs.Support.Parts.{bits_text, with_bits};
 ghost use Rattle.rv_answers.specs.declared.control.Bits.TheVariants as variant;
 
 use crate::{Answer, cause_name};
@@ -27,7 +27,7 @@ static WITH_BITS: [(&str, Bits); 4] = [
 ];
 
 /// Returns what the bits of a control register are, by its name, if they have names.
-#[tactic(auto, unfolding(crate::specs::Parts::with_bits))]
+#[tactic(auto, unfolding(crate::specs::Support::Parts::with_bits))]
 fn bits_named(name: &[u8]) -> Option<Bits>
     ensures { result ≡ lookup name.now with_bits }
 {

@@ -11,8 +11,8 @@ ghost use Rattle.rv_plic.specs.Sources.{sources, word_of};
 ghost use Rattle.rv_answers.specs.Answer.{Appended};
 ghost use Rattle.rv_answers.specs.Forms.{filled};
 ghost use Rattle.rv_answers.specs.Devices.{controller_text, serial_text, source_row, timer_text, values};
-ghost use Rattle.rv_answers.specs.Parts.{edges_text, state_text};
-ghost use Rattle.rv_answers.specs.Parts as spec;
+ghost use Rattle.rv_answers.specs.Support.Parts.{edges_text, state_text};
+ghost use Rattle.rv_answers.specs.Support.Parts as spec;
 
 use crate::Answer;
 use crate::control::{bit, has_bit};

@@ -3,7 +3,7 @@ ghost use Rattle.std.specs.Prelude.{◌≡◌, ◌≤◌, IfSome};
 ghost use Rattle.rv_base.specs.Tables.{lookup};
 ghost use Rattle.rv_base.specs.Words.{words};
 ghost use Rattle.rv_answers.specs.Memory.{extent};
-ghost use Rattle.rv_answers.specs.Parts.{format_of, formats};
+ghost use Rattle.rv_answers.specs.Support.Parts.{format_of, formats};
 
 use rv_base::{decimal, first_word, has_word, look_up};
 
@@ -33,7 +33,7 @@ static FORMATS: [(&str, (Format, u64)); 3] = [
 ];
 
 /// Returns how memory is shown, by its word, and how many bytes or words where no number is given.
-#[tactic(auto, unfolding(crate::specs::Parts::formats), using(crate::proofs::Formats::few))]
+#[tactic(auto, unfolding(crate::specs::Support::Parts::formats), using(crate::proofs::Formats::few))]
 fn format_named(word: &[u8]) -> Option<(Format, u64)>
     ensures value { result ≡ lookup word.now formats }
     ensures most { IfSome result (λ f. f.1 ≤ 64) }

@@ -3,7 +3,7 @@ ghost use Rattle.std.specs.Prelude.{◌≡◌, ◌≤◌, ◌==◌, length};
 ghost use Rattle.std.specs.List.{after_first, before_first, position_or_len};
 ghost use Rattle.rv_answers.specs.Answer.{Appended};
 ghost use Rattle.rv_answers.specs.Forms.{filled};
-ghost use Rattle.rv_answers.specs.Parts.{choice, piece_by};
+ghost use Rattle.rv_answers.specs.Support.Parts.{choice, piece_by};
 
 use crate::Answer;
 use rv_base::low_word;

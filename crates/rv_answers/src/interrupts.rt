@@ -5,8 +5,8 @@ ghost use Rattle.rv_answers.specs.Answer.{Appended};
 ghost use Rattle.rv_answers.specs.Forms.{filled};
 ghost use Rattle.rv_answers.specs.Interrupts as spec;
 ghost use Rattle.rv_answers.specs.Interrupts.{interrupt_row, interrupts_text};
-ghost use Rattle.rv_answers.specs.Parts.{in_user_mode};
-ghost use Rattle.rv_answers.specs.Parts as parts;
+ghost use Rattle.rv_answers.specs.Support.Parts.{in_user_mode};
+ghost use Rattle.rv_answers.specs.Support.Parts as parts;
 
 use crate::Answer;
 use crate::control::{bit, has_bit};

@@ -7,7 +7,7 @@ ghost use Rattle.rv_base.specs.Digits.{hex};
 ghost use Rattle.rv_base.specs.Tables.{rows};
 ghost use Rattle.rv_answers.specs.Answer.{Appended};
 ghost use Rattle.rv_answers.specs.Memory.{bytes_row, escaped, escapes, words_row};
-ghost use Rattle.rv_answers.specs.Parts.{byte_cell, character, word_cell};
+ghost use Rattle.rv_answers.specs.Support.Parts.{byte_cell, character, word_cell};
 
 use crate::Answer;
 

@@ -3,7 +3,7 @@ ghost use Rattle.std.specs.Prelude.{◌≡◌, ◌==◌, ◌++◌, ◌-◌, [], 
 ghost use Rattle.std.specs.Fmt.{decimal};
 ghost use Rattle.std.specs.Option.{option_map_or};
 ghost use Rattle.rv_base.specs.Lines.{lines};
-ghost use Rattle.rv_isa.specs.Meaning.{means};
+ghost use Rattle.rv_isa.specs.Support.Meaning.{means};
 ghost use Rattle.rv_answers.specs.Answer.{Appended};
 ghost use Rattle.rv_answers.specs.Places.{instruction_text};
 

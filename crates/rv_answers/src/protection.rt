@@ -7,7 +7,7 @@ ghost use Rattle.rv_pmp.specs.Entry.{entry_grants, matching_code};
 ghost use Rattle.rv_answers.specs.Answer.{Appended};
 ghost use Rattle.rv_answers.specs.Forms.{filled};
 ghost use Rattle.rv_answers.specs.Protection.{entries_on, entry_text, halves, protection_text};
-ghost use Rattle.rv_answers.specs.Parts.{letters};
+ghost use Rattle.rv_answers.specs.Support.Parts.{letters};
 
 use crate::Answer;
 use rv_pmp::{Access, Entry, Matching, Mode, Pmp, Span};

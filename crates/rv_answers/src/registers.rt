@@ -6,7 +6,7 @@ ghost use Rattle.rv_base.specs.Digits.{hex};
 ghost use Rattle.rv_isa.specs.Number.{signed};
 ghost use Rattle.rv_answers.specs.Answer.{Appended, padded};
 ghost use Rattle.rv_answers.specs.Registers.{register_name, register_text, registers_text};
-ghost use Rattle.rv_answers.specs.Parts.{register_cell};
+ghost use Rattle.rv_answers.specs.Support.Parts.{register_cell};
 
 use crate::Answer;
 use rv_isa::Reg;
@@ -120,7 +120,7 @@ fn end_fourth(register: Reg, answer: &mut Answer)
 }
 
 /// Appends a register's cell in the list of all: a star where it changed.
-#[tactic(auto, using(crate::proofs::Pieces::then), unfolding(crate::specs::Parts::register_cell))]
+#[tactic(auto, using(crate::proofs::Pieces::then), unfolding(crate::specs::Support::Parts::register_cell))]
 fn append_register_cell(register: Reg, before: &Registers, now: &Registers, answer: &mut Answer)
     ensures { Appended answer.old answer.new (register_cell before.now now.now register) }
 {

@@ -5,7 +5,7 @@ ghost use Rattle.rv_base.specs.Digits.{hex};
 ghost use Rattle.rv_answers.specs.Answer.{Appended};
 ghost use Rattle.rv_answers.specs.Places.{row_text};
 ghost use Rattle.rv_answers.specs.Forms.{filled};
-ghost use Rattle.rv_answers.specs.Parts.{cell_text, mark};
+ghost use Rattle.rv_answers.specs.Support.Parts.{cell_text, mark};
 
 use crate::Answer;
 use crate::shown::append_shown;

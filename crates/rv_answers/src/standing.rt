@@ -5,7 +5,7 @@ ghost use Rattle.rv_isa.specs.Number.{truth};
 ghost use Rattle.rv_pmp.specs.Mode.{is_machine};
 ghost use Rattle.rv_answers.specs.Answer.{Appended};
 ghost use Rattle.rv_answers.specs.Forms.{filled};
-ghost use Rattle.rv_answers.specs.Parts.{mode_text};
+ghost use Rattle.rv_answers.specs.Support.Parts.{mode_text};
 
 use crate::Answer;
 use rv_pmp::Mode;

@@ -12,7 +12,7 @@ use Rattle.rv_program.specs.declared.fault.FaultKind.{FaultKind}
 use Rattle.rv_program.specs.declared.fault.AsmFault.{AsmFault}
 use Rattle.rv_asm.specs.Layout.{phase_two_fault}
 use Rattle.rv_asm.specs.Assembly.{all_parsed, assembled, faults_in, line_bytes}
-use Rattle.rv_asm.specs.Counted.{phase_three_fault, first, joined, up_to, first_fault, assembled_by, all_faults, faults_of_phases, unless_faulty, first_of, phase_one_fault}
+use Rattle.rv_asm.specs.Support.Counted.{phase_three_fault, first, joined, up_to, first_fault, assembled_by, all_faults, faults_of_phases, unless_faulty, first_of, phase_one_fault}
 
 -- ---- numbers
 

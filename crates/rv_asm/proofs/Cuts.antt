@@ -5,7 +5,7 @@ use Rattle.std.specs.Prelude.{Option, Some, None, filter, nat_le, nat_lt, slice_
 use Rattle.std.specs.List.{find, last_or}
 use Rattle.std.specs.List.Sorted.{IsPartitionPoint}
 use Rattle.std.proofs.lemmas.Bool.Decides.{nat_tests}
-use Rattle.rv_asm.specs.Kept.{last_of}
+use Rattle.rv_asm.specs.Support.Kept.{last_of}
 
 last_taken : {X : Type 0} (o : Option X) (xs : List X) (k : ℕ) → k < length xs →
     last_or o (take (suc k) xs) ≡ slice_get xs k

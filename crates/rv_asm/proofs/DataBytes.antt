@@ -10,8 +10,8 @@ use Rattle.rv_source.specs.declared.operand.Operand.{Operand}
 use Rattle.rv_program.specs.declared.fault.FaultKind.{FaultKind}
 use Rattle.rv_program.specs.declared.fault.FaultKind.TheVariants.{Undefined, OutOfRange, OutOfMemory}
 use Rattle.rv_asm.specs.Listing.{◌>>=◌, placed, space}
-use Rattle.rv_asm.specs.Kept.{byte, Valuation, KindFails, has_unknown, wanted, fill_of}
-use Rattle.rv_asm.specs.Steps.{appended}
+use Rattle.rv_asm.specs.Support.Kept.{byte, Valuation, KindFails, has_unknown, wanted, fill_of}
+use Rattle.rv_asm.specs.Support.Steps.{appended}
 
 pub width_within : (width : Width) → bytes_of width ≤ 4
 width_within One = omega arith

@@ -14,11 +14,11 @@ use Rattle.rv_program.specs.declared.fault.AsmFault.{AsmFault}
 use Rattle.rv_asm.specs.declared.diagnosis.Diagnosis.{Diagnosis}
 use Rattle.rv_asm.specs.Layout.{line_at, phase_two_fault, definitions}
 use Rattle.rv_asm.specs.Assembly.{first_faults, all_parsed, assembled}
-use Rattle.rv_asm.specs.Counted.{phase_three_fault, fault_on, joined, first, first_fault, all_faults, unless_faulty, first_of, address, phase_one_fault, blank}
+use Rattle.rv_asm.specs.Support.Counted.{phase_three_fault, fault_on, joined, first, first_fault, all_faults, unless_faulty, first_of, address, phase_one_fault, blank}
 use Rattle.rv_asm.specs.Symbols.{Definitions}
-use Rattle.rv_asm.specs.Steps.{Known, start, known_before, labelled, with_line}
+use Rattle.rv_asm.specs.Support.Steps.{Known, start, known_before, labelled, with_line}
 use Rattle.rv_asm.specs.Diagnosed.{kept, faults_of, fault_of}
-use Rattle.rv_asm.specs.Judged.{new_among, cleared, judged, judged_with, fault_with, LiesIn, Diagnoses, known_after, IsFound, listed}
+use Rattle.rv_asm.specs.Support.Judged.{new_among, cleared, judged, judged_with, fault_with, LiesIn, Diagnoses, known_after, IsFound, listed}
 use Rattle.rv_asm.proofs.Counting.{firsts, phases_are, first_phase}
 use Rattle.rv_asm.proofs.Labels.{IsUpTo}
 use Rattle.rv_asm.proofs.Laying.{phase_two_is, not_stated, up_to_before}

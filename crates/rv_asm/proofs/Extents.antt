@@ -6,9 +6,9 @@ use Rattle.rv_source.specs.declared.statement.Statement.{Statement}
 use Rattle.rv_program.specs.declared.fault.FaultKind.{FaultKind}
 use Rattle.rv_program.specs.declared.fault.FaultKind.TheVariants.{TooLarge}
 use Rattle.rv_asm.specs.Symbols.{Definitions, operand_value}
-use Rattle.rv_asm.specs.Counted.{renames, fault_stated_by}
-use Rattle.rv_asm.specs.Constants.{IsKnown, is_unknown, is_instruction, size_of}
-use Rattle.rv_asm.specs.Steps.{image_end, free, unless}
+use Rattle.rv_asm.specs.Support.Counted.{renames, fault_stated_by}
+use Rattle.rv_asm.specs.Support.Constants.{IsKnown, is_unknown, is_instruction, size_of}
+use Rattle.rv_asm.specs.Support.Steps.{image_end, free, unless}
 use Rattle.rv_asm.proofs.Sizes.{size_is}
 
 abbrev as_result : Option FaultKind → Result (Unit {0}) FaultKind

@@ -7,18 +7,18 @@ use Rattle.rv_source.specs.Reading.{Parsed, parsed}
 use Rattle.rv_source.specs.declared.statement.Statement.{Statement}
 use Rattle.rv_program.specs.declared.fault.FaultKind.{FaultKind}
 use Rattle.rv_program.specs.declared.fault.FaultKind.TheVariants.{DuplicateSymbol, OutOfMemory}
-use Rattle.rv_tokens.specs.Partial.{Fails as LineFails}
+use Rattle.rv_tokens.specs.Support.Partial.{Fails as LineFails}
 use Rattle.rv_tokens.specs.declared.fault.LineFault.{LineFault}
 use Rattle.rv_tokens.specs.declared.fault.LineFault.TheVariants as line
 use Rattle.rv_program.specs.Faults.{kind_of}
 use Rattle.rv_asm.specs.declared.diagnosis.Diagnosis.{Diagnosis}
 use Rattle.rv_asm.specs.Symbols.{Definitions, operand_value}
-use Rattle.rv_asm.specs.Counted.{relabels, fault_stated, fault_on}
-use Rattle.rv_asm.specs.Kept.{KindFails}
-use Rattle.rv_asm.specs.Steps.{Known, labelled, stated, unless, after_statement, values_of}
-use Rattle.rv_asm.specs.Judged.{Keeps, new_among, known_after, late_fault, IsFound, Judges}
+use Rattle.rv_asm.specs.Support.Counted.{relabels, fault_stated, fault_on}
+use Rattle.rv_asm.specs.Support.Kept.{KindFails}
+use Rattle.rv_asm.specs.Support.Steps.{Known, labelled, stated, unless, after_statement, values_of}
+use Rattle.rv_asm.specs.Support.Judged.{Keeps, new_among, known_after, late_fault, IsFound, Judges}
 use Rattle.rv_asm.specs.Listing.{row}
-use Rattle.rv_asm.specs.Constants.{IsKnown, statement_bytes}
+use Rattle.rv_asm.specs.Support.Constants.{IsKnown, statement_bytes}
 use Rattle.rv_asm.proofs.Sizes.{contents_are}
 use Rattle.rv_asm.proofs.Labels.{all_new}
 use Rattle.rv_asm.proofs.Laying.{all_labelled, not_stated}

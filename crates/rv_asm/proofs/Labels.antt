@@ -8,8 +8,8 @@ use Rattle.rv_source.specs.declared.line.Label.TheVariants as label
 use Rattle.rv_asm.specs.declared.locals.LocalLabel.{LocalLabel}
 use Rattle.rv_base.specs.Tables.{lookup}
 use Rattle.rv_asm.specs.Layout.{Known, labelled, names_in, locals_in, redefines}
-use Rattle.rv_asm.specs.Counted.{relabels}
-use Rattle.rv_asm.specs.Judged.{new_among}
+use Rattle.rv_asm.specs.Support.Counted.{relabels}
+use Rattle.rv_asm.specs.Support.Judged.{new_among}
 
 -- no local label is on a line after line k
 abbrev pub IsUpTo : ℕ → Known → Type 0

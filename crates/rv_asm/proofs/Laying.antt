@@ -14,10 +14,10 @@ use Rattle.rv_program.specs.declared.fault.AsmFault.{AsmFault}
 use Rattle.rv_asm.specs.declared.locals.LocalLabel.{LocalLabel}
 use Rattle.rv_asm.specs.Listing.{Row, row}
 use Rattle.rv_asm.specs.Layout.{line_at, row_on, names_in, redefines, phase_two_fault}
-use Rattle.rv_asm.specs.Kept.{Valuation}
-use Rattle.rv_asm.specs.Counted.{address, names, known_on, relabels, fault_stated_by, fault_on, first, first_fault}
-use Rattle.rv_asm.specs.Judged.{new_among}
-use Rattle.rv_asm.specs.Steps.{Known, values_of, labelled, stated, with_line, unless, after_statement, after_line, at_line, known_before, laid_out, extended}
+use Rattle.rv_asm.specs.Support.Kept.{Valuation}
+use Rattle.rv_asm.specs.Support.Counted.{address, names, known_on, relabels, fault_stated_by, fault_on, first, first_fault}
+use Rattle.rv_asm.specs.Support.Judged.{new_among}
+use Rattle.rv_asm.specs.Support.Steps.{Known, values_of, labelled, stated, with_line, unless, after_statement, after_line, at_line, known_before, laid_out, extended}
 use Rattle.rv_asm.proofs.Labels.{IsUpTo, redefines-append, all_new, up_to_labelled}
 use Rattle.rv_asm.proofs.Listed.{within_limit}
 use Rattle.rv_asm.proofs.Sizes.{known_in, aligned, renamed}

@@ -21,12 +21,12 @@ use Rattle.rv_program.specs.Faults.{Gives}
 use Rattle.rv_program.specs.declared.fault.AsmFault.{AsmFault}
 use Rattle.rv_asm.specs.Layout.{line_at, definitions, phase_two_fault, labels_in}
 use Rattle.rv_asm.specs.Assembly.{all_parsed, line_bytes, assembled}
-use Rattle.rv_asm.specs.Counted.{phase_three_fault, address, joined, first, first_fault, joined_bytes, assembled_by, up_to, labels, phase_one_fault}
+use Rattle.rv_asm.specs.Support.Counted.{phase_three_fault, address, joined, first, first_fault, joined_bytes, assembled_by, up_to, labels, phase_one_fault}
 use Rattle.rv_asm.proofs.Counting.{joined_is, up_to_is, assembled_is}
 use Rattle.rv_asm.specs.Lines.{Listed, Located, listed, bytes_of, end_of}
-use Rattle.rv_asm.specs.Steps.{Known, known_before, laid_out}
-use Rattle.rv_asm.specs.Looked.{LabelsRise, LieInOrder, AreLinesOf, located, with_line}
-use Rattle.rv_asm.specs.Taken.{so_far, Without}
+use Rattle.rv_asm.specs.Support.Steps.{Known, known_before, laid_out}
+use Rattle.rv_asm.specs.Support.Looked.{LabelsRise, LieInOrder, AreLinesOf, located, with_line}
+use Rattle.rv_asm.specs.Support.Taken.{so_far, Without}
 use Rattle.rv_asm.proofs.Listed.{size_listed, none_last, none_before}
 use Rattle.rv_asm.proofs.Whole.{length-parsed}
 use Rattle.rv_asm.proofs.Reading.{known_is}

@@ -14,8 +14,8 @@ use Rattle.rv_asm.specs.Symbols.{Definitions, operand_value}
 use Rattle.rv_base.specs.Limits.{ram_base, image_limit}
 use Rattle.rv_asm.specs.Layout.{line_at, row_at, phase_two_fault}
 use Rattle.rv_asm.specs.Listing.{◌>>=◌, row}
-use Rattle.rv_asm.specs.Counted.{address, known_on, first, joined, first_fault}
-use Rattle.rv_asm.specs.Steps.{Known, Item, values_of, stated, appended, at_line, run, item_step, item_bytes, image_of, unless, known_before, stated_bytes, AddsOptional, Adds, AddsLine, bytes_by, listed, written, Writes}
+use Rattle.rv_asm.specs.Support.Counted.{address, known_on, first, joined, first_fault}
+use Rattle.rv_asm.specs.Support.Steps.{Known, Item, values_of, stated, appended, at_line, run, item_step, item_bytes, image_of, unless, known_before, stated_bytes, AddsOptional, Adds, AddsLine, bytes_by, listed, written, Writes}
 use Rattle.rv_asm.proofs.Runs.{run_append}
 use Rattle.rv_asm.proofs.Sizes.{statement_size}
 

@@ -12,10 +12,10 @@ use Rattle.rv_source.specs.declared.operand.Operand.{Operand}
 use Rattle.rv_asm.specs.declared.kept.Kept.TheVariants as kept
 use Rattle.rv_asm.specs.declared.single.Single.{Single}
 use Rattle.rv_asm.specs.Symbols.{Definitions, sum_value, operand_value}
-use Rattle.rv_asm.specs.Kept.{KindFails}
-use Rattle.rv_asm.specs.Constants.{IsKnown, size_of, constant_in, statement_bytes}
-use Rattle.rv_asm.specs.Steps.{Known, Item, IsSum, kept_bytes, waiting_bytes, item_bytes, values_of, stated, unless, free, after_statement, Adds}
-use Rattle.rv_asm.specs.Counted.{fault_stated}
+use Rattle.rv_asm.specs.Support.Kept.{KindFails}
+use Rattle.rv_asm.specs.Support.Constants.{IsKnown, size_of, constant_in, statement_bytes}
+use Rattle.rv_asm.specs.Support.Steps.{Known, Item, IsSum, kept_bytes, waiting_bytes, item_bytes, values_of, stated, unless, free, after_statement, Adds}
+use Rattle.rv_asm.specs.Support.Counted.{fault_stated}
 use Rattle.rv_asm.specs.Listing.{◌>>=◌, bytes_in, placed as placed_in}
 use Rattle.rv_asm.proofs.DataBytes.{placed_one}
 use Rattle.rv_asm.proofs.Runs.{kind_fails_bind}

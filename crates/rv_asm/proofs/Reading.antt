@@ -5,21 +5,21 @@ use Rattle.std.specs.Option.{option_map}
 use Rattle.std.specs.Result.{result_err, result_unwrap_or}
 use Rattle.std.proofs.lemmas.List.{get_or-map, get_or-drop, drop-drop}
 use Rattle.rv_source.specs.Reading.{Parsed, parsed, line_form, statement_of}
-use Rattle.rv_source.specs.Partial.{LineForm}
+use Rattle.rv_source.specs.Support.Partial.{LineForm}
 use Rattle.rv_source.proofs.Parsed.{form_fails, statement_fails}
-use Rattle.rv_tokens.specs.Partial.{Fails as LineFails}
+use Rattle.rv_tokens.specs.Support.Partial.{Fails as LineFails}
 use Rattle.rv_tokens.specs.declared.fault.LineFault.{LineFault}
 use Rattle.rv_tokens.specs.declared.fault.LineFault.TheVariants as line
 use Rattle.rv_program.specs.declared.fault.FaultKind.{FaultKind}
 use Rattle.rv_program.specs.declared.fault.FaultKind.TheVariants.{OutOfMemory}
 use Rattle.rv_program.specs.declared.fault.AsmFault.{AsmFault}
 use Rattle.rv_program.specs.Faults.{Gives, kind_of}
-use Rattle.rv_program.specs.Kept.{Fails, IsFaultAt}
+use Rattle.rv_program.specs.Support.Kept.{Fails, IsFaultAt}
 use Rattle.rv_asm.specs.Layout.{line_at}
 use Rattle.rv_asm.specs.Assembly.{all_parsed}
-use Rattle.rv_asm.specs.Counted.{first, first_fault, phase_one_fault, blank}
-use Rattle.rv_asm.specs.Steps.{Known, Item, start, unless, known_before, laid_out, lines_laid_out, extended, AddsLine, Writes}
-use Rattle.rv_asm.specs.Taken.{so_far, Without, IsUnread}
+use Rattle.rv_asm.specs.Support.Counted.{first, first_fault, phase_one_fault, blank}
+use Rattle.rv_asm.specs.Support.Steps.{Known, Item, start, unless, known_before, laid_out, lines_laid_out, extended, AddsLine, Writes}
+use Rattle.rv_asm.specs.Support.Taken.{so_far, Without, IsUnread}
 use Rattle.rv_asm.proofs.Labels.{IsUpTo}
 use Rattle.rv_asm.proofs.Laying.{extended_line, up_to_before}
 use Rattle.rv_asm.proofs.Listed.{writes_more}

@@ -7,10 +7,10 @@ use Rattle.rv_program.specs.declared.fault.FaultKind.TheVariants.{OutOfMemory}
 use Rattle.rv_program.specs.declared.fault.AsmFault.{AsmFault}
 use Rattle.rv_program.specs.Faults.{title_of}
 use Rattle.rv_program.proofs.FaultLines.{is_at}
-use Rattle.rv_program.specs.Kept.{FailsBy, Fails, IsFaultAt}
-use Rattle.rv_asm.specs.Kept.{KindFails}
+use Rattle.rv_program.specs.Support.Kept.{FailsBy, Fails, IsFaultAt}
+use Rattle.rv_asm.specs.Support.Kept.{KindFails}
 use Rattle.rv_asm.specs.Listing.{◌>>=◌}
-use Rattle.rv_asm.specs.Steps.{at_line, run}
+use Rattle.rv_asm.specs.Support.Steps.{at_line, run}
 
 bind_bind : {A B C E : Type 0} (r : Result A E) (f : A → Result B E) (g : B → Result C E) →
     ((r >>= f) >>= g) ≡ (r >>= λ x. f x >>= g)

@@ -6,8 +6,8 @@ use Rattle.std.proofs.lemmas.Int.{ints}
 use Rattle.rv_source.specs.declared.expression.Term.{Term}
 use Rattle.rv_asm.specs.declared.single.Single.{Single}
 use Rattle.rv_asm.specs.Symbols.{atom_value, sum_value}
-use Rattle.rv_asm.specs.Kept.{added}
-use Rattle.rv_asm.specs.Steps.{IsNumber, IsSum}
+use Rattle.rv_asm.specs.Support.Kept.{added}
+use Rattle.rv_asm.specs.Support.Steps.{IsNumber, IsSum}
 
 nothing_added : (v : ℤ) → v ≡ added v false (pos 0)
 nothing_added v = omega (arith, ints)

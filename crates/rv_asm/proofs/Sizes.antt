@@ -22,9 +22,9 @@ use Rattle.rv_base.specs.Tables.{lookup}
 use Rattle.rv_asm.specs.Values.{fits, part_value, far, hi, lo}
 use Rattle.rv_asm.specs.Layout.{redefines}
 use Rattle.rv_asm.specs.Listing.{bytes, bytes_in, code, filled, padding, space, row}
-use Rattle.rv_asm.specs.Kept.{byte, Valuation, value_by, wanted}
-use Rattle.rv_asm.specs.Counted.{renames}
-use Rattle.rv_asm.specs.Constants.{IsTaken, IsKnown, is_unknown, is_instruction, size_of, constant_in, statement_bytes}
+use Rattle.rv_asm.specs.Support.Kept.{byte, Valuation, value_by, wanted}
+use Rattle.rv_asm.specs.Support.Counted.{renames}
+use Rattle.rv_asm.specs.Support.Constants.{IsTaken, IsKnown, is_unknown, is_instruction, size_of, constant_in, statement_bytes}
 use Rattle.rv_asm.proofs.DataBytes.{Counts, placed_one, space_bytes, then_counted, mapped_counted, placed_counted}
 
 -- ---- what a row asks

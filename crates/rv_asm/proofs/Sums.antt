@@ -9,7 +9,7 @@ use Rattle.rv_asm.specs.Values.{is_word}
 use Rattle.rv_source.specs.declared.expression.Atom.{Atom}
 use Rattle.rv_asm.specs.declared.symbols.Scope.{Scope}
 use Rattle.rv_asm.specs.Symbols.{atom_value, sum_value}
-use Rattle.rv_asm.specs.Kept.{IsNear, added}
+use Rattle.rv_asm.specs.Support.Kept.{IsNear, added}
 
 near_word : (v : ℤ) → is_word v ≡ true → IsNear 4294967296 v
 near_word v h = record { low = grind (arith, ints); high = grind (arith, ints) }

@@ -5,12 +5,12 @@ use Rattle.std.specs.Option.{option_map}
 use Rattle.rv_source.specs.Reading.{Parsed, parsed}
 use Rattle.rv_program.specs.declared.fault.FaultKind.{FaultKind}
 use Rattle.rv_program.specs.declared.fault.AsmFault.{AsmFault}
-use Rattle.rv_program.specs.Kept.{IsFaultAt}
-use Rattle.rv_asm.specs.Kept.{KindFails}
-use Rattle.rv_asm.specs.Steps.{Known, Item, after_line, AddsLine}
+use Rattle.rv_program.specs.Support.Kept.{IsFaultAt}
+use Rattle.rv_asm.specs.Support.Kept.{KindFails}
+use Rattle.rv_asm.specs.Support.Steps.{Known, Item, after_line, AddsLine}
 use Rattle.rv_asm.specs.Lines.{Located}
-use Rattle.rv_asm.specs.Looked.{with_line}
-use Rattle.rv_asm.specs.Taken.{Takes}
+use Rattle.rv_asm.specs.Support.Looked.{with_line}
+use Rattle.rv_asm.specs.Support.Taken.{Takes}
 use Rattle.rv_asm.proofs.Runs.{fails_bind, fails_at_line}
 
 module _ (k : ℕ) (text : List ℕ) (line : Parsed) (read : parsed text ≡ Ok line) (known : Known)

@@ -12,9 +12,9 @@ use Rattle.rv_asm.specs.Symbols.{Definitions}
 use Rattle.rv_asm.specs.Layout.{definitions, phase_two_fault}
 use Rattle.rv_asm.specs.Listing.{◌>>=◌}
 use Rattle.rv_asm.specs.Assembly.{Assembly, all_parsed, assembled}
-use Rattle.rv_asm.specs.Counted.{phase_three_fault, joined, first_fault, joined_bytes, assembled_by, phase_one_fault}
+use Rattle.rv_asm.specs.Support.Counted.{phase_three_fault, joined, first_fault, joined_bytes, assembled_by, phase_one_fault}
 use Rattle.rv_asm.proofs.Counting.{assembled_is}
-use Rattle.rv_asm.specs.Steps.{Known, unless, known_before, bytes_by, listed, written, laid_out, lines_laid_out}
+use Rattle.rv_asm.specs.Support.Steps.{Known, unless, known_before, bytes_by, listed, written, laid_out, lines_laid_out}
 use Rattle.rv_asm.proofs.Listed.{size_listed, within_limit}
 
 abbrev pub program_of : Definitions → List ℕ → Result Assembly AsmFault

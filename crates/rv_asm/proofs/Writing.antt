@@ -5,17 +5,17 @@ use Rattle.std.specs.Option.{unwrap_or}
 use Rattle.rv_source.specs.declared.statement.Statement.{Statement}
 use Rattle.rv_source.specs.declared.statement.Statement.TheVariants as s
 use Rattle.rv_source.specs.Reading.{Parsed, parsed, line_form, statement_of}
-use Rattle.rv_tokens.specs.Partial.{Fails as LineFails}
+use Rattle.rv_tokens.specs.Support.Partial.{Fails as LineFails}
 use Rattle.rv_tokens.specs.declared.fault.LineFault.TheVariants as line
 use Rattle.rv_program.specs.Faults.{kind_of}
-use Rattle.rv_source.specs.Partial.{LineForm}
+use Rattle.rv_source.specs.Support.Partial.{LineForm}
 use Rattle.rv_source.specs.declared.line.Label.{Label}
 use Rattle.rv_tokens.specs.declared.fault.LineFault.{LineFault}
 use Rattle.rv_program.specs.declared.fault.FaultKind.{FaultKind}
 use Rattle.rv_source.proofs.Parsed.{parsed_of, with_labels}
-use Rattle.rv_asm.specs.Constants.{IsTaken, KeptLine, statement_in, stated_in, statement_bytes}
-use Rattle.rv_asm.specs.Kept.{KindBecomes, KindFails}
-use Rattle.rv_asm.specs.Steps.{line_text_bytes, appended}
+use Rattle.rv_asm.specs.Support.Constants.{IsTaken, KeptLine, statement_in, stated_in, statement_bytes}
+use Rattle.rv_asm.specs.Support.Kept.{KindBecomes, KindFails}
+use Rattle.rv_asm.specs.Support.Steps.{line_text_bytes, appended}
 use Rattle.rv_asm.specs.Symbols.{Definitions, operand_value}
 
 abbrev has_statement : Result Parsed LineFault → Bool

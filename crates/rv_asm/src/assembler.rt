@@ -6,11 +6,11 @@ ghost use Rattle.rv_base.specs.Lines.{lines};
 ghost use Rattle.rv_source.specs.Reading.{parsed, line_form};
 ghost use Rattle.rv_program.specs.declared.fault.AsmFault.{AsmFault};
 ghost use Rattle.rv_program.specs.Faults.{Gives, kind_of};
-ghost use Rattle.rv_program.specs.Kept.{IsFaultAt};
+ghost use Rattle.rv_program.specs.Support.Kept.{IsFaultAt};
 ghost use Rattle.rv_asm.specs.Assembly.{all_parsed, assembled};
-ghost use Rattle.rv_asm.specs.Steps.{Known as KnownValue, AddsLine, Writes, start, extended, lines_laid_out, image_of};
-ghost use Rattle.rv_asm.specs.Looked.{located};
-ghost use Rattle.rv_asm.specs.Taken.{so_far, Without, IsUnread, Takes};
+ghost use Rattle.rv_asm.specs.Support.Steps.{Known as KnownValue, AddsLine, Writes, start, extended, lines_laid_out, image_of};
+ghost use Rattle.rv_asm.specs.Support.Looked.{located};
+ghost use Rattle.rv_asm.specs.Support.Taken.{so_far, Without, IsUnread, Takes};
 
 use crate::layout::Known;
 use crate::notes::{Notes, note};

@@ -3,12 +3,12 @@ ghost use Rattle.std.specs.Prelude.{◌≡◌, ◌++◌, ◌<◌, ◌^◌, take,
 ghost use Rattle.std.specs.Option.{ok_or};
 ghost use Rattle.rv_isa.specs.declared.kind.Kind.TheVariants.{OpImm};
 ghost use Rattle.rv_isa.specs.declared.op.ImmOp.TheVariants.{Addi};
-ghost use Rattle.rv_asm.specs.Kept.{KindBecomes, nops};
+ghost use Rattle.rv_asm.specs.Support.Kept.{KindBecomes, nops};
 ghost use Rattle.std.specs.Int.{to_le_bytes, w32};
 ghost use Rattle.rv_isa.specs.Number.{modulo};
 ghost use Rattle.rv_isa.specs.Width.{bytes_of};
 ghost use Rattle.rv_asm.specs.Listing.{padding, bytes, bytes_in};
-ghost use Rattle.rv_asm.specs.Steps.{appended};
+ghost use Rattle.rv_asm.specs.Support.Steps.{appended};
 ghost use Rattle.rv_asm.specs.Values.{fits, gap};
 ghost use Rattle.rv_program.specs.declared.fault.FaultKind.TheVariants.{OutOfRange};
 

@@ -1,9 +1,9 @@
 //! Phase three: evaluates the expressions of a statement and writes its bytes.
 ghost use Rattle.std.specs.Prelude.{◌≡◌};
-ghost use Rattle.rv_asm.specs.Kept.{KindBecomes, KindGives, has_unknown, values_in, fill_of};
+ghost use Rattle.rv_asm.specs.Support.Kept.{KindBecomes, KindGives, has_unknown, values_in, fill_of};
 ghost use Rattle.rv_asm.specs.Listing.{bytes_in, placed};
-ghost use Rattle.rv_asm.specs.Constants.{IsTaken, statement_bytes};
-ghost use Rattle.rv_asm.specs.Steps.{appended};
+ghost use Rattle.rv_asm.specs.Support.Constants.{IsTaken, statement_bytes};
+ghost use Rattle.rv_asm.specs.Support.Steps.{appended};
 
 use crate::FaultKind;
 use crate::data::{self, pad};
@@ -61,7 +61,7 @@ impl<'a> Scope<'a> {
     }
 
     /// Appends the bytes of a statement with its constant.
-    #[tactic(auto, unfolding(crate::specs::Constants::statement_bytes, crate::specs::Constants::IsTaken))]
+    #[tactic(auto, unfolding(crate::specs::Support::Constants::statement_bytes, crate::specs::Support::Constants::IsTaken))]
     pub fn write(
         &self,
         constant: i64,

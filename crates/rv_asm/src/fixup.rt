@@ -2,7 +2,7 @@
 ghost use Rattle.std.specs.Prelude.{◌≡◌, ◌++◌};
 ghost use Rattle.std.specs.Option.{option_map};
 ghost use Rattle.rv_asm.specs.Listing.{bytes, filled};
-ghost use Rattle.rv_asm.specs.Kept.{kinds, near, pair};
+ghost use Rattle.rv_asm.specs.Support.Kept.{kinds, near, pair};
 
 use crate::FaultKind;
 use crate::data::write_fitting;
@@ -67,9 +67,9 @@ pub enum Waiting {
 
 impl Waiting {
     ghost use Rattle.std.specs.Prelude.{◌≡◌};
-    ghost use Rattle.rv_source.specs.Partial.{part_of};
-    ghost use Rattle.rv_asm.specs.Kept.{KindBecomes};
-    ghost use Rattle.rv_asm.specs.Steps.{appended, waiting_bytes};
+    ghost use Rattle.rv_source.specs.Support.Partial.{part_of};
+    ghost use Rattle.rv_asm.specs.Support.Kept.{KindBecomes};
+    ghost use Rattle.rv_asm.specs.Support.Steps.{appended, waiting_bytes};
     ghost use Rattle.rv_asm.specs.declared.fixup.Waiting.TheVariants as w;
 
     /// Makes an instruction that waits for the part of a value that an operand stands for.

@@ -3,7 +3,7 @@ ghost use Rattle.std.specs.Prelude.{◌≡◌, ◌<◌, ◌^◌, ◌++◌, [], �
 ghost use Rattle.rv_isa.specs.Number.{IsWithin};
 ghost use Rattle.rv_isa.specs.declared.kind.Kind.TheVariants.{Lui, Auipc, OpImm};
 ghost use Rattle.rv_isa.specs.declared.op.ImmOp.TheVariants.{Addi};
-ghost use Rattle.rv_asm.specs.Kept.{KindBecomes, kinds};
+ghost use Rattle.rv_asm.specs.Support.Kept.{KindBecomes, kinds};
 ghost use Rattle.rv_asm.specs.Listing.{bytes};
 ghost use Rattle.rv_asm.specs.Values.{loading};
 
@@ -20,7 +20,7 @@ pub enum Instructions {
 
 impl Instructions {
     ghost use Rattle.std.specs.Prelude.{◌≡◌, ◌++◌, ◌*◌, length, Ok};
-    ghost use Rattle.rv_asm.specs.Kept.{KindBecomes, kinds};
+    ghost use Rattle.rv_asm.specs.Support.Kept.{KindBecomes, kinds};
     ghost use Rattle.rv_asm.specs.Listing.{bytes};
 
     /// Returns the size of the instructions in bytes.

@@ -13,7 +13,7 @@ pub struct LineText<'a> {
 }
 
 impl<'a> Model for LineText<'a> {
-    ghost use Rattle.rv_asm.specs.Constants.{KeptLine, IsStated};
+    ghost use Rattle.rv_asm.specs.Support.Constants.{KeptLine, IsStated};
 
     ghost Value = { KeptLine };
 

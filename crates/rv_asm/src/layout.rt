@@ -18,7 +18,7 @@ pub struct Known {
 }
 
 impl Model for Known {
-    ghost use Rattle.rv_asm.specs.Steps.{Known};
+    ghost use Rattle.rv_asm.specs.Support.Steps.{Known};
 
     ghost Value = { Known };
 
@@ -29,11 +29,11 @@ impl Known {
     ghost use Rattle.std.specs.Prelude.{◌≡◌, ◌≤◌, ◌<◌, ◌∷◌, [], is_some, length, Some, Ok, OnOk, IfOk, IfErr, IfSome};
     ghost use Rattle.std.specs.List.{All};
     ghost use Rattle.rv_source.specs.Reading.{parsed};
-    ghost use Rattle.rv_asm.specs.Kept.{KindBecomes};
-    ghost use Rattle.rv_asm.specs.Counted.{relabels};
-    ghost use Rattle.rv_asm.specs.Steps.{start, values_of, labelled, after_statement, after_line, Adds, AddsLine};
-    ghost use Rattle.rv_asm.specs.Constants.{IsKnown, statement_in};
-    ghost use Rattle.rv_asm.specs.Judged.{Keeps, new_among};
+    ghost use Rattle.rv_asm.specs.Support.Kept.{KindBecomes};
+    ghost use Rattle.rv_asm.specs.Support.Counted.{relabels};
+    ghost use Rattle.rv_asm.specs.Support.Steps.{start, values_of, labelled, after_statement, after_line, Adds, AddsLine};
+    ghost use Rattle.rv_asm.specs.Support.Constants.{IsKnown, statement_in};
+    ghost use Rattle.rv_asm.specs.Support.Judged.{Keeps, new_among};
 
     pub fn new(alloc: Global) -> Self
         ensures { result ≡ start }

@@ -9,9 +9,9 @@ ghost use Rattle.rv_program.specs.Faults.{Gives};
 ghost use Rattle.rv_asm.specs.Assembly.{all_parsed, line_bytes};
 ghost use Rattle.rv_asm.specs.Lines.{listed, bytes_of, end_of, listing_of};
 ghost use Rattle.rv_asm.specs.Layout.{labels_in};
-ghost use Rattle.rv_asm.specs.Counted.{address, labels, up_to};
-ghost use Rattle.rv_asm.specs.Kept.{last_of};
-ghost use Rattle.rv_asm.specs.Looked.{LabelsRise};
+ghost use Rattle.rv_asm.specs.Support.Counted.{address, labels, up_to};
+ghost use Rattle.rv_asm.specs.Support.Kept.{last_of};
+ghost use Rattle.rv_asm.specs.Support.Looked.{LabelsRise};
 
 use crate::assembler::assemble_noting;
 use crate::notes::{Notes, PlacedName};
@@ -40,7 +40,7 @@ impl Drop for Places {
 
 impl Model for Places {
     ghost use Rattle.rv_asm.specs.Lines.{Located};
-    ghost use Rattle.rv_asm.specs.Looked.{LieInOrder};
+    ghost use Rattle.rv_asm.specs.Support.Looked.{LieInOrder};
 
     ghost Value = { Located };
 
@@ -51,7 +51,7 @@ impl Model for Places {
 
 impl Places {
     ghost use Rattle.std.specs.Prelude.{◌≡◌};
-    ghost use Rattle.rv_asm.specs.Looked.{LieInOrder};
+    ghost use Rattle.rv_asm.specs.Support.Looked.{LieInOrder};
 
     fn of(notes: Notes) -> Places
         requires { LieInOrder notes }

@@ -2,7 +2,7 @@
 ghost use Rattle.std.specs.Prelude.{◌≡◌, ◌++◌, OnOk};
 ghost use Rattle.std.specs.Option.{option_map};
 ghost use Rattle.rv_asm.specs.Layout.{labels_in};
-ghost use Rattle.rv_asm.specs.Looked.{with_line};
+ghost use Rattle.rv_asm.specs.Support.Looked.{with_line};
 
 use rv_base::RAM_BASE;
 use rv_source::Label;
@@ -61,7 +61,7 @@ impl Model for Notes {
 impl Notes {
     ghost use Rattle.std.specs.Prelude.{◌≡◌, ◌∷◌, [], IfOk, OnOk};
     ghost use Rattle.rv_base.specs.Limits.{ram_base};
-    ghost use Rattle.rv_asm.specs.Looked.{with_line};
+    ghost use Rattle.rv_asm.specs.Support.Looked.{with_line};
 
     /// Makes the notes of no lines.
     pub fn new(alloc: Global) -> Result<Notes, AllocError>

@@ -1,9 +1,9 @@
 //! Statements with their places in the image.
 ghost use Rattle.std.specs.Prelude.{◌≡◌, ℕ, IfSome};
 ghost use Rattle.rv_asm.specs.Symbols.{Definitions, operand_value};
-ghost use Rattle.rv_asm.specs.Constants.{statement_bytes};
-ghost use Rattle.rv_asm.specs.Kept.{KindBecomes};
-ghost use Rattle.rv_asm.specs.Steps.{kept_bytes, waiting_bytes, line_text_bytes, appended};
+ghost use Rattle.rv_asm.specs.Support.Constants.{statement_bytes};
+ghost use Rattle.rv_asm.specs.Support.Kept.{KindBecomes};
+ghost use Rattle.rv_asm.specs.Support.Steps.{kept_bytes, waiting_bytes, line_text_bytes, appended};
 
 use crate::FaultKind;
 use crate::fixup::Waiting;
@@ -27,7 +27,7 @@ pub struct PlacedStatement<'a> {
 
 impl<'a> Model for PlacedStatement<'a> {
     ghost use Rattle.std.specs.Prelude.{◌<◌};
-    ghost use Rattle.rv_asm.specs.Steps.{Item};
+    ghost use Rattle.rv_asm.specs.Support.Steps.{Item};
 
     ghost Value = { Item };
 
@@ -67,7 +67,7 @@ fn waiting<'a>(waiting: Waiting, operand: &Operand<'a>) -> Option<Kept<'a>>
 }
 
 /// Returns what is kept of a statement, or None if its text has to be kept.
-#[tactic(auto, using(crate::proofs::Placing::data_kept), unfolding(crate::specs::Constants::statement_bytes, crate::specs::Steps::kept_bytes))]
+#[tactic(auto, using(crate::proofs::Placing::data_kept), unfolding(crate::specs::Support::Constants::statement_bytes, crate::specs::Support::Steps::kept_bytes))]
 fn short<'a>(constant: i64, statement: &Statement<'_, 'a>) -> Option<Kept<'a>>
     ensures { IfSome result (λ k. (ds : Definitions) → (line here : ℕ) → kept_bytes ds line here k ≡ statement_bytes constant (operand_value ds line here) here statement.now) }
 {
@@ -96,13 +96,13 @@ fn short<'a>(constant: i64, statement: &Statement<'_, 'a>) -> Option<Kept<'a>>
 
 impl<'a> PlacedStatement<'a> {
     ghost use Rattle.std.specs.Prelude.{◌≡◌, ◌<◌, ℕ, Some};
-    ghost use Rattle.rv_asm.specs.Kept.{KindBecomes};
+    ghost use Rattle.rv_asm.specs.Support.Kept.{KindBecomes};
     ghost use Rattle.rv_asm.specs.Symbols.{Definitions, operand_value};
-    ghost use Rattle.rv_asm.specs.Constants.{IsTaken, statement_in, statement_bytes};
-    ghost use Rattle.rv_asm.specs.Steps.{item_bytes, appended};
+    ghost use Rattle.rv_asm.specs.Support.Constants.{IsTaken, statement_in, statement_bytes};
+    ghost use Rattle.rv_asm.specs.Support.Steps.{item_bytes, appended};
 
     /// Makes the statement of a line with these bytes, with its constant, at an address.
-    #[tactic(auto, unfolding(crate::specs::Steps::kept_bytes))]
+    #[tactic(auto, unfolding(crate::specs::Support::Steps::kept_bytes))]
     pub fn new(
         line: usize,
         address: u32,
@@ -134,7 +134,7 @@ impl<'a> PlacedStatement<'a> {
     }
 
     /// Appends the bytes of the statement, once all symbols are known.
-    #[tactic(auto, unfolding(crate::specs::Steps::kept_bytes))]
+    #[tactic(auto, unfolding(crate::specs::Support::Steps::kept_bytes))]
     pub fn write(
         &self,
         alloc: Global,

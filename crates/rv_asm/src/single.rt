@@ -1,6 +1,6 @@
 //! Expressions of a single symbol.
 ghost use Rattle.std.specs.Prelude.{◌≡◌, [], ◌∷◌, IfSome};
-ghost use Rattle.rv_asm.specs.Steps.{IsNumber, IsSum};
+ghost use Rattle.rv_asm.specs.Support.Steps.{IsNumber, IsSum};
 
 use crate::symbols::{Scope, added};
 use rv_source::{Atom, Expression};
@@ -61,7 +61,7 @@ pub fn as_single<'a>(sum: &Expression<'a>) -> Option<Single<'a>>
 
 impl<'a> Single<'a> {
     ghost use Rattle.std.specs.Prelude.{◌≡◌};
-    ghost use Rattle.rv_asm.specs.Steps.{single_value};
+    ghost use Rattle.rv_asm.specs.Support.Steps.{single_value};
 
     /// Returns the value, or None if the symbol isn't defined.
     pub fn value(&self, scope: Scope) -> Option<i64>

@@ -1,9 +1,9 @@
 //! The symbols of a source, and the values of expressions.
 ghost use Rattle.std.specs.Prelude.{◌≡◌, ◌^◌, ◌++◌, true, false, [], Ok, IfSome};
 ghost use Rattle.rv_asm.specs.Symbols.{atom_value, sum_value};
-ghost use Rattle.rv_asm.specs.Counted.{renames};
-ghost use Rattle.rv_asm.specs.Constants.{IsTaken, constant_in};
-ghost use Rattle.rv_asm.specs.Kept.{KindBecomes, IsNear, added, values_in};
+ghost use Rattle.rv_asm.specs.Support.Counted.{renames};
+ghost use Rattle.rv_asm.specs.Support.Constants.{IsTaken, constant_in};
+ghost use Rattle.rv_asm.specs.Support.Kept.{KindBecomes, IsNear, added, values_in};
 ghost use Rattle.rv_asm.specs.Values.{is_word};
 
 use crate::FaultKind;
@@ -39,7 +39,7 @@ impl Symbols {
     }
 
     /// Defines the name of `.equ` with its value; nothing for any other statement.
-    #[tactic(auto, using(crate::proofs::Placing::not_some), unfolding(crate::specs::Constants::IsTaken))]
+    #[tactic(auto, using(crate::proofs::Placing::not_some), unfolding(crate::specs::Support::Constants::IsTaken))]
     pub fn define_constant(
         &mut self,
         alloc: Global,

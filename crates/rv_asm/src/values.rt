@@ -3,7 +3,7 @@ ghost use Rattle.std.specs.Prelude.{◌≡◌, ◌==◌, ◌&&◌, ◌<◌, ◌�
 ghost use Rattle.rv_isa.specs.Number.{IsWithin, IsDistance, modulo};
 ghost use Rattle.rv_asm.specs.Values.{is_between, is_word, fits, immediate, distance, hi, lo, far, gap};
 ghost use Rattle.rv_asm.specs.Listing.{is_multiple};
-ghost use Rattle.rv_asm.specs.Kept.{byte, upper_immediate, five_bits, value_by};
+ghost use Rattle.rv_asm.specs.Support.Kept.{byte, upper_immediate, five_bits, value_by};
 
 use rv_isa::Width;
 use rv_source::Part;

@@ -4,7 +4,6 @@ pub mod Limits
 pub mod Lines
 pub mod Numbers
 pub mod Registers
-pub mod Room
-pub mod TableRows
+pub mod Support
 pub mod Tables
 pub mod Words

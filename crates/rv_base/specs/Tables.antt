@@ -2,7 +2,7 @@
 -- Tables of names.
 use Rattle.std.specs.Prelude.{ℕ, List, [], ◌∷◌, Option, Some, None, if◌then◌else◌}
 use Rattle.std.specs.Str.{bytes_eq}
-pub use Rattle.rv_base.specs.TableRows.{rows}
+pub use Rattle.rv_base.specs.Support.TableRows.{rows}
 
 -- what stands beside a name, at the first of two rows with the name, or none
 abbrev pub lookup : {A : Type 0} → List ℕ → List (List ℕ × A) → Option A

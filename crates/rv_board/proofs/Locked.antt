@@ -15,7 +15,7 @@ use Rattle.rv_pmp.specs.declared.mode.Mode.{Mode}
 use Rattle.rv_pmp.specs.declared.mode.Mode.TheVariants as mode
 use Rattle.rv_csr.specs.State.{CsrState}
 use Rattle.rv_csr.specs.Registers.{may_write, read, write}
-use Rattle.rv_csr.specs.RegisterCases.{register_at, with_value, with_value_at}
+use Rattle.rv_csr.specs.Support.RegisterCases.{register_at, with_value, with_value_at}
 use Rattle.rv_csr.proofs.Table.{write_by_cases}
 use Rattle.rv_csr.specs.Traps.{entered, left}
 use Rattle.rv_csr.specs.declared.register.Register.{Register}
@@ -23,14 +23,14 @@ use Rattle.rv_csr.specs.declared.register.Register.TheVariants.{Mstatus}
 use Rattle.rv_bus.specs.Access.{lines_of}
 use Rattle.rv_hart.specs.State.{Machine}
 use Rattle.rv_hart.specs.Effect.{effect, csr_written}
-use Rattle.rv_hart.specs.EffectParts.{Effect, csr_value, exchange_effect, exchange_result, is_write, return_effect, trap_step, with_result, write_result}
+use Rattle.rv_hart.specs.Support.EffectParts.{Effect, csr_value, exchange_effect, exchange_result, is_write, return_effect, trap_step, with_result, write_result}
 use Rattle.rv_hart.specs.Step.{step, ticked, fetched, attempt, finished, counts, enter}
 use Rattle.rv_hart.specs.declared.trap.Trap.{Trap}
 use Rattle.rv_hart.proofs.Rows.{IfRetired, rows}
-use Rattle.rv_board.specs.State.{BoardState, halted_of, pmp_of}
+use Rattle.rv_board.specs.Support.State.{BoardState, halted_of, pmp_of}
 use Rattle.rv_board.specs.Laws.{KeepsLocked}
 use Rattle.rv_board.specs.Move.{moved, run}
-use Rattle.rv_board.specs.MoveParts.{happens}
+use Rattle.rv_board.specs.Support.MoveParts.{happens}
 use Rattle.rv_board.specs.declared.event.Event.{Event}
 use Rattle.rv_board.specs.declared.event.Event.TheVariants.{Step, Line, Rx}
 

@@ -2,12 +2,7 @@ pub mod Agreement
 pub mod BoardState
 pub mod Boot
 pub mod Exchange
-pub mod ImageFit
 pub mod Laws
 pub mod Move
-pub mod MoveParts
-pub mod PlainSteps
-pub mod Room
-pub mod RunWhile
-pub mod State
+pub mod Support
 pub mod UserRun

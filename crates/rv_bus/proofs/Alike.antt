@@ -11,10 +11,10 @@ use Rattle.rv_isa.specs.declared.op.Width.{Width}
 use Rattle.rv_isa.specs.Width.{bytes_of}
 use Rattle.rv_ram.specs.Bytes.{value_at, put}
 use Rattle.rv_bus.specs.State.{BusState}
-use Rattle.rv_bus.specs.Locations.{location_of}
+use Rattle.rv_bus.specs.Support.Locations.{location_of}
 use Rattle.rv_bus.proofs.Memory.{fetch_is}
 use Rattle.rv_bus.specs.Access.{fetch, load, store, ram_byte}
-use Rattle.rv_bus.specs.AtLocation.{load_at, store_at}
+use Rattle.rv_bus.specs.Support.AtLocation.{load_at, store_at}
 use Rattle.rv_bus.proofs.Others.{byte_put}
 use Rattle.rv_bus.proofs.Rows.{at_location}
 use Rattle.rv_bus.proofs.Windows.{each_location}

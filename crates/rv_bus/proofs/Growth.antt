@@ -3,12 +3,12 @@
 use Rattle.std.proofs.Common.{◌≡◌, ◌∙◌, ℕ, true, ap, refl}
 use Rattle.std.specs.Prelude.{is_some}
 use Rattle.rv_isa.specs.declared.op.Width.{Width}
-use Rattle.rv_ram.specs.Room.{RoomRule}
+use Rattle.rv_ram.specs.Support.Room.{RoomRule}
 use Rattle.rv_mmio.specs.declared.serial.SerialReg.TheVariants.{Tx, Rx, Status}
 use Rattle.rv_bus.specs.State.{BusState}
 use Rattle.rv_bus.specs.Access.{store, writes}
-use Rattle.rv_bus.specs.AtLocation.{is_written, location, store_at}
-use Rattle.rv_bus.specs.Room.{wants_room, wants_room_at}
+use Rattle.rv_bus.specs.Support.AtLocation.{is_written, location, store_at}
+use Rattle.rv_bus.specs.Support.Room.{wants_room, wants_room_at}
 use Rattle.rv_bus.proofs.Rows as rows
 use Rattle.rv_bus.specs.declared.locations.Location.{Location}
 use Rattle.rv_bus.specs.declared.locations.Location.TheVariants.{Ram, Halt, Timer, Plic, Serial, Nowhere}

@@ -7,7 +7,7 @@ use Rattle.rv_base.specs.Limits.{ram_base}
 use Rattle.rv_ram.specs.Bytes.{value_at}
 use Rattle.rv_bus.specs.State.{BusState}
 use Rattle.rv_bus.specs.Access.{fetch, ram_byte, writes}
-use Rattle.rv_bus.specs.AtLocation.{in_memory}
+use Rattle.rv_bus.specs.Support.AtLocation.{in_memory}
 
 is_within : (bs : List ℕ) (i : ℕ) → is_some (slice_get bs i) ≡ nat_lt i (length bs)
 is_within bs i = by (nat_lt i (length bs)) refl where

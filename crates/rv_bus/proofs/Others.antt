@@ -11,7 +11,7 @@ use Rattle.rv_ram.specs.Bytes.{put, value_at}
 use Rattle.rv_ram.proofs.Put.{length_put}
 use Rattle.rv_ram.proofs.Value.{same_value}
 use Rattle.rv_bus.specs.Access.{fetch}
-use Rattle.rv_bus.specs.AtLocation.{in_memory}
+use Rattle.rv_bus.specs.Support.AtLocation.{in_memory}
 use Rattle.rv_bus.proofs.Memory.{fetch_is}
 
 -- a write of one byte leaves another as it was

@@ -13,8 +13,8 @@ use Rattle.rv_mmio.specs.declared.serial.SerialReg.TheVariants.{Tx}
 use Rattle.rv_bus.specs.State.{BusState}
 use Rattle.rv_bus.specs.Table.{reached, windows}
 use Rattle.rv_bus.specs.Access.{load, store, writes, fetch}
-use Rattle.rv_bus.specs.Locations.{controller, device_in, for_width, has, location_of, registers, takes}
-use Rattle.rv_bus.specs.AtLocation.{IsFor, in_memory, location, reach_at, is_written, fetch_at}
+use Rattle.rv_bus.specs.Support.Locations.{controller, device_in, for_width, has, location_of, registers, takes}
+use Rattle.rv_bus.specs.Support.AtLocation.{IsFor, in_memory, location, reach_at, is_written, fetch_at}
 use Rattle.rv_bus.specs.declared.locations.Location.{Location}
 use Rattle.rv_bus.specs.declared.locations.Location.TheVariants.{Nowhere, Plic, Ram, Serial}
 use Rattle.rv_bus.proofs.Memory.{fetch_is, writes_is}

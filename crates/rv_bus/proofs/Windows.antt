@@ -6,7 +6,7 @@ use Rattle.rv_base.specs.Limits.{ram_base}
 use Rattle.rv_isa.specs.declared.op.Width.{Width}
 use Rattle.rv_mmio.specs.declared.serial.SerialReg.{SerialReg}
 use Rattle.rv_mmio.specs.declared.timer.TimerReg.{TimerReg}
-use Rattle.rv_bus.specs.Locations.{device_in, for_width, has, location_of, registers, takes}
+use Rattle.rv_bus.specs.Support.Locations.{device_in, for_width, has, location_of, registers, takes}
 use Rattle.rv_bus.specs.declared.locations.Location.{Location}
 use Rattle.rv_bus.specs.declared.locations.Location.TheVariants.{Ram, Halt, Timer, Plic, Serial, Nowhere}
 

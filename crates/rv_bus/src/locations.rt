@@ -2,8 +2,8 @@
 ghost use Rattle.std.specs.Prelude.{◌≡◌, ◌+◌, ◌%◌, ◌<◌, ℕ};
 ghost use Rattle.rv_isa.specs.Width.{bytes_of};
 ghost use Rattle.rv_isa.specs.declared.op.Width.{Width};
-ghost use Rattle.rv_bus.specs.Locations.{controller, device_in, for_width, location_of, registers};
-ghost use Rattle.rv_bus.specs.Within.{IsWithin};
+ghost use Rattle.rv_bus.specs.Support.Locations.{controller, device_in, for_width, location_of, registers};
+ghost use Rattle.rv_bus.specs.Support.Within.{IsWithin};
 
 use rv_base::RAM_BASE;
 use rv_isa::Width;
@@ -33,7 +33,7 @@ pub enum Location {
 }
 
 /// Returns the location at an address, for an access of this width to a memory of `size` bytes.
-#[tactic(auto, using(crate::proofs::Fit::memory_within), unfolding(crate::specs::Locations::location_of))]
+#[tactic(auto, using(crate::proofs::Fit::memory_within), unfolding(crate::specs::Support::Locations::location_of))]
 pub(crate) fn find_location(size: u32, addr: u32, width: Width) -> Location
     requires words { size % 4096 ≡ 0 }
     requires aligned { addr % bytes_of width ≡ 0 }

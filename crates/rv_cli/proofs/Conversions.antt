@@ -6,18 +6,18 @@ use Rattle.rv_monitor.specs.State.{SessionState}
 use Rattle.rv_monitor.specs.declared.opening.OpenFault.{OpenFault}
 use Rattle.rv_monitor.specs.declared.opening.OpenFault.TheVariants as open_fault
 use Rattle.rv_monitor.specs.Opening.{Opens}
-use Rattle.rv_program.specs.Kept.{Fails, FailsBy}
+use Rattle.rv_program.specs.Support.Kept.{Fails, FailsBy}
 use Rattle.rv_program.specs.Program.{Assembly}
 use Rattle.rv_program.specs.declared.fault.AsmFault.{AsmFault}
 use Rattle.rv_program.specs.declared.fault.FaultKind.{FaultKind}
 use Rattle.rv_program.specs.declared.fault.FaultKind.TheVariants as kind
-use Rattle.rv_texts.specs.Calls.{Texts}
+use Rattle.rv_texts.specs.Support.Calls.{Texts}
 use Rattle.rv_texts.specs.declared.fault.ReadFault.{ReadFault}
 use Rattle.rv_texts.specs.declared.fault.ReadFault.TheVariants as read
 use Rattle.rv_texts.specs.declared.fault.TextName.TheVariants as text
 use Rattle.rv_words.specs.declared.Options.{Options}
-use Rattle.rv_cli.specs.Conversions.{source_fault, unopened_fault, unread_fault}
-use Rattle.rv_cli.specs.Meanings.{IsRunOf}
+use Rattle.rv_cli.specs.Support.Conversions.{source_fault, unopened_fault, unread_fault}
+use Rattle.rv_cli.specs.Support.Meanings.{IsRunOf}
 use Rattle.rv_cli.specs.Output.{IsOutput, OpensFor}
 use Rattle.rv_cli.specs.declared.fault.CliFault.TheVariants.{OutOfMemory, ReadInput, ReadSource}
 use Rattle.rv_board.specs.declared.event.BootFault.TheVariants as boot_fault

@@ -2,7 +2,7 @@
 use Rattle.std.proofs.Common.{◌≡◌, ◌++◌, ◌∷◌, [], ℕ, List, Option, Some, None, refl, sym, subst, append_assoc, append-nil}
 use Rattle.rv_commands.specs.declared.command.Command.{Command}
 use Rattle.rv_commands.specs.declared.command.Command.TheVariants as command
-use Rattle.rv_monitor.specs.Answers.{next_of}
+use Rattle.rv_monitor.specs.Support.Answers.{next_of}
 use Rattle.rv_monitor.specs.Commands.{Leaves, answer, command_in}
 use Rattle.rv_monitor.proofs.Silent.{not_quit, quit_is}
 use Rattle.rv_monitor.specs.State.{SessionState}

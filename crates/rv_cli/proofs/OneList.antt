@@ -5,7 +5,7 @@ use Rattle.std.proofs.Math.Seq.{take-length}
 use Rattle.std.proofs.lemmas.Bool.{cases_lt, false≢true}
 use Rattle.std.proofs.lemmas.List.{take-append-drop}
 use Rattle.rv_lists.specs.declared.input.TimedInput.{TimedInput}
-use Rattle.rv_lists.specs.Reading.{IsFirstRefused, joined, unless_falling}
+use Rattle.rv_lists.specs.Support.Reading.{IsFirstRefused, joined, unless_falling}
 use Rattle.rv_lists.specs.Timed.{all_of, timed_line, never_falls, timed}
 use Rattle.rv_lists.proofs.Whole.{begun}
 

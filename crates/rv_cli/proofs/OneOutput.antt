@@ -4,7 +4,7 @@ use Rattle.std.specs.Option.{option_map}
 use Rattle.std.specs.Prelude.{◌≢◌, ◌*◌, ◌&&◌, find, nat_le, nat_lt, not}
 use Rattle.rv_asm.specs.Assembly.{assembled}
 use Rattle.rv_board.specs.Boot as boot
-use Rattle.rv_board.specs.State.{halted_of}
+use Rattle.rv_board.specs.Support.State.{halted_of}
 use Rattle.rv_board.specs.declared.event.BootFault.{BootFault}
 use Rattle.rv_board.specs.declared.event.BootFault.TheVariants as boot_fault
 use Rattle.rv_cache.specs.SlotCount.{is_slot_count}
@@ -13,10 +13,10 @@ use Rattle.rv_monitor.specs.State.{SessionState}
 use Rattle.rv_monitor.specs.declared.opening.OpenFault.TheVariants as opening
 use Rattle.rv_program.specs.Program.{Assembly}
 use Rattle.rv_program.specs.declared.fault.AsmFault.{AsmFault}
-use Rattle.rv_texts.specs.Calls.{Texts}
+use Rattle.rv_texts.specs.Support.Calls.{Texts}
 use Rattle.rv_words.specs.declared.Options.{Options}
-use Rattle.rv_cli.specs.Conversions.{unopened_fault}
-use Rattle.rv_cli.specs.Meanings.{ending_of}
+use Rattle.rv_cli.specs.Support.Conversions.{unopened_fault}
+use Rattle.rv_cli.specs.Support.Meanings.{ending_of}
 use Rattle.rv_cli.specs.Output.{IsOutput, OpensFor, printed}
 use Rattle.rv_cli.specs.declared.fault.CliFault.{CliFault}
 use Rattle.rv_cli.specs.declared.fault.CliFault.TheVariants.{BadPages, BadSlots, ImageTooLarge, Input, Source}

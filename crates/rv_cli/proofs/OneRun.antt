@@ -5,12 +5,12 @@ use Rattle.std.specs.FinSet as set
 use Rattle.std.proofs.lemmas.Bool.{cases_lt, false≢true}
 use Rattle.rv_commands.specs.declared.command.Command.{Command}
 use Rattle.rv_commands.specs.declared.command.Command.TheVariants.{Step, Go, SetBreak, ClearBreak}
-use Rattle.rv_monitor.specs.Answers.{next_of}
+use Rattle.rv_monitor.specs.Support.Answers.{next_of}
 use Rattle.rv_monitor.specs.Commands.{Leaves, Took, answer, command_in}
 use Rattle.rv_monitor.proofs.Silent.{more_of, not_quit, quit_is}
 use Rattle.rv_monitor.specs.State.{Addresses, SessionState, after, with_break, without_break}
 use Rattle.rv_monitor.specs.Stops.{stop_after}
-use Rattle.rv_monitor.specs.TimedCalls.{going_for, most_of}
+use Rattle.rv_monitor.specs.Support.TimedCalls.{going_for, most_of}
 use Rattle.rv_monitor.specs.declared.command.Next.{Next}
 use Rattle.rv_monitor.specs.declared.command.Next.TheVariants.{More, Quit}
 use Rattle.rv_monitor.specs.declared.stop.Stop.{Stop}

@@ -1,7 +1,7 @@
 //! The text that is printed of a board after its run.
 ghost use Rattle.std.specs.Prelude.{◌≡◌, ◌++◌, OnOk};
-ghost use Rattle.rv_board.specs.State.{halted_of};
-ghost use Rattle.rv_cli.specs.Meanings.{ending_of};
+ghost use Rattle.rv_board.specs.Support.State.{halted_of};
+ghost use Rattle.rv_cli.specs.Support.Meanings.{ending_of};
 ghost use Rattle.rv_cli.specs.Output.{printed, with_line_end};
 
 use crate::fault::Ending;

@@ -1,10 +1,10 @@
 //! A run, from its texts to the text that is printed.
 ghost use Rattle.std.specs.Prelude.{◌≡◌, ◌≢◌, Err, IfErr, IfOk, IfSome, Ok, false, is_some};
 ghost use Rattle.rv_cli.specs.Output.{IsOutput, OpensFor};
-ghost use Rattle.rv_cli.specs.Meanings.{IsRunOf};
+ghost use Rattle.rv_cli.specs.Support.Meanings.{IsRunOf};
 ghost use Rattle.rv_cli.specs.Run.{Runs};
 ghost use Rattle.rv_texts.specs.Texts.{side, side_if};
-ghost use Rattle.rv_texts.specs.Within.{AreWithin};
+ghost use Rattle.rv_texts.specs.Support.Within.{AreWithin};
 ghost use Rattle.rv_cli.specs.declared.fault.CliFault.TheVariants.{OutOfMemory, ReadInput, ReadSource, Write};
 
 use crate::fault::{CliFault, Ending};

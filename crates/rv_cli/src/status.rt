@@ -1,7 +1,7 @@
 //! The status line: how a board stands after its steps.
 ghost use Rattle.std.specs.Prelude.{◌≡◌, ◌++◌, OnErr, OnOk, Some};
 ghost use Rattle.rv_monitor.specs.Views as spec;
-ghost use Rattle.rv_cli.specs.Shown.{stand_of, status_text};
+ghost use Rattle.rv_cli.specs.Support.Shown.{stand_of, status_text};
 
 use crate::fault::append_line;
 use rv_base::NoMemory;

@@ -1,4 +1,3 @@
 pub mod Addresses
 pub mod Commands
-pub mod Named
-pub mod Operands
+pub mod Support

@@ -3,8 +3,8 @@ ghost use Rattle.std.specs.Prelude.{◌≡◌, ◌≤◌, ◌<◌, ℕ, ℤ, Lis
 ghost use Rattle.std.specs.Option.{option_copied};
 ghost use Rattle.rv_base.specs.Words.{words};
 ghost use Rattle.rv_commands.specs.Commands.{number_between, command_by, command_of};
-ghost use Rattle.rv_commands.specs.Named.{IsNamed};
-ghost use Rattle.rv_commands.specs.Operands.{alone, only, number_alone, address_alone};
+ghost use Rattle.rv_commands.specs.Support.Named.{IsNamed};
+ghost use Rattle.rv_commands.specs.Support.Operands.{alone, only, number_alone, address_alone};
 
 use crate::address::address;
 use crate::{Command, SymbolLookup};
@@ -37,7 +37,7 @@ fn only_word<'a>(text: &'a [u8]) -> Option<&'a [u8]>
 }
 
 /// Reads a number from `low` to `high`, the only word of a text.
-#[tactic(auto, unfolding(crate::specs::Operands::number_alone))]
+#[tactic(auto, unfolding(crate::specs::Support::Operands::number_alone))]
 fn only_number(low: u64, high: u64, text: &[u8]) -> Option<u64>
     requires { high < 10000000000 }
     ensures value { result ≡ number_alone low high (words text.now) }
@@ -48,7 +48,7 @@ fn only_number(low: u64, high: u64, text: &[u8]) -> Option<u64>
 }
 
 /// Reads an address, the only word of a text.
-#[tactic(auto, unfolding(crate::specs::Operands::address_alone))]
+#[tactic(auto, unfolding(crate::specs::Support::Operands::address_alone))]
 fn only_address<S: SymbolLookup>(text: &[u8], symbols: &S) -> Option<u32>
     ensures { result ≡ address_alone (S.symbols symbols.now) (words text.now) }
 {
@@ -56,7 +56,7 @@ fn only_address<S: SymbolLookup>(text: &[u8], symbols: &S) -> Option<u32>
 }
 
 /// Reads the words following `s`: a number of steps, or nothing for one step.
-#[tactic(auto, unfolding(crate::specs::Operands::number_alone))]
+#[tactic(auto, unfolding(crate::specs::Support::Operands::number_alone))]
 fn read_step<'a>(text: &[u8]) -> Option<Command<'a>>
     ensures value { (symbols : List ℕ → Option ℤ) → result ≡ command_by symbols (codes "s") (words text.now) }
     ensures named { IfSome result IsNamed }
@@ -69,7 +69,7 @@ fn read_step<'a>(text: &[u8]) -> Option<Command<'a>>
 }
 
 /// Reads the words following `c`: the most steps, or nothing for all that are left.
-#[tactic(auto, unfolding(crate::specs::Operands::number_alone))]
+#[tactic(auto, unfolding(crate::specs::Support::Operands::number_alone))]
 fn read_go<'a>(text: &[u8]) -> Option<Command<'a>>
     ensures value { (symbols : List ℕ → Option ℤ) → result ≡ command_by symbols (codes "c") (words text.now) }
     ensures named { IfSome result IsNamed }
@@ -122,7 +122,7 @@ fn without_operands<'a>(command: Command<'a>, text: &[u8]) -> Option<Command<'a>
 }
 
 /// Reads a command, given its first word and the text following it.
-#[tactic(auto, unfolding(crate::specs::Operands::number_alone, crate::specs::Operands::address_alone))]
+#[tactic(auto, unfolding(crate::specs::Support::Operands::number_alone, crate::specs::Support::Operands::address_alone))]
 fn read_row<'a, S: SymbolLookup>(word: &[u8], rest: &'a [u8], symbols: &S) -> Option<Command<'a>>
     ensures value { result ≡ command_by (S.symbols symbols.now) word.now (words rest.now) }
     ensures named { IfSome result IsNamed }

@@ -5,11 +5,11 @@ use Rattle.std.proofs.lemmas.Bool.{leb-true}
 use Rattle.rv_isa.specs.declared.Lines.{Lines}
 use Rattle.rv_pmp.specs.Pmp.{PmpState}
 use Rattle.rv_pmp.specs.Pmp as protection
-use Rattle.rv_pmp.specs.Registers.{WritesOrRefuses}
+use Rattle.rv_pmp.specs.Support.Registers.{WritesOrRefuses}
 use Rattle.rv_pmp.specs.declared.mode.Mode.{Mode}
 use Rattle.rv_pmp.specs.declared.mode.Mode.TheVariants.{User}
-use Rattle.rv_csr.specs.RegisterCases.{register_at}
-use Rattle.rv_csr.specs.MayAccess.{may_read, may_write}
+use Rattle.rv_csr.specs.Support.RegisterCases.{register_at}
+use Rattle.rv_csr.specs.Support.MayAccess.{may_read, may_write}
 use Rattle.rv_csr.specs.Registers.{read}
 use Rattle.rv_csr.proofs.Table.{read_by_cases}
 use Rattle.rv_csr.specs.State.{CsrState}

@@ -11,13 +11,13 @@ use Rattle.rv_isa.specs.Names.{csr_names, numbered}
 use Rattle.rv_isa.specs.declared.Lines.{Lines}
 use Rattle.rv_pmp.specs.Pmp as protection
 use Rattle.rv_pmp.specs.Pmp.{PmpState, config_word, entry_at, written}
-use Rattle.rv_pmp.specs.Registers.{is_config, is_address}
+use Rattle.rv_pmp.specs.Support.Registers.{is_config, is_address}
 use Rattle.rv_pmp.specs.declared.mode.Mode.{Mode}
 use Rattle.rv_csr.specs.State.{CsrState}
-use Rattle.rv_csr.specs.MayAccess.{may_read, may_write}
+use Rattle.rv_csr.specs.Support.MayAccess.{may_read, may_write}
 use Rattle.rv_csr.specs.Registers.{table, row_at, number_of, read, write}
-use Rattle.rv_csr.specs.RegisterCases.{Row, is_from_to, is_zero, register_at, value_of, with_value, with_value_at}
-use Rattle.rv_csr.specs.RegisterCases as cases
+use Rattle.rv_csr.specs.Support.RegisterCases.{Row, is_from_to, is_zero, register_at, value_of, with_value, with_value_at}
+use Rattle.rv_csr.specs.Support.RegisterCases as cases
 use Rattle.rv_csr.specs.declared.register.Register.{Register}
 use Rattle.rv_csr.specs.declared.register.Register.TheVariants.{Zero}
 

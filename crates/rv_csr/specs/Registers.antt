@@ -10,7 +10,7 @@ use Rattle.rv_isa.specs.Names.{csr_names}
 use Rattle.rv_isa.specs.Number.{flag, truth}
 use Rattle.rv_isa.specs.declared.Lines.{Lines}
 pub use Rattle.rv_pmp.specs.Mode.{level}
-pub use Rattle.rv_csr.specs.MayAccess.{may_read, may_write}
+pub use Rattle.rv_csr.specs.Support.MayAccess.{may_read, may_write}
 use Rattle.rv_pmp.specs.Pmp.{read_register, write_register}
 use Rattle.rv_pmp.specs.declared.mode.Mode.{Mode}
 use Rattle.rv_pmp.specs.declared.mode.Mode.TheVariants.{User, Machine}

@@ -1,15 +1,15 @@
 //! The control registers as a whole: reads and writes, interrupts, traps and the return from them.
 ghost use Rattle.std.specs.Prelude.{◌≡◌, ℕ, ◌+◌, ◌%◌, ◌^◌, ◌<◌, ◌≤◌, true, false, Some, None, is_some, MatchOption};
-ghost use Rattle.rv_csr.specs.RegisterCases.{value_of, with_value};
-ghost use Rattle.rv_csr.specs.Interruptible.{any_enabled};
-ghost use Rattle.rv_csr.specs.Later.{later};
+ghost use Rattle.rv_csr.specs.Support.RegisterCases.{value_of, with_value};
+ghost use Rattle.rv_csr.specs.Support.Interruptible.{any_enabled};
+ghost use Rattle.rv_csr.specs.Support.Later.{later};
 ghost use Rattle.rv_csr.specs.Registers as registers;
 ghost use Rattle.rv_csr.specs.State.{reset};
 ghost use Rattle.rv_csr.specs.Traps as traps;
 ghost use Rattle.rv_isa.specs.Width.{bytes_of};
 ghost use Rattle.rv_isa.specs.declared.op.Width.{Width};
 ghost use Rattle.rv_isa.specs.declared.Lines.{Lines};
-ghost use Rattle.rv_pmp.specs.PermissionCache.{IsWidestOrNone};
+ghost use Rattle.rv_pmp.specs.Support.PermissionCache.{IsWidestOrNone};
 ghost use Rattle.rv_pmp.specs.Pmp.{grants};
 ghost use Rattle.rv_pmp.specs.declared.mode.Mode.{Mode};
 ghost use Rattle.rv_pmp.specs.declared.mode.Mode.TheVariants.{User};
@@ -231,7 +231,7 @@ impl Csrs {
     /// Returns the cause of the interrupt to be taken in a mode, if any, while the interrupt lines have the
     /// levels `lines`. Of several the external interrupt comes first, then the software interrupt, then that
     /// of the timer.
-    #[tactic(auto, using(crate::proofs::Pending::by_cases), unfolding(crate::specs::Interruptible::pending_by_cases))]
+    #[tactic(auto, using(crate::proofs::Pending::by_cases), unfolding(crate::specs::Support::Interruptible::pending_by_cases))]
     pub fn pending(&self, mode: Mode, lines: Lines) -> Option<u32>
         ensures { result ≡ traps.pending self.now mode lines }
     {

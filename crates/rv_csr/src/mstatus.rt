@@ -3,7 +3,7 @@
 ghost use Rattle.std.specs.Prelude.{◌≡◌, ◌<◌, ◌≤◌, ◌^◌};
 ghost use Rattle.rv_isa.specs.Number.{flag};
 ghost use Rattle.rv_csr.specs.Registers.{level, with_status, status_word};
-ghost use Rattle.rv_csr.specs.RegisterCases.{mode_kept};
+ghost use Rattle.rv_csr.specs.Support.RegisterCases.{mode_kept};
 ghost use Rattle.rv_csr.specs.Registers as spec;
 
 use rv_isa::Lines;
@@ -38,7 +38,7 @@ impl Mstatus {
     }
 
     /// Returns the fields after a write of `word`. MPP stays as it is if the word's field is no mode.
-    #[tactic(auto, unfolding(crate::specs::Registers::with_status, crate::specs::RegisterCases::mode_kept))]
+    #[tactic(auto, unfolding(crate::specs::Registers::with_status, crate::specs::Support::RegisterCases::mode_kept))]
     pub(crate) fn with_word(&self, word: u32) -> Mstatus
         ensures { result ≡ with_status self.now word }
     {
@@ -64,7 +64,7 @@ pub(crate) fn mode_level(mode: Mode) -> u32
 }
 
 /// Returns the mode of a field of two bits, or `old` if it is no mode.
-#[tactic(auto, unfolding(crate::specs::RegisterCases::mode_kept))]
+#[tactic(auto, unfolding(crate::specs::Support::RegisterCases::mode_kept))]
 fn mode_of(old: Mode, field: u32) -> Mode
     ensures { result ≡ mode_kept old field }
 {

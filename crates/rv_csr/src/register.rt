@@ -1,9 +1,9 @@
 //! The addresses of the control registers, and which modes may access them. Privileged Architecture 20211203,
 //! section 2.1 and table 2.5.
 ghost use Rattle.std.specs.Prelude.{◌≡◌, ◌<◌};
-ghost use Rattle.rv_csr.specs.RegisterCases.{register_at};
-ghost use Rattle.rv_csr.specs.RegisterCases as cases;
-ghost use Rattle.rv_csr.specs.MayAccess as access;
+ghost use Rattle.rv_csr.specs.Support.RegisterCases.{register_at};
+ghost use Rattle.rv_csr.specs.Support.RegisterCases as cases;
+ghost use Rattle.rv_csr.specs.Support.MayAccess as access;
 
 use crate::mstatus::mode_level;
 use rv_pmp::Mode;
@@ -45,7 +45,7 @@ pub enum Register {
 
 impl Register {
     /// Returns the register at address `addr`, or None if there is none or it is one of protection.
-    #[tactic(auto, unfolding(crate::specs::RegisterCases::register_at))]
+    #[tactic(auto, unfolding(crate::specs::Support::RegisterCases::register_at))]
     pub(crate) fn at(addr: u16) -> Option<Register>
         ensures { result ≡ register_at addr }
     {

@@ -8,7 +8,7 @@ use Rattle.rv_csr.specs.Traps.{entered, left}
 use Rattle.rv_hart.specs.State.{Machine}
 use Rattle.rv_hart.specs.Effect.{csr_written, effect, execute}
 use Rattle.rv_hart.specs.Step.{step, tries, ticked, fetched, attempt, finished, counts, enter}
-use Rattle.rv_hart.specs.EffectParts.{Effect, branch_effect, exchange_effect, jump_effect, load_effect, outcome_of, return_effect, store_effect, trap_step}
+use Rattle.rv_hart.specs.Support.EffectParts.{Effect, branch_effect, exchange_effect, jump_effect, load_effect, outcome_of, return_effect, store_effect, trap_step}
 use Rattle.rv_hart.specs.Laws.{IsBack}
 use Rattle.rv_hart.specs.declared.trap.Trap.{Trap}
 use Rattle.rv_hart.specs.declared.trap.Outcome.{Outcome}

@@ -2,7 +2,7 @@
 use Rattle.std.proofs.Common.{◌≡◌, ℕ, ◌*◌, ◌/◌, ◌%◌, ◌==◌, Option, Some, None, Ok, Err, Bool, true, false, refl, subst, sym}
 use Rattle.std.specs.Prelude.{◌||◌, not, if◌then◌else◌}
 use Rattle.rv_isa.specs.Word.{word}
-use Rattle.rv_isa.specs.Loads.{load_width, load_value}
+use Rattle.rv_isa.specs.Support.Loads.{load_width, load_value}
 use Rattle.rv_isa.specs.Width.{bytes_of}
 use Rattle.rv_isa.specs.Alu.{is_taken}
 use Rattle.rv_isa.specs.declared.op.CsrOp.{CsrOp}
@@ -16,7 +16,7 @@ use Rattle.rv_bus.specs.State.{BusState}
 use Rattle.rv_bus.specs.Access.{load, store}
 use Rattle.rv_hart.specs.State as state
 use Rattle.rv_hart.specs.Effect.{effect, execute, plus, reg, require}
-use Rattle.rv_hart.specs.EffectParts.{Effect, at_next, branch_effect, exchange_effect, jump_effect, load_effect, load_result, misaligned_load, misaligned_store, next, refused_load, refused_store, registers_with, return_effect, store_effect, store_result, wait_effect, with_result, may_access}
+use Rattle.rv_hart.specs.Support.EffectParts.{Effect, at_next, branch_effect, exchange_effect, jump_effect, load_effect, load_result, misaligned_load, misaligned_store, next, refused_load, refused_store, registers_with, return_effect, store_effect, store_result, wait_effect, with_result, may_access}
 use Rattle.rv_hart.proofs.Exchanged.{exchange_is}
 
 -- a fact of the machine after an instruction that retires

@@ -11,7 +11,7 @@ use Rattle.rv_csr.proofs.Levels.{nothing_read}
 use Rattle.rv_bus.specs.Access.{lines_of}
 use Rattle.rv_hart.specs.State.{Machine}
 use Rattle.rv_hart.specs.Effect.{effect, csr_written}
-use Rattle.rv_hart.specs.EffectParts.{Effect, exchange_effect, exchange_result, outcome_of, return_effect, trap_step}
+use Rattle.rv_hart.specs.Support.EffectParts.{Effect, exchange_effect, exchange_result, outcome_of, return_effect, trap_step}
 use Rattle.rv_hart.specs.Laws.{ChangesByTrap}
 use Rattle.rv_hart.specs.Step.{step, ticked, fetched, attempt, finished, counts, enter}
 use Rattle.rv_hart.specs.declared.trap.Trap.{Trap}

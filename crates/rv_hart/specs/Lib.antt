@@ -1,14 +1,6 @@
-pub mod State
-pub mod HartView
-pub mod Coherent
-pub mod Room
-pub mod Shortcuts
 pub mod Effect
-pub mod EffectParts
 pub mod Fetch
-pub mod Keeps
 pub mod Laws
+pub mod State
 pub mod Step
-pub mod StepParts
-pub mod Walk
-pub mod Plain
+pub mod Support

@@ -4,9 +4,9 @@ ghost use Rattle.std.specs.Prelude.{◌≡◌, ◌+◌, ◌%◌, ◌^◌};
 ghost use Rattle.rv_isa.specs.Number.{modulo};
 ghost use Rattle.rv_isa.specs.Word as spec;
 ghost use Rattle.rv_csr.specs.Registers.{level};
-ghost use Rattle.rv_isa.specs.Loads.{load_value};
+ghost use Rattle.rv_isa.specs.Support.Loads.{load_value};
 ghost use Rattle.rv_hart.specs.Effect.{plus, csr_written};
-ghost use Rattle.rv_hart.specs.EffectParts.{is_write, csr_value};
+ghost use Rattle.rv_hart.specs.Support.EffectParts.{is_write, csr_value};
 
 use crate::trap::Trap;
 use rv_isa::{AluOp, CsrOp, Instr, Kind, LoadOp, alu, encode};

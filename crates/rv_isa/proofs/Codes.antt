@@ -1,6 +1,6 @@
 -- The function codes of operations: what their rows have in common.
 use Rattle.std.proofs.Common.{◌≡◌, ◌≢◌, ◌<◌, ◌≤◌, ◌⊎◌, arith}
-use Rattle.rv_isa.specs.Kinds.{funct3, funct7, imm_operation, shift_operation, csr_operation, csr_imm_operation}
+use Rattle.rv_isa.specs.Support.Kinds.{funct3, funct7, imm_operation, shift_operation, csr_operation, csr_imm_operation}
 use Rattle.rv_isa.specs.declared.op.Operation.{Operation}
 use Rattle.rv_isa.specs.declared.op.Operation.TheVariants as o
 

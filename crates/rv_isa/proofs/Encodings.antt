@@ -3,8 +3,8 @@ use Rattle.std.proofs.Common.{◌≡◌, ℕ, ◌+◌, ◌*◌, ◌^◌, ◌%◌
 use Rattle.std.specs.Prelude.{◌↔◌, fold}
 use Rattle.rv_isa.proofs.OneLayout.{kept}
 use Rattle.rv_isa.specs.Fields.{kind_of, unsigned}
-use Rattle.rv_isa.specs.Kinds.{branch_operation, load_operation, store_operation, imm_operation, shift_operation, alu_operation, csr_operation, csr_imm_operation, operation_of, funct3, funct7, format_of, word, word_in, FieldsFit, IsInRange, IsMeaning}
-use Rattle.rv_isa.specs.Layout.{fields_of, laid}
+use Rattle.rv_isa.specs.Support.Kinds.{branch_operation, load_operation, store_operation, imm_operation, shift_operation, alu_operation, csr_operation, csr_imm_operation, operation_of, funct3, funct7, format_of, word, word_in, FieldsFit, IsInRange, IsMeaning}
+use Rattle.rv_isa.specs.Support.Layout.{fields_of, laid}
 use Rattle.rv_isa.specs.Number.{modulo}
 use Rattle.rv_isa.specs.Table.{kind_in, Encoding, row}
 use Rattle.rv_isa.specs.Table as t

@@ -7,12 +7,12 @@ use Rattle.std.specs.Option.{option_or}
 use Rattle.std.specs.Str.{bytes_eq}
 use Rattle.rv_isa.proofs.OneLayout.{kept, branch_kind, load_kind, store_kind, imm_kind, shift_kind, alu_kind, csr_kind, csr_imm_kind}
 use Rattle.rv_isa.specs.Fields.{kind_of, unsigned}
-use Rattle.rv_isa.specs.Layout.{fields_of, laid}
-use Rattle.rv_isa.specs.Meaning.{first_below, first_within, first_distance, first_in, first_registers, first_fields, first_of, first_kind, means}
+use Rattle.rv_isa.specs.Support.Layout.{fields_of, laid}
+use Rattle.rv_isa.specs.Support.Meaning.{first_below, first_within, first_distance, first_in, first_registers, first_fields, first_of, first_kind, means}
 use Rattle.rv_isa.specs.Fields.{zeroed, with_fields}
-use Rattle.rv_isa.specs.Kinds.{IsMeaning, operation_of, operations, word, format_of, FieldsFit, IsInRange}
+use Rattle.rv_isa.specs.Support.Kinds.{IsMeaning, operation_of, operations, word, format_of, FieldsFit, IsInRange}
 use Rattle.rv_isa.specs.Number.{modulo, IsWithin, IsDistance}
-use Rattle.rv_isa.specs.Mnemonics.{first_named}
+use Rattle.rv_isa.specs.Support.Mnemonics.{first_named}
 use Rattle.rv_isa.specs.Table.{mnemonic}
 use Rattle.rv_isa.specs.Word.{Means}
 use Rattle.rv_isa.proofs.Encodings.{from_kinds}

@@ -6,9 +6,9 @@ use Rattle.std.proofs.lemmas.Slice.Eq.{bytes_eq-Decides}
 use Rattle.std.specs.Str.{bytes_eq}
 use Rattle.rv_isa.specs.declared.op.Operation.{Operation}
 use Rattle.rv_isa.specs.declared.op.Operation.TheVariants as o
-use Rattle.rv_isa.specs.Letters.{begins, beginning_with}
-use Rattle.rv_isa.specs.Kinds.{operations}
-use Rattle.rv_isa.specs.Mnemonics.{first_named, named}
+use Rattle.rv_isa.specs.Support.Letters.{begins, beginning_with}
+use Rattle.rv_isa.specs.Support.Kinds.{operations}
+use Rattle.rv_isa.specs.Support.Mnemonics.{first_named, named}
 use Rattle.rv_isa.specs.Table.{mnemonic}
 
 -- those of some operations whose mnemonics begin with a letter

@@ -1,9 +1,9 @@
 -- An instruction has one layout: `kind_of` undoes `fields_of`.
 use Rattle.std.proofs.Common.{◌≡◌, ◌∙◌, ℕ, ◌^◌, ◌<◌, refl, ap, arith}
 use Rattle.rv_isa.specs.Fields.{kind_of, unsigned}
-use Rattle.rv_isa.specs.Layout.{fields_of}
+use Rattle.rv_isa.specs.Support.Layout.{fields_of}
 use Rattle.rv_isa.specs.Table.{kind_in, row}
-use Rattle.rv_isa.specs.Kinds.{branch_operation, load_operation, store_operation, imm_operation, shift_operation, alu_operation, csr_operation, csr_imm_operation, IsInRange}
+use Rattle.rv_isa.specs.Support.Kinds.{branch_operation, load_operation, store_operation, imm_operation, shift_operation, alu_operation, csr_operation, csr_imm_operation, IsInRange}
 use Rattle.rv_isa.specs.declared.fields.Fields.{Fields}
 use Rattle.rv_isa.specs.declared.kind.Kind.{Kind}
 use Rattle.rv_isa.specs.declared.kind.Kind.TheVariants.{Lui, Auipc, Branch, Load, Store, OpImm, Shift, Op, Fence, FenceI, Csr, CsrImm}

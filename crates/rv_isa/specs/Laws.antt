@@ -4,8 +4,8 @@
 -- `meaning_inverts`. So the definitions of these aren't to audit.
 use Rattle.std.specs.Prelude.{◌≡◌, ◌↔◌, ℕ, List, Some}
 use Rattle.rv_isa.specs.Fields.{kind_of}
-use Rattle.rv_isa.specs.Kinds.{operation_of, word, IsInRange}
-use Rattle.rv_isa.specs.Mnemonics.{named}
+use Rattle.rv_isa.specs.Support.Kinds.{operation_of, word, IsInRange}
+use Rattle.rv_isa.specs.Support.Mnemonics.{named}
 use Rattle.rv_isa.specs.Table.{mnemonic}
 use Rattle.rv_isa.specs.Word.{Means}
 use Rattle.rv_isa.specs.declared.fields.Fields.{Fields}

@@ -1,16 +1,10 @@
 pub mod Alu
 pub mod Fields
-pub mod Kinds
 pub mod Laws
-pub mod Layout
-pub mod Letters
-pub mod Loads
-pub mod Meaning
-pub mod Mnemonics
 pub mod Names
 pub mod Number
+pub mod Support
 pub mod Table
 pub mod Text
-pub mod TextParts
 pub mod Width
 pub mod Word

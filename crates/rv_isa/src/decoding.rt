@@ -5,8 +5,8 @@
 ghost use Rattle.std.specs.Prelude.{◌≡◌, ◌≢◌, ◌<◌, ◌≤◌, ◌*◌, ◌/◌, ◌%◌, ◌^◌};
 ghost use Rattle.rv_isa.specs.Number.{modulo, IsWithin, IsDistance};
 ghost use Rattle.rv_isa.specs.Word.{Means};
-ghost use Rattle.rv_isa.specs.Kinds.{IsMeaning};
-ghost use Rattle.rv_isa.specs.Meaning.{means};
+ghost use Rattle.rv_isa.specs.Support.Kinds.{IsMeaning};
+ghost use Rattle.rv_isa.specs.Support.Meaning.{means};
 
 use crate::encoding::one_meaning;
 use crate::{AluOp, Cond, CsrOp, ImmOp, Instr, Kind, LoadOp, Reg, ShiftOp, Width, opcode};
@@ -30,7 +30,7 @@ pub fn meaning_inverts(word: u32)
 {}
 
 /// Decodes a word by its opcode, its lowest seven bits.
-#[tactic(auto, unfolding(crate::specs::Kinds::word, crate::specs::Kinds::IsMeaning))]
+#[tactic(auto, unfolding(crate::specs::Support::Kinds::word, crate::specs::Support::Kinds::IsMeaning))]
 fn decode_opcode(word: u32) -> Option<Instr>
     ensures { IsMeaning word result }
 {
@@ -59,7 +59,7 @@ fn decode_opcode(word: u32) -> Option<Instr>
     }
 }
 
-#[tactic(auto, unfolding(crate::specs::Kinds::word, crate::specs::Kinds::IsMeaning))]
+#[tactic(auto, unfolding(crate::specs::Support::Kinds::word, crate::specs::Support::Kinds::IsMeaning))]
 fn jalr(word: u32) -> Option<Instr>
     requires { word % 2 ^ 7 ≡ 0x67 }
     ensures { IsMeaning word result }
@@ -74,7 +74,7 @@ fn jalr(word: u32) -> Option<Instr>
     }
 }
 
-#[tactic(auto, using(crate::proofs::Codes::codes), unfolding(crate::specs::Kinds::word, crate::specs::Kinds::IsMeaning))]
+#[tactic(auto, using(crate::proofs::Codes::codes), unfolding(crate::specs::Support::Kinds::word, crate::specs::Support::Kinds::IsMeaning))]
 fn branch(word: u32) -> Option<Instr>
     requires { word % 2 ^ 7 ≡ 0x63 }
     ensures { IsMeaning word result }
@@ -88,7 +88,7 @@ fn branch(word: u32) -> Option<Instr>
     }))
 }
 
-#[tactic(auto, using(crate::proofs::Codes::codes), unfolding(crate::specs::Kinds::word, crate::specs::Kinds::IsMeaning))]
+#[tactic(auto, using(crate::proofs::Codes::codes), unfolding(crate::specs::Support::Kinds::word, crate::specs::Support::Kinds::IsMeaning))]
 fn load(word: u32) -> Option<Instr>
     requires { word % 2 ^ 7 ≡ 0x03 }
     ensures { IsMeaning word result }
@@ -102,7 +102,7 @@ fn load(word: u32) -> Option<Instr>
     }))
 }
 
-#[tactic(auto, using(crate::proofs::Codes::codes), unfolding(crate::specs::Kinds::word, crate::specs::Kinds::IsMeaning))]
+#[tactic(auto, using(crate::proofs::Codes::codes), unfolding(crate::specs::Support::Kinds::word, crate::specs::Support::Kinds::IsMeaning))]
 fn store(word: u32) -> Option<Instr>
     requires { word % 2 ^ 7 ≡ 0x23 }
     ensures { IsMeaning word result }
@@ -117,7 +117,7 @@ fn store(word: u32) -> Option<Instr>
 }
 
 /// For the function codes 1 and 5 the high seven bits are the code of a shift, else a part of the immediate.
-#[tactic(auto, using(crate::proofs::Codes::codes), unfolding(crate::specs::Kinds::word, crate::specs::Kinds::IsMeaning))]
+#[tactic(auto, using(crate::proofs::Codes::codes), unfolding(crate::specs::Support::Kinds::word, crate::specs::Support::Kinds::IsMeaning))]
 fn op_imm(word: u32) -> Option<Instr>
     requires { word % 2 ^ 7 ≡ 0x13 }
     ensures { IsMeaning word result }
@@ -144,7 +144,7 @@ fn op_imm(word: u32) -> Option<Instr>
     }
 }
 
-#[tactic(auto, using(crate::proofs::Codes::codes), unfolding(crate::specs::Kinds::word, crate::specs::Kinds::IsMeaning))]
+#[tactic(auto, using(crate::proofs::Codes::codes), unfolding(crate::specs::Support::Kinds::word, crate::specs::Support::Kinds::IsMeaning))]
 fn op(word: u32) -> Option<Instr>
     requires { word % 2 ^ 7 ≡ 0x33 }
     ensures { IsMeaning word result }
@@ -158,7 +158,7 @@ fn op(word: u32) -> Option<Instr>
     }))
 }
 
-#[tactic(auto, unfolding(crate::specs::Kinds::word, crate::specs::Kinds::IsMeaning))]
+#[tactic(auto, unfolding(crate::specs::Support::Kinds::word, crate::specs::Support::Kinds::IsMeaning))]
 fn misc_mem(word: u32) -> Option<Instr>
     requires { word % 2 ^ 7 ≡ 0x0f }
     ensures { IsMeaning word result }
@@ -178,7 +178,7 @@ fn misc_mem(word: u32) -> Option<Instr>
     }
 }
 
-#[tactic(auto, using(crate::proofs::Codes::codes), unfolding(crate::specs::Kinds::word, crate::specs::Kinds::IsMeaning))]
+#[tactic(auto, using(crate::proofs::Codes::codes), unfolding(crate::specs::Support::Kinds::word, crate::specs::Support::Kinds::IsMeaning))]
 fn system(word: u32) -> Option<Instr>
     requires { word % 2 ^ 7 ≡ 0x73 }
     ensures { IsMeaning word result }

@@ -4,11 +4,11 @@
 //! sections 2.2 and 2.3 and chapter 24.
 ghost use Rattle.std.specs.Prelude.{◌≡◌, ◌<◌, ◌^◌, Some};
 ghost use Rattle.rv_isa.specs.Number.{modulo, IsWithin};
-ghost use Rattle.rv_isa.specs.Kinds as spec;
+ghost use Rattle.rv_isa.specs.Support.Kinds as spec;
 ghost use Rattle.rv_isa.specs.Laws.{OneWord};
-ghost use Rattle.rv_isa.specs.Layout.{CodesFit};
+ghost use Rattle.rv_isa.specs.Support.Layout.{CodesFit};
 ghost use Rattle.rv_isa.specs.Word.{Means, OneMeaning};
-ghost use Rattle.rv_isa.specs.Kinds.{FieldsFit, IsInRange};
+ghost use Rattle.rv_isa.specs.Support.Kinds.{FieldsFit, IsInRange};
 ghost use Rattle.rv_isa.specs.declared.kind.Kind.{Kind};
 
 use crate::format::Format;
@@ -17,7 +17,7 @@ use crate::{Instr, Reg};
 /// Returns the word of an instruction: the sum of its fields, each times the power of two of its lowest bit.
 ///
 /// RISC-V Unprivileged ISA 20191213, sections 2.2 and 2.3 and chapter 24.
-#[tactic(auto, using(crate::proofs::Encodings::word_means), unfolding(crate::specs::Kinds::word))]
+#[tactic(auto, using(crate::proofs::Encodings::word_means), unfolding(crate::specs::Support::Kinds::word))]
 pub fn encode(instr: Instr) -> u32
     ensures value { result ≡ spec.word instr }
     ensures means { Means result (Some instr) }

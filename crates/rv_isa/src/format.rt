@@ -73,7 +73,7 @@ pub(crate) enum Format {
 }
 
 impl Format {
-    ghost use Rattle.rv_isa.specs.Kinds.{FieldsFit};
+    ghost use Rattle.rv_isa.specs.Support.Kinds.{FieldsFit};
 
     /// Returns whether every field is in its range.
     pub(crate) fn fields_fit(self) -> bool

@@ -20,9 +20,9 @@ impl Model for Instr {
     ghost Value = { Kind };
 
     ghost use Rattle.std.specs.Prelude.{◌≡◌};
-    ghost use Rattle.rv_isa.specs.Kinds.{IsInRange};
+    ghost use Rattle.rv_isa.specs.Support.Kinds.{IsInRange};
     ghost use Rattle.rv_isa.specs.Fields.{kind_of};
-    ghost use Rattle.rv_isa.specs.Layout.{fields_of};
+    ghost use Rattle.rv_isa.specs.Support.Layout.{fields_of};
 
     ghost view = { λ i. kind_of i.fields };
 
@@ -35,7 +35,7 @@ impl Model for Instr {
 
 impl Instr {
     ghost use Rattle.std.specs.Prelude.{◌≡◌, ◌↔◌, IsSome, IfSome};
-    ghost use Rattle.rv_isa.specs.Kinds.{IsInRange};
+    ghost use Rattle.rv_isa.specs.Support.Kinds.{IsInRange};
     ghost use Rattle.rv_isa.specs.Fields as spec;
 
     /// Returns the instruction of a kind, or `None` exactly if a field is out of its range.
@@ -87,7 +87,7 @@ impl PartialEq for Instr {
     ghost use Rattle.std.specs.Prelude.{nat_eq};
     ghost use Rattle.std.specs.Ordering.{on};
     ghost use Rattle.std.specs.Cmp.{nat_eq_equiv, on_per, partial_equiv_from_equiv};
-    ghost use Rattle.rv_isa.specs.Kinds.{word};
+    ghost use Rattle.rv_isa.specs.Support.Kinds.{word};
 
     ghost eq = { on word nat_eq };
 
@@ -100,7 +100,7 @@ impl PartialEq for Instr {
 
 impl Eq for Instr {
     ghost use Rattle.std.specs.Cmp.{nat_eq_equiv, on_equiv};
-    ghost use Rattle.rv_isa.specs.Kinds.{word};
+    ghost use Rattle.rv_isa.specs.Support.Kinds.{word};
 
     ghost laws = { on_equiv word nat_eq_equiv };
 }

@@ -5,9 +5,9 @@
 //! of them.
 ghost use Rattle.std.specs.Prelude.{◌≡◌, ◌<◌, ◌^◌};
 ghost use Rattle.rv_isa.specs.Fields as spec;
-ghost use Rattle.rv_isa.specs.Layout as layout;
+ghost use Rattle.rv_isa.specs.Support.Layout as layout;
 ghost use Rattle.rv_isa.specs.Fields.{with_fields};
-ghost use Rattle.rv_isa.specs.Kinds.{FieldsFit, IsInRange};
+ghost use Rattle.rv_isa.specs.Support.Kinds.{FieldsFit, IsInRange};
 ghost use Rattle.rv_isa.specs.declared.kind.Kind.TheVariants as kind;
 
 use crate::format::Format;
@@ -61,7 +61,7 @@ fn laid(operation: Operation, format: Format) -> Fields
 
 /// Returns the fields of a kind.
 #[inline(always)]
-#[tactic(auto, unfolding(crate::specs::Layout::fields_of))]
+#[tactic(auto, unfolding(crate::specs::Support::Layout::fields_of))]
 pub(crate) fn fields_of(kind: Kind) -> Fields
     requires { IsInRange kind }
     ensures { result ≡ layout.fields_of kind }

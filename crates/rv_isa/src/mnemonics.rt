@@ -2,8 +2,8 @@
 ghost use Rattle.std.specs.Prelude.{◌≡◌};
 ghost use Rattle.rv_isa.specs.Fields.{zeroed, kind_of, with_fields};
 ghost use Rattle.rv_isa.specs.Laws.{OneMnemonic, OneOperation};
-ghost use Rattle.rv_isa.specs.Mnemonics.{first_named, named};
-ghost use Rattle.rv_isa.specs.Kinds.{IsInRange};
+ghost use Rattle.rv_isa.specs.Support.Mnemonics.{first_named, named};
+ghost use Rattle.rv_isa.specs.Support.Kinds.{IsInRange};
 
 use crate::op::{beginning_with, kind_of};
 use crate::{Fields, Instr, Kind, Operation, Reg};

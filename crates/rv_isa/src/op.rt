@@ -6,12 +6,12 @@
 ghost use Rattle.std.specs.Prelude.{◌≡◌, ◌≢◌, ◌<◌, ◌+◌, ◌%◌, ◌==◌, MatchOption, true};
 ghost use Rattle.rv_isa.specs.Alu.{alu_value};
 ghost use Rattle.rv_isa.specs.Fields as spec;
-ghost use Rattle.rv_isa.specs.Layout as layout;
-ghost use Rattle.rv_isa.specs.Letters.{beginning_with};
-ghost use Rattle.rv_isa.specs.Kinds as table;
+ghost use Rattle.rv_isa.specs.Support.Layout as layout;
+ghost use Rattle.rv_isa.specs.Support.Letters.{beginning_with};
+ghost use Rattle.rv_isa.specs.Support.Kinds as table;
 ghost use Rattle.rv_isa.specs.Table.{mnemonic};
 ghost use Rattle.rv_isa.specs.Width.{bytes_of, load_of, imm_alu_op, shift_alu_op};
-ghost use Rattle.rv_isa.specs.Kinds.{IsInRange};
+ghost use Rattle.rv_isa.specs.Support.Kinds.{IsInRange};
 ghost use Rattle.rv_isa.specs.declared.op.Cond.{Cond};
 ghost use Rattle.rv_isa.specs.declared.op.LoadOp.{LoadOp};
 ghost use Rattle.rv_isa.specs.declared.op.Width.{Width};
@@ -117,7 +117,7 @@ impl Operation {
 
     /// Returns the mnemonic and the function codes: those that the word doesn't have are 0. It is a table, as long
     /// as there are operations.
-    #[tactic(auto, unfolding(crate::specs::Table::mnemonic, crate::specs::Kinds::funct3, crate::specs::Kinds::funct7))]
+    #[tactic(auto, unfolding(crate::specs::Table::mnemonic, crate::specs::Support::Kinds::funct3, crate::specs::Support::Kinds::funct7))]
     fn row(self) -> (&'static str, u32, u32)
         ensures mnemonic { result.0.now ≡ mnemonic self }
         ensures funct3 { (result.1 ≡ table.funct3 self) × (result.1 < 8) }
@@ -186,7 +186,7 @@ impl Operation {
 }
 
 /// Returns the operations whose mnemonics begin with a letter.
-#[tactic(auto, unfolding(crate::specs::Letters::beginning_with, crate::specs::Kinds::operations, crate::specs::Table::mnemonic))]
+#[tactic(auto, unfolding(crate::specs::Support::Letters::beginning_with, crate::specs::Support::Kinds::operations, crate::specs::Table::mnemonic))]
 pub(crate) fn beginning_with(letter: u8) -> &'static [Operation]
     ensures { result.now ≡ beginning_with letter }
 {
@@ -315,7 +315,7 @@ pub enum Cond {
 
 impl Cond {
     /// Returns the operation of the branch.
-    #[tactic(auto, unfolding(crate::specs::Kinds::branch_operation))]
+    #[tactic(auto, unfolding(crate::specs::Support::Kinds::branch_operation))]
     pub(crate) fn operation(self) -> Operation
         ensures { result ≡ table.branch_operation self }
     {
@@ -329,7 +329,7 @@ impl Cond {
         }
     }
 
-    #[tactic(auto, unfolding(crate::specs::Kinds::funct3, crate::specs::Kinds::branch_operation))]
+    #[tactic(auto, unfolding(crate::specs::Support::Kinds::funct3, crate::specs::Support::Kinds::branch_operation))]
     pub(crate) fn from_funct3(funct3: u32) -> Option<Cond>
         ensures { MatchOption result ((op : Cond) → table.funct3 (table.branch_operation op) ≢ funct3)
             (λ op. table.funct3 (table.branch_operation op) ≡ funct3) }
@@ -365,7 +365,7 @@ pub enum LoadOp {
 
 impl LoadOp {
     /// Returns the operation of the load.
-    #[tactic(auto, unfolding(crate::specs::Kinds::load_operation))]
+    #[tactic(auto, unfolding(crate::specs::Support::Kinds::load_operation))]
     pub(crate) fn operation(self) -> Operation
         ensures { result ≡ table.load_operation self }
     {
@@ -389,7 +389,7 @@ impl LoadOp {
         }
     }
 
-    #[tactic(auto, unfolding(crate::specs::Kinds::funct3, crate::specs::Kinds::load_operation))]
+    #[tactic(auto, unfolding(crate::specs::Support::Kinds::funct3, crate::specs::Support::Kinds::load_operation))]
     pub(crate) fn from_funct3(funct3: u32) -> Option<LoadOp>
         ensures { MatchOption result ((op : LoadOp) → table.funct3 (table.load_operation op) ≢ funct3)
             (λ op. table.funct3 (table.load_operation op) ≡ funct3) }
@@ -420,7 +420,7 @@ pub enum Width {
 
 impl Width {
     /// Returns the operation of the store.
-    #[tactic(auto, unfolding(crate::specs::Kinds::store_operation))]
+    #[tactic(auto, unfolding(crate::specs::Support::Kinds::store_operation))]
     pub(crate) fn store_operation(self) -> Operation
         ensures { result ≡ table.store_operation self }
     {
@@ -454,7 +454,7 @@ impl Width {
         }
     }
 
-    #[tactic(auto, unfolding(crate::specs::Kinds::funct3, crate::specs::Kinds::store_operation))]
+    #[tactic(auto, unfolding(crate::specs::Support::Kinds::funct3, crate::specs::Support::Kinds::store_operation))]
     pub(crate) fn from_funct3(funct3: u32) -> Option<Width>
         ensures { MatchOption result ((op : Width) → table.funct3 (table.store_operation op) ≢ funct3)
             (λ op. table.funct3 (table.store_operation op) ≡ funct3) }
@@ -489,7 +489,7 @@ pub enum ImmOp {
 
 impl ImmOp {
     /// Returns the operation with an immediate.
-    #[tactic(auto, unfolding(crate::specs::Kinds::imm_operation))]
+    #[tactic(auto, unfolding(crate::specs::Support::Kinds::imm_operation))]
     pub(crate) fn operation(self) -> Operation
         ensures { result ≡ table.imm_operation self }
     {
@@ -517,7 +517,7 @@ impl ImmOp {
         }
     }
 
-    #[tactic(auto, unfolding(crate::specs::Kinds::funct3, crate::specs::Kinds::imm_operation))]
+    #[tactic(auto, unfolding(crate::specs::Support::Kinds::funct3, crate::specs::Support::Kinds::imm_operation))]
     pub(crate) fn from_funct3(funct3: u32) -> Option<ImmOp>
         ensures { MatchOption result ((op : ImmOp) → table.funct3 (table.imm_operation op) ≢ funct3)
             (λ op. table.funct3 (table.imm_operation op) ≡ funct3) }
@@ -549,7 +549,7 @@ pub enum CsrOp {
 
 impl CsrOp {
     /// Returns the operation with a register.
-    #[tactic(auto, unfolding(crate::specs::Kinds::csr_operation))]
+    #[tactic(auto, unfolding(crate::specs::Support::Kinds::csr_operation))]
     pub(crate) fn operation(self) -> Operation
         ensures { result ≡ table.csr_operation self }
     {
@@ -561,7 +561,7 @@ impl CsrOp {
     }
 
     /// Returns the operation with a number.
-    #[tactic(auto, unfolding(crate::specs::Kinds::csr_imm_operation))]
+    #[tactic(auto, unfolding(crate::specs::Support::Kinds::csr_imm_operation))]
     pub(crate) fn imm_operation(self) -> Operation
         ensures { result ≡ table.csr_imm_operation self }
     {
@@ -572,7 +572,7 @@ impl CsrOp {
         }
     }
 
-    #[tactic(auto, unfolding(crate::specs::Kinds::funct3, crate::specs::Kinds::csr_operation, crate::specs::Kinds::csr_imm_operation))]
+    #[tactic(auto, unfolding(crate::specs::Support::Kinds::funct3, crate::specs::Support::Kinds::csr_operation, crate::specs::Support::Kinds::csr_imm_operation))]
     pub(crate) fn from_funct3(funct3: u32) -> Option<CsrOp>
         ensures register { MatchOption result ((op : CsrOp) → table.funct3 (table.csr_operation op) ≢ funct3)
             (λ op. table.funct3 (table.csr_operation op) ≡ funct3) }
@@ -603,7 +603,7 @@ pub enum ShiftOp {
 
 impl ShiftOp {
     /// Returns the operation of the shift by an immediate.
-    #[tactic(auto, unfolding(crate::specs::Kinds::shift_operation))]
+    #[tactic(auto, unfolding(crate::specs::Support::Kinds::shift_operation))]
     pub(crate) fn operation(self) -> Operation
         ensures { result ≡ table.shift_operation self }
     {
@@ -625,7 +625,7 @@ impl ShiftOp {
         }
     }
 
-    #[tactic(auto, unfolding(crate::specs::Kinds::funct3, crate::specs::Kinds::funct7, crate::specs::Kinds::shift_operation))]
+    #[tactic(auto, unfolding(crate::specs::Support::Kinds::funct3, crate::specs::Support::Kinds::funct7, crate::specs::Support::Kinds::shift_operation))]
     pub(crate) fn from_codes(funct7: u32, funct3: u32) -> Option<ShiftOp>
         ensures { MatchOption result
             ((op : ShiftOp) → table.funct7 (table.shift_operation op) ≡ funct7 → table.funct3 (table.shift_operation op) ≢ funct3)
@@ -685,7 +685,7 @@ pub enum AluOp {
 
 impl AluOp {
     /// Returns the operation on two registers.
-    #[tactic(auto, unfolding(crate::specs::Kinds::alu_operation))]
+    #[tactic(auto, unfolding(crate::specs::Support::Kinds::alu_operation))]
     pub(crate) fn operation(self) -> Operation
         ensures { result ≡ table.alu_operation self }
     {
@@ -711,7 +711,7 @@ impl AluOp {
         }
     }
 
-    #[tactic(auto, unfolding(crate::specs::Kinds::funct3, crate::specs::Kinds::funct7, crate::specs::Kinds::alu_operation))]
+    #[tactic(auto, unfolding(crate::specs::Support::Kinds::funct3, crate::specs::Support::Kinds::funct7, crate::specs::Support::Kinds::alu_operation))]
     pub(crate) fn from_codes(funct7: u32, funct3: u32) -> Option<AluOp>
         ensures { MatchOption result
             ((op : AluOp) → table.funct7 (table.alu_operation op) ≡ funct7 → table.funct3 (table.alu_operation op) ≢ funct3)

@@ -6,7 +6,7 @@ use Rattle.rv_answers.specs.Answer.{Written, Appended}
 use Rattle.rv_answers.proofs.Pieces.{next, nothing}
 use Rattle.rv_recording.specs.Breaks.{IsNext}
 use Rattle.rv_lab.specs.Looks.{break_rows, place}
-use Rattle.rv_lab.specs.Rows.{break_row}
+use Rattle.rv_lab.specs.Support.Rows.{break_row}
 use Rattle.rv_lab.specs.State.{LabState}
 
 pub no_rows_yet : (l : LabState) (a : Written) → Appended a a (break_rows l 0)

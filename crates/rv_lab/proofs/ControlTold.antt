@@ -6,12 +6,12 @@ use Rattle.std.specs.Int.{is_in_range}
 use Rattle.std.specs.Option.{option_map}
 use Rattle.rv_base.specs.Tables.{lookup}
 use Rattle.rv_isa.specs.Names.{csr_names}
-use Rattle.rv_operands.specs.Words.{only_of}
+use Rattle.rv_operands.specs.Support.Words.{only_of}
 use Rattle.rv_answers.specs.Answer.{Written, Appended}
 use Rattle.rv_lab.specs.State.{LabState, board}
 use Rattle.rv_lab.specs.Words.{count_of}
 use Rattle.rv_lab.specs.Devices.{csr_told, edges_told}
-use Rattle.rv_lab.specs.Rows.{csr_text, edge_source, pending_text}
+use Rattle.rv_lab.specs.Support.Rows.{csr_text, edge_source, pending_text}
 
 -- ---- `p`
 

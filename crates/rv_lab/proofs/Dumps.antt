@@ -9,7 +9,7 @@ use Rattle.rv_base.specs.Digits.{hex}
 use Rattle.rv_board.specs.BoardState.{BoardState}
 use Rattle.rv_answers.specs.Memory.{escaped}
 use Rattle.rv_lab.specs.Looks.{dump, text_row}
-use Rattle.rv_lab.specs.Rows.{char_at, dump_row, text_length}
+use Rattle.rv_lab.specs.Support.Rows.{char_at, dump_row, text_length}
 
 -- a row of which some cells are taken
 pub row_shown : (row : ℕ → List (Option ℕ) → List ℕ) (cell : ℕ → ℕ → Option ℕ) (wide a n k begin w : ℕ)

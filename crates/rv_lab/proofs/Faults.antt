@@ -5,12 +5,12 @@ use Rattle.rv_monitor.specs.Opening.{Opens}
 use Rattle.rv_monitor.specs.State.{SessionState}
 use Rattle.rv_monitor.specs.declared.opening.OpenFault.{OpenFault}
 use Rattle.rv_monitor.specs.declared.opening.OpenFault.TheVariants as opening
-use Rattle.rv_program.specs.Kept.{Fails, FailsBy}
+use Rattle.rv_program.specs.Support.Kept.{Fails, FailsBy}
 use Rattle.rv_program.specs.Program.{Assembly}
 use Rattle.rv_program.specs.declared.fault.AsmFault.{AsmFault}
 use Rattle.rv_program.specs.declared.fault.FaultKind.{FaultKind}
 use Rattle.rv_program.specs.declared.fault.FaultKind.TheVariants as kind
-use Rattle.rv_lab.specs.Faults.{source_fault, unopened_fault}
+use Rattle.rv_lab.specs.Support.Faults.{source_fault, unopened_fault}
 use Rattle.rv_lab.specs.Opening.{OpensBy, OpensLab}
 
 module _ (source inputs : List ℕ) (pages slots : ℕ) where

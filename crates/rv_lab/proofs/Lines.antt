@@ -8,9 +8,9 @@ use Rattle.std.proofs.lemmas.Bool.Decides.{nat_tests}
 use Rattle.std.proofs.lemmas.List.{get_or_past}
 use Rattle.rv_asm.specs.Lines.{Listed, HasByteAt}
 use Rattle.rv_answers.specs.Answer.{Written, Appended}
-use Rattle.rv_answers.specs.Parts.{near_text}
+use Rattle.rv_answers.specs.Support.Parts.{near_text}
 use Rattle.rv_lab.specs.Lines.{label_text, line_at}
-use Rattle.rv_lab.specs.Rows.{label_at}
+use Rattle.rv_lab.specs.Support.Rows.{label_at}
 
 -- ---- the only number of a range that passes a test
 

@@ -3,7 +3,7 @@ use Rattle.std.proofs.Common.{◌≡◌, ◌∙◌, List, ℕ, Result, Ok, Err, 
 use Rattle.rv_asm.specs.Assembly.{assembled}
 use Rattle.rv_asm.specs.Lines.{Listed, listed}
 use Rattle.rv_program.specs.Program.{Assembly}
-use Rattle.rv_program.specs.Kept.{FailsBy, Fails}
+use Rattle.rv_program.specs.Support.Kept.{FailsBy, Fails}
 use Rattle.rv_program.specs.declared.fault.AsmFault.{AsmFault}
 use Rattle.rv_program.specs.declared.fault.FaultKind.{FaultKind}
 use Rattle.rv_program.specs.declared.fault.FaultKind.TheVariants as kind

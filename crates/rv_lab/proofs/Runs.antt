@@ -5,9 +5,9 @@ use Rattle.std.proofs.lemmas.Bool.Decides.{nat_tests}
 use Rattle.std.specs.FinSet as set
 use Rattle.std.specs.Prelude.{◌&&◌, ◌==◌, nat_lt, is_none, is_some, max, min, if◌then◌else◌, IfSome, Option, Some, None, Result, Ok, Err, IfOk, OnOk}
 use Rattle.rv_base.specs.declared.memory.NoMemory.{NoMemory}
-use Rattle.rv_board.specs.State.{BoardState, halted_of, pc_of}
+use Rattle.rv_board.specs.Support.State.{BoardState, halted_of, pc_of}
 use Rattle.rv_monitor.specs.State.{IsInTime, SessionState, TimedState, after}
-use Rattle.rv_monitor.specs.TimedCalls.{most_of}
+use Rattle.rv_monitor.specs.Support.TimedCalls.{most_of}
 use Rattle.rv_monitor.specs.Stops.{Took, may_step, stop_after}
 use Rattle.rv_monitor.specs.declared.stop.Stop.TheVariants.{Halted, Breakpoint}
 use Rattle.rv_monitor.proofs.Sets.{no_member}
@@ -20,7 +20,7 @@ use Rattle.rv_recording.specs.declared.until.End.{End}
 use Rattle.rv_lists.specs.declared.input.Input.{Input}
 use Rattle.rv_lab.specs.State.{LabState, timed}
 use Rattle.rv_lab.specs.Commands.{GoesOn, InSession, RunsFor, Steps, With, begun, with_inputs, with_session}
-use Rattle.rv_lab.specs.Short.{Traced, stepped, stepped_by}
+use Rattle.rv_lab.specs.Support.Short.{Traced, stepped, stepped_by}
 use Rattle.rv_lab.specs.declared.plan.Plan.{Plan}
 use Rattle.rv_lab.specs.declared.plan.Goal.{Goal}
 use Rattle.rv_lab.specs.declared.plan.Goal.TheVariants as goal

@@ -14,7 +14,7 @@ use Rattle.rv_monitor.specs.Stops as stops
 use Rattle.rv_monitor.proofs.Steps.{after_due, after_more, after_rises}
 use Rattle.rv_recording.specs.Recording.{RecordingState, with_timed}
 use Rattle.rv_recording.specs.Until.{HasRun, comes}
-use Rattle.rv_recording.specs.Refused.{IsRefusedIn}
+use Rattle.rv_recording.specs.Support.Refused.{IsRefusedIn}
 use Rattle.rv_recording.specs.Out.{open_at}
 use Rattle.rv_recording.specs.declared.until.Condition.{Condition}
 use Rattle.rv_recording.specs.declared.until.End.{End}
@@ -22,7 +22,7 @@ use Rattle.rv_recording.proofs.Ahead.{runs_from, takes_from}
 use Rattle.rv_lab.specs.Commands as lab
 use Rattle.rv_lab.specs.Commands.{Begins, InSession, Repeats, RunsFor, Starts, Steps, With, begun, monitored_run, ready, with_inputs, with_session}
 use Rattle.rv_lab.specs.Refusals.{Leads, RunsOut, StopsShort, by_hand, due, nowhere, steps}
-use Rattle.rv_lab.specs.Short.{Changes, Gives, IsOnWay, IsShort, RunsShort, Traced, stepped, stepped_by}
+use Rattle.rv_lab.specs.Support.Short.{Changes, Gives, IsOnWay, IsShort, RunsShort, Traced, stepped, stepped_by}
 use Rattle.rv_lab.specs.State.{LabState, timed}
 use Rattle.rv_lab.specs.Words.{line_command}
 use Rattle.rv_operands.specs.Operands.{bytes_inputs, operand_text}

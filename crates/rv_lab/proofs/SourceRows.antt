@@ -10,7 +10,7 @@ use Rattle.rv_answers.specs.declared.rows.Row.{Row}
 use Rattle.rv_answers.proofs.Pieces.{next_from}
 use Rattle.rv_lab.specs.State.{LabState, listing}
 use Rattle.rv_lab.specs.Lines.{line_count, line_row, row_of}
-use Rattle.rv_lab.specs.Rows.{line_rows, more_told}
+use Rattle.rv_lab.specs.Support.Rows.{line_rows, more_told}
 
 -- ---- the first of what is left
 

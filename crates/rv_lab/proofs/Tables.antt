@@ -2,7 +2,7 @@
 use Rattle.std.proofs.Common.{◌≡◌, List, ℕ, [], ◌∷◌, true, refl}
 use Rattle.std.proofs.lemmas.Bool.{eqb-true}
 use Rattle.rv_base.specs.Words.{begins_comment, words}
-use Rattle.rv_lab.specs.Rows.{word_command}
+use Rattle.rv_lab.specs.Support.Rows.{word_command}
 use Rattle.rv_lab.specs.Words.{commands}
 use Rattle.rv_lab.specs.declared.command.Command.TheVariants.{Nothing}
 

@@ -16,7 +16,7 @@ use Rattle.rv_lab.specs.Commands.{ready}
 use Rattle.rv_lab.specs.Devices.{csr_told, devices_told, edges_told}
 use Rattle.rv_lab.specs.Lines.{instruction_at, instruction_told, line_row, row_of, excerpt}
 use Rattle.rv_lab.specs.Looks.{all_registers, break_rows, breaks_told, memory_told, place, registers_told, short_place, told, told_again, trap_rows, where_told}
-use Rattle.rv_lab.specs.Rows.{IsQuiet, Tells, alone, register_of}
+use Rattle.rv_lab.specs.Support.Rows.{IsQuiet, Tells, alone, register_of}
 use Rattle.rv_lab.specs.declared.command.Command.{Command}
 use Rattle.rv_lab.specs.declared.command.Command.TheVariants.{Where, Break, Registers, ControlRegister, Memory, Instruction, Traps, Edges, Again, Nothing}
 use Rattle.rv_lab.specs.declared.command.Command.TheVariants as command

@@ -7,7 +7,7 @@ use Rattle.rv_answers.specs.Traps.{trap_text}
 use Rattle.rv_answers.proofs.Pieces.{then, nothing}
 use Rattle.rv_lab.specs.State.{LabState}
 use Rattle.rv_lab.specs.Looks.{short_place, trap_rows}
-use Rattle.rv_lab.specs.Rows.{comes_again}
+use Rattle.rv_lab.specs.Support.Rows.{comes_again}
 
 no_more : (ts : List TrapRecord) (i : ℕ) → length ts ≤ i → drop i ts ≡ []
 no_more [] zero h = refl

@@ -7,7 +7,7 @@ ghost use Rattle.rv_lab.specs.Commands.{Leaves};
 ghost use Rattle.rv_answers.specs.Answer.{Appended};
 ghost use Rattle.rv_lab.specs.State.{board, listing, setup};
 ghost use Rattle.rv_lab.specs.Looks.{break_rows, breaks_told, place};
-ghost use Rattle.rv_lab.specs.Rows.{Tells};
+ghost use Rattle.rv_lab.specs.Support.Rows.{Tells};
 
 use crate::lab::{Lab, Next};
 use rv_answers::Answer;

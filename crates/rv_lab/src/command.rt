@@ -5,7 +5,7 @@ ghost use Rattle.std.specs.Option.{option_map};
 ghost use Rattle.std.specs.Str.{bytes_eq};
 ghost use Rattle.rv_base.specs.Words.{words};
 ghost use Rattle.rv_operands.specs.Operands.{operand_text};
-ghost use Rattle.rv_lab.specs.Rows.{IsQuiet, named, named_in, word_command};
+ghost use Rattle.rv_lab.specs.Support.Rows.{IsQuiet, named, named_in, word_command};
 ghost use Rattle.rv_lab.specs.Words.{commands, repeated, line_command};
 
 use crate::nearest::Nearest;
@@ -399,7 +399,7 @@ pub(crate) fn read_command<'a>(
 }
 
 /// Returns the command of a line.
-#[tactic(auto, using(crate::proofs::Tables::comment_is_nothing), unfolding(crate::specs::Words::line_command, crate::specs::Rows::word_command))]
+#[tactic(auto, using(crate::proofs::Tables::comment_is_nothing), unfolding(crate::specs::Words::line_command, crate::specs::Support::Rows::word_command))]
 fn said(line: &[u8], alloc: Global, answer: &mut Answer) -> Command
     ensures said { result ≡ line_command line.now }
     ensures quiet { IsQuiet result answer.old answer.new }
@@ -418,7 +418,7 @@ fn said(line: &[u8], alloc: Global, answer: &mut Answer) -> Command
 }
 
 /// Returns the command of a word, or `Nothing` where it is no command, which is answered.
-#[tactic(auto, unfolding(crate::specs::Rows::word_command), using(crate::proofs::Told::quiet_still))]
+#[tactic(auto, unfolding(crate::specs::Support::Rows::word_command), using(crate::proofs::Told::quiet_still))]
 fn command_of(word: &[u8], alloc: Global, answer: &mut Answer) -> Command
     ensures command { result ≡ word_command word.now }
     ensures quiet { IsQuiet result answer.old answer.new }

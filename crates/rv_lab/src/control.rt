@@ -3,9 +3,9 @@ ghost use Rattle.std.specs.Prelude.{◌≡◌, ◌++◌, [], IfSome, codes, unwr
 ghost use Rattle.rv_base.specs.Words.{words};
 ghost use Rattle.rv_answers.specs.Answer.{Appended};
 ghost use Rattle.rv_board.specs.BoardState.{csr_of};
-ghost use Rattle.rv_operands.specs.Words.{only_of};
+ghost use Rattle.rv_operands.specs.Support.Words.{only_of};
 ghost use Rattle.rv_lab.specs.Devices.{csr_told};
-ghost use Rattle.rv_lab.specs.Rows.{csr_text};
+ghost use Rattle.rv_lab.specs.Support.Rows.{csr_text};
 ghost use Rattle.rv_lab.specs.State.{board};
 
 use crate::lab::Lab;
@@ -77,7 +77,7 @@ fn refuse_csr(alloc: Global, name: &[u8], answer: &mut Answer) {
 }
 
 /// Appends a control register as machine mode reads it, and what its bits say.
-#[tactic(auto, using(rv_answers::proofs::Pieces::then), unfolding(crate::specs::Rows::csr_text))]
+#[tactic(auto, using(rv_answers::proofs::Pieces::then), unfolding(crate::specs::Support::Rows::csr_text))]
 fn append_csr(board: &BootedBoard, name: &[u8], csr: u16, answer: &mut Answer)
     ensures { Appended answer.old answer.new (csr_text board.now name.now csr) }
 {

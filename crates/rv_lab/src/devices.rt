@@ -4,7 +4,7 @@ ghost use Rattle.rv_base.specs.Words.{words};
 ghost use Rattle.rv_board.specs.BoardState.{csr_of};
 ghost use Rattle.rv_answers.specs.Answer.{Appended};
 ghost use Rattle.rv_lab.specs.Devices.{devices_told, edges_told};
-ghost use Rattle.rv_lab.specs.Rows.{edge_source, pending_text};
+ghost use Rattle.rv_lab.specs.Support.Rows.{edge_source, pending_text};
 
 use crate::control::{MIE, MIP, MSTATUS, csr_word};
 use crate::lab::Lab;
@@ -34,7 +34,7 @@ fn interrupts_of(board: &BootedBoard) -> Interrupts
 }
 
 /// Reads the number of an edge source, 24 to 31.
-#[tactic(auto, unfolding(crate::specs::Rows::edge_source))]
+#[tactic(auto, unfolding(crate::specs::Support::Rows::edge_source))]
 fn edge_source(operands: &[u8]) -> Option<Source>
     ensures { result ≡ edge_source (words operands.now) }
 {
@@ -46,7 +46,7 @@ fn edge_source(operands: &[u8]) -> Option<Source>
 
 impl Lab {
     /// Appends the pending edges of a source.
-    #[tactic(auto, unfolding(crate::specs::Rows::pending_text))]
+    #[tactic(auto, unfolding(crate::specs::Support::Rows::pending_text))]
     fn append_pending(&self, source: Source, answer: &mut Answer)
         ensures { Appended answer.old answer.new (pending_text self.now source) }
     {

@@ -2,11 +2,11 @@
 ghost use Rattle.std.specs.Prelude.{◌≡◌, OnErr, OnOk, IfSome, ◌≢◌};
 ghost use Rattle.rv_lab.specs.Commands.{Leaves, Repeats};
 ghost use Rattle.rv_lab.specs.Refusals.{RunsOut, StopsShort};
-ghost use Rattle.rv_lab.specs.Short.{Changes};
+ghost use Rattle.rv_lab.specs.Support.Short.{Changes};
 ghost use Rattle.rv_lab.specs.State.{setup};
 ghost use Rattle.rv_answers.specs.Answer.{Appended};
 ghost use Rattle.rv_lab.specs.Looks.{told_again};
-ghost use Rattle.rv_lab.specs.Rows.{Tells};
+ghost use Rattle.rv_lab.specs.Support.Rows.{Tells};
 ghost use Rattle.rv_lab.specs.declared.command.Command.TheVariants.{Again, Break, List, Moves};
 
 use crate::command::{Command, Move};

@@ -3,7 +3,7 @@ ghost use Rattle.std.specs.Prelude.{◌≡◌, [], ◌∷◌, OnErr, OnOk};
 ghost use Rattle.rv_lab.specs.declared.command.Command.TheVariants as command;
 ghost use Rattle.rv_lab.specs.Commands.{Leaves, with_inputs};
 ghost use Rattle.rv_lab.specs.Refusals.{RunsOut, StopsShort};
-ghost use Rattle.rv_lab.specs.Short.{Gives};
+ghost use Rattle.rv_lab.specs.Support.Short.{Gives};
 ghost use Rattle.rv_lab.specs.State.{setup};
 ghost use Rattle.rv_answers.specs.Answer.{Appended};
 ghost use Rattle.rv_lab.specs.Saved.{steps_text};

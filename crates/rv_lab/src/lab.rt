@@ -98,7 +98,7 @@ impl Model for Lab {
     ghost use Rattle.std.specs.Coded.{codes, coded_ℕ};
     ghost use Rattle.std.specs.FinSet as set;
     ghost use Rattle.std.specs.Ordering.{nat_cmp};
-    ghost use Rattle.rv_plic.specs.Codes.{plic_code};
+    ghost use Rattle.rv_plic.specs.Support.Codes.{plic_code};
     ghost use Rattle.rv_lab.specs.State.{LabState};
 
     ghost Value = { LabState };

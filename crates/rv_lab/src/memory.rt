@@ -4,7 +4,7 @@ ghost use Rattle.std.specs.List.{flat_map, range_with_len};
 ghost use Rattle.rv_answers.specs.Answer.{Appended};
 ghost use Rattle.rv_answers.specs.Memory.{bytes_row, escaped, words_row};
 ghost use Rattle.rv_lab.specs.Looks.{dump, memory_shown, text_row};
-ghost use Rattle.rv_lab.specs.Rows.{char_at, dump_row, text_length, word_cell};
+ghost use Rattle.rv_lab.specs.Support.Rows.{char_at, dump_row, text_length, word_cell};
 ghost use Rattle.rv_answers.specs.Places.{instruction_text};
 ghost use Rattle.rv_monitor.specs.Views.{byte_at_offset, word_at};
 
@@ -111,7 +111,7 @@ fn char_at(board: &BootedBoard, address: u32, offset: u32) -> u8
 }
 
 /// Returns the number of bytes of a text that ends with a zero, at most `most`.
-#[tactic(auto, using(crate::proofs::Dumps::ends_at), unfolding(crate::specs::Rows::text_length))]
+#[tactic(auto, using(crate::proofs::Dumps::ends_at), unfolding(crate::specs::Support::Rows::text_length))]
 fn text_length(board: &BootedBoard, address: u32, most: u32) -> u32
     ensures { result ≡ text_length board.now address most }
 {

@@ -4,7 +4,7 @@ ghost use Rattle.std.specs.Option.{option_map};
 ghost use Rattle.rv_answers.specs.Answer.{Appended};
 ghost use Rattle.rv_asm.specs.Seen.{seen};
 ghost use Rattle.rv_lab.specs.Lines.{label_text, line_at};
-ghost use Rattle.rv_lab.specs.Rows.{label_at};
+ghost use Rattle.rv_lab.specs.Support.Rows.{label_at};
 
 use rv_answers::{Answer, append_label};
 use rv_asm::{Listing, NearLabel};
@@ -18,7 +18,7 @@ pub(crate) fn line_at(listing: Listing, address: u32) -> Option<usize>
 }
 
 /// Returns the nearest label before an address of the image, with the distance from it.
-#[tactic(auto, unfolding(crate::specs::Rows::label_at))]
+#[tactic(auto, unfolding(crate::specs::Support::Rows::label_at))]
 fn near_label<'a>(listing: Listing<'a>, address: u32) -> Option<NearLabel<'a>>
     ensures { option_map {U = List ℕ × ℕ} (λ n. (n.name, n.distance)) result ≡ label_at (seen listing.entry) address }
 {

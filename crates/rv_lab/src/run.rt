@@ -5,7 +5,7 @@ ghost use Rattle.rv_lab.specs.declared.command.Move.TheVariants as moves;
 ghost use Rattle.rv_lab.specs.declared.plan.Goal.TheVariants as goal;
 ghost use Rattle.rv_lab.specs.Commands.{Begins, GoesOn, IsWithin, Leaves, RunsFor, Starts, Steps, With, begun, goal_after, with_session};
 ghost use Rattle.rv_lab.specs.Refusals.{RunsOut, StopsShort};
-ghost use Rattle.rv_lab.specs.Short.{IsOnWay, RunsShort, Traced, backed, stepped};
+ghost use Rattle.rv_lab.specs.Support.Short.{IsOnWay, RunsShort, Traced, backed, stepped};
 ghost use Rattle.rv_monitor.specs.Stops.{may_step, steps_between};
 ghost use Rattle.rv_lab.specs.State.{setup, timed};
 

@@ -6,7 +6,7 @@ ghost use Rattle.rv_answers.specs.Registers.{register_text};
 ghost use Rattle.rv_answers.specs.Traps.{trap_text};
 ghost use Rattle.rv_lab.specs.Looks.{all_registers, memory_told, registers_told, short_place, trap_rows};
 ghost use Rattle.rv_lab.specs.Lines.{instruction_at, instruction_told, label_text};
-ghost use Rattle.rv_lab.specs.Rows.{comes_again, pc_text, register_of, traps_told};
+ghost use Rattle.rv_lab.specs.Support.Rows.{comes_again, pc_text, register_of, traps_told};
 ghost use Rattle.rv_lab.specs.State.{board, listing};
 
 use crate::lab::Lab;

@@ -7,7 +7,7 @@ ghost use Rattle.rv_lab.specs.declared.command.Command.TheVariants.{List};
 ghost use Rattle.rv_lab.specs.Commands.{Leaves};
 ghost use Rattle.rv_lab.specs.Lines.{bytes_at, excerpt, excerpt_round, line_count, next_excerpt, row_of, rows_or, with_listed};
 ghost use Rattle.rv_lab.specs.State.{listing};
-ghost use Rattle.rv_lab.specs.Rows.{is_here, is_marked, length_text, line_of, line_rows, line_word, list_told, more_told};
+ghost use Rattle.rv_lab.specs.Support.Rows.{is_here, is_marked, length_text, line_of, line_rows, line_word, list_told, more_told};
 
 use crate::lab::Lab;
 use crate::operands::count_or;
@@ -123,7 +123,7 @@ impl Lab {
     }
 
     /// Appends the rows of an excerpt, or how many lines there are where it would begin behind the last.
-    #[tactic(auto, unfolding(crate::specs::Rows::line_rows))]
+    #[tactic(auto, unfolding(crate::specs::Support::Rows::line_rows))]
     fn append_excerpt(&self, excerpt: Excerpt, answer: &mut Answer)
         requires { 1 ≤ excerpt.first }
         ensures { Appended answer.old answer.new

@@ -4,7 +4,7 @@ ghost use Rattle.std.specs.Option.{option_map_or};
 ghost use Rattle.rv_answers.specs.Answer.{Appended};
 ghost use Rattle.rv_lab.specs.Lines.{label_text};
 ghost use Rattle.rv_lab.specs.Looks.{place, short_place, where_told};
-ghost use Rattle.rv_lab.specs.Rows.{halted_text, line_or_instruction, stop_word};
+ghost use Rattle.rv_lab.specs.Support.Rows.{halted_text, line_or_instruction, stop_word};
 ghost use Rattle.rv_monitor.specs.Views.{stop_text};
 ghost use Rattle.rv_lab.specs.State.{board, listing};
 

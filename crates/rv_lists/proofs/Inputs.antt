@@ -12,7 +12,7 @@ use Rattle.rv_lists.specs.declared.input.Input.TheVariants.{Rx, Line}
 use Rattle.rv_lists.specs.declared.input.TimedInput.{TimedInput}
 use Rattle.rv_base.specs.Numbers.{hex_byte}
 use Rattle.rv_lists.specs.Timed.{all_of, byte_input, received, driven, inputs_of, at_step, never_falls}
-use Rattle.rv_lists.specs.Reading.{joined, latest_step, source_of, level_of, with_inputs, with_line}
+use Rattle.rv_lists.specs.Support.Reading.{joined, latest_step, source_of, level_of, with_inputs, with_line}
 
 pub latest_is : (xs : List TimedInput) (d : TimedInput) → 0 < length xs
     → (get_or xs (length xs - 1) d).step ≡ latest_step xs

@@ -9,7 +9,7 @@ use Rattle.rv_base.specs.Numbers.{number_in}
 use Rattle.rv_base.specs.Words.{words, begins_comment}
 use Rattle.rv_lists.specs.declared.input.Input.{Input}
 use Rattle.rv_lists.specs.declared.input.TimedInput.{TimedInput}
-use Rattle.rv_lists.specs.Reading.{HasSteps, joined}
+use Rattle.rv_lists.specs.Support.Reading.{HasSteps, joined}
 use Rattle.rv_lists.specs.Timed.{at_step, all_of, step_of, inputs_of, timed_words, timed_line, never_falls, timed}
 
 both : (a b : Bool) → a ≡ true → b ≡ true → (a && b) ≡ true

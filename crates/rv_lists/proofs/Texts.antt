@@ -21,7 +21,7 @@ use Rattle.rv_base.specs.Words.{words, is_blank, begins_comment}
 use Rattle.rv_lists.specs.declared.input.Input.{Input}
 use Rattle.rv_lists.specs.declared.input.Input.TheVariants.{Rx, Line}
 use Rattle.rv_lists.specs.declared.input.TimedInput.{TimedInput}
-use Rattle.rv_lists.specs.Reading.{HasSteps, is_input, line_text, source_of}
+use Rattle.rv_lists.specs.Support.Reading.{HasSteps, is_input, line_text, source_of}
 use Rattle.rv_lists.specs.Text.{input_text, list_text}
 use Rattle.rv_lists.specs.Timed.{all_of, step_of, inputs_of, timed_line, never_falls, timed}
 

@@ -5,7 +5,7 @@ use Rattle.std.specs.Prelude.{Option, Some, None, is_some, option_and_then}
 use Rattle.std.proofs.lemmas.List.{take_all}
 use Rattle.rv_lists.specs.declared.input.TimedInput.{TimedInput}
 use Rattle.rv_lists.specs.Timed.{all_of, timed_line, never_falls, timed}
-use Rattle.rv_lists.specs.Reading.{IsFirstRefused, joined, unless_falling, with_line}
+use Rattle.rv_lists.specs.Support.Reading.{IsFirstRefused, joined, unless_falling, with_line}
 
 joined_assoc : {B : Type 0} (a b c : Option (List B)) → joined a (joined b c) ≡ joined (joined a b) c
 joined_assoc None b c = refl

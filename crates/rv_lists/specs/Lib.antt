@@ -1,3 +1,3 @@
-pub mod Timed
-pub mod Reading
+pub mod Support
 pub mod Text
+pub mod Timed

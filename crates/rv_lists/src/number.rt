@@ -1,6 +1,6 @@
 //! Reads numbers.
 ghost use Rattle.std.specs.Prelude.{◌≡◌};
-ghost use Rattle.rv_lists.specs.Reading.{source_of, level_of};
+ghost use Rattle.rv_lists.specs.Support.Reading.{source_of, level_of};
 ghost use Rattle.rv_lists.specs.Timed.{step_of};
 
 use rv_base::{decimal, look_up};

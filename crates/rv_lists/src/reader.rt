@@ -3,7 +3,7 @@ ghost use Rattle.std.specs.Prelude.{◌≡◌, ◌∷◌, ◌++◌, [], true, So
 ghost use Rattle.std.specs.Option.{option_map};
 ghost use Rattle.rv_base.specs.Words.{words};
 ghost use Rattle.rv_lists.specs.Timed.{received, driven, inputs_of, timed_line, never_falls};
-ghost use Rattle.rv_lists.specs.Reading.{Becomes, latest_step, with_inputs, with_line};
+ghost use Rattle.rv_lists.specs.Support.Reading.{Becomes, latest_step, with_inputs, with_line};
 
 use crate::line_refusal::LineRefusal;
 use crate::number::{level, source, step};

@@ -1,7 +1,7 @@
 //! Writes timed lists.
 ghost use Rattle.std.specs.Prelude.{◌≡◌, ◌++◌, ◌∷◌, [], ℕ, true, if◌then◌else◌, Ok, OnOk, IfOk, codes, decimal, nat_le};
 ghost use Rattle.std.specs.List.{list_all};
-ghost use Rattle.rv_lists.specs.Reading.{is_input, line_text};
+ghost use Rattle.rv_lists.specs.Support.Reading.{is_input, line_text};
 ghost use Rattle.rv_lists.specs.Text.{input_text, list_text};
 ghost use Rattle.rv_lists.specs.Timed.{never_falls, IsRead};
 

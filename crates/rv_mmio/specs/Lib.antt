@@ -1,6 +1,4 @@
-pub mod ConsoleRoom
 pub mod Halt
-pub mod Later
 pub mod Serial
+pub mod Support
 pub mod Timer
-pub mod Room

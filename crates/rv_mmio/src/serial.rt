@@ -1,9 +1,9 @@
 //! The serial port.
 ghost use Rattle.std.specs.Prelude.{◌≡◌, ◌+◌, ◌≤◌, [], ◌∷◌, ◌++◌, true, length, vec_len, vec_capacity, IfOk, OnOk, OnErr};
 ghost use Rattle.rv_mmio.specs.declared.serial.SerialReg.TheVariants.{Rx, Status};
-ghost use Rattle.rv_mmio.specs.ConsoleRoom.{HasConsoleRoom};
+ghost use Rattle.rv_mmio.specs.Support.ConsoleRoom.{HasConsoleRoom};
 ghost use Rattle.rv_mmio.specs.Serial.{reset, status_word, at, received};
-ghost use Rattle.rv_mmio.specs.Room.{is_full, wants_room};
+ghost use Rattle.rv_mmio.specs.Support.Room.{is_full, wants_room};
 
 use crate::buffer::copied_buffer;
 use circular_buffer::HeapCircularBuffer;
@@ -43,7 +43,7 @@ pub struct Serial {
 impl Model for Serial {
     ghost use Rattle.std.specs.Prelude.{◌≡◌, vec_len, vec_capacity};
     ghost use Rattle.rv_mmio.specs.Serial.{SerialState};
-    ghost use Rattle.rv_mmio.specs.ConsoleRoom.{HasConsoleRoom};
+    ghost use Rattle.rv_mmio.specs.Support.ConsoleRoom.{HasConsoleRoom};
 
     ghost Value = { SerialState };
 
@@ -138,7 +138,7 @@ impl Serial {
     }
 
     /// Appends a byte to the console.
-    #[tactic(auto, unfolding(crate::specs::Room::is_full))]
+    #[tactic(auto, unfolding(crate::specs::Support::Room::is_full))]
     fn send(&mut self, byte: u8) -> Result<(), NoMemory>
         ensures ok { OnOk result (self.new ≡ record self.old { sent = self.old.sent ++ byte ∷ [] }) }
         ensures err { OnErr result (self.new ≡ self.old) }

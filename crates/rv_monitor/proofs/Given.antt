@@ -5,7 +5,7 @@ use Rattle.rv_base.specs.declared.memory.NoMemory.{NoMemory}
 use Rattle.rv_hart.specs.declared.trap.Outcome.{Outcome}
 use Rattle.std.proofs.lemmas.Bool.{and_from, and_parts, eq-eqb, le-leb, le-ltb, lt-ltb, ltb-false, ltb-true, ne_eqb}
 use Rattle.std.proofs.lemmas.List.{map-append}
-use Rattle.rv_board.specs.State.{BoardState, halted_of}
+use Rattle.rv_board.specs.Support.State.{BoardState, halted_of}
 use Rattle.rv_board.specs.Move.{run}
 use Rattle.rv_board.proofs.Runs.{run_append}
 use Rattle.rv_lists.specs.declared.input.Input.{Input}
@@ -13,7 +13,7 @@ use Rattle.rv_lists.specs.declared.input.TimedInput.{TimedInput}
 use Rattle.rv_lists.specs.Timed.{never_falls, inserted}
 use Rattle.rv_lists.proofs.Inserted.{rises}
 use Rattle.rv_monitor.specs.Events.{event_of, inputs_at, events_of}
-use Rattle.rv_monitor.specs.TimedCalls.{IsRefused}
+use Rattle.rv_monitor.specs.Support.TimedCalls.{IsRefused}
 use Rattle.rv_monitor.specs.State.{Addresses, TimedState, IsInTime, rest, count_before, begun, after, with_due, given}
 use Rattle.rv_monitor.specs.Laws.{IsReached}
 use Rattle.rv_monitor.proofs.Times.{from, of, from_earlier, tail_from, tail_rises, all_from, drop_from, late_from, late_count, none_of, none_before}

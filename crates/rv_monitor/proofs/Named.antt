@@ -11,10 +11,10 @@ use Rattle.rv_isa.specs.declared.Lines.{Lines}
 use Rattle.rv_pmp.specs.Pmp.{read_register}
 use Rattle.rv_pmp.specs.declared.mode.Mode.TheVariants.{Machine}
 use Rattle.rv_csr.specs.Registers.{may_read, read}
-use Rattle.rv_csr.specs.RegisterCases.{register_at, value_at}
+use Rattle.rv_csr.specs.Support.RegisterCases.{register_at, value_at}
 use Rattle.rv_csr.proofs.Table.{read_by_cases}
 use Rattle.rv_csr.specs.State.{CsrState}
-use Rattle.rv_board.specs.State.{BoardState, csr_of}
+use Rattle.rv_board.specs.Support.State.{BoardState, csr_of}
 use Rattle.rv_bus.specs.Access.{lines_of}
 
 abbrev is_read : CsrState → Lines → ℕ → Bool

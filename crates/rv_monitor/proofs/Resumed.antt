@@ -4,17 +4,17 @@ use Rattle.std.specs.Prelude.{◌⊎◌, nat_eq, nat_lt, map, filter, is_some, I
 use Rattle.std.specs.FinSet as set
 use Rattle.std.proofs.lemmas.Bool.{cases_lt, eqb-true, false≢true, lt-ltb}
 use Rattle.rv_base.specs.declared.memory.NoMemory.{NoMemory}
-use Rattle.rv_board.specs.State.{BoardState, halted_of, pc_of}
+use Rattle.rv_board.specs.Support.State.{BoardState, halted_of, pc_of}
 use Rattle.rv_board.specs.Move.{run}
 use Rattle.rv_lists.specs.declared.input.TimedInput.{TimedInput}
 use Rattle.rv_lists.specs.Timed.{never_falls}
 use Rattle.rv_monitor.specs.declared.stop.Stop.{Stop}
 use Rattle.rv_monitor.specs.Events.{event_of, inputs_at, events_of}
 use Rattle.rv_monitor.specs.Laws.{IsReached}
-use Rattle.rv_monitor.specs.Resumed.{resumed}
+use Rattle.rv_monitor.specs.Support.Resumed.{resumed}
 use Rattle.rv_monitor.specs.State.{TimedState, IsInTime, count_before, begun, after, with_due}
 use Rattle.rv_monitor.specs.Stops.{stop_after}
-use Rattle.rv_monitor.specs.TimedCalls.{HasStopped}
+use Rattle.rv_monitor.specs.Support.TimedCalls.{HasStopped}
 use Rattle.rv_monitor.proofs.Times.{from, of, from_first, from_place, from_earlier, none_before, late_from, late_of, late_count, count_most}
 use Rattle.rv_monitor.proofs.Steps.{after_more}
 use Rattle.rv_monitor.proofs.Sets.{no_member}

@@ -5,7 +5,7 @@ use Rattle.rv_base.specs.declared.memory.NoMemory.{NoMemory}
 use Rattle.rv_monitor.specs.declared.stop.Stop.{Stop}
 use Rattle.rv_monitor.specs.State.{Addresses, TimedState, SessionState}
 use Rattle.rv_monitor.specs.Stops.{Took, WasRefused, stop_of}
-use Rattle.rv_monitor.specs.TimedCalls.{HasStopped, IsRefused, most_of}
+use Rattle.rv_monitor.specs.Support.TimedCalls.{HasStopped, IsRefused, most_of}
 
 module _ (a : Addresses) (n : ℕ) (old new : SessionState) where
   abbrev put : TimedState → SessionState

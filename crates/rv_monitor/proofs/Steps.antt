@@ -5,10 +5,10 @@ use Rattle.std.proofs.lemmas.List.{map-append, length-drop, drop-drop, replicate
 use Rattle.std.proofs.lemmas.List.Elements.{filter_more}
 use Rattle.std.proofs.lemmas.List.Filters.{length-filter_more}
 use Rattle.std.proofs.lemmas.Bool.{eq-eqb, lt-ltb}
-use Rattle.rv_board.specs.State.{BoardState, halted_of}
+use Rattle.rv_board.specs.Support.State.{BoardState, halted_of}
 use Rattle.rv_board.specs.Move.{moved, run, writes}
-use Rattle.rv_board.specs.MoveParts.{happens}
-use Rattle.rv_board.specs.PlainSteps.{after_steps}
+use Rattle.rv_board.specs.Support.MoveParts.{happens}
+use Rattle.rv_board.specs.Support.PlainSteps.{after_steps}
 use Rattle.rv_board.specs.declared.event.Event.TheVariants.{Step}
 use Rattle.rv_board.proofs.Runs.{run_append, run_more}
 use Rattle.rv_lists.specs.declared.input.Input.{Input}

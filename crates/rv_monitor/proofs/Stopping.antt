@@ -4,16 +4,16 @@ use Rattle.std.specs.Prelude.{Option, Some, None, unwrap_or, is_some}
 use Rattle.std.specs.FinSet as set
 use Rattle.std.proofs.lemmas.Bool.{cases_lt, false≢true, lt-ltb}
 use Rattle.rv_lists.specs.declared.input.TimedInput.{TimedInput}
-use Rattle.rv_board.specs.State.{BoardState, halted_of, pc_of}
+use Rattle.rv_board.specs.Support.State.{BoardState, halted_of, pc_of}
 use Rattle.rv_board.specs.Move.{writes}
-use Rattle.rv_board.specs.PlainSteps.{after_steps}
+use Rattle.rv_board.specs.Support.PlainSteps.{after_steps}
 use Rattle.rv_board.specs.declared.event.Event.TheVariants.{Step}
 use Rattle.rv_monitor.specs.declared.stop.Stop.{Stop}
 use Rattle.rv_monitor.specs.declared.stop.Stop.TheVariants.{Halted, Breakpoint, Limit}
 use Rattle.rv_monitor.specs.State.{Addresses, TimedState, IsInTime, rest, after, with_due}
 use Rattle.rv_monitor.specs.Stops.{stop_after}
-use Rattle.rv_monitor.specs.TimedCalls.{HasStopped, IsRefused}
-use Rattle.rv_monitor.specs.Took.{TookPart}
+use Rattle.rv_monitor.specs.Support.TimedCalls.{HasStopped, IsRefused}
+use Rattle.rv_monitor.specs.Support.Took.{TookPart}
 use Rattle.rv_monitor.proofs.Times.{from, from_earlier}
 use Rattle.rv_monitor.proofs.Steps.{after_none, after_quiet, none_is_due, halted_due, again}
 

@@ -1,10 +1,10 @@
 -- The word at an address, by its four bytes.
 use Rattle.std.proofs.Common.{◌≡◌, ◌+◌, ◌*◌, ◌∷◌, [], ℕ, Option, Some, None, refl, ap, arith}
 use Rattle.std.specs.Option.{option_map}
-use Rattle.rv_board.specs.State.{BoardState}
+use Rattle.rv_board.specs.Support.State.{BoardState}
 use Rattle.rv_ram.specs.Bytes.{value_at}
 use Rattle.rv_lists.specs.Timed.{all_of}
-use Rattle.rv_monitor.specs.Labels.{word_from}
+use Rattle.rv_monitor.specs.Support.Labels.{word_from}
 use Rattle.rv_monitor.specs.Views.{byte_at_offset, word_at}
 
 value_is : (a b c d : ℕ) → value_at (a ∷ b ∷ c ∷ d ∷ []) 0 4 ≡ a + 256 * b + 65536 * c + 16777216 * d

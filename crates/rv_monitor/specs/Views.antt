@@ -5,7 +5,7 @@ use Rattle.std.specs.List.{flat_map, range_with_len}
 use Rattle.std.specs.Option.{option_map, option_map_or}
 use Rattle.std.specs.Fmt.{decimal}
 use Rattle.std.specs.Int.{div_ceil}
-use Rattle.rv_isa.specs.Meaning.{means}
+use Rattle.rv_isa.specs.Support.Meaning.{means}
 use Rattle.rv_isa.specs.Text.{text}
 use Rattle.rv_pmp.specs.Mode.{is_machine}
 use Rattle.rv_ram.specs.Bytes.{value_at}

@@ -1,6 +1,6 @@
 //! A filter that rules out most addresses as breakpoints.
 ghost use Rattle.std.specs.Prelude.{◌≡◌, ◌%◌, ◌<◌, ℕ, true};
-ghost use Rattle.rv_monitor.specs.Filter.{may_contain};
+ghost use Rattle.rv_monitor.specs.Support.Filter.{may_contain};
 
 /// The number of flags: one for each low byte of an address, so that a flag is found with few instructions,
 /// though only every fourth is used.

@@ -2,15 +2,15 @@
 ghost use Rattle.std.specs.Prelude.{◌≡◌, ◌==◌, ◌≤◌, ℕ, ◌+◌, true, false, List, drop, OnOk, OnErr, IfOk};
 ghost use Rattle.std.specs.FinSet as set;
 ghost use Rattle.rv_board.specs.Move.{run};
-ghost use Rattle.rv_board.specs.State.{BoardState};
+ghost use Rattle.rv_board.specs.Support.State.{BoardState};
 ghost use Rattle.rv_lists.specs.Timed.{inserted, never_falls};
 ghost use Rattle.rv_lists.specs.declared.input.Input.{Input};
 ghost use Rattle.rv_lists.specs.declared.input.TimedInput.{TimedInput};
 ghost use Rattle.rv_program.specs.Program.{Assembly};
 ghost use Rattle.rv_monitor.specs.Events.{events_of};
 ghost use Rattle.rv_monitor.specs.Laws.{IsReached};
-ghost use Rattle.rv_monitor.specs.Resumed.{resumed_at};
-ghost use Rattle.rv_monitor.specs.Room.{NextWantsRoom};
+ghost use Rattle.rv_monitor.specs.Support.Resumed.{resumed_at};
+ghost use Rattle.rv_monitor.specs.Support.Room.{NextWantsRoom};
 ghost use Rattle.rv_monitor.specs.State.{TimedState, SessionState, IsInTime, new_session, begun, count_before, after, with_due, with_break, without_break, given};
 ghost use Rattle.rv_monitor.specs.Stops.{Took, WasRefused, stop_of, TakesStep};
 
@@ -56,7 +56,7 @@ impl<M: ByteMemory, C: Decoded> Model for Session<M, C> {
     ghost use Rattle.std.specs.Coded.{codes, coded_ℕ};
     ghost use Rattle.std.specs.FinSet as set;
     ghost use Rattle.std.specs.Ordering.{nat_cmp};
-    ghost use Rattle.rv_plic.specs.Codes.{plic_code};
+    ghost use Rattle.rv_plic.specs.Support.Codes.{plic_code};
     ghost use Rattle.rv_monitor.specs.State.{SessionState};
 
     ghost Value = { SessionState };

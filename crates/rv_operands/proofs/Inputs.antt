@@ -10,7 +10,7 @@ use Rattle.rv_lists.specs.Timed.{all_of, byte_input}
 use Rattle.rv_lists.specs.declared.input.Input.{Input}
 use Rattle.rv_lists.specs.declared.input.Input.TheVariants.{Rx}
 use Rattle.rv_operands.specs.Operands.{unescaped}
-use Rattle.rv_operands.specs.Words.{Reads, escape_of, text_inputs}
+use Rattle.rv_operands.specs.Support.Words.{Reads, escape_of, text_inputs}
 
 -- one input, and those that follow it
 one_more : (old mid new : List Input) (x : Input) (rest meaning : Option (List Input)) (can : Bool)

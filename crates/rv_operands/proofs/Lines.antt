@@ -5,13 +5,13 @@ use Rattle.std.specs.Prelude.{Option, Some, None, nat_lt, slice_index}
 use Rattle.std.specs.Option.{option_map, option_or}
 use Rattle.std.specs.Str.{bytes_eq}
 use Rattle.rv_base.specs.Tables.{lookup}
-use Rattle.rv_board.specs.State.{BoardState, pc_of}
+use Rattle.rv_board.specs.Support.State.{BoardState, pc_of}
 use Rattle.rv_commands.specs.Addresses.{address_of}
 use Rattle.rv_isa.specs.Names.{register_names}
 use Rattle.rv_program.specs.Program.{value_of}
 use Rattle.rv_asm.specs.Lines.{Listed, bytes_of}
 use Rattle.rv_operands.specs.Operands.{base_value, line_with_bytes}
-use Rattle.rv_operands.specs.Words.{base_by}
+use Rattle.rv_operands.specs.Support.Words.{base_by}
 
 abbrev some_at : Listed → ℕ → Bool
 some_at l n = nat_lt 0 (length (bytes_of l n))

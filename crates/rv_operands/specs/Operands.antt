@@ -15,7 +15,7 @@ use Rattle.rv_program.specs.Program.{value_of}
 use Rattle.rv_asm.specs.Lines.{Listed, bytes_of}
 use Rattle.rv_asm.specs.Lines as listing
 use Rattle.rv_answers.specs.Memory.{escapes}
-use Rattle.rv_board.specs.State.{BoardState, pc_of}
+use Rattle.rv_board.specs.Support.State.{BoardState, pc_of}
 use Rattle.rv_lists.specs.Timed.{all_of, byte_input}
 use Rattle.rv_lists.specs.declared.input.Input.{Input}
 use Rattle.rv_lists.specs.declared.input.Input.TheVariants.{Rx}

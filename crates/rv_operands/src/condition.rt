@@ -4,7 +4,7 @@ ghost use Rattle.rv_base.specs.Tables.{lookup};
 ghost use Rattle.rv_base.specs.Words.{words};
 ghost use Rattle.rv_asm.specs.Seen.{seen};
 ghost use Rattle.rv_operands.specs.Operands.{condition, word_condition, relations, watched};
-ghost use Rattle.rv_operands.specs.Words.{at_place, named_event, size_from};
+ghost use Rattle.rv_operands.specs.Support.Words.{at_place, named_event, size_from};
 
 use crate::place::{Scope, line_with_bytes};
 use crate::word::{line_number, only_word};

@@ -5,7 +5,7 @@ ghost use Rattle.rv_base.specs.Words.{words};
 ghost use Rattle.rv_lists.specs.Timed.{all_of, byte_input};
 ghost use Rattle.rv_operands.specs.Operands.{bytes_inputs, unescaped};
 ghost use Rattle.rv_lists.specs.declared.input.Input.TheVariants.{Rx};
-ghost use Rattle.rv_operands.specs.Words.{Reads, escape_of, text_inputs};
+ghost use Rattle.rv_operands.specs.Support.Words.{Reads, escape_of, text_inputs};
 
 use crate::word::trimmed;
 use rv_answers::escapes;

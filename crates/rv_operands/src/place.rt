@@ -9,7 +9,7 @@ ghost use Rattle.rv_asm.specs.Seen.{seen};
 ghost use Rattle.rv_isa.specs.Names.{register_names};
 ghost use Rattle.rv_program.specs.Program.{value_of};
 ghost use Rattle.rv_operands.specs.Operands.{added, address, base_value, break_address, line_with_bytes, sum, word_value};
-ghost use Rattle.rv_operands.specs.Words.{base_or_zero, is_sign, next_address};
+ghost use Rattle.rv_operands.specs.Support.Words.{base_or_zero, is_sign, next_address};
 
 use crate::word::{line_number, number, only_word};
 use rv_asm::Listing;

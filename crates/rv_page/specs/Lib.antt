@@ -1,3 +1,2 @@
-pub mod Lending
-pub mod Owned
 pub mod Pages
+pub mod Support

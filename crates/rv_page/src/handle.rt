@@ -1,7 +1,7 @@
 //! A box that the page keeps between calls, by its pointer.
 ghost use Rattle.std.specs.Prelude.{◌≡◌, Option, Some};
 ghost use Rattle.rv_page.specs.declared.state.State.{State};
-ghost use Rattle.rv_page.specs.Owned.{handle_owns, made_coded, made_owns, state_coded};
+ghost use Rattle.rv_page.specs.Support.Owned.{handle_owns, made_coded, made_owns, state_coded};
 
 mod lending;
 mod parts;

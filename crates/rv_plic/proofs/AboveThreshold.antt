@@ -9,11 +9,11 @@ use Rattle.std.proofs.lemmas.Bool.{cases_eq, and_parts, and_from, and_left, and_
 use Rattle.std.proofs.lemmas.Bool.Decides.{nat_tests}
 use Rattle.std.proofs.lemmas.List.{get_or-replicate, get_or-set_same}
 use Rattle.rv_plic.specs.Sources.{sources, Sources}
-use Rattle.rv_plic.specs.Words.{any-range, contains-filtered}
+use Rattle.rv_plic.specs.Support.Words.{any-range, contains-filtered}
 use Rattle.rv_plic.specs.Gateways.{PlicState}
 use Rattle.rv_plic.specs.Plic.{is_notified}
-use Rattle.rv_plic.specs.Best.{is_waiting}
-use Rattle.rv_plic.specs.AboveThreshold.{is_above, sources_above}
+use Rattle.rv_plic.specs.Support.Best.{is_waiting}
+use Rattle.rv_plic.specs.Support.AboveThreshold.{is_above, sources_above}
 use Rattle.rv_plic.proofs.Best.{and_unless, none-range}
 use Rattle.rv_plic.proofs.Words.{same_sources}
 

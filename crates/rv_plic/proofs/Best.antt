@@ -8,10 +8,10 @@ use Rattle.std.specs.Ordering.{nat_cmp}
 use Rattle.std.specs.Cmp.{nat_cmp_total}
 use Rattle.std.proofs.lemmas.Bool.{cases_eq, and_parts, and_from, or_from, and_left, not_from_false}
 use Rattle.rv_plic.specs.Sources.{sources}
-use Rattle.rv_plic.specs.Words.{any-range}
+use Rattle.rv_plic.specs.Support.Words.{any-range}
 use Rattle.rv_plic.specs.Gateways.{PlicState}
 use Rattle.rv_plic.specs.Plic.{priority_of, best}
-use Rattle.rv_plic.specs.Best.{IsFirst, IsBestBelow, IsBest, is_waiting}
+use Rattle.rv_plic.specs.Support.Best.{IsFirst, IsBestBelow, IsBest, is_waiting}
 
 pub and_unless : (x y : Bool) → (x ≡ true → y ≡ false) → (x && y) ≡ false
 and_unless true y h = h refl

@@ -10,8 +10,8 @@ use Rattle.std.proofs.lemmas.Bool.{le-leb}
 use Rattle.std.proofs.lemmas.List.{same_lists}
 use Rattle.rv_plic.specs.Sources.{Sources}
 use Rattle.rv_plic.specs.Gateways.{edges_of, one_more}
-use Rattle.rv_plic.specs.GatewayState.{Edges, taken}
-use Rattle.rv_plic.specs.Changes.{one_less, changed}
+use Rattle.rv_plic.specs.Support.GatewayState.{Edges, taken}
+use Rattle.rv_plic.specs.Support.Changes.{one_less, changed}
 
 pub nothing_changed : (f : ℕ → ℕ) (s : Sources) (a : ℕ) (edges : Edges)
     → ((q : ℕ) → a ≤ q → contains s q ≡ false) → changed f s a edges ≡ edges

@@ -8,7 +8,7 @@ use Rattle.rv_plic.specs.Sources.{sources, sources_of, word_of}
 use Rattle.rv_plic.specs.Gateways.{PlicState}
 use Rattle.rv_plic.specs.Plic.{registers, priority_of, best, claimed, completed, at}
 use Rattle.rv_base.specs.Registers.{Register, register}
-use Rattle.rv_plic.specs.Registers.{reg_at, word_at, with_word, after_reading}
+use Rattle.rv_plic.specs.Support.Registers.{reg_at, word_at, with_word, after_reading}
 use Rattle.rv_plic.specs.declared.register.PlicReg.{PlicReg}
 use Rattle.rv_plic.specs.declared.register.PlicReg.TheVariants.{Priority, Pending, Enables, Threshold, Claim}
 

@@ -13,7 +13,7 @@ use Rattle.std.proofs.lemmas.Bool.{eq-eqb, ne_eqb, or_left, cases_eq, cases_lt}
 use Rattle.std.proofs.lemmas.Nat.{or_lt, and_le_l}
 use Rattle.std.proofs.lemmas.Nat.Bits.{bit_at_lowest, bit_at_and, bit_at_or, bit_at_not, bit_at-lt, bit_at_above, shr_and_one, bit_at_set_same, bit_at_set_other, bit_at_clear_same, bit_at_clear_other, bit_at-pow_other, bit_at_mask_inside, bit_at_mask_below}
 use Rattle.rv_plic.specs.Sources.{sources, Sources, sources_of, word_of}
-use Rattle.rv_plic.specs.Words.{IsSourceWord, contains-sources_of, word_of-sources_of}
+use Rattle.rv_plic.specs.Support.Words.{IsSourceWord, contains-sources_of, word_of-sources_of}
 
 -- two sets with the same sources are equal
 pub same_sources : (s t : Sources) → ((q : ℕ) → contains s q ≡ contains t q) → s ≡ t

@@ -1,11 +1,4 @@
-pub mod AboveThreshold
-pub mod Best
-pub mod Changes
-pub mod Codes
 pub mod Gateways
-pub mod GatewayState
 pub mod Plic
-pub mod Registers
 pub mod Sources
-pub mod Withdrawn
-pub mod Words
+pub mod Support

@@ -2,7 +2,7 @@
 ghost use Rattle.std.specs.Prelude.{◌≡◌, ◌-◌, ◌^◌, ◌<◌, ◌≤◌, ◌↔◌, ℕ, false, IsFalse, All, slice_set};
 ghost use Rattle.std.specs.FinSet as set;
 ghost use Rattle.rv_plic.specs.Gateways.{is_by_edge, edges_of};
-ghost use Rattle.rv_plic.specs.GatewayState.{none_waits};
+ghost use Rattle.rv_plic.specs.Support.GatewayState.{none_waits};
 
 use crate::Source;
 use crate::set::SourceSet;
@@ -19,7 +19,7 @@ pub struct Edges {
 
 impl Model for Edges {
     ghost use Rattle.std.specs.Prelude.{◌≡◌, length};
-    ghost use Rattle.rv_plic.specs.GatewayState.{Edges};
+    ghost use Rattle.rv_plic.specs.Support.GatewayState.{Edges};
 
     ghost Value = { Edges };
 

@@ -2,9 +2,9 @@
 ghost use Rattle.std.specs.Prelude.{◌≡◌, ◌-◌, ◌^◌, ◌<◌, ◌≤◌, true, false, All, slice_set};
 ghost use Rattle.std.specs.FinSet as set;
 ghost use Rattle.rv_plic.specs.Gateways.{edges_of};
-ghost use Rattle.rv_plic.specs.Changes.{changed, count_after};
-ghost use Rattle.rv_plic.specs.GatewayState.{all_low, gateways_with_line, gateway_requests, after_requests, after_completion};
-ghost use Rattle.rv_plic.specs.Withdrawn.{withdrawn_gateways};
+ghost use Rattle.rv_plic.specs.Support.Changes.{changed, count_after};
+ghost use Rattle.rv_plic.specs.Support.GatewayState.{all_low, gateways_with_line, gateway_requests, after_requests, after_completion};
+ghost use Rattle.rv_plic.specs.Support.Withdrawn.{withdrawn_gateways};
 
 use crate::Source;
 use crate::edges::{Edges, is_by_edge};
@@ -25,9 +25,9 @@ pub struct Gateways {
 
 impl Model for Gateways {
     ghost use Rattle.std.specs.Prelude.{◌≡◌};
-    ghost use Rattle.rv_plic.specs.Codes.{gateway_code};
+    ghost use Rattle.rv_plic.specs.Support.Codes.{gateway_code};
     ghost use Rattle.rv_plic.specs.Gateways.{asking_sources};
-    ghost use Rattle.rv_plic.specs.GatewayState.{GatewayState};
+    ghost use Rattle.rv_plic.specs.Support.GatewayState.{GatewayState};
 
     ghost Value = { GatewayState };
 

@@ -1,13 +1,13 @@
 //! The interrupt controller.
 ghost use Rattle.std.specs.Prelude.{◌≡◌, ◌%◌, ◌^◌, ◌<◌, ◌&&◌, nat_lt, All, slice_index, slice_set, unwrap_or};
 ghost use Rattle.std.specs.FinSet as set;
-ghost use Rattle.rv_plic.specs.AboveThreshold.{sources_above};
-ghost use Rattle.rv_plic.specs.Best.{IsBest, IsBestBelow};
+ghost use Rattle.rv_plic.specs.Support.AboveThreshold.{sources_above};
+ghost use Rattle.rv_plic.specs.Support.Best.{IsBest, IsBestBelow};
 ghost use Rattle.rv_plic.specs.Gateways.{PlicState, edges_of, reset, with_line, forwarded};
 ghost use Rattle.rv_plic.specs.Gateways as spec;
 ghost use Rattle.rv_plic.specs.Plic.{best, is_notified, claimed, completed, at};
-ghost use Rattle.rv_plic.specs.Registers.{word_at, with_word};
-ghost use Rattle.rv_plic.specs.Withdrawn.{withdrawn};
+ghost use Rattle.rv_plic.specs.Support.Registers.{word_at, with_word};
+ghost use Rattle.rv_plic.specs.Support.Withdrawn.{withdrawn};
 
 use crate::Source;
 use crate::gateway::Gateways;
@@ -32,10 +32,10 @@ pub struct Plic {
 
 impl Model for Plic {
     ghost use Rattle.std.specs.Prelude.{◌≡◌};
-    ghost use Rattle.rv_plic.specs.AboveThreshold.{sources_above};
-    ghost use Rattle.rv_plic.specs.Codes.{plic_code};
+    ghost use Rattle.rv_plic.specs.Support.AboveThreshold.{sources_above};
+    ghost use Rattle.rv_plic.specs.Support.Codes.{plic_code};
     ghost use Rattle.rv_plic.specs.Gateways.{PlicState, requests};
-    ghost use Rattle.rv_plic.specs.GatewayState.{gateways_of, gateway_requests};
+    ghost use Rattle.rv_plic.specs.Support.GatewayState.{gateways_of, gateway_requests};
 
     ghost Value = { PlicState };
 
@@ -147,7 +147,7 @@ impl Plic {
     /// Forwards all requests. Out of line, since few ticks find one.
     #[cold]
     #[inline(never)]
-    #[tactic(auto, unfolding(crate::specs::GatewayState::taken))]
+    #[tactic(auto, unfolding(crate::specs::Support::GatewayState::taken))]
     fn forward_ready(&mut self)
         ensures { self.new ≡ forwarded self.old }
     {

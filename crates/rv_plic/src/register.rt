@@ -1,6 +1,6 @@
 //! The registers of the interrupt controller (PLIC Specification 1.0, "Memory Map").
 ghost use Rattle.std.specs.Prelude.{◌≡◌};
-ghost use Rattle.rv_plic.specs.Registers.{reg_at};
+ghost use Rattle.rv_plic.specs.Support.Registers.{reg_at};
 
 use crate::Source;
 
@@ -26,7 +26,7 @@ pub enum PlicReg {
 
 impl PlicReg {
     /// Returns the register at an offset that is a multiple of 4, if there is one.
-    #[tactic(auto, unfolding(crate::specs::Registers::reg_at))]
+    #[tactic(auto, unfolding(crate::specs::Support::Registers::reg_at))]
     pub(crate) fn at(off: u32) -> Option<PlicReg>
         ensures { result ≡ reg_at off }
     {

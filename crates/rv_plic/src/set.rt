@@ -17,7 +17,7 @@ impl Model for SourceSet {
     ghost use Rattle.std.specs.Coded.{coded_ℕ};
     ghost use Rattle.std.specs.FinSet as set;
     ghost use Rattle.rv_plic.specs.Sources.{Sources, sources_of, word_of};
-    ghost use Rattle.rv_plic.specs.Words.{IsSourceWord, word_of-sources_of};
+    ghost use Rattle.rv_plic.specs.Support.Words.{IsSourceWord, word_of-sources_of};
 
     ghost Value = { Sources };
 

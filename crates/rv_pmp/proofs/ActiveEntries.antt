@@ -4,7 +4,7 @@ use Rattle.std.proofs.lemmas.List.{take_more_set, drop_all}
 use Rattle.std.proofs.Math.ListN.{set}
 use Rattle.rv_pmp.specs.declared.active_entries.ActiveEntry.{ActiveEntry}
 use Rattle.rv_pmp.specs.declared.entry.Entry.{Entry}
-use Rattle.rv_pmp.specs.ActiveEntries.{is_matching, active_of, actives_from}
+use Rattle.rv_pmp.specs.Support.ActiveEntries.{is_matching, active_of, actives_from}
 
 -- one more entry, where there is room
 pub take_push : (items : List ActiveEntry) (count : ℕ) (a : ActiveEntry) → count < length items

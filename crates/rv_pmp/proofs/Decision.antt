@@ -19,10 +19,10 @@ use Rattle.rv_pmp.specs.declared.active_entries.ActiveEntry.{ActiveEntry}
 use Rattle.rv_pmp.specs.declared.span.Span.{Span}
 use Rattle.rv_pmp.specs.Mode.{is_machine}
 use Rattle.rv_pmp.specs.Entry.{entry_grants, matched}
-use Rattle.rv_pmp.specs.ActiveEntries.{is_matching, entry_answer, decision, some_on, some_locked, active_of, actives_from}
-use Rattle.rv_pmp.specs.Guards.{Guard, region, guards_from, answer, answer_of}
+use Rattle.rv_pmp.specs.Support.ActiveEntries.{is_matching, entry_answer, decision, some_on, some_locked, active_of, actives_from}
+use Rattle.rv_pmp.specs.Support.Guards.{Guard, region, guards_from, answer, answer_of}
 use Rattle.rv_pmp.specs.Pmp.{PmpState, off_entry, entry_at, lower_of, matches, grants}
-use Rattle.rv_pmp.specs.Span.{is_between, trailing_ones, span, span_of, holds, meets, no_bytes}
+use Rattle.rv_pmp.specs.Support.Span.{is_between, trailing_ones, span, span_of, holds, meets, no_bytes}
 
 -- ---- one step of the search
 

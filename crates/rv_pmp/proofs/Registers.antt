@@ -12,7 +12,7 @@ use Rattle.rv_pmp.specs.declared.register.PmpRegister.{PmpRegister}
 use Rattle.rv_pmp.specs.declared.register.PmpRegister.TheVariants.{Config, Address}
 use Rattle.rv_pmp.specs.Entry.{matching_code, config_byte, configured, addressed}
 use Rattle.rv_pmp.specs.Pmp.{PmpState, off_entry, entry_at, config_word, is_locked_tor, read_register, write_register, written}
-use Rattle.rv_pmp.specs.Registers.{is_config, is_address, register_at, config_at, word_of, byte_of, with_config, starts_locked, with_address, with_word}
+use Rattle.rv_pmp.specs.Support.Registers.{is_config, is_address, register_at, config_at, word_of, byte_of, with_config, starts_locked, with_address, with_word}
 use Rattle.rv_pmp.proofs.Writes.{with_config-at, with_config-past, with_address-at, with_address-locked, with_address-past}
 
 -- ---- reads

@@ -1,10 +1,4 @@
-pub mod ActiveEntries
 pub mod Entry
-pub mod Guards
 pub mod Mode
-pub mod PermissionCache
-pub mod Permits
 pub mod Pmp
-pub mod Registers
-pub mod Span
-pub mod WidestSpan
+pub mod Support

@@ -1,8 +1,8 @@
 //! The entries that match addresses: the only ones that an access has to ask.
 ghost use Rattle.std.specs.Prelude.{◌≡◌, ◌<◌, ◌∷◌, ◌++◌, [], length};
 ghost use Rattle.rv_pmp.specs.declared.pmp.TheConstants.{ENTRIES};
-ghost use Rattle.rv_pmp.specs.WidestSpan as spec;
-ghost use Rattle.rv_pmp.specs.ActiveEntries.{entry_answer, active_of, actives_from};
+ghost use Rattle.rv_pmp.specs.Support.WidestSpan as spec;
+ghost use Rattle.rv_pmp.specs.Support.ActiveEntries.{entry_answer, active_of, actives_from};
 
 use crate::entry::Entry;
 use crate::pmp::ENTRIES;

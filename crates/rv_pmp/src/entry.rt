@@ -1,10 +1,10 @@
 //! An entry: its registers' fields, and what it grants.
 ghost use Rattle.std.specs.Prelude.{◌≡◌, ◌==◌};
 ghost use Rattle.rv_pmp.specs.Entry.{matching_code, config_byte, entry_grants};
-ghost use Rattle.rv_pmp.specs.Registers.{matching_of};
+ghost use Rattle.rv_pmp.specs.Support.Registers.{matching_of};
 ghost use Rattle.rv_pmp.specs.Entry as spec;
-ghost use Rattle.rv_pmp.specs.Permits as bits;
-ghost use Rattle.rv_pmp.specs.ActiveEntries.{is_matching};
+ghost use Rattle.rv_pmp.specs.Support.Permits as bits;
+ghost use Rattle.rv_pmp.specs.Support.ActiveEntries.{is_matching};
 
 use crate::{Access, Mode};
 
@@ -44,7 +44,7 @@ impl Matching {
     }
 
     /// Returns the way that a value of the field A, less than 4, stands for.
-    #[tactic(auto, unfolding(crate::specs::Registers::matching_of), using(crate::proofs::Writes::matching_rest))]
+    #[tactic(auto, unfolding(crate::specs::Support::Registers::matching_of), using(crate::proofs::Writes::matching_rest))]
     fn of(code: u8) -> Matching
         ensures { result ≡ matching_of code }
     {
@@ -107,7 +107,7 @@ impl Entry {
 
     /// Returns the entry after a write to its configuration byte. A locked entry stays as it is, and W is
     /// kept only together with R.
-    #[tactic(auto, unfolding(crate::specs::Entry::configured, crate::specs::Registers::matching_of))]
+    #[tactic(auto, unfolding(crate::specs::Entry::configured, crate::specs::Support::Registers::matching_of))]
     pub(crate) fn with_config(self, byte: u8) -> Entry
         ensures { result ≡ spec.configured self byte }
     {

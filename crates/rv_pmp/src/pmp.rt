@@ -3,12 +3,12 @@ ghost use Rattle.std.specs.Prelude.{◌≡◌, All, IsTrue, ℕ, ◌+◌, ◌-�
 ghost use Rattle.std.specs.List.{list_any, range_with_len};
 ghost use Rattle.rv_isa.specs.Width.{bytes_of};
 ghost use Rattle.rv_isa.specs.declared.op.Width.{Width};
-ghost use Rattle.rv_pmp.specs.ActiveEntries.{AllReadable, some_on, some_locked, actives_from, decision};
+ghost use Rattle.rv_pmp.specs.Support.ActiveEntries.{AllReadable, some_on, some_locked, actives_from, decision};
 ghost use Rattle.rv_pmp.specs.Pmp.{PmpState, entry_at, grants, lower_of, matches, read_register, write_register, off_entry};
-ghost use Rattle.rv_pmp.specs.Registers.{config_at, with_config, with_address, with_word, starts_locked};
-ghost use Rattle.rv_pmp.specs.Registers as spec;
-ghost use Rattle.rv_pmp.specs.WidestSpan.{AreForward, IsWidestSpan};
-ghost use Rattle.rv_pmp.specs.PermissionCache.{IsGranted, IsWidest, IsWidestOrNone};
+ghost use Rattle.rv_pmp.specs.Support.Registers.{config_at, with_config, with_address, with_word, starts_locked};
+ghost use Rattle.rv_pmp.specs.Support.Registers as spec;
+ghost use Rattle.rv_pmp.specs.Support.WidestSpan.{AreForward, IsWidestSpan};
+ghost use Rattle.rv_pmp.specs.Support.PermissionCache.{IsGranted, IsWidest, IsWidestOrNone};
 ghost use Rattle.rv_pmp.specs.declared.access.Access.{Access};
 ghost use Rattle.rv_pmp.specs.declared.mode.Mode.{Mode};
 ghost use Rattle.rv_pmp.specs.declared.mode.Mode.TheVariants.{User};
@@ -41,7 +41,7 @@ pub struct Pmp {
 
 impl Model for Pmp {
     ghost use Rattle.rv_pmp.specs.Pmp.{PmpState};
-    ghost use Rattle.rv_pmp.specs.ActiveEntries.{IsConsistent};
+    ghost use Rattle.rv_pmp.specs.Support.ActiveEntries.{IsConsistent};
 
     ghost Value = { PmpState };
 
@@ -293,7 +293,7 @@ impl Pmp {
 }
 
 /// Writes `word` to a register.
-#[tactic(auto, unfolding(crate::specs::Registers::with_word))]
+#[tactic(auto, unfolding(crate::specs::Support::Registers::with_word))]
 fn write_word(entries: &mut [Entry; ENTRIES], register: PmpRegister, word: u32)
     requires { AllReadable entries.old }
     ensures written { entries.new ≡ with_word entries.old register word }
@@ -346,7 +346,7 @@ fn set_address(entries: &mut [Entry; ENTRIES], place: usize, word: u32)
 }
 
 /// Whether the entry at `place` is locked and its region begins at the address of the entry before.
-#[tactic(auto, unfolding(crate::specs::Registers::starts_locked))]
+#[tactic(auto, unfolding(crate::specs::Support::Registers::starts_locked))]
 fn is_locked_tor(entries: &[Entry; ENTRIES], place: usize) -> bool
     ensures { result ≡ starts_locked entries.now place }
 {

@@ -1,6 +1,6 @@
 //! The control registers of protection. Privileged Architecture 20211203, section 3.7.1.
 ghost use Rattle.std.specs.Prelude.{◌≡◌};
-ghost use Rattle.rv_pmp.specs.Registers.{register_at};
+ghost use Rattle.rv_pmp.specs.Support.Registers.{register_at};
 
 /// A control register of protection, with the entry that it belongs to: the first of four for a configuration
 /// register.
@@ -15,7 +15,7 @@ pub enum PmpRegister {
 impl PmpRegister {
     /// Returns the register at address `addr` of the control registers, or None if no register of protection
     /// is there.
-    #[tactic(auto, unfolding(crate::specs::Registers::register_at))]
+    #[tactic(auto, unfolding(crate::specs::Support::Registers::register_at))]
     pub(crate) fn at(addr: u16) -> Option<PmpRegister>
         ensures { result ≡ register_at addr }
     {

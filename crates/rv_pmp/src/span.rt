@@ -1,8 +1,8 @@
 //! Spans of bytes: the region of an entry, and the parts of spans.
 ghost use Rattle.std.specs.Prelude.{◌≡◌, ◌+◌, ◌<◌, ◌≤◌, ◌^◌};
-ghost use Rattle.rv_pmp.specs.Span as ones;
-ghost use Rattle.rv_pmp.specs.WidestSpan as spec;
-ghost use Rattle.rv_pmp.specs.Span.{is_between, holds, meets, span_of};
+ghost use Rattle.rv_pmp.specs.Support.Span as ones;
+ghost use Rattle.rv_pmp.specs.Support.WidestSpan as spec;
+ghost use Rattle.rv_pmp.specs.Support.Span.{is_between, holds, meets, span_of};
 
 use crate::entry::{Entry, Matching};
 
@@ -24,7 +24,7 @@ impl Span {
     };
 
     /// Computes the region of an entry, where `lower` is the address register of the entry before.
-    #[tactic(auto, unfolding(crate::specs::Span::span_of), using(crate::proofs::TrailingOnes::napot_span))]
+    #[tactic(auto, unfolding(crate::specs::Support::Span::span_of), using(crate::proofs::TrailingOnes::napot_span))]
     pub(crate) fn of(lower: u32, entry: Entry) -> Span
         ensures { result ≡ span_of lower entry }
     {

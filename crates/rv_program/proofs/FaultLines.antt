@@ -5,7 +5,7 @@ use Rattle.rv_program.specs.declared.fault.FaultKind.{FaultKind}
 use Rattle.rv_program.specs.declared.fault.FaultKind.TheVariants.{OutOfMemory}
 use Rattle.rv_program.specs.declared.fault.AsmFault.{AsmFault}
 use Rattle.rv_program.specs.Faults.{title_of}
-use Rattle.rv_program.specs.Kept.{IsFaultAt}
+use Rattle.rv_program.specs.Support.Kept.{IsFaultAt}
 
 pub is_at : (line : ℕ) (kind : FaultKind) (fault : AsmFault)
     → fault ≡ record { line = (if (title_of kind).0 == 12 then 0 else line); kind = kind } → IsFaultAt line kind fault

@@ -6,7 +6,7 @@ use Rattle.std.specs.Map.{lookup}
 use Rattle.rv_base.specs.Tables.{lookup as named}
 use lib.Pointwise.{pointwise}
 use Rattle.rv_program.specs.Program.{is_word}
-use Rattle.rv_program.specs.Kept.{AreWords, definitions_of}
+use Rattle.rv_program.specs.Support.Kept.{AreWords, definitions_of}
 use Rattle.std.proofs.lemmas.Bool.{cond_both}
 use Rattle.rv_base.proofs.TableRows.{bytes_eq-swapped}
 

@@ -1,3 +1,3 @@
 pub mod Faults
 pub mod Program
-pub mod Kept
+pub mod Support

@@ -22,7 +22,7 @@ impl Drop for Names {
 
 impl Model for Names {
     ghost use Rattle.std.specs.Prelude.{List, ℕ, ℤ};
-    ghost use Rattle.rv_program.specs.Kept.{AreWords, definitions_of};
+    ghost use Rattle.rv_program.specs.Support.Kept.{AreWords, definitions_of};
 
     ghost Value = { List (List ℕ × ℤ) };
 

@@ -5,8 +5,8 @@ use Rattle.std.specs.List.{list_all}
 use Rattle.std.proofs.lemmas.List.{take_at, length-drop, get_or-drop}
 use Rattle.std.proofs.lemmas.List.Folds.{list_all_more}
 use Rattle.rv_ram.specs.Bytes.{zeros}
-use Rattle.rv_ram.specs.Pages.{is_zero_page}
-use Rattle.rv_ram.specs.Table.{PageState, all_bytes, HasWholePages}
+use Rattle.rv_ram.specs.Support.Pages.{is_zero_page}
+use Rattle.rv_ram.specs.Support.Table.{PageState, all_bytes, HasWholePages}
 
 drop_front : (xs ys : List ℕ) (k j : ℕ) → j ≡ length xs + k → drop j (xs ++ ys) ≡ drop k ys
 drop_front [] ys k j e = ap (λ i. drop i ys) (omega arith)

@@ -7,8 +7,8 @@ use Rattle.rv_isa.specs.declared.op.Width.{Width}
 use Rattle.rv_isa.specs.declared.op.Width.TheVariants.{One, Two, Four}
 use Rattle.rv_isa.specs.Width.{bytes_of}
 use Rattle.rv_ram.specs.Bytes.{zeros, put, value_at}
-use Rattle.rv_ram.specs.Pages.{is_zero, none_made}
-use Rattle.rv_ram.specs.Table.{PageState, new_page, page_of, all_bytes, made_of, HasWholePages, IsTable, new_table}
+use Rattle.rv_ram.specs.Support.Pages.{is_zero, none_made}
+use Rattle.rv_ram.specs.Support.Table.{PageState, new_page, page_of, all_bytes, made_of, HasWholePages, IsTable, new_table}
 use Rattle.rv_ram.proofs.Zeros.{length_zeros, append_zeros, no_zeros, get_zeros}
 use Rattle.rv_ram.proofs.Put.{put_zeros, put_left, put_right}
 use Rattle.rv_ram.proofs.Value.{no_value, same_value, zero_value}

@@ -18,7 +18,7 @@ pub struct FlatMemory {
 
 impl Model for FlatMemory {
     ghost use Rattle.std.specs.Prelude.{◌≡◌, List, ℕ, length, ◌≤◌, ◌^◌, ◌%◌};
-    ghost use Rattle.rv_ram.specs.Table.{HasPages};
+    ghost use Rattle.rv_ram.specs.Support.Table.{HasPages};
 
     ghost Value = { List ℕ };
 

@@ -3,8 +3,8 @@ ghost use Rattle.std.specs.Prelude.{◌≡◌, ◌+◌, ◌<◌, ◌≤◌, ◌|
 ghost use Rattle.std.specs.Vec.{vec_len};
 ghost use Rattle.rv_isa.specs.Width.{bytes_of};
 ghost use Rattle.rv_ram.specs.Bytes.{value_at, put, zeros};
-ghost use Rattle.rv_ram.specs.Pages.{is_zero};
-ghost use Rattle.rv_ram.specs.Table.{new_page};
+ghost use Rattle.rv_ram.specs.Support.Pages.{is_zero};
+ghost use Rattle.rv_ram.specs.Support.Table.{new_page};
 
 use crate::PAGE_BYTES;
 use crate::values::{put_value, stores_zeros, word_of};
@@ -21,7 +21,7 @@ pub struct Page {
 
 impl Model for Page {
     ghost use Rattle.std.specs.Prelude.{◌≡◌, length};
-    ghost use Rattle.rv_ram.specs.Table.{PageState, page_of};
+    ghost use Rattle.rv_ram.specs.Support.Table.{PageState, page_of};
 
     ghost Value = { PageState };
 

@@ -2,8 +2,8 @@
 ghost use Rattle.std.specs.Prelude.{◌≡◌, ◌+◌, ◌*◌, ◌/◌, ◌%◌, ◌^◌, ◌<◌, ◌≤◌, true, false, length, slice_index, IfOk, IsOk, OnOk, OnErr};
 ghost use Rattle.rv_isa.specs.Width.{bytes_of};
 ghost use Rattle.rv_ram.specs.Bytes.{value_at, put, zeros};
-ghost use Rattle.rv_ram.specs.Pages.{none_made, wants_page, makes_page, made_after};
-ghost use Rattle.rv_ram.specs.Table.{new_table};
+ghost use Rattle.rv_ram.specs.Support.Pages.{none_made, wants_page, makes_page, made_after};
+ghost use Rattle.rv_ram.specs.Support.Table.{new_table};
 
 use crate::page::Page;
 use crate::{ByteMemory, PAGE_BYTES};
@@ -28,8 +28,8 @@ impl Drop for PagedRam {
 }
 
 impl Model for PagedRam {
-    ghost use Rattle.rv_ram.specs.Pages.{PagedBytes};
-    ghost use Rattle.rv_ram.specs.Table.{all_bytes, made_of, IsTable};
+    ghost use Rattle.rv_ram.specs.Support.Pages.{PagedBytes};
+    ghost use Rattle.rv_ram.specs.Support.Table.{all_bytes, made_of, IsTable};
 
     ghost Value = { PagedBytes };
 
@@ -95,7 +95,7 @@ impl PagedRam {
 }
 
 impl ByteMemory for PagedRam {
-    ghost use Rattle.rv_ram.specs.Pages.{wants_page};
+    ghost use Rattle.rv_ram.specs.Support.Pages.{wants_page};
 
     ghost bytes = { λ m. m.bytes };
 

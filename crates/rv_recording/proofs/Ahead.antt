@@ -3,12 +3,12 @@ use Rattle.std.proofs.Common.{◌≡◌, ℕ, zero, suc, ◌+◌, ◌-◌, ◌<�
 use Rattle.std.specs.Prelude.{◌&&◌, ◌==◌, if◌then◌else◌, nat_lt, is_none, is_some, unwrap_or, Option, Some, None}
 use Rattle.std.proofs.lemmas.Bool.{false≢true}
 use Rattle.std.proofs.lemmas.Bool.Decides.{nat_tests}
-use Rattle.rv_board.specs.State.{halted_of}
+use Rattle.rv_board.specs.Support.State.{halted_of}
 use Rattle.rv_monitor.specs.State.{Addresses, SessionState, after}
-use Rattle.rv_monitor.specs.TimedCalls.{most_of}
+use Rattle.rv_monitor.specs.Support.TimedCalls.{most_of}
 use Rattle.rv_monitor.specs.Stops.{Took, may_step, stop_after}
 use Rattle.rv_recording.specs.Until.{HasRun, end_at}
-use Rattle.rv_recording.specs.Refused.{NoneEnds, end_with}
+use Rattle.rv_recording.specs.Support.Refused.{NoneEnds, end_with}
 use Rattle.rv_recording.specs.declared.until.End.{End}
 use Rattle.rv_recording.specs.declared.until.End.TheVariants.{Limit, Stuck}
 

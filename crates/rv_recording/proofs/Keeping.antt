@@ -7,7 +7,7 @@ use Rattle.rv_board.specs.Boot.{boot_fault}
 use Rattle.rv_board.specs.declared.event.BootFault.{BootFault}
 use Rattle.rv_board.specs.declared.event.BootFault.TheVariants.{BadPages, BadSlots, ImageTooLarge}
 use Rattle.rv_board.specs.Move.{run}
-use Rattle.rv_board.specs.State.{BoardState}
+use Rattle.rv_board.specs.Support.State.{BoardState}
 use Rattle.rv_lists.specs.Timed.{never_falls, inserted}
 use Rattle.rv_lists.specs.declared.input.Input.{Input}
 use Rattle.rv_lists.specs.declared.input.TimedInput.{TimedInput}
@@ -16,7 +16,7 @@ use Rattle.rv_monitor.specs.Laws.{IsReached}
 use Rattle.rv_monitor.specs.State.{TimedState, count_before}
 use Rattle.rv_monitor.proofs.Given.{events_before}
 use Rattle.rv_monitor.proofs.Resumed.{left_by_steps}
-use Rattle.rv_recording.specs.Kept.{KeptBoard, AreKept, AreWithin}
+use Rattle.rv_recording.specs.Support.Kept.{KeptBoard, AreKept, AreWithin}
 
 -- a state more, and one less
 kept_more : (first : BoardState) (s : TimedState) (ks : List KeptBoard) (k : KeptBoard)

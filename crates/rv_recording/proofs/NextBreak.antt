@@ -9,7 +9,7 @@ use Rattle.std.specs.Ordering.{nat_cmp}
 use Rattle.rv_monitor.specs.State.{Addresses}
 use Rattle.rv_monitor.proofs.Sets.{has}
 use Rattle.rv_recording.specs.Breaks.{IsNext}
-use Rattle.rv_recording.specs.Nearer.{lesser, nearer}
+use Rattle.rv_recording.specs.Support.Nearer.{lesser, nearer}
 
 -- the first number that passes a test, at `from` or above it
 abbrev IsFirst : (ℕ → Bool) → ℕ → Option ℕ → Type 0

@@ -7,9 +7,9 @@ use Rattle.rv_monitor.specs.State.{IsInTime, TimedState, after}
 use Rattle.rv_monitor.specs.Stops.{steps_between}
 use Rattle.rv_recording.specs.Recording.{RecordingState}
 use Rattle.rv_recording.specs.Until.{HasRun}
-use Rattle.rv_recording.specs.Refused.{IsRefusedIn, end_with}
+use Rattle.rv_recording.specs.Support.Refused.{IsRefusedIn, end_with}
 use Rattle.rv_recording.specs.Out.{open_at}
-use Rattle.rv_recording.specs.Steps.{StepsOut, TakesOne, end_after, open_of_step}
+use Rattle.rv_recording.specs.Support.Steps.{StepsOut, TakesOne, end_after, open_of_step}
 use Rattle.rv_recording.specs.declared.until.End.{End}
 use Rattle.rv_recording.specs.declared.until.End.TheVariants.{Limit, Stuck}
 use Rattle.rv_recording.proofs.Running.{Going, begins, goes_on, ended, limit, refused, taken_is, due_is, due_at, one_more, after_suc, others_at, others_next, others_due}

@@ -11,8 +11,8 @@ use Rattle.rv_monitor.proofs.Steps.{after_none, after_more}
 use Rattle.rv_hart.specs.Step.{step}
 use Rattle.rv_recording.specs.Recording.{RecordingState, with_timed}
 use Rattle.rv_recording.specs.Until.{HasRun, comes, end_at, holds}
-use Rattle.rv_recording.specs.Refused.{IsRefusedIn, NoneEnds, end_with}
-use Rattle.rv_recording.specs.Steps.{TakesOne, end_after, end_of_step}
+use Rattle.rv_recording.specs.Support.Refused.{IsRefusedIn, NoneEnds, end_with}
+use Rattle.rv_recording.specs.Support.Steps.{TakesOne, end_after, end_of_step}
 use Rattle.rv_recording.specs.declared.until.Condition.{Condition}
 use Rattle.rv_recording.specs.declared.until.End.{End}
 use Rattle.rv_recording.specs.declared.until.End.TheVariants.{Limit, Stuck}

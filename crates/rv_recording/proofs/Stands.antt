@@ -8,8 +8,8 @@ use Rattle.rv_base.specs.declared.memory.NoMemory.{NoMemory}
 use Rattle.rv_hart.specs.declared.trap.Outcome.{Outcome}
 use Rattle.rv_board.specs.Boot.{boot_fault, reset}
 use Rattle.rv_board.specs.Move.{run}
-use Rattle.rv_board.specs.State.{BoardState, halted_of}
-use Rattle.rv_lists.specs.Reading.{HasSteps}
+use Rattle.rv_board.specs.Support.State.{BoardState, halted_of}
+use Rattle.rv_lists.specs.Support.Reading.{HasSteps}
 use Rattle.rv_base.specs.Lines.{lines}
 use Rattle.rv_lists.specs.Timed.{IsRead, all_of, inserted, never_falls, timed, timed_line}
 use Rattle.rv_lists.specs.declared.input.Input.{Input}
@@ -18,10 +18,10 @@ use Rattle.rv_program.specs.Program.{Assembly}
 use Rattle.rv_commands.specs.declared.command.Command.{Command}
 use Rattle.rv_commands.specs.declared.command.Command.TheVariants.{Step, Go, SetBreak, ClearBreak, Registers, ControlRegister, Memory, Instruction, Traps, Edges, Quit, Nothing}
 use Rattle.rv_monitor.specs.Commands.{Leaves, LeavesRefused}
-use Rattle.rv_monitor.specs.TimedCalls.{going_for}
+use Rattle.rv_monitor.specs.Support.TimedCalls.{going_for}
 use Rattle.rv_monitor.specs.Events.{events_of}
 use Rattle.rv_monitor.specs.Laws.{IsReached}
-use Rattle.rv_monitor.specs.Resumed.{resumed, resumed_at}
+use Rattle.rv_monitor.specs.Support.Resumed.{resumed, resumed_at}
 use Rattle.rv_monitor.specs.State.{Addresses, SessionState, TimedState, begun, after, with_due, given, with_break, without_break}
 use Rattle.rv_monitor.specs.State as monitor
 use Rattle.rv_monitor.specs.Stops.{Took, WasRefused, TakesStep}
@@ -31,8 +31,8 @@ use Rattle.rv_monitor.proofs.Resumed.{resumed_back}
 use Rattle.rv_monitor.proofs.Reached.{begun_stands, stopped_stands, refused_stands, step_stands, due_is_reached}
 use Rattle.rv_monitor.specs.Opening.{Opens}
 use Rattle.rv_recording.specs.Recording.{RecordingState, gone_back}
-use Rattle.rv_recording.specs.Recorded.{IsRecorded}
-use Rattle.rv_recording.specs.Kept.{KeptBoard, AreKept, AreWithin}
+use Rattle.rv_recording.specs.Support.Recorded.{IsRecorded}
+use Rattle.rv_recording.specs.Support.Kept.{KeptBoard, AreKept, AreWithin}
 use Rattle.rv_recording.proofs.Keeping.{kept_with}
 
 le : (m n : ℕ) → m ≤ n → nat_le m n ≡ true

@@ -1,9 +1,5 @@
-pub mod Recording
-pub mod Until
-pub mod Refused
-pub mod Out
-pub mod Steps
-pub mod Recorded
-pub mod Kept
 pub mod Breaks
-pub mod Nearer
+pub mod Out
+pub mod Recording
+pub mod Support
+pub mod Until

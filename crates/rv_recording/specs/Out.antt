@@ -3,7 +3,7 @@
 -- the lab begins with one, that of the present function or handler, and `next` with none.
 use Rattle.std.specs.Prelude.{ℕ, zero, suc, ◌+◌, ◌-◌, ◌^◌, ◌==◌, ◌&&◌, min, if◌then◌else◌, Option, Some}
 use Rattle.std.specs.Option.{option_and_then}
-use Rattle.rv_isa.specs.Meaning.{means}
+use Rattle.rv_isa.specs.Support.Meaning.{means}
 use Rattle.rv_isa.specs.declared.kind.Kind.{Kind}
 use Rattle.rv_isa.specs.declared.kind.Kind.TheVariants.{Jal, Jalr, Mret}
 use Rattle.rv_hart.specs.declared.trap.Outcome.{Outcome}

@@ -1,7 +1,7 @@
 //! Breakpoints in the order of their addresses.
 ghost use Rattle.std.specs.Prelude.{◌≡◌, ◌<◌, ◌^◌, None, IfSome, fold};
 ghost use Rattle.rv_recording.specs.Breaks.{IsNext};
-ghost use Rattle.rv_recording.specs.Nearer.{nearer};
+ghost use Rattle.rv_recording.specs.Support.Nearer.{nearer};
 
 use crate::recording::Recording;
 

@@ -1,10 +1,10 @@
 //! The states that a recording keeps on the way, so that going back takes fewer steps again.
 ghost use Rattle.std.specs.Prelude.{◌≡◌, ◌<◌, ◌≤◌, [], List, true, false, length, IfSome};
-ghost use Rattle.rv_board.specs.State.{BoardState};
+ghost use Rattle.rv_board.specs.Support.State.{BoardState};
 ghost use Rattle.rv_lists.specs.declared.input.TimedInput.{TimedInput};
 ghost use Rattle.rv_monitor.specs.Laws.{IsReached};
 ghost use Rattle.rv_monitor.specs.State.{count_before};
-ghost use Rattle.rv_recording.specs.Kept.{IsKept, AreKept, AreWithin};
+ghost use Rattle.rv_recording.specs.Support.Kept.{IsKept, AreKept, AreWithin};
 
 use rv_board::Board;
 use rv_cache::{DecodeCache, NoCache};
@@ -28,8 +28,8 @@ pub(crate) struct KeptState {
 
 impl Model for KeptState {
     ghost use Rattle.std.specs.Coded.{codes};
-    ghost use Rattle.rv_plic.specs.Codes.{plic_code};
-    ghost use Rattle.rv_recording.specs.Kept.{KeptBoard};
+    ghost use Rattle.rv_plic.specs.Support.Codes.{plic_code};
+    ghost use Rattle.rv_recording.specs.Support.Kept.{KeptBoard};
 
     ghost Value = { KeptBoard };
 
@@ -72,8 +72,8 @@ impl Drop for KeptStates {
 impl Model for KeptStates {
     ghost use Rattle.std.specs.Prelude.{List};
     ghost use Rattle.std.specs.Coded.{codes};
-    ghost use Rattle.rv_plic.specs.Codes.{plic_code};
-    ghost use Rattle.rv_recording.specs.Kept.{KeptBoard};
+    ghost use Rattle.rv_plic.specs.Support.Codes.{plic_code};
+    ghost use Rattle.rv_recording.specs.Support.Kept.{KeptBoard};
 
     ghost Value = { List KeptBoard };
 

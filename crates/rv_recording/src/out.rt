@@ -1,15 +1,15 @@
 //! Runs out of calls.
 ghost use Rattle.std.specs.Prelude.{◌≡◌, ◌-◌, ◌==◌, IfOk, OnErr};
 ghost use Rattle.std.specs.Option.{option_and_then};
-ghost use Rattle.rv_isa.specs.Meaning.{means};
-ghost use Rattle.rv_board.specs.State.{pc_of};
+ghost use Rattle.rv_isa.specs.Support.Meaning.{means};
+ghost use Rattle.rv_board.specs.Support.State.{pc_of};
 ghost use Rattle.rv_hart.specs.declared.trap.Outcome.TheVariants.{Retired};
 ghost use Rattle.rv_monitor.specs.Stops.{steps_between};
 ghost use Rattle.rv_monitor.specs.Views.{word_at};
 ghost use Rattle.rv_recording.specs.Out.{open_after, open_at};
 ghost use Rattle.rv_recording.specs.Until.{HasRun};
-ghost use Rattle.rv_recording.specs.Refused.{IsRefusedIn};
-ghost use Rattle.rv_recording.specs.Steps.{StepsOut, after_call, end_after};
+ghost use Rattle.rv_recording.specs.Support.Refused.{IsRefusedIn};
+ghost use Rattle.rv_recording.specs.Support.Steps.{StepsOut, after_call, end_after};
 
 use crate::Recording;
 use crate::until::{End, end_after};

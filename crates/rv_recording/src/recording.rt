@@ -8,7 +8,7 @@ ghost use Rattle.rv_lists.specs.Timed.{never_falls, IsRead};
 ghost use Rattle.rv_monitor.specs.Commands.{Leaves, LeavesRefused, answer, command_in};
 ghost use Rattle.rv_monitor.specs.Events.{events_of};
 ghost use Rattle.rv_monitor.specs.Laws.{IsReached};
-ghost use Rattle.rv_monitor.specs.Room.{LacksRoom, NextWantsRoom};
+ghost use Rattle.rv_monitor.specs.Support.Room.{LacksRoom, NextWantsRoom};
 ghost use Rattle.rv_monitor.specs.State.{given, with_break, without_break};
 ghost use Rattle.rv_monitor.specs.Stops.{Took, WasRefused, stop_of, TakesStep};
 ghost use Rattle.rv_recording.specs.Recording.{first_board, gone_back, last_step, with_timed};
@@ -57,11 +57,11 @@ impl Model for Recording {
     ghost use Rattle.std.specs.Coded.{codes, coded_ℕ};
     ghost use Rattle.std.specs.FinSet as set;
     ghost use Rattle.std.specs.Ordering.{nat_cmp};
-    ghost use Rattle.rv_plic.specs.Codes.{plic_code};
+    ghost use Rattle.rv_plic.specs.Support.Codes.{plic_code};
     ghost use Rattle.rv_board.specs.Boot.{reset};
-    ghost use Rattle.rv_recording.specs.Kept.{AreKept};
+    ghost use Rattle.rv_recording.specs.Support.Kept.{AreKept};
     ghost use Rattle.rv_recording.specs.Recording.{RecordingState};
-    ghost use Rattle.rv_recording.specs.Recorded.{IsRecorded};
+    ghost use Rattle.rv_recording.specs.Support.Recorded.{IsRecorded};
 
     ghost Value = { RecordingState };
 

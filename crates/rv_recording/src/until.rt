@@ -2,8 +2,8 @@
 ghost use Rattle.std.specs.Prelude.{◌≡◌, IfOk, OnErr, if◌then◌else◌};
 ghost use Rattle.rv_isa.specs.Alu.{is_taken};
 ghost use Rattle.rv_recording.specs.Until.{HasRun, comes, holds, watched_value};
-ghost use Rattle.rv_recording.specs.Refused.{IsRefusedIn};
-ghost use Rattle.rv_recording.specs.Steps.{TakesOne, end_after, end_of_step};
+ghost use Rattle.rv_recording.specs.Support.Refused.{IsRefusedIn};
+ghost use Rattle.rv_recording.specs.Support.Steps.{TakesOne, end_after, end_of_step};
 
 use crate::Recording;
 use rv_base::NoMemory;

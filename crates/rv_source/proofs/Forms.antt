@@ -6,14 +6,14 @@ use Rattle.rv_tokens.specs.declared.token.Token.{Token}
 use Rattle.rv_tokens.specs.declared.token.Token.TheVariants.{Name, Colon}
 use Rattle.rv_tokens.specs.declared.fault.LineFault.{LineFault}
 use Rattle.rv_tokens.specs.declared.fault.LineFault.TheVariants.{Syntax}
-use Rattle.rv_tokens.specs.Cuts.{tokens}
+use Rattle.rv_tokens.specs.Support.Cuts.{tokens}
 use Rattle.rv_tokens.specs.Faults.{◌>>=◌, Gives}
 use Rattle.rv_tokens.specs.declared.token.Token.TheVariants as tok
 use Rattle.rv_source.specs.declared.operand.Form.{Form as Spelled}
 use Rattle.rv_source.specs.Operands.{form_with, form_of}
 use Rattle.rv_source.specs.declared.line.Label.{Label}
 use Rattle.rv_source.specs.declared.line.Body.{Body}
-use Rattle.rv_source.specs.Partial.{base_of, form_by_base, labels_of, body_of, form_by_parts}
+use Rattle.rv_source.specs.Support.Partial.{base_of, form_by_base, labels_of, body_of, form_by_parts}
 use Rattle.rv_source.specs.Reading.{label_of, form, line_form}
 
 abbrev Form : Type 0

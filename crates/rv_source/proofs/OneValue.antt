@@ -9,7 +9,7 @@ use Rattle.rv_source.specs.declared.expression.Atom.{Atom}
 use Rattle.rv_source.specs.declared.terms.Piece.{Piece}
 use Rattle.rv_source.specs.declared.terms.Piece.TheVariants as p
 use Rattle.rv_source.specs.Expressions.{IsSum, Alone, Signed, OneSign, TwoSigns, piece_of, term}
-use Rattle.rv_source.specs.Sums.{further, sum, expression, with_term}
+use Rattle.rv_source.specs.Support.Sums.{further, sum, expression, with_term}
 
 -- ---- a sum of the grammar is what `sum` reads
 

@@ -4,10 +4,10 @@ use Rattle.std.specs.Prelude.{Option, Result, Ok, Err}
 use Rattle.rv_tokens.specs.declared.fault.LineFault.{LineFault}
 use Rattle.rv_tokens.specs.declared.fault.LineFault.TheVariants.{OutOfMemory}
 use Rattle.rv_tokens.specs.Faults.{◌>>=◌}
-use Rattle.rv_tokens.specs.Partial.{Fails}
+use Rattle.rv_tokens.specs.Support.Partial.{Fails}
 use Rattle.rv_source.specs.declared.line.Label.{Label}
 use Rattle.rv_source.specs.declared.statement.Statement.{Statement}
-use Rattle.rv_source.specs.Partial.{LineForm}
+use Rattle.rv_source.specs.Support.Partial.{LineForm}
 use Rattle.rv_source.specs.Reading.{Parsed, parsed, line_form, statement_of}
 
 abbrev pub with_labels : List Label → Result (Option Statement) LineFault → Result Parsed LineFault

@@ -11,7 +11,7 @@ use Rattle.rv_tokens.specs.declared.token.Token.{Token}
 use Rattle.rv_source.specs.declared.operand.Form.{Form}
 use Rattle.rv_source.specs.declared.operand.Operand.{Operand}
 use Rattle.rv_source.specs.Operands.{form_of, is_comma, operands}
-use Rattle.rv_source.specs.Partial.{pieces, pieces_after}
+use Rattle.rv_source.specs.Support.Partial.{pieces, pieces_after}
 
 -- the number of tokens before the first comma
 abbrev pub until_comma : List Token → ℕ

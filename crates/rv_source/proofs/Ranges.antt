@@ -1,7 +1,7 @@
 -- The instructions of rows are in range.
 use Rattle.std.proofs.Common.{◌+◌, ◌*◌, ◌%◌, ◌^◌, ◌<◌, arith, rules}
 use Rattle.rv_isa.specs.Fields.{kind_of}
-use Rattle.rv_isa.specs.Mnemonics.{zeroed, with_fields}
+use Rattle.rv_isa.specs.Support.Mnemonics.{zeroed, with_fields}
 use Rattle.rv_isa.specs.Number.{IsWithin}
 use Rattle.rv_isa.specs.Word.{IsInRange}
 use Rattle.rv_isa.specs.declared.op.Operation.{Operation}

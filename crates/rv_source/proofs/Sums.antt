@@ -5,7 +5,7 @@ use Rattle.std.specs.Bool.{beq}
 use Rattle.std.specs.Option.{option_map}
 use Rattle.rv_source.specs.declared.expression.Term.{Term}
 use Rattle.rv_source.specs.declared.expression.Atom.{Atom}
-use Rattle.rv_source.specs.Sums.{with_term}
+use Rattle.rv_source.specs.Support.Sums.{with_term}
 
 -- terms after some others and one more
 pub further_more : (us : List Term) (s : Bool) (x : Atom) (r : Option (List Term))

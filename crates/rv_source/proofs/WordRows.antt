@@ -12,7 +12,7 @@ use Rattle.rv_isa.specs.declared.kind.Kind.{Kind}
 use Rattle.rv_isa.specs.declared.kind.Kind.TheVariants.{Lui}
 use Rattle.rv_tokens.specs.declared.fault.LineFault.TheVariants.{UnknownWord, BadOperands}
 use Rattle.rv_source.specs.declared.operand.Operand.{Operand}
-use Rattle.rv_source.specs.Partial.{first_fit, fitted_or, has_dot, is_marker, of_word, words}
+use Rattle.rv_source.specs.Support.Partial.{first_fit, fitted_or, has_dot, is_marker, of_word, words}
 use Rattle.rv_source.proofs.Sets.{both_parts}
 use Rattle.rv_source.specs.Table.{Row, directives, of_kind, markers, pseudo_instructions}
 

@@ -6,7 +6,7 @@ use Rattle.std.specs.Option.{option_map}
 use Rattle.rv_base.specs.Tables.{lookup}
 use Rattle.rv_isa.specs.Names.{register_names, csr_names}
 use Rattle.rv_isa.specs.Fields.{kind_of}
-use Rattle.rv_isa.specs.Mnemonics.{zeroed, with_fields}
+use Rattle.rv_isa.specs.Support.Mnemonics.{zeroed, with_fields}
 use Rattle.rv_isa.specs.declared.op.Operation.{Operation}
 use Rattle.rv_isa.specs.declared.kind.Kind.{Kind}
 use Rattle.rv_isa.specs.declared.kind.Kind.TheVariants as k

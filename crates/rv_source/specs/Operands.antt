@@ -13,7 +13,7 @@ use Rattle.rv_source.specs.declared.operand.Part.TheVariants.{Whole, High, Low}
 use Rattle.rv_source.specs.declared.operand.Form.{Form}
 use Rattle.rv_source.specs.declared.operand.Form.TheVariants as f
 use Rattle.rv_source.specs.declared.operand.Operand.{Operand}
-use Rattle.rv_source.specs.Sums.{expression}
+use Rattle.rv_source.specs.Support.Sums.{expression}
 
 abbrev pub is_comma : Token → Bool
 is_comma t.Comma = true

@@ -10,7 +10,7 @@ use Rattle.rv_tokens.specs.declared.fault.LineFault.TheVariants.{Syntax}
 use Rattle.rv_tokens.specs.declared.token.Token.{Token}
 use Rattle.rv_tokens.specs.declared.token.Token.TheVariants.{Name, Digits, Colon}
 use Rattle.rv_tokens.specs.Faults.{◌>>=◌}
-use Rattle.rv_tokens.specs.Cuts.{tokens}
+use Rattle.rv_tokens.specs.Support.Cuts.{tokens}
 use Rattle.rv_source.specs.declared.line.Label.{Label}
 use Rattle.rv_source.specs.declared.line.Label.TheVariants as label
 use Rattle.rv_source.specs.declared.line.Body.{Body}

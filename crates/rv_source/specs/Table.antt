@@ -5,7 +5,7 @@ use Rattle.std.specs.Prelude.{ℕ, true, false, ◌&&◌, List, map, slice_get, 
 use Rattle.std.specs.List.{filter_map, list_all}
 use Rattle.std.specs.Option.{option_map, option_map_or, ok_or}
 use Rattle.std.specs.Str.{bytes_eq}
-use Rattle.rv_isa.specs.Mnemonics.{named, zeroed}
+use Rattle.rv_isa.specs.Support.Mnemonics.{named, zeroed}
 use Rattle.rv_isa.specs.declared.op.Operation.{Operation}
 use Rattle.rv_isa.specs.declared.op.Operation.TheVariants as o
 use Rattle.rv_isa.specs.declared.kind.Kind.{Kind}

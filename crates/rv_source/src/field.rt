@@ -5,7 +5,7 @@ ghost use Rattle.std.specs.Option.{option_map};
 ghost use Rattle.rv_isa.specs.Number.{IsWithin};
 ghost use Rattle.rv_isa.specs.Names.{csr_names, register_names};
 ghost use Rattle.rv_source.specs.Fields.{atom_alone, base, csr_of, entry_in, fence_sets, immediate, in_roles, instruction, put, takes};
-ghost use Rattle.rv_source.specs.Partial.{given, name_alone};
+ghost use Rattle.rv_source.specs.Support.Partial.{given, name_alone};
 ghost use Rattle.rv_base.specs.Tables.{lookup};
 
 use crate::row::{Given, Role};

@@ -3,7 +3,7 @@ ghost use Rattle.std.specs.Prelude.{◌≡◌, ◌<◌, ◌≤◌, ◌+◌, ◌+
 ghost use Rattle.std.specs.Option.{option_map};
 ghost use Rattle.std.specs.List.{position};
 ghost use Rattle.rv_source.specs.Operands.{enclosed, form_of, form_with, is_comma, operands, operands_of, valued};
-ghost use Rattle.rv_source.specs.Partial.{base_of, pieces, pieces_after};
+ghost use Rattle.rv_source.specs.Support.Partial.{base_of, pieces, pieces_after};
 
 use crate::terms::read_expression;
 use crate::{Atom, Expression, Term};
@@ -85,7 +85,7 @@ fn read_part<'a>(
 }
 
 /// Returns 0 with a base, if there is one.
-#[tactic(auto, unfolding(crate::specs::Sums::expression, crate::specs::Sums::sum))]
+#[tactic(auto, unfolding(crate::specs::Support::Sums::expression, crate::specs::Support::Sums::sum))]
 fn zero_with<'a>(alloc: Global, base: Option<Name<'a>>) -> Option<Form<'a>>
     ensures { result ≡ form_with base.entry [] }
 {

@@ -1,7 +1,7 @@
 //! Where in a line the fault is that it has in phase one.
 ghost use Rattle.std.specs.Prelude.{◌≡◌, ◌+◌, ◌≤◌, length, slice_get, IfOk};
 ghost use Rattle.std.specs.Option.{unwrap_or};
-ghost use Rattle.rv_tokens.specs.Cuts.{places};
+ghost use Rattle.rv_tokens.specs.Support.Cuts.{places};
 
 use crate::misplaced::misplaced;
 use crate::shape::wrong_operand;

@@ -2,8 +2,8 @@
 ghost use Rattle.std.specs.Prelude.{◌≡◌, ◌≤◌, length, IfOk, IfSome};
 ghost use Rattle.rv_tokens.specs.Faults.{Gives};
 ghost use Rattle.rv_tokens.specs.Parts.{IsCutInto};
-ghost use Rattle.rv_tokens.specs.Cuts.{tokens};
-ghost use Rattle.rv_source.specs.Partial.{body_of, labels_of, left_after, with_labels};
+ghost use Rattle.rv_tokens.specs.Support.Cuts.{tokens};
+ghost use Rattle.rv_source.specs.Support.Partial.{body_of, labels_of, left_after, with_labels};
 ghost use Rattle.rv_source.specs.Reading.{label_of, line_form, parsed};
 
 use crate::line::{Body, Operands};
@@ -27,7 +27,7 @@ pub fn label_of<'a>(token: &Token<'a>) -> Option<Label<'a>>
 
 /// Reads labels, appends them, and returns the tokens after them; `None` if a token before a colon isn't a
 /// label.
-#[tactic(auto, unfolding(crate::specs::Partial::labels_of))]
+#[tactic(auto, unfolding(crate::specs::Support::Partial::labels_of))]
 fn read_labels<'t, 'a>(
     out: &mut Vec<Label<'a>>,
     line: &'t [Token<'a>],
@@ -78,7 +78,7 @@ fn read_body<'a>(
 ///
 /// `LineTooLong`, `BadByte` or `Syntax` if the line can't be cut into tokens; else `Syntax` if they aren't
 /// labels and a statement. `OutOfMemory` may come in place of any result.
-#[tactic(auto, unfolding(crate::specs::Partial::form_by_parts), using(crate::proofs::Forms::as_line_form))]
+#[tactic(auto, unfolding(crate::specs::Support::Partial::form_by_parts), using(crate::proofs::Forms::as_line_form))]
 pub fn read_line_form<'a>(alloc: Global, text: &'a [u8]) -> Result<LineForm<'a>, LineFault>
     ensures cut { IsCutInto text.now (tokens text.now) }
     ensures form { Gives (λ l. l) result (line_form text.now) }

@@ -1,6 +1,6 @@
 //! The rows of the language's tables: what a word takes, and what it stands for.
 ghost use Rattle.std.specs.Prelude.{◌≡◌};
-ghost use Rattle.rv_source.specs.Partial.{row_by, row_of};
+ghost use Rattle.rv_source.specs.Support.Partial.{row_by, row_of};
 ghost use Rattle.rv_source.specs.Table.{filled, meant};
 
 use crate::field::{Fields, given, in_roles, instruction, name_alone, takes_all};

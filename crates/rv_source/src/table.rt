@@ -2,9 +2,9 @@
 ghost use Rattle.std.specs.Prelude.{◌≡◌, map};
 ghost use Rattle.std.specs.List.{list_any};
 ghost use Rattle.std.specs.Str.{bytes_eq};
-ghost use Rattle.rv_isa.specs.Mnemonics.{zeroed};
+ghost use Rattle.rv_isa.specs.Support.Mnemonics.{zeroed};
 ghost use Rattle.rv_tokens.specs.declared.fault.LineFault.TheVariants.{UnknownWord};
-ghost use Rattle.rv_source.specs.Partial.{first_fit, fitted_or, has_dot, is_marker, of_word, row_by, rows, words};
+ghost use Rattle.rv_source.specs.Support.Partial.{first_fit, fitted_or, has_dot, is_marker, of_word, row_by, rows, words};
 ghost use Rattle.rv_source.specs.Table.{meaning, of_kind};
 
 use crate::row::Role::{After, Before, Both, Csr, Imm, Memory, Rd, Rs1, Rs2, Upper, Value};

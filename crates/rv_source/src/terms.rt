@@ -2,10 +2,10 @@
 ghost use Rattle.std.specs.Prelude.{◌≡◌, ◌↔◌, List, ◌<◌, ◌≤◌, ◌+◌, ◌++◌, ◌∷◌, Bool, false, Some, None, IfOk, IfSome, length, map, option_and_then, if◌then◌else◌};
 ghost use Rattle.std.specs.Option.{option_map};
 ghost use Rattle.rv_source.specs.Expressions.{IsSum, piece_of};
-ghost use Rattle.rv_source.specs.Partial.{is_symbol};
+ghost use Rattle.rv_source.specs.Support.Partial.{is_symbol};
 ghost use Rattle.rv_source.specs.declared.expression.Term.{Term};
 ghost use Rattle.rv_tokens.specs.declared.token.Token.{Token};
-ghost use Rattle.rv_source.specs.Sums.{expression, followed, further, sum};
+ghost use Rattle.rv_source.specs.Support.Sums.{expression, followed, further, sum};
 ghost use Rattle.rv_source.specs.declared.terms.Piece.TheVariants.{Sign};
 
 use crate::{Atom, Expression, Term};
@@ -50,7 +50,7 @@ fn piece_of<'a>(token: &Token<'a>) -> Piece<'a>
 }
 
 /// Reads a term with a sign before it or none, and returns it with the tokens after it.
-#[tactic(auto, using(crate::proofs::Sums::unsigned), unfolding(crate::specs::Sums::further, crate::specs::Sums::sum))]
+#[tactic(auto, using(crate::proofs::Sums::unsigned), unfolding(crate::specs::Support::Sums::further, crate::specs::Support::Sums::sum))]
 fn read_term<'t, 'a>(tokens: &'t [Token<'a>]) -> Option<(Term<'a>, &'t [Token<'a>])>
     ensures first { option_and_then (λ r. followed false r.0 r.1.now) result ≡ sum (map piece_of tokens.now) }
     ensures later { (s : Bool) → option_and_then (λ r. followed s r.0 r.1.now) result ≡ further (Sign s ∷ map piece_of tokens.now) }
@@ -71,7 +71,7 @@ fn read_term<'t, 'a>(tokens: &'t [Token<'a>]) -> Option<(Term<'a>, &'t [Token<'a
 
 /// Reads the terms after the first, each with a sign or two before it, and appends them; false if the tokens
 /// aren't that.
-#[tactic(auto, using(crate::proofs::Sums::further_more), unfolding(crate::specs::Sums::further))]
+#[tactic(auto, using(crate::proofs::Sums::further_more), unfolding(crate::specs::Support::Sums::further))]
 fn read_further<'a>(out: &mut Vec<Term<'a>>, tokens: &[Token<'a>]) -> Result<bool, AllocError>
     ensures reads { IfOk result (λ ok. option_map (λ ts. out.old.items ++ ts) (further (map piece_of tokens.now)) ≡ (if ok then Some out.new.items else None)) }
     ensures short { IfOk result (λ _. length out.new.items ≤ length out.old.items + length tokens.now) }
@@ -92,7 +92,7 @@ fn read_further<'a>(out: &mut Vec<Term<'a>>, tokens: &[Token<'a>]) -> Result<boo
 }
 
 /// Reads the tokens as a whole as an expression.
-#[tactic(auto, unfolding(crate::specs::Sums::expression))]
+#[tactic(auto, unfolding(crate::specs::Support::Sums::expression))]
 pub fn read_expression<'a>(
     alloc: Global,
     tokens: &[Token<'a>],

@@ -2,7 +2,7 @@
 use Rattle.std.proofs.Common.{◌≡◌, ◌⊎◌, inl, inr, ℕ, Bool, true, false, List, [], length, Option, Some, None, Err, arith}
 use Rattle.std.specs.Prelude.{IfSome, IsSomeAnd}
 use Rattle.std.proofs.KnownBytes.{Consumes-nil}
-use Rattle.rv_texts.specs.Calls.{FailsToRead, Readers}
+use Rattle.rv_texts.specs.Support.Calls.{FailsToRead, Readers}
 use Rattle.rv_texts.specs.Readers.{Reads}
 use Rattle.rv_texts.specs.Texts.{Gave, IsSound, Side, side_if}
 use Rattle.rv_texts.specs.declared.fault.ReadFault.{ReadFault}

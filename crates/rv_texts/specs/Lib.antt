@@ -1,5 +1,3 @@
-pub mod Calls
-pub mod Memory
 pub mod Readers
+pub mod Support
 pub mod Texts
-pub mod Within

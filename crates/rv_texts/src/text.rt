@@ -1,9 +1,9 @@
 //! Reading a text and writing one, some bytes a call.
 ghost use Rattle.std.specs.Prelude.{◌≡◌, ◌≤◌, ◌<◌, ◌==◌, ◌&&◌, ◌||◌, ℕ, Bool, List, Option, IfErr, IfOk, OnErr, OnOk, false, length, nat_lt, take, true};
 ghost use Rattle.std.specs.Io.KnownBytes.{ReadConsumes, WriteAppends};
-ghost use Rattle.rv_texts.specs.Calls.{FailsToRead, WroteNone, WroteUpTo};
+ghost use Rattle.rv_texts.specs.Support.Calls.{FailsToRead, WroteNone, WroteUpTo};
 ghost use Rattle.rv_texts.specs.Texts.{Gave, Wrote, side};
-ghost use Rattle.rv_texts.specs.Within.{IsWithin};
+ghost use Rattle.rv_texts.specs.Support.Within.{IsWithin};
 
 use crate::fault::{ReadFault, TextName};
 use rv_base::TEXT_LIMIT;

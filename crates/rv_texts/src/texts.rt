@@ -1,10 +1,10 @@
 //! The texts of a run, read from their readers.
 ghost use Rattle.std.specs.Prelude.{◌≡◌, ◌⊎◌, IfErr, IfOk, IfSome, IsSomeAnd, false, is_some, true};
 ghost use Rattle.std.specs.Option.{option_map};
-ghost use Rattle.rv_texts.specs.Calls.{GaveIf};
+ghost use Rattle.rv_texts.specs.Support.Calls.{GaveIf};
 ghost use Rattle.rv_texts.specs.Readers.{Reads};
 ghost use Rattle.rv_texts.specs.Texts.{IsSound, side, side_if};
-ghost use Rattle.rv_texts.specs.Within.{AreWithin, IsWithin};
+ghost use Rattle.rv_texts.specs.Support.Within.{AreWithin, IsWithin};
 ghost use Rattle.rv_texts.specs.declared.fault.ReadFault.TheVariants.{OutOfMemory, Unreadable};
 ghost use Rattle.rv_texts.specs.declared.fault.TextName.TheVariants.{Commands, Input, Source};
 

@@ -4,11 +4,11 @@ use Rattle.std.specs.Prelude.{◌==◌, None, Some, Result, Ok, Err}
 use Rattle.rv_tokens.specs.declared.token.Token.{Token}
 use Rattle.rv_tokens.specs.declared.fault.LineFault.{LineFault}
 use Rattle.rv_tokens.specs.declared.fault.LineFault.TheVariants.{BadByte, LineTooLong, Syntax, UnknownWord, BadOperands, OutOfMemory}
-use Rattle.rv_tokens.specs.Partial.{Fails}
+use Rattle.rv_tokens.specs.Support.Partial.{Fails}
 use Rattle.rv_base.specs.Words.{is_blank}
-use Rattle.rv_tokens.specs.Cuts.{front}
+use Rattle.rv_tokens.specs.Support.Cuts.{front}
 use Rattle.rv_tokens.specs.Tokens.{is_comment, fault_at}
-use Rattle.rv_tokens.specs.Partial.{tokens_after, with_tokens}
+use Rattle.rv_tokens.specs.Support.Partial.{tokens_after, with_tokens}
 
 pub cut_drop : (line : List ℕ) (n : ℕ) → tokens_after line n ≡ tokens_after (drop n line) 0
 unfolding tokens_after

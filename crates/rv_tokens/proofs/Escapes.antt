@@ -14,7 +14,7 @@ use Rattle.rv_tokens.specs.declared.token.Token.{Token}
 use Rattle.rv_tokens.specs.declared.token.Token.TheVariants.{Local}
 use Rattle.rv_tokens.specs.Literals.{letters, escape, spelled}
 use Rattle.rv_tokens.specs.Tokens.{local}
-use Rattle.rv_tokens.specs.Partial.{escape_by, spelled_by, local_by}
+use Rattle.rv_tokens.specs.Support.Partial.{escape_by, spelled_by, local_by}
 use Rattle.rv_tokens.proofs.Signs.{same_byte}
 
 -- ---- escapes

@@ -16,9 +16,9 @@ use Rattle.std.proofs.Math.Bool.{and-false}
 use Rattle.rv_tokens.specs.declared.token.Token.{Token}
 use Rattle.rv_tokens.specs.declared.token.Token.TheVariants.{Character, High, Low}
 use Rattle.rv_tokens.specs.Literals.{longest}
-use Rattle.rv_tokens.specs.Cuts.{front}
+use Rattle.rv_tokens.specs.Support.Cuts.{front}
 use Rattle.rv_tokens.specs.Tokens.{is_name_byte, word, token_of, token_in}
-use Rattle.rv_tokens.specs.Partial.{begins_with_name_byte, may_precede, sign, half, character}
+use Rattle.rv_tokens.specs.Support.Partial.{begins_with_name_byte, may_precede, sign, half, character}
 use Rattle.rv_tokens.proofs.Signs.{token_is}
 use Rattle.rv_tokens.proofs.Spellings.{spelled_long}
 use Rattle.rv_tokens.proofs.Longest.{longest_above, longest_none, longest_at}

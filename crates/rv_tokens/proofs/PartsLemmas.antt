@@ -10,9 +10,9 @@ use Rattle.rv_tokens.specs.declared.fault.LineFault.{LineFault}
 use Rattle.rv_tokens.specs.declared.fault.LineFault.TheVariants.{LineTooLong}
 use Rattle.rv_base.specs.Words.{is_blank}
 use Rattle.rv_tokens.specs.Faults.{◌>>=◌}
-use Rattle.rv_tokens.specs.Cuts.{front, tokens}
+use Rattle.rv_tokens.specs.Support.Cuts.{front, tokens}
 use Rattle.rv_tokens.specs.Tokens.{token_of, token_in, is_comment}
-use Rattle.rv_tokens.specs.Partial.{with_tokens, tokens_after}
+use Rattle.rv_tokens.specs.Support.Partial.{with_tokens, tokens_after}
 use Rattle.rv_tokens.specs.Parts.{IsCut, Ended, Comment, Blank, Longest, Nothing, IsCutInto}
 use Rattle.rv_tokens.proofs.Front.{none_in}
 use Rattle.rv_tokens.proofs.Longest.{longest_is, longest_found, longest_none, longest_missing}

@@ -8,8 +8,8 @@ use Rattle.rv_base.specs.Words.{is_blank}
 use Rattle.rv_tokens.specs.declared.place.Place.{Place}
 use Rattle.rv_tokens.specs.declared.fault.LineFault.{LineFault}
 use Rattle.rv_tokens.specs.declared.token.Token.{Token}
-use Rattle.rv_tokens.specs.Partial.{tokens_after, places_after}
-use Rattle.rv_tokens.specs.Cuts.{front, starts, places}
+use Rattle.rv_tokens.specs.Support.Partial.{tokens_after, places_after}
+use Rattle.rv_tokens.specs.Support.Cuts.{front, starts, places}
 use Rattle.rv_tokens.specs.Tokens.{is_comment, fault_at}
 
 places_drop : (total : ℕ) (line : List ℕ) (n : ℕ) → places_after total line n ≡ places_after total (drop n line) 0

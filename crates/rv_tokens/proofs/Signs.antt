@@ -15,7 +15,7 @@ use Rattle.rv_tokens.specs.declared.token.Token.TheVariants.{Character, Text}
 use Rattle.rv_base.specs.Numbers.{number_in}
 use Rattle.rv_tokens.specs.Literals.{letters, has_leading_zero, number, short_decimal, between}
 use Rattle.rv_tokens.specs.Tokens.{is_name_byte, local, word, signs, token_of}
-use Rattle.rv_tokens.specs.Partial.{has_prefix, letter_escape, sign, half, character, string}
+use Rattle.rv_tokens.specs.Support.Partial.{has_prefix, letter_escape, sign, half, character, string}
 
 same_by : (a b : ℕ) (s t : Bool) → (a == b) ≡ s → (b == a) ≡ t → (s && true) ≡ t
 same_by a b true true e f = refl

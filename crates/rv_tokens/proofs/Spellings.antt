@@ -5,7 +5,7 @@ use Rattle.std.specs.Prelude.{Option, None, Some}
 use Rattle.std.specs.Bool.{◌==◌}
 use Rattle.std.specs.Option.{option_map}
 use Rattle.rv_tokens.specs.Literals.{longest, escape, spelled, bytes_after}
-use Rattle.rv_tokens.specs.Partial.{escape_by, spelled_by, first_byte, string_bytes}
+use Rattle.rv_tokens.specs.Support.Partial.{escape_by, spelled_by, first_byte, string_bytes}
 use Rattle.rv_tokens.proofs.Escapes.{escape_is, spelled_is}
 use Rattle.rv_tokens.proofs.Longest.{longest_above, longest_found}
 

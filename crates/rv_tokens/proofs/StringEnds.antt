@@ -13,9 +13,9 @@ use Rattle.rv_tokens.specs.declared.token.Token.{Token}
 use Rattle.rv_tokens.specs.declared.token.Token.TheVariants.{Text}
 use Rattle.rv_base.specs.Numbers.{digit_value, hex_digit, number_in}
 use Rattle.rv_tokens.specs.Literals.{longest, escape, spelled, between, bytes_after}
-use Rattle.rv_tokens.specs.Cuts.{front}
+use Rattle.rv_tokens.specs.Support.Cuts.{front}
 use Rattle.rv_tokens.specs.Tokens.{token_of, token_in}
-use Rattle.rv_tokens.specs.Partial.{may_precede, first_byte, string_bytes, string, escape_by, spelled_by}
+use Rattle.rv_tokens.specs.Support.Partial.{may_precede, first_byte, string_bytes, string, escape_by, spelled_by}
 use Rattle.rv_tokens.proofs.Signs.{token_is}
 use Rattle.rv_tokens.proofs.Escapes.{escape_is, spelled_is}
 use Rattle.rv_tokens.proofs.Front.{kept_in, no_name_last, token_in_is}

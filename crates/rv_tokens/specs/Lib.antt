@@ -1,6 +1,5 @@
-pub mod Cuts
 pub mod Faults
 pub mod Literals
-pub mod Tokens
 pub mod Parts
-pub mod Partial
+pub mod Support
+pub mod Tokens

@@ -3,7 +3,7 @@ ghost use Rattle.std.specs.Prelude.{◌≡◌, ◌<◌, ◌≤◌, IfSome, lengt
 ghost use Rattle.rv_base.specs.Numbers.{number_in};
 ghost use Rattle.std.specs.Option.{option_map};
 ghost use Rattle.rv_tokens.specs.Literals.{has_leading_zero, number, short_decimal, escape, spelled, between};
-ghost use Rattle.rv_tokens.specs.Partial.{character, first_byte, has_prefix, is_plain, letter_escape};
+ghost use Rattle.rv_tokens.specs.Support.Partial.{character, first_byte, has_prefix, is_plain, letter_escape};
 
 use rv_base::number_in;
 
@@ -85,7 +85,7 @@ fn byte_in(base: u64, digits: &[u8]) -> Option<u8>
 }
 
 /// Reads an escape without its `\`: a letter, `x` and two hexadecimal digits, or one to three octal digits.
-#[tactic(auto, unfolding(crate::specs::Partial::escape_by), using(crate::proofs::Signs::letter_is, crate::proofs::Escapes::as_escape))]
+#[tactic(auto, unfolding(crate::specs::Support::Partial::escape_by), using(crate::proofs::Signs::letter_is, crate::proofs::Escapes::as_escape))]
 fn escape(text: &[u8]) -> Option<u8>
     ensures { result ≡ escape text.now }
 {
@@ -107,7 +107,7 @@ fn is_plain(quote: u8, b: u8) -> bool
 }
 
 /// Reads the text of a byte between two quotes: the byte itself, or an escape.
-#[tactic(auto, using(crate::proofs::Escapes::as_spelled, crate::proofs::Escapes::backslash), unfolding(crate::specs::Partial::spelled_by))]
+#[tactic(auto, using(crate::proofs::Escapes::as_spelled, crate::proofs::Escapes::backslash), unfolding(crate::specs::Support::Partial::spelled_by))]
 fn byte_between(quote: u8, text: &[u8]) -> Option<u8>
     ensures { result ≡ spelled quote text.now }
 {
@@ -129,7 +129,7 @@ pub fn between(left: u8, right: u8, text: &[u8]) -> Option<&[u8]>
 }
 
 /// Reads a character with its quotes, as the byte that it stands for.
-#[tactic(auto, unfolding(crate::specs::Partial::character))]
+#[tactic(auto, unfolding(crate::specs::Support::Partial::character))]
 pub fn character(text: &[u8]) -> Option<u8>
     ensures { result ≡ character text.now }
 {

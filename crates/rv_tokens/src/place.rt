@@ -1,7 +1,7 @@
 //! Where the tokens of a line stand.
 ghost use Rattle.std.specs.Prelude.{◌≡◌, ◌+◌, ◌≤◌, ◌<◌, length, slice_get, IfSome};
-ghost use Rattle.rv_tokens.specs.Cuts.{places};
-ghost use Rattle.rv_tokens.specs.Partial.{places_after};
+ghost use Rattle.rv_tokens.specs.Support.Cuts.{places};
+ghost use Rattle.rv_tokens.specs.Support.Partial.{places_after};
 
 use crate::scan::{front, is_comment};
 use rv_base::is_blank;
@@ -16,7 +16,7 @@ pub struct Place {
 }
 
 /// Returns the place of the token with an index in the rest of a line that has `total` bytes.
-#[tactic(auto, unfolding(crate::specs::Partial::places_after))]
+#[tactic(auto, unfolding(crate::specs::Support::Partial::places_after))]
 fn place_in(total: usize, rest: &[u8], index: usize) -> Option<Place>
     requires { length rest.now ≤ total }
     ensures value { result ≡ slice_get (places_after total rest.now 0) index }

@@ -5,8 +5,8 @@ ghost use Rattle.rv_tokens.specs.Faults.{Gives};
 ghost use Rattle.rv_tokens.specs.Parts.{IsCutInto};
 ghost use Rattle.rv_tokens.specs.declared.fault.LineFault.{LineFault};
 ghost use Rattle.rv_tokens.specs.declared.token.Token.{Token};
-ghost use Rattle.rv_tokens.specs.Partial.{begins_with_name_byte, sign, half, tokens_after};
-ghost use Rattle.rv_tokens.specs.Cuts.{front, tokens};
+ghost use Rattle.rv_tokens.specs.Support.Partial.{begins_with_name_byte, sign, half, tokens_after};
+ghost use Rattle.rv_tokens.specs.Support.Cuts.{front, tokens};
 ghost use Rattle.rv_tokens.specs.Tokens.{is_name_start, is_name_byte, local, word, is_comment, fault_at};
 
 use crate::literal::{character, first_byte, number, short_decimal};
@@ -30,7 +30,7 @@ fn is_name_byte(b: u8) -> bool
 }
 
 /// Reads a reference to a local label: one to four digits, and `b` or `f`.
-#[tactic(auto, unfolding(crate::specs::Partial::local_by), using(crate::proofs::Escapes::as_local))]
+#[tactic(auto, unfolding(crate::specs::Support::Partial::local_by), using(crate::proofs::Escapes::as_local))]
 fn local_reference<'a>(text: &[u8]) -> Option<Token<'a>>
     requires { 0 < length text.now }
     ensures { result ≡ local text.now }

@@ -34,7 +34,7 @@ impl<'a> Model for Text<'a> {
 
 impl<'a> Text<'a> {
     ghost use Rattle.std.specs.Prelude.{◌≡◌, ◌++◌, length, IsTrue, is_some, Some, OnOk};
-    ghost use Rattle.rv_tokens.specs.Partial.{string_bytes};
+    ghost use Rattle.rv_tokens.specs.Support.Partial.{string_bytes};
 
     /// Makes a string of the text between its quotes.
     pub(crate) fn new(spelling: &'a [u8]) -> Self

@@ -21,8 +21,8 @@ use Rattle.clap.specs.declared.builder.command.Command.{Command}
 use Rattle.clap.specs.declared.parser.matches.ArgMatches.{ArgMatches}
 use Rattle.clap.proofs.SimpleLemmas.{plain_fields}
 use Rattle.rv_words.specs.Board.{board_app, source_rule}
-use Rattle.rv_words.specs.Chain.{number_rule, pages_rule, slots_rule, steps_rule}
-use Rattle.rv_words.specs.Parse.{HasNumber, IsBoardParse}
+use Rattle.rv_words.specs.Support.Chain.{number_rule, pages_rule, slots_rule, steps_rule}
+use Rattle.rv_words.specs.Support.Parse.{HasNumber, IsBoardParse}
 use Rattle.rv_words.proofs.Defaults.{HasDefaultAt, IsParseOf, are_simple_free, has_value, only_at, reads}
 
 -- clap's meaning says the matches of the command

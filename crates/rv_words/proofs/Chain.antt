@@ -4,7 +4,7 @@ use Rattle.std.proofs.lemmas.List.Elements.{All-head, All-tail}
 use Rattle.clap.specs.Words.{AddsArg, AddsInTurn, App, Rule, app_of, rule_of, with_rule}
 use Rattle.clap.specs.declared.builder.arg.Arg.{Arg}
 use Rattle.clap.specs.declared.builder.command.Command.{Command}
-use Rattle.rv_words.specs.Chain.{IsLocal}
+use Rattle.rv_words.specs.Support.Chain.{IsLocal}
 
 -- an application with each of the rules added
 abbrev pub with_rules : App → List Rule → App

@@ -1,6 +1,6 @@
 //! The options that the programs share.
 ghost use Rattle.rv_words.specs.Board.{file_rule};
-ghost use Rattle.rv_words.specs.Chain.{HasRule, input_rule, pages_rule, parsed_rule, slots_rule};
+ghost use Rattle.rv_words.specs.Support.Chain.{HasRule, input_rule, pages_rule, parsed_rule, slots_rule};
 
 use clap::builder::ValueParser;
 use clap::{Arg, ArgAction, value_parser};

@@ -6,8 +6,8 @@ ghost use Rattle.std.specs.Prelude.{◌≡◌, All, codes, IfErr, IfOk, false, m
 ghost use Rattle.clap.specs.Words.{FailsBy, app_of, fault_of, kind_of, matches_of, rule_of, takes};
 ghost use Rattle.clap.specs.Walk.{texts};
 ghost use Rattle.rv_words.specs.Board.{board_app, source_rule};
-ghost use Rattle.rv_words.specs.Chain.{HasRule, IsLocal, board_rules};
-ghost use Rattle.rv_words.specs.Parse.{IsBoardParse};
+ghost use Rattle.rv_words.specs.Support.Chain.{HasRule, IsLocal, board_rules};
+ghost use Rattle.rv_words.specs.Support.Parse.{IsBoardParse};
 ghost use Rattle.rv_words.specs.Read.{IsReadFrom};
 
 mod args;

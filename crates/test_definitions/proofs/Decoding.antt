@@ -9,7 +9,7 @@ use Rattle.rv_isa.specs.Fields.{kind_of}
 use Rattle.rv_isa.specs.Word.{encoded, HasImmediate, AreInRange, Means}
 use Rattle.rv_isa.specs.declared.kind.Kind.{Kind}
 use Rattle.rv_isa.specs.declared.fields.Fields.{Fields}
-use Rattle.test_definitions.specs.Runs.{Row, fields}
+use Rattle.test_definitions.specs.Support.Runs.{Row, fields}
 
 -- ---- fields in range, as a test
 abbrev is_within : ℕ → ℤ → Bool

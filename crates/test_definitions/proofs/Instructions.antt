@@ -6,7 +6,7 @@ use Rattle.std.specs.Fmt.{digits}
 use Rattle.rv_isa.specs.Alu.{alu_value, is_taken}
 use Rattle.rv_isa.specs.Fields.{kind_of}
 use Rattle.rv_isa.specs.Table.{mnemonic}
-use Rattle.test_definitions.specs.Instructions.{is_value, is_condition, is_word}
+use Rattle.test_definitions.specs.Support.Instructions.{is_value, is_condition, is_word}
 use Rattle.test_definitions.specs.declared.values.TheConstants.{VALUES, BRANCHES}
 use Rattle.test_definitions.specs.declared.words.TheConstants.{WORDS}
 

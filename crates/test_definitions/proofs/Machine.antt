@@ -8,9 +8,9 @@ use Rattle.rv_pmp.specs.Pmp.{grants, read_register, write_register, is_locked_to
 use Rattle.rv_pmp.specs.Entry.{config_byte, configured, addressed}
 use Rattle.rv_csr.specs.Registers.{read, write, table, number_of, row_at, status_word, with_status, lines_word, word_lines}
 use Rattle.rv_csr.specs.Traps.{entered, left, trap_pc, pending}
-use Rattle.test_definitions.specs.Registers.{is_kept, is_right, is_granted}
-use Rattle.test_definitions.specs.Devices.{is_time}
-use Rattle.test_definitions.specs.Traps.{is_trap, is_interrupt}
+use Rattle.test_definitions.specs.Support.Registers.{is_kept, is_right, is_granted}
+use Rattle.test_definitions.specs.Support.Devices.{is_time}
+use Rattle.test_definitions.specs.Support.Traps.{is_trap, is_interrupt}
 use Rattle.test_definitions.specs.declared.registers.TheConstants.{KEPT, RIGHTS}
 use Rattle.test_definitions.specs.declared.protection.TheConstants.{ACCESSES}
 use Rattle.test_definitions.specs.declared.timer.TheConstants.{TIMES}

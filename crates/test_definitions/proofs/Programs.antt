@@ -20,7 +20,7 @@ use Rattle.rv_hart.specs.Effect.{execute, csr_written}
 use Rattle.rv_hart.specs.Step.{counts, enter}
 use Rattle.rv_board.specs.Boot.{reset}
 use Rattle.rv_board.specs.declared.event.Event.TheVariants.{Step}
-use Rattle.test_definitions.specs.Runs.{has_word, is_at, ran_for, image}
+use Rattle.test_definitions.specs.Support.Runs.{has_word, is_at, ran_for, image}
 use Rattle.test_definitions.specs.declared.runs.TheConstants.{HELLO, HELLO_ENDS, TRAP, TRAP_ENDS, USER, USER_ENDS, TIMER, TIMER_ENDS, CHANGES, CHANGES_ENDS, CALL, CALL_ENDS, CALL_INSIDE}
 use Rattle.test_definitions.proofs.Running.{run_is}
 

@@ -3,7 +3,7 @@ use Rattle.std.proofs.Common.{◌≡◌, refl, ap, false, Bool}
 use Rattle.std.specs.Prelude.{◌&&◌, nat_lt}
 use Rattle.std.specs.FinSet.{contains, empty, contains-empty}
 use Rattle.std.specs.Ordering.{nat_cmp}
-use Rattle.rv_plic.specs.GatewayState.{all_low}
+use Rattle.rv_plic.specs.Support.GatewayState.{all_low}
 use Rattle.rv_plic.specs.Gateways.{reset, forwarded}
 use Rattle.rv_plic.specs.Plic.{is_notified, outranks, priority_of}
 use Rattle.rv_plic.specs.Sources.{sources}

@@ -4,7 +4,7 @@ use Rattle.std.specs.Prelude.{[], ◌∷◌, replicate, length, drop, slice_inde
 use Rattle.std.specs.Option.{option_map_or}
 use Rattle.std.proofs.lemmas.Bool.{true≢false}
 use Rattle.rv_isa.specs.Word.{OneMeaning}
-use Rattle.rv_isa.specs.Meaning.{means}
+use Rattle.rv_isa.specs.Support.Meaning.{means}
 use Rattle.rv_isa.specs.declared.kind.Kind.{Kind}
 use Rattle.rv_isa.proofs.Meaning.{means_inverts}
 use Rattle.rv_isa.specs.declared.Lines.{Lines}
@@ -27,7 +27,7 @@ use Rattle.rv_board.specs.BoardState.{BoardState}
 use Rattle.rv_board.specs.Move.{after_step, moved, with_event, run}
 use Rattle.rv_board.specs.declared.event.Event.{Event}
 use Rattle.rv_board.specs.declared.event.Event.TheVariants.{Step, Line, Rx}
-use Rattle.test_definitions.specs.Runs.{Row}
+use Rattle.test_definitions.specs.Support.Runs.{Row}
 use Rattle.test_definitions.proofs.Quiet.{stays, low}
 use Rattle.test_definitions.proofs.Decoding.{decoded, by_rows}
 

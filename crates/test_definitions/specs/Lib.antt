@@ -1,5 +1,1 @@
-pub mod Devices
-pub mod Instructions
-pub mod Registers
-pub mod Runs
-pub mod Traps
+pub mod Support

@@ -1,7 +1,7 @@
 //! Accesses that physical memory protection grants.
 ghost use Rattle.std.specs.Prelude.{◌≡◌, true};
 ghost use Rattle.std.specs.List.{list_all};
-ghost use Rattle.test_definitions.specs.Registers.{is_granted};
+ghost use Rattle.test_definitions.specs.Support.Registers.{is_granted};
 
 use Access::{Execute, Read, Write};
 use Mode::{Machine, User};

@@ -1,7 +1,7 @@
 //! Control registers: what they keep of a write, and who may access them.
 ghost use Rattle.std.specs.Prelude.{◌≡◌, true};
 ghost use Rattle.std.specs.List.{list_all};
-ghost use Rattle.test_definitions.specs.Registers.{is_kept, is_right};
+ghost use Rattle.test_definitions.specs.Support.Registers.{is_kept, is_right};
 
 use rv_pmp::Mode;
 

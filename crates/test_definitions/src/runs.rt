@@ -1,7 +1,7 @@
 //! Whole runs: programs by their words, and what they leave.
 ghost use Rattle.std.specs.Prelude.{◌≡◌, true, ◌∷◌, []};
 ghost use Rattle.std.specs.List.{list_all};
-ghost use Rattle.test_definitions.specs.Runs.{ran_for, is_at, has_word};
+ghost use Rattle.test_definitions.specs.Support.Runs.{ran_for, is_at, has_word};
 
 use rv_isa::{Operation, one_meaning};
 

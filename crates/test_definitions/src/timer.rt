@@ -1,7 +1,7 @@
 //! The timer's registers and its time.
 ghost use Rattle.std.specs.Prelude.{◌≡◌, true};
 ghost use Rattle.std.specs.List.{list_all};
-ghost use Rattle.test_definitions.specs.Devices.{is_time};
+ghost use Rattle.test_definitions.specs.Support.Devices.{is_time};
 
 /// Three stores of words to a timer at reset, at offsets from its first address; a number of ticks; then an offset
 /// with the word that a load gives there, and whether the timer's line is high (Privileged Architecture 20211203,

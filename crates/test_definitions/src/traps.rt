@@ -1,7 +1,7 @@
 //! Traps, returns from them, and interrupts.
 ghost use Rattle.std.specs.Prelude.{◌≡◌, true};
 ghost use Rattle.std.specs.List.{list_all};
-ghost use Rattle.test_definitions.specs.Traps.{is_trap, is_interrupt};
+ghost use Rattle.test_definitions.specs.Support.Traps.{is_trap, is_interrupt};
 
 use Mode::{Machine, User};
 use rv_pmp::Mode;

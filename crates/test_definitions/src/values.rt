@@ -1,7 +1,7 @@
 //! Values of operations and conditions of branches.
 ghost use Rattle.std.specs.Prelude.{◌≡◌, true};
 ghost use Rattle.std.specs.List.{list_all};
-ghost use Rattle.test_definitions.specs.Instructions.{is_value, is_condition};
+ghost use Rattle.test_definitions.specs.Support.Instructions.{is_value, is_condition};
 
 use rv_isa::{AluOp, Cond};
 

@@ -1,7 +1,7 @@
 //! Words of instructions and their texts.
 ghost use Rattle.std.specs.Prelude.{◌≡◌, true};
 ghost use Rattle.std.specs.List.{list_all};
-ghost use Rattle.test_definitions.specs.Instructions.{is_word};
+ghost use Rattle.test_definitions.specs.Support.Instructions.{is_word};
 
 use rv_isa::Operation;
 

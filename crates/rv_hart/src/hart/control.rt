@@ -3,10 +3,10 @@ ghost use Rattle.std.specs.Prelude.{◌≡◌};
 ghost use Rattle.rv_isa.specs.Word as spec;
 ghost use Rattle.rv_isa.specs.declared.kind.Kind.{Kind};
 ghost use Rattle.rv_csr.specs.Registers as registers;
-ghost use Rattle.rv_pmp.specs.Registers.{WritesOrRefuses};
+ghost use Rattle.rv_pmp.specs.Support.Registers.{WritesOrRefuses};
 ghost use Rattle.rv_hart.specs.Effect.{csr_change, exchange, reg};
-ghost use Rattle.rv_hart.specs.EffectParts.{at_next, exchange_effect, return_effect, wait_effect};
-ghost use Rattle.rv_hart.specs.StepParts.{Does};
+ghost use Rattle.rv_hart.specs.Support.EffectParts.{at_next, exchange_effect, return_effect, wait_effect};
+ghost use Rattle.rv_hart.specs.Support.StepParts.{Does};
 
 use super::Hart;
 use crate::shortcuts::Shortcuts;
@@ -86,7 +86,7 @@ impl<M: ByteMemory, C: Decoded> Hart<M, C> {
     /// Reads a control register into `rd`, and writes it. Out of line, so that other instructions pay nothing
     /// for it.
     #[inline(never)]
-    #[tactic(auto, unfolding(crate::specs::EffectParts::exchange_effect))]
+    #[tactic(auto, unfolding(crate::specs::Support::EffectParts::exchange_effect))]
     fn exchange(&mut self, instr: Instr, exchange: Exchange) -> Result<(), Trap>
         ensures { Does self.old self.new result
             (exchange_effect instr self.old.machine exchange.op exchange.field exchange.operand exchange.rd exchange.csr) }
@@ -121,7 +121,7 @@ impl<M: ByteMemory, C: Decoded> Hart<M, C> {
     }
 
     /// Returns from a trap, which only machine mode may do. `word` is the word of MRET.
-    #[tactic(auto, unfolding(crate::specs::EffectParts::return_effect))]
+    #[tactic(auto, unfolding(crate::specs::Support::EffectParts::return_effect))]
     pub(super) fn leave_trap(&mut self, word: u32) -> Result<(), Trap>
         requires { word ≡ spec.word Kind.Mret }
         ensures { Does self.old self.new result (return_effect self.old.machine self.old.machine.mode) }
@@ -145,7 +145,7 @@ impl<M: ByteMemory, C: Decoded> Hart<M, C> {
 
     /// Waits for an interrupt, which ends at once. In user mode TW makes it illegal. `word` is the word of
     /// WFI.
-    #[tactic(auto, unfolding(crate::specs::EffectParts::wait_effect))]
+    #[tactic(auto, unfolding(crate::specs::Support::EffectParts::wait_effect))]
     pub(super) fn wait(&mut self, word: u32) -> Result<(), Trap>
         requires { word ≡ spec.word Kind.Wfi }
         ensures { Does self.old self.new result (wait_effect self.old.machine) }

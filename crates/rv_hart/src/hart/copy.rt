@@ -1,6 +1,6 @@
 //! Copies of a hart.
 ghost use Rattle.std.specs.Prelude.{◌≡◌, ℕ, None, IfOk};
-ghost use Rattle.rv_hart.specs.Coherent.{Coherent};
+ghost use Rattle.rv_hart.specs.Support.Coherent.{Coherent};
 
 use super::Hart;
 use rv_base::NoMemory;
@@ -15,7 +15,7 @@ impl<C: Decoded> Hart<PagedRam, C> {
     /// # Errors
     ///
     /// `NoMemory` if memory runs out.
-    #[tactic(auto, unfolding(crate::specs::Coherent::Coherent))]
+    #[tactic(auto, unfolding(crate::specs::Support::Coherent::Coherent))]
     pub fn try_clone<D: Decoded>(
         &self,
         alloc: Global,

@@ -1,8 +1,8 @@
 //! The dump of a range of memory, and the line of an instruction in memory.
 ghost use Rattle.std.specs.Prelude.{◌≡◌, ◌++◌, ◌+◌, ◌-◌, ◌*◌, ◌%◌, ◌^◌, ◌<◌, ◌≤◌, codes, min, OnOk, OnErr, vec_len, vec_capacity};
-ghost use Rattle.rv_monitor.specs.Growth.{GrewBy};
-ghost use Rattle.rv_monitor.specs.Room.{memory_room, instruction_room};
-ghost use Rattle.rv_monitor.specs.Labels.{byte_in_line, byte_text, memory_line, word_text};
+ghost use Rattle.rv_monitor.specs.Support.Growth.{GrewBy};
+ghost use Rattle.rv_monitor.specs.Support.Room.{memory_room, instruction_room};
+ghost use Rattle.rv_monitor.specs.Support.Labels.{byte_in_line, byte_text, memory_line, word_text};
 ghost use Rattle.rv_monitor.specs.Views.{pieces, byte_at_offset, memory_text, word_at, instruction_text};
 
 use rv_base::{NoMemory, append_within, byte_digits, word_digits};
@@ -34,7 +34,7 @@ fn append_byte(byte: Option<u8>, text: &mut Vec<u8>)
 }
 
 /// Appends `count` bytes from `addr`.
-#[tactic(auto, using(crate::proofs::Pieces::no_piece_after, crate::proofs::Pieces::one_more_after), unfolding(crate::specs::Labels::byte_in_line))]
+#[tactic(auto, using(crate::proofs::Pieces::no_piece_after, crate::proofs::Pieces::one_more_after), unfolding(crate::specs::Support::Labels::byte_in_line))]
 fn append_bytes<M: ByteMemory, C: Decoded>(
     board: &Board<M, C>,
     addr: u32,
@@ -50,7 +50,7 @@ fn append_bytes<M: ByteMemory, C: Decoded>(
 }
 
 /// Appends line `number` of a dump of `count` bytes from `addr`.
-#[tactic(auto, unfolding(crate::specs::Views::bytes_line, crate::specs::Labels::byte_in_line))]
+#[tactic(auto, unfolding(crate::specs::Views::bytes_line, crate::specs::Support::Labels::byte_in_line))]
 fn append_line<M: ByteMemory, C: Decoded>(
     board: &Board<M, C>,
     addr: u32,

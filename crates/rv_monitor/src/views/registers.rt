@@ -2,13 +2,13 @@
 ghost use Rattle.std.specs.Prelude.{◌≡◌, ◌++◌, ◌+◌, ◌%◌, ◌==◌, ◌<◌, ◌≤◌, if◌then◌else◌, codes, length, Some, IsSome, OnOk, OnErr, vec_len, vec_capacity};
 ghost use Rattle.rv_base.specs.Tables.{lookup};
 ghost use Rattle.rv_isa.specs.Names.{csr_names};
-ghost use Rattle.rv_board.specs.State.{csr_of};
+ghost use Rattle.rv_board.specs.Support.State.{csr_of};
 ghost use Rattle.rv_pmp.specs.Mode.{is_machine};
-ghost use Rattle.rv_monitor.specs.Growth.{GrewBy};
-ghost use Rattle.rv_monitor.specs.Room.{registers_room, control_register_room};
+ghost use Rattle.rv_monitor.specs.Support.Growth.{GrewBy};
+ghost use Rattle.rv_monitor.specs.Support.Room.{registers_room, control_register_room};
 ghost use Rattle.rv_monitor.specs.Views.{pieces, registers_text, control_register_text, register_in_line};
 ghost use Rattle.rv_base.specs.Digits.{hex};
-ghost use Rattle.rv_monitor.specs.Numbers.{two_decimals};
+ghost use Rattle.rv_monitor.specs.Support.Numbers.{two_decimals};
 
 use rv_base::{NoMemory, append_within, word_digits};
 use rv_board::Board;
@@ -44,7 +44,7 @@ pub(crate) fn append_place(pc: u32, mode: Mode, text: &mut Vec<u8>)
 }
 
 /// Returns the two decimal digits of a number below 100.
-#[tactic(auto, unfolding(crate::specs::Numbers::two_decimals))]
+#[tactic(auto, unfolding(crate::specs::Support::Numbers::two_decimals))]
 fn two_decimals(number: u8) -> [u8; 2]
     requires { number < 100 }
     ensures { result ≡ two_decimals number }
@@ -76,7 +76,7 @@ fn append_register(register: Reg, value: u32, text: &mut Vec<u8>)
 }
 
 /// Appends the lines of all registers, four in a line.
-#[tactic(auto, using(crate::proofs::Pieces::no_piece_after, crate::proofs::Pieces::one_more_after), unfolding(crate::specs::Views::register_in_line, crate::specs::Numbers::two_decimals))]
+#[tactic(auto, using(crate::proofs::Pieces::no_piece_after, crate::proofs::Pieces::one_more_after), unfolding(crate::specs::Views::register_in_line, crate::specs::Support::Numbers::two_decimals))]
 fn append_registers<M: ByteMemory, C: Decoded>(board: &Board<M, C>, text: &mut Vec<u8>)
     requires { vec_len text.old + 416 ≤ vec_capacity text.old }
     ensures { GrewBy text.old text.new (pieces (register_in_line board.now) 32) 416 }

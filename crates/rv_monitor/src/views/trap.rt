@@ -1,8 +1,8 @@
 //! The lines of the last traps.
 ghost use Rattle.std.specs.Prelude.{◌≡◌, ◌++◌, ◌+◌, ◌*◌, ◌<◌, ◌≤◌, length, OnOk, OnErr, vec_len, vec_capacity};
-ghost use Rattle.rv_monitor.specs.Growth.{GrewBy};
-ghost use Rattle.rv_monitor.specs.Room.{traps_room};
-ghost use Rattle.rv_monitor.specs.Labels.{labelled};
+ghost use Rattle.rv_monitor.specs.Support.Growth.{GrewBy};
+ghost use Rattle.rv_monitor.specs.Support.Room.{traps_room};
+ghost use Rattle.rv_monitor.specs.Support.Labels.{labelled};
 ghost use Rattle.std.specs.List.{flat_map};
 ghost use Rattle.rv_monitor.specs.Views.{trap_text};
 
@@ -15,7 +15,7 @@ use rv_ram::ByteMemory;
 const TRAP_BYTES: usize = 47;
 
 /// Appends a label and a word.
-#[tactic(auto, unfolding(crate::specs::Labels::labelled))]
+#[tactic(auto, unfolding(crate::specs::Support::Labels::labelled))]
 fn append_labelled(label: &[u8], word: u32, text: &mut Vec<u8>)
     requires { vec_len text.old + length label.now + 8 ≤ vec_capacity text.old }
     ensures { GrewBy text.old text.new (labelled label.now word) (length label.now + 8) }
@@ -25,7 +25,7 @@ fn append_labelled(label: &[u8], word: u32, text: &mut Vec<u8>)
 }
 
 /// Appends the line of a trap.
-#[tactic(auto, unfolding(crate::specs::Views::trap_text, crate::specs::Labels::labelled))]
+#[tactic(auto, unfolding(crate::specs::Views::trap_text, crate::specs::Support::Labels::labelled))]
 fn append_trap(trap: TrapRecord, text: &mut Vec<u8>)
     requires { vec_len text.old + TRAP_BYTES ≤ vec_capacity text.old }
     ensures { GrewBy text.old text.new (trap_text trap) TRAP_BYTES }

@@ -1,7 +1,7 @@
 //! The state that a handle lends.
 ghost use Rattle.std.specs.Prelude.{◌≡◌};
 ghost use types.Logic.{sem};
-ghost use Rattle.rv_page.specs.Lending.{state_follows};
+ghost use Rattle.rv_page.specs.Support.Lending.{state_follows};
 
 use super::Handle;
 use crate::state::State;

@@ -2,7 +2,7 @@ use Rattle.std.proofs.Common.{rules, ◌≡◌, ◌∙◌, ap, codes}
 use Rattle.std.proofs.lemmas.Result.{IfOk-weaker}
 use Rattle.clap.specs.Words.{app_of, new_app}
 use Rattle.rv_words.specs.Board.{board_app}
-use Rattle.rv_words.specs.Chain.{board_rules}
+use Rattle.rv_words.specs.Support.Chain.{board_rules}
 use Rattle.rv_words.proofs.Chain.{has_rules, with_rules}
 use Rattle.rv_words.proofs.board_command.Goals as goal
 

@@ -1,7 +1,7 @@
 use Rattle.std.proofs.Common.{take}
 use Rattle.std.specs.List.{flat_map}
 use Rattle.rv_answers.specs.Answer.{Appended}
-use Rattle.rv_answers.specs.Parts.{byte_cell}
+use Rattle.rv_answers.specs.Support.Parts.{byte_cell}
 use Rattle.rv_answers.proofs.memory.append_bytes.Given as goal
 
 -- those before the index were appended

@@ -1,6 +1,6 @@
 use Rattle.std.proofs.Common.{map, take}
 use Rattle.rv_answers.specs.Answer.{Appended}
-use Rattle.rv_answers.specs.Parts.{character}
+use Rattle.rv_answers.specs.Support.Parts.{character}
 use Rattle.rv_answers.proofs.memory.append_characters.Given as goal
 
 -- those before the index were appended

@@ -1,6 +1,6 @@
 use Rattle.std.proofs.Common.{subst}
 use Rattle.rv_answers.specs.Answer.{Appended}
-use Rattle.rv_answers.specs.Parts.{register_cell}
+use Rattle.rv_answers.specs.Support.Parts.{register_cell}
 use Rattle.rv_answers.proofs.Pieces.{next}
 use Rattle.rv_answers.proofs.registers.append_registers.Goals as goal
 

@@ -1,6 +1,6 @@
 use Rattle.std.specs.List.{flat_map, range_with_len}
 use Rattle.rv_answers.specs.Answer.{Appended}
-use Rattle.rv_answers.specs.Parts.{register_cell}
+use Rattle.rv_answers.specs.Support.Parts.{register_cell}
 use Rattle.rv_answers.proofs.registers.append_registers.Given as goal
 
 -- the cells of the registers below the number were appended

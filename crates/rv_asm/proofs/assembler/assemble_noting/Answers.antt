@@ -2,7 +2,7 @@ use Rattle.std.proofs.Common.{length, refl}
 use Rattle.std.proofs.lemmas.Result.{err_from_is_err_and}
 use Rattle.rv_base.specs.Lines.{lines}
 use Rattle.rv_asm.specs.Assembly.{all_parsed}
-use Rattle.rv_asm.specs.Steps.{lines_laid_out, written}
+use Rattle.rv_asm.specs.Support.Steps.{lines_laid_out, written}
 use Rattle.rv_asm.proofs.Runs.{fails_bind}
 use Rattle.rv_asm.proofs.Whole.{whole, finished, program_of, image_fits}
 use Rattle.rv_asm.proofs.assembler.assemble_noting.Goals as goal

@@ -1,7 +1,7 @@
 use Rattle.std.proofs.Common.{◌≡◌, ◌∙◌, ◌+◌, sym, arith, refl}
 use Rattle.std.specs.Prelude.{Ok}
-use Rattle.rv_program.specs.Kept.{Fails, IsFaultAt}
-use Rattle.rv_asm.specs.Steps.{item_step, item_bytes, appended}
+use Rattle.rv_program.specs.Support.Kept.{Fails, IsFaultAt}
+use Rattle.rv_asm.specs.Support.Steps.{item_step, item_bytes, appended}
 use Rattle.rv_asm.proofs.Runs.{fault_at, run_more, run_end, run_fails_at, fails_at_line}
 use Rattle.rv_asm.proofs.assembler.image.Goals as goal
 

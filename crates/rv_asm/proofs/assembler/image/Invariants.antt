@@ -1,5 +1,5 @@
 use Rattle.std.proofs.Common.{◌≡◌, drop}
-use Rattle.rv_asm.specs.Steps.{run, item_step, image_of}
+use Rattle.rv_asm.specs.Support.Steps.{run, item_step, image_of}
 use Rattle.rv_asm.proofs.assembler.image.Given as goal
 
 abbrev pub invariant-loop-item : goal.invariant-loop-item

@@ -3,8 +3,8 @@ use Rattle.std.specs.Prelude.{Ok}
 use Rattle.rv_base.specs.Lines.{lines}
 use Rattle.rv_program.specs.Faults.{Gives}
 use Rattle.rv_asm.specs.Assembly.{all_parsed}
-use Rattle.rv_asm.specs.Steps.{Known, laid_out}
-use Rattle.rv_asm.specs.Taken.{so_far}
+use Rattle.rv_asm.specs.Support.Steps.{Known, laid_out}
+use Rattle.rv_asm.specs.Support.Taken.{so_far}
 use Rattle.rv_asm.proofs.Reading.{begun, laid_out-zero, up_to_laid_out, writes_line, read_more, read_line_at, laid_out_more, unread, read_all}
 use Rattle.rv_asm.proofs.Listed.{writes_none}
 use Rattle.rv_asm.proofs.Lined.{noted_begun, noted_line}

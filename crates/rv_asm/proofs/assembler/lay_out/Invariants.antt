@@ -3,9 +3,9 @@ use Rattle.std.specs.Option.{option_map}
 use Rattle.rv_base.specs.Lines.{lines}
 use Rattle.rv_program.specs.Faults.{Gives}
 use Rattle.rv_asm.specs.Assembly.{all_parsed}
-use Rattle.rv_asm.specs.Steps.{laid_out, Writes}
-use Rattle.rv_asm.specs.Looked.{located}
-use Rattle.rv_asm.specs.Taken.{so_far, Without}
+use Rattle.rv_asm.specs.Support.Steps.{laid_out, Writes}
+use Rattle.rv_asm.specs.Support.Looked.{located}
+use Rattle.rv_asm.specs.Support.Taken.{so_far, Without}
 use Rattle.rv_asm.proofs.Reading.{SoFar}
 use Rattle.rv_asm.proofs.assembler.lay_out.Given as goal
 

@@ -5,7 +5,7 @@ use Rattle.std.proofs.lemmas.Int.{to_z-of_z}
 use mir.Syntax.{w64}
 use mir.Val.{SFits}
 use Rattle.rv_source.specs.Reading.{Parsed, parsed}
-use Rattle.rv_asm.specs.Counted.{relabels}
+use Rattle.rv_asm.specs.Support.Counted.{relabels}
 use Rattle.rv_asm.proofs.Judging.{duplicate, unstated, stated_ok, stated_late, stated_not}
 use Rattle.rv_asm.proofs.Diagnosing.{if_ok}
 use Rattle.rv_asm.proofs.faults.judge.Goals as goal

@@ -2,8 +2,8 @@ use Rattle.std.proofs.Common.{◌≡◌, ◌∙◌, ◌∷◌, [], length, ap, s
 use Rattle.std.specs.Option.{option_map}
 use Rattle.rv_base.specs.Lines.{lines}
 use Rattle.rv_asm.specs.Assembly.{all_parsed}
-use Rattle.rv_asm.specs.Counted.{phase_one_fault}
-use Rattle.rv_asm.specs.Judged.{judged_with}
+use Rattle.rv_asm.specs.Support.Counted.{phase_one_fault}
+use Rattle.rv_asm.specs.Support.Judged.{judged_with}
 use Rattle.rv_asm.proofs.Reading.{SoFar}
 use Rattle.rv_asm.proofs.Diagnosing.{none_found, all_left, next_line, left_more, found_more, none_left, so_read, none_before_it, known_begun, kept_up_to, judged_more, known_more}
 use Rattle.rv_asm.proofs.faults.review.Goals as goal

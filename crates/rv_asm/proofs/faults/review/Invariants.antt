@@ -2,10 +2,10 @@ use Rattle.std.proofs.Common.{◌≡◌, ◌≤◌, ◌+◌, [], length}
 use Rattle.std.specs.Option.{option_map}
 use Rattle.rv_base.specs.Lines.{lines}
 use Rattle.rv_asm.specs.Assembly.{all_parsed}
-use Rattle.rv_asm.specs.Steps.{known_before}
+use Rattle.rv_asm.specs.Support.Steps.{known_before}
 use Rattle.rv_asm.specs.Diagnosed.{kept}
-use Rattle.rv_asm.specs.Judged.{Diagnoses, judged_with}
-use Rattle.rv_asm.specs.Counted.{all_faults, phase_one_fault}
+use Rattle.rv_asm.specs.Support.Judged.{Diagnoses, judged_with}
+use Rattle.rv_asm.specs.Support.Counted.{all_faults, phase_one_fault}
 use Rattle.rv_asm.proofs.Diagnosing.{LeftOf}
 use Rattle.rv_asm.proofs.faults.review.Given as goal
 

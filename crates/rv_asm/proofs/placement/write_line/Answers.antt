@@ -4,7 +4,7 @@ use Rattle.std.proofs.lemmas.Int.{to_z-of_z}
 use mir.Syntax.{w64}
 use mir.Val.{to_z, of_z, SFits}
 use Rattle.rv_source.specs.Reading.{line_form, statement_of}
-use Rattle.rv_asm.specs.Constants.{KeptLine}
+use Rattle.rv_asm.specs.Support.Constants.{KeptLine}
 use Rattle.rv_asm.proofs.Writing.{taken_again, written_again, never_none}
 use Rattle.rv_source.proofs.Parsed.{as_parsed}
 use Rattle.rv_asm.proofs.placement.write_line.Goals as goal

@@ -1,6 +1,6 @@
 use Rattle.std.proofs.Common.{◌≡◌, ◌∙◌, rules}
 use Rattle.rv_base.specs.Lines.{lines}
-use Rattle.rv_monitor.specs.Answers.{next_of}
+use Rattle.rv_monitor.specs.Support.Answers.{next_of}
 use Rattle.rv_monitor.specs.Commands.{command_in}
 use Rattle.rv_monitor.proofs.Silent.{next_is}
 use Rattle.rv_monitor.specs.declared.command.Next.TheVariants.{More, Quit}

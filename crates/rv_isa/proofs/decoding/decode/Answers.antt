@@ -1,4 +1,4 @@
-use Rattle.rv_isa.specs.Meaning.{means}
+use Rattle.rv_isa.specs.Support.Meaning.{means}
 use Rattle.rv_isa.proofs.Encodings.{from_kinds}
 use Rattle.rv_isa.proofs.Meaning.{means_inverts}
 use Rattle.rv_isa.proofs.decoding.decode.Goals as goal

@@ -1,5 +1,5 @@
 use Rattle.std.proofs.Common.{◌≡◌, ℕ, Option, Some, None, refl, sym, ◌∙◌, ap}
-use Rattle.rv_isa.specs.Kinds.{word, IsInRange, IsMeaning}
+use Rattle.rv_isa.specs.Support.Kinds.{word, IsInRange, IsMeaning}
 use Rattle.rv_isa.specs.declared.kind.Kind.{Kind}
 use Rattle.rv_isa.proofs.Encodings.{by_kinds}
 use Rattle.rv_isa.proofs.encoding.one_meaning.Goals as goal

@@ -1,5 +1,5 @@
 use Rattle.std.specs.Fmt.{digits}
-use Rattle.rv_isa.specs.Letters.{numbered_names}
+use Rattle.rv_isa.specs.Support.Letters.{numbered_names}
 use Rattle.rv_isa.specs.Names.{register_names}
 use Rattle.rv_isa.proofs.names.numbered.Goals as goal
 

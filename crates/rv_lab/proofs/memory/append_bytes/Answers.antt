@@ -1,7 +1,7 @@
 use Rattle.rv_answers.specs.Memory.{bytes_row}
 use Rattle.rv_answers.proofs.Pieces.{next}
 use Rattle.rv_monitor.specs.Views.{byte_at_offset}
-use Rattle.rv_lab.specs.Rows.{dump_row}
+use Rattle.rv_lab.specs.Support.Rows.{dump_row}
 use Rattle.rv_lab.proofs.memory.append_bytes.Goals as goal
 
 pub loop-row-preserved : goal.loop-row-preserved

@@ -2,7 +2,7 @@ use Rattle.std.specs.List.{flat_map, range_with_len}
 use Rattle.rv_answers.specs.Answer.{Appended}
 use Rattle.rv_answers.specs.Memory.{bytes_row}
 use Rattle.rv_monitor.specs.Views.{byte_at_offset}
-use Rattle.rv_lab.specs.Rows.{dump_row}
+use Rattle.rv_lab.specs.Support.Rows.{dump_row}
 use Rattle.rv_lab.proofs.memory.append_bytes.Given as goal
 
 -- the rows so far were appended

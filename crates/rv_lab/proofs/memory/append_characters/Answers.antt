@@ -2,7 +2,7 @@ use Rattle.std.proofs.Common.{subst}
 use Rattle.rv_answers.specs.Answer.{Appended}
 use Rattle.rv_answers.specs.Memory.{escaped}
 use Rattle.rv_answers.proofs.Pieces.{next}
-use Rattle.rv_lab.specs.Rows.{char_at}
+use Rattle.rv_lab.specs.Support.Rows.{char_at}
 use Rattle.rv_lab.proofs.memory.append_characters.Goals as goal
 
 pub loop-offset-preserved : goal.loop-offset-preserved

@@ -1,7 +1,7 @@
 use Rattle.std.specs.List.{flat_map, range_with_len}
 use Rattle.rv_answers.specs.Answer.{Appended}
 use Rattle.rv_answers.specs.Memory.{escaped}
-use Rattle.rv_lab.specs.Rows.{char_at}
+use Rattle.rv_lab.specs.Support.Rows.{char_at}
 use Rattle.rv_lab.proofs.memory.append_characters.Given as goal
 
 -- the characters so far were appended

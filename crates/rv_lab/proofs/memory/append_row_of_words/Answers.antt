@@ -1,6 +1,6 @@
 use Rattle.std.proofs.Common.{◌≡◌, ◌-◌, ◌*◌, min, refl, rules}
 use Rattle.rv_answers.specs.Memory.{words_row}
-use Rattle.rv_lab.specs.Rows.{word_cell}
+use Rattle.rv_lab.specs.Support.Rows.{word_cell}
 use Rattle.rv_lab.proofs.Dumps.{row_shown}
 use Rattle.rv_lab.proofs.memory.append_row_of_words.Goals as goal
 

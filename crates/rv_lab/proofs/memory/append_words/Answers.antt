@@ -1,7 +1,7 @@
 use Rattle.rv_answers.specs.Memory.{words_row}
 use Rattle.rv_answers.proofs.Pieces.{next}
-use Rattle.rv_lab.specs.Rows.{word_cell}
-use Rattle.rv_lab.specs.Rows.{dump_row}
+use Rattle.rv_lab.specs.Support.Rows.{word_cell}
+use Rattle.rv_lab.specs.Support.Rows.{dump_row}
 use Rattle.rv_lab.proofs.memory.append_words.Goals as goal
 
 pub loop-row-preserved : goal.loop-row-preserved

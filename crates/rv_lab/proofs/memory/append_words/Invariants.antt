@@ -1,8 +1,8 @@
 use Rattle.std.specs.List.{flat_map, range_with_len}
 use Rattle.rv_answers.specs.Answer.{Appended}
 use Rattle.rv_answers.specs.Memory.{words_row}
-use Rattle.rv_lab.specs.Rows.{word_cell}
-use Rattle.rv_lab.specs.Rows.{dump_row}
+use Rattle.rv_lab.specs.Support.Rows.{word_cell}
+use Rattle.rv_lab.specs.Support.Rows.{dump_row}
 use Rattle.rv_lab.proofs.memory.append_words.Given as goal
 
 -- the rows so far were appended

@@ -1,5 +1,5 @@
 use Rattle.std.proofs.Common.{◌≡◌, ℕ, ◌<◌, ◌==◌, false}
-use Rattle.rv_lab.specs.Rows.{char_at}
+use Rattle.rv_lab.specs.Support.Rows.{char_at}
 use Rattle.rv_lab.proofs.memory.text_length.Given as goal
 
 -- no byte so far is zero

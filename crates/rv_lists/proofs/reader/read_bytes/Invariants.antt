@@ -1,7 +1,7 @@
 use Rattle.std.proofs.Common.{◌≡◌, length}
 use Rattle.rv_base.specs.Words.{words}
 use Rattle.rv_lists.specs.Timed.{all_of, byte_input, received}
-use Rattle.rv_lists.specs.Reading.{with_inputs}
+use Rattle.rv_lists.specs.Support.Reading.{with_inputs}
 use Rattle.rv_lists.proofs.reader.read_bytes.Given as goal
 
 abbrev pub invariant-loop-word : goal.invariant-loop-word

@@ -2,7 +2,7 @@ use Rattle.std.proofs.Common.{◌≡◌, ◌∙◌, ◌<◌, length, take, refl,
 use Rattle.std.proofs.lemmas.List.{take_all}
 use Rattle.std.proofs.lemmas.Bool.{and_from}
 use Rattle.std.proofs.lemmas.List.Folds.{list_all_more}
-use Rattle.rv_lists.specs.Reading.{is_input}
+use Rattle.rv_lists.specs.Support.Reading.{is_input}
 use Rattle.rv_lists.specs.Text.{list_text}
 use Rattle.rv_lists.proofs.Texts.{line_more, reads}
 use Rattle.rv_lists.proofs.writer.list_text.Goals as goal

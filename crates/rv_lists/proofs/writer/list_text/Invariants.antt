@@ -1,6 +1,6 @@
 use Rattle.std.proofs.Common.{◌≡◌, true, take}
 use Rattle.std.specs.List.{list_all}
-use Rattle.rv_lists.specs.Reading.{is_input}
+use Rattle.rv_lists.specs.Support.Reading.{is_input}
 use Rattle.rv_lists.specs.Text.{list_text}
 use Rattle.rv_lists.proofs.writer.list_text.Given as goal
 

@@ -1,7 +1,7 @@
 use Rattle.std.proofs.Common.{◌≡◌, ◌&&◌, nat_lt, slice_index}
 use Rattle.std.specs.Option.{option_map_or}
 use Rattle.std.specs.FinSet as set
-use Rattle.rv_plic.specs.Best.{IsBestBelow}
+use Rattle.rv_plic.specs.Support.Best.{IsBestBelow}
 use Rattle.rv_plic.proofs.plic.highest.Given as goal
 
 -- the best of the sources so far, and its priority

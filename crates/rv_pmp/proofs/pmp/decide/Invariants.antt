@@ -1,5 +1,5 @@
 use Rattle.std.proofs.Common.{◌≡◌, drop}
-use Rattle.rv_pmp.specs.ActiveEntries.{decision}
+use Rattle.rv_pmp.specs.Support.ActiveEntries.{decision}
 use Rattle.rv_pmp.proofs.pmp.decide.Given as goal
 
 abbrev pub invariant-loop-active : goal.invariant-loop-active

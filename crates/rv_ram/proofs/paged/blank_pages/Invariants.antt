@@ -1,5 +1,5 @@
 use Rattle.std.proofs.Common.{◌≡◌}
-use Rattle.rv_ram.specs.Table.{new_table}
+use Rattle.rv_ram.specs.Support.Table.{new_table}
 use Rattle.rv_ram.proofs.paged.blank_pages.Given as goal
 
 abbrev pub invariant-loop-n : goal.invariant-loop-n

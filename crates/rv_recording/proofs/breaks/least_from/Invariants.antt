@@ -1,5 +1,5 @@
 use Rattle.std.proofs.Common.{◌≡◌, None, fold, length}
-use Rattle.rv_recording.specs.Nearer.{nearer}
+use Rattle.rv_recording.specs.Support.Nearer.{nearer}
 use Rattle.rv_recording.proofs.breaks.least_from.Given as goal
 
 abbrev pub invariant-loop-left : goal.invariant-loop-left

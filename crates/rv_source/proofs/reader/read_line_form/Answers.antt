@@ -1,6 +1,6 @@
 use Rattle.std.proofs.Common.{rules, ◌≡◌}
 use Rattle.std.specs.Prelude.{Ok}
-use Rattle.rv_source.specs.Partial.{form_by_parts}
+use Rattle.rv_source.specs.Support.Partial.{form_by_parts}
 use Rattle.rv_source.proofs.Forms.{as_read}
 use Rattle.rv_source.proofs.reader.read_line_form.Goals as goal
 

@@ -2,7 +2,7 @@ use Rattle.std.proofs.Common.{◌≡◌, drop}
 use Rattle.std.specs.Prelude.{map}
 use Rattle.std.specs.Option.{ok_or}
 use Rattle.rv_tokens.specs.declared.fault.LineFault.TheVariants.{BadOperands}
-use Rattle.rv_source.specs.Partial.{first_fit, row_by}
+use Rattle.rv_source.specs.Support.Partial.{first_fit, row_by}
 use Rattle.rv_source.specs.Table.{meaning}
 use Rattle.rv_source.proofs.table.meaning.Given as goal
 

@@ -1,6 +1,6 @@
 use Rattle.std.proofs.Common.{◌≡◌, drop}
 use Rattle.rv_tokens.specs.declared.fault.LineFault.TheVariants.{UnknownWord}
-use Rattle.rv_source.specs.Partial.{fitted_or, of_word, rows}
+use Rattle.rv_source.specs.Support.Partial.{fitted_or, of_word, rows}
 use Rattle.rv_source.proofs.table.of_word.Given as goal
 
 abbrev pub invariant-loop-entry : goal.invariant-loop-entry

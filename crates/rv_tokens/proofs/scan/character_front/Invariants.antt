@@ -1,6 +1,6 @@
 use Rattle.std.proofs.Common.{◌≡◌, ◌≤◌, length}
 use Rattle.rv_tokens.specs.Literals.{longest}
-use Rattle.rv_tokens.specs.Cuts.{front}
+use Rattle.rv_tokens.specs.Support.Cuts.{front}
 use Rattle.rv_tokens.specs.Tokens.{token_in}
 use Rattle.rv_tokens.proofs.scan.character_front.Given as goal
 

@@ -1,7 +1,7 @@
 use Rattle.std.proofs.Common.{drop}
 use Rattle.rv_answers.specs.Answer.{Written, Appended}
 use Rattle.rv_answers.specs.Forms.{filled}
-use Rattle.rv_answers.specs.Parts.{pieces}
+use Rattle.rv_answers.specs.Support.Parts.{pieces}
 use Rattle.rv_answers.proofs.answer.Answer.fill.Given as goal
 
 -- what is left, with the values that are left, ends the text

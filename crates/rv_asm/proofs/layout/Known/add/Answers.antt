@@ -5,8 +5,8 @@ use Rattle.std.proofs.lemmas.Int.{to_z-of_z}
 use mir.Syntax.{w64}
 use mir.Val.{SFits}
 use Rattle.rv_source.specs.Reading.{Parsed}
-use Rattle.rv_asm.specs.Steps.{Known}
-use Rattle.rv_asm.specs.Counted.{relabels}
+use Rattle.rv_asm.specs.Support.Steps.{Known}
+use Rattle.rv_asm.specs.Support.Counted.{relabels}
 use Rattle.rv_asm.proofs.Laying.{labelled_twice, all_labelled, statement_follows, nothing_follows}
 use Rattle.rv_asm.proofs.Listed.{adds_none}
 use Rattle.rv_asm.proofs.Placing.{adds}

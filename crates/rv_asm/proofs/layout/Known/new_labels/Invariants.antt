@@ -1,8 +1,8 @@
 use Rattle.std.proofs.Common.{◌≡◌, ◌<◌, drop, length}
 use Rattle.std.specs.Prelude.{◌||◌, is_some, IfSome}
-use Rattle.rv_asm.specs.Steps.{labelled}
-use Rattle.rv_asm.specs.Counted.{relabels}
-use Rattle.rv_asm.specs.Judged.{new_among}
+use Rattle.rv_asm.specs.Support.Steps.{labelled}
+use Rattle.rv_asm.specs.Support.Counted.{relabels}
+use Rattle.rv_asm.specs.Support.Judged.{new_among}
 use Rattle.rv_asm.proofs.Labels.{IsUpTo}
 use Rattle.rv_asm.proofs.layout.Known.new_labels.Given as goal
 

@@ -3,7 +3,7 @@ use Rattle.std.specs.Prelude.{Some, None}
 use Rattle.std.proofs.lemmas.Int.{to_z-of_z}
 use mir.Syntax.{w64}
 use mir.Val.{to_z, of_z, SFits}
-use Rattle.rv_asm.specs.Kept.{added}
+use Rattle.rv_asm.specs.Support.Kept.{added}
 use Rattle.rv_asm.proofs.Sums.{atom_in, sum_begun, first_none, sum_more, sum_none, sum_whole}
 use Rattle.rv_asm.proofs.symbols.Scope.sum.Goals as goal
 

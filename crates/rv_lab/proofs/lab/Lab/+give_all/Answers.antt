@@ -1,5 +1,5 @@
 use Rattle.rv_lab.specs.Refusals.{StopsShort}
-use Rattle.rv_lab.specs.Short.{Gives}
+use Rattle.rv_lab.specs.Support.Short.{Gives}
 use Rattle.rv_lab.proofs.Short.{gave_nothing, gave_rest, on_err}
 use Rattle.rv_lab.proofs.lab.Lab.+give_all.Goals as goal
 

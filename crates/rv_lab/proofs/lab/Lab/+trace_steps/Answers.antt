@@ -1,5 +1,5 @@
 use Rattle.std.proofs.Common.{arith}
-use Rattle.rv_lab.specs.Short.{Traced}
+use Rattle.rv_lab.specs.Support.Short.{Traced}
 use Rattle.rv_lab.specs.Refusals.{StopsShort}
 use Rattle.rv_lab.proofs.Runs.{traced_all}
 use Rattle.rv_lab.proofs.Short.{on_err, traced_further, traced_short}

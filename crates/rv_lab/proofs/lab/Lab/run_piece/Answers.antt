@@ -1,7 +1,7 @@
 use Rattle.std.proofs.Common.{◌∙◌, ap, sym}
 use Rattle.rv_lists.specs.Timed.{never_falls}
 use Rattle.rv_lab.specs.State.{LabState}
-use Rattle.rv_lab.specs.Short.{RunsShort}
+use Rattle.rv_lab.specs.Support.Short.{RunsShort}
 use Rattle.rv_lab.proofs.Runs.{went_out}
 use Rattle.rv_lab.proofs.Short.{broken, counted, gone_out, on_err, waited}
 use Rattle.rv_lab.proofs.lab.Lab.run_piece.Goals.{in-Ok, in-Err, in-Ok-go, in-Err-go}

@@ -1,7 +1,7 @@
 use Rattle.std.proofs.Common.{◌∙◌, ap, sym}
 use Rattle.rv_lists.specs.Timed.{never_falls}
 use Rattle.rv_lab.specs.State.{LabState}
-use Rattle.rv_lab.specs.Short.{IsOnWay, stepped}
+use Rattle.rv_lab.specs.Support.Short.{IsOnWay, stepped}
 use Rattle.rv_lab.proofs.Short.{on_err, step_refused}
 use Rattle.rv_lab.proofs.lab.Lab.trace_step.Goals as goal
 

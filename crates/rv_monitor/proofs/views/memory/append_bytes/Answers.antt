@@ -1,5 +1,5 @@
 use Rattle.std.proofs.Common.{◌≡◌, ◌++◌, rules, arith}
-use Rattle.rv_monitor.specs.Labels.{byte_in_line}
+use Rattle.rv_monitor.specs.Support.Labels.{byte_in_line}
 use Rattle.rv_monitor.proofs.Pieces.{piece_appended}
 use Rattle.rv_monitor.proofs.views.memory.append_bytes.Goals as goal
 

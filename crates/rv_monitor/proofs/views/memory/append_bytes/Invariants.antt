@@ -1,5 +1,5 @@
 use Rattle.std.proofs.Common.{◌≡◌, ◌+◌, ◌*◌, ◌≤◌, ◌++◌, vec_len, vec_capacity}
-use Rattle.rv_monitor.specs.Labels.{byte_in_line}
+use Rattle.rv_monitor.specs.Support.Labels.{byte_in_line}
 use Rattle.rv_monitor.specs.Views.{pieces}
 use Rattle.rv_monitor.proofs.views.memory.append_bytes.Given as goal
 

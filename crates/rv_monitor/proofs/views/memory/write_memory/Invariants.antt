@@ -1,6 +1,6 @@
 use Rattle.std.proofs.Common.{◌≡◌, ◌+◌, ◌-◌, ◌*◌, ◌≤◌, ◌++◌, vec_len, vec_capacity}
 use Rattle.std.specs.Int.{div_ceil}
-use Rattle.rv_monitor.specs.Labels.{memory_line}
+use Rattle.rv_monitor.specs.Support.Labels.{memory_line}
 use Rattle.rv_monitor.specs.Views.{pieces}
 use Rattle.rv_monitor.proofs.views.memory.write_memory.Given as goal
 

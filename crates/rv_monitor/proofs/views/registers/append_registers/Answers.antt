@@ -1,5 +1,5 @@
 use Rattle.std.proofs.Common.{◌≡◌, ◌++◌, rules, arith}
-use Rattle.rv_monitor.specs.Numbers.{two_decimals}
+use Rattle.rv_monitor.specs.Support.Numbers.{two_decimals}
 use Rattle.rv_monitor.specs.Views.{register_in_line}
 use Rattle.rv_monitor.proofs.Pieces.{piece_appended}
 use Rattle.rv_monitor.proofs.views.registers.append_registers.Goals as goal

@@ -37,7 +37,7 @@ use Rattle.core.proofs.alloc.Calls.{token}
 use Rattle.std_alloc.proofs.VecSteps.Shapes.{after}
 use Rattle.std_alloc.proofs.BoxSteps.Form.{D, B, τ, word, handle}
 use Rattle.std_alloc.proofs.BoxSteps.Steps.{box_out, box_in}
-use Rattle.rv_page.specs.Lending.{with_state}
+use Rattle.rv_page.specs.Support.Lending.{with_state}
 use Rattle.rv_page.specs.declared.handle.Handle.{Handle}
 use Rattle.rv_page.specs.declared.state.State.{State}
 use Rattle.rv_page.specs.contracts.handle.Handle as Sealed

@@ -1,5 +1,5 @@
 use Rattle.std.specs.Prelude.{◌≡◌}
-use Rattle.rv_plic.specs.Changes.{count_after}
+use Rattle.rv_plic.specs.Support.Changes.{count_after}
 use Rattle.rv_plic.proofs.Counts.{IsChangedBelow}
 use Rattle.rv_plic.proofs.gateway.Gateways.change_counts.Given as goal
 

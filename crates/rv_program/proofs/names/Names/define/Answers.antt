@@ -5,7 +5,7 @@ use Rattle.std.specs.Prelude.{nat_eq}
 use mir.Syntax.{w64}
 use mir.Val.{SFits}
 use Rattle.rv_base.specs.Tables.{lookup}
-use Rattle.rv_program.specs.Kept.{definitions_of}
+use Rattle.rv_program.specs.Support.Kept.{definitions_of}
 use Rattle.indexmap.proofs.CallerLemmas.{insert_entry-new}
 use Rattle.rv_program.proofs.Lookups.{lookup_value, definitions_of-push, AreWords-push}
 use Rattle.rv_program.proofs.names.Names.define.Goals as goal

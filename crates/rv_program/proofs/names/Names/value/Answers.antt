@@ -1,6 +1,6 @@
 use Rattle.std.proofs.Common.{◌≡◌, ◌∙◌, ap}
 use Rattle.rv_base.specs.Tables.{lookup}
-use Rattle.rv_program.specs.Kept.{definitions_of}
+use Rattle.rv_program.specs.Support.Kept.{definitions_of}
 use Rattle.rv_program.proofs.Lookups.{lookup_value, word_of_name}
 use Rattle.rv_program.proofs.names.Names.value.Goals as goal
 use Rattle.rv_program.proofs.names.Names.value.Goals.{After-copied}

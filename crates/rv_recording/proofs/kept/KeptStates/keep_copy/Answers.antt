@@ -1,5 +1,5 @@
 use Rattle.std.proofs.Common.{◌∙◌, sym, subst}
-use Rattle.rv_recording.specs.Kept.{AreKept}
+use Rattle.rv_recording.specs.Support.Kept.{AreKept}
 use Rattle.rv_recording.proofs.Keeping.{kept_inserted}
 use Rattle.rv_recording.proofs.kept.KeptStates.keep_copy.Goals as goal
 

@@ -1,5 +1,5 @@
 use Rattle.std.proofs.Common.{ℕ, subst, arith}
-use Rattle.rv_recording.specs.Kept.{AreWithin}
+use Rattle.rv_recording.specs.Support.Kept.{AreWithin}
 use Rattle.rv_recording.proofs.Stands.{gave}
 use Rattle.rv_recording.proofs.recording.Recording.give.Goals as goal
 

@@ -1,7 +1,7 @@
 use Rattle.std.proofs.Common.{◌≡◌, subst, arith}
 use Rattle.rv_monitor.specs.State.{SessionState, IsInTime}
 use Rattle.rv_recording.specs.Until.{comes}
-use Rattle.rv_recording.specs.Refused.{end_with}
+use Rattle.rv_recording.specs.Support.Refused.{end_with}
 use Rattle.rv_recording.proofs.Running.{Going, begins, goes_on, ended, limit, refused, end_is, others_at, others_next, others_due}
 use Rattle.rv_recording.proofs.recording.Recording.run_until.Goals as goal
 

@@ -1,5 +1,5 @@
 use Rattle.rv_recording.specs.Until.{comes}
-use Rattle.rv_recording.specs.Refused.{end_with}
+use Rattle.rv_recording.specs.Support.Refused.{end_with}
 use Rattle.rv_recording.proofs.Running.{Going}
 use Rattle.rv_recording.proofs.recording.Recording.run_until.Given as goal
 

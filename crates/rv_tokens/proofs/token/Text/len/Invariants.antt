@@ -1,6 +1,6 @@
 use Rattle.std.proofs.Common.{◌≡◌, ◌≤◌, ◌+◌, ◌++◌, ℕ, List, Some, length}
 use Rattle.std.specs.Option.{option_map}
-use Rattle.rv_tokens.specs.Partial.{string_bytes}
+use Rattle.rv_tokens.specs.Support.Partial.{string_bytes}
 use Rattle.rv_tokens.proofs.token.Text.len.Given as goal
 
 abbrev pub invariant-loop-n : goal.invariant-loop-n

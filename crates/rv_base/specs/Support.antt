@@ -1,0 +1,3 @@
+-- Definitions that aren't to audit: each file says why.
+pub mod Room
+pub mod TableRows

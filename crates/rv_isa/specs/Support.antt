@@ -1,0 +1,8 @@
+-- Definitions that aren't to audit: each file says why.
+pub mod Kinds
+pub mod Layout
+pub mod Letters
+pub mod Loads
+pub mod Meaning
+pub mod Mnemonics
+pub mod TextParts

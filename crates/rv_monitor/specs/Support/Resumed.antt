@@ -1,0 +1,15 @@
+-- Not to audit: only `Session::resume` cites this, the way to what `Recording::go_back` promises.
+-- A session that goes on from a board which has taken some of its steps.
+use Rattle.std.specs.Prelude.{ℕ, List}
+use Rattle.rv_board.specs.Support.State.{BoardState}
+use Rattle.rv_lists.specs.declared.input.TimedInput.{TimedInput}
+use Rattle.rv_monitor.specs.State.{TimedState, SessionState, count_before}
+
+-- a board that has taken some steps, and was given the inputs before each of them
+abbrev pub resumed : BoardState → List TimedInput → ℕ → TimedState
+resumed board inputs taken =
+    record { board = board; inputs = inputs; place = count_before taken inputs; taken = taken }
+
+-- a session over another board that has taken some steps, with all that it has
+abbrev pub resumed_at : SessionState → BoardState → ℕ → SessionState
+resumed_at s board taken = record s { timed = resumed board s.timed.inputs taken }

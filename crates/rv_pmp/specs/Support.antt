@@ -1,0 +1,8 @@
+-- Definitions that aren't to audit: each file says why.
+pub mod ActiveEntries
+pub mod Guards
+pub mod PermissionCache
+pub mod Permits
+pub mod Registers
+pub mod Span
+pub mod WidestSpan

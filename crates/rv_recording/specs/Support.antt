@@ -1,0 +1,6 @@
+-- Definitions that aren't to audit: each file says why.
+pub mod Kept
+pub mod Nearer
+pub mod Recorded
+pub mod Refused
+pub mod Steps

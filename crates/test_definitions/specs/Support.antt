@@ -1,0 +1,6 @@
+-- Definitions that aren't to audit: each file says why.
+pub mod Devices
+pub mod Instructions
+pub mod Registers
+pub mod Runs
+pub mod Traps
