@@ -52,6 +52,7 @@ class Judge:
     def __init__(self, board: Board, seed: str | None) -> None:
         self.board = board
         self.seed = seed
+        self.known: dict[str, bytes] = {}  # what references print
         self.mark = f"rvgrade_{secrets.token_hex(8)}"
 
     def verdict(self, test: Test, submission: Part) -> Verdict:
@@ -79,6 +80,8 @@ class Judge:
 
     def expected(self, test: Test, reference: Part) -> bytes:
         """What the reference prints, which has to be right in all else."""
+        if test.name in self.known:
+            return self.known[test.name]
         joined = self.joined(test, reference)
         run = self.board.run(joined.text(), test.settings, commands_of(test, joined))
         verdict = self.fails(replace(test, console=None), reference, joined, run)
@@ -86,7 +89,10 @@ class Judge:
             raise Refused(
                 f"test {shown(test.name)}: the reference fails: {verdict.says[0]}"
             )
-        return end_of(run, test).console
+        console = end_of(run, test).console
+        if not test.random:
+            self.known[test.name] = console
+        return console
 
     def joined(self, test: Test, submission: Part) -> Joined:
         """The source of a run."""
@@ -230,7 +236,7 @@ def lost(seen: Look, test: Test) -> Verdict:
     trap = seen.traps[-1] if seen.traps else None
     if not trap or len(seen.pcs) < 2 or trap.epc != seen.pcs[-2]:
         return jumped(seen.place(1), 0)
-    if trap.cause == 1 and not seen.place(1):
+    if seen.place(2) and not seen.place(1):  # no line's code is there
         return jumped(seen.place(2), trap.epc)
     text = f"it traps, and no handler is set: {cause_of(trap)}"
     place = seen.place(1)
