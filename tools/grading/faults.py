@@ -5,10 +5,18 @@ from collections.abc import Collection, Sequence
 from dataclasses import dataclass
 
 from grading.refusal import shown
-from grading.source import REGISTERS, Joined, Part, Place, definitions, names_of
+from grading.source import (
+    REGISTERS,
+    Joined,
+    Part,
+    Place,
+    bad_byte,
+    definitions,
+    names_of,
+)
 
 MEANINGS = {
-    "E1": "it has a byte that isn't ASCII, as a quotation mark or a dash of a word processor",
+    "E1": "it has a byte that isn't printing ASCII",
     "E2": "it has more than 1,024 bytes",
     "E3": "it can't be read as labels and a statement",
     "E4": "its first word is neither an instruction nor a directive of the board",
@@ -95,6 +103,10 @@ def meaning(place: Place, code: str, missing: Sequence[str]) -> str:
     for mark, name in MARKS.items():
         if code == "E1" and place.number == 1 and text.startswith(mark):
             return f"the file begins with {name}: save it as UTF-8 without a mark"
+    column = bad_byte(place.text()) if code == "E1" else None
+    if column is not None:
+        byte = ord(place.text()[column])
+        return f"the byte 0x{byte:02x} in column {column + 1} isn't printing ASCII: {source_of(place)}"
     if missing and code in ("E7", "E10"):
         return f"{shown(missing[0])} isn't defined{' before' if code == 'E7' else ''}: {source_of(place)}"
     return f"{MEANINGS[code]}: {source_of(place)}"

@@ -89,6 +89,24 @@ def words_of(text: str) -> Iterator[str]:
             yield token["name"]
 
 
+def bad_byte(line: str) -> int | None:
+    """Where a line has its first byte, outside of strings and comments, that begins no token."""
+    start = 0
+    for token in TOKEN.finditer(line):
+        for at in range(start, token.start()):
+            if line[at] != "\t" and not " " <= line[at] <= "~":
+                return at
+        if token["comment"]:
+            return None
+        start = token.end()
+    rest = (
+        at
+        for at in range(start, len(line))
+        if line[at] != "\t" and not " " <= line[at] <= "~"
+    )
+    return next(rest, None)
+
+
 def places_of(parts: Sequence[Part]) -> Iterator[tuple[Place, Names]]:
     """Each line of some parts with its names."""
     for part in parts:
