@@ -1,6 +1,7 @@
 """The command rvgrade."""
 
 import argparse
+import io
 import os
 import re
 import subprocess
@@ -31,6 +32,9 @@ OWN_FAULTS = (
 def main() -> int:
     """Grades submissions, or merges results."""
     words = read_words()
+    for stream in (sys.stdout, sys.stderr):
+        if isinstance(stream, io.TextIOWrapper):
+            stream.reconfigure(errors="backslashreplace")
     try:
         if words.merge:
             graded = merged(words.files)

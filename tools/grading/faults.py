@@ -63,7 +63,7 @@ def where(place: Place) -> str:
 
 def source_of(place: Place) -> str:
     """The text of a line."""
-    return quoted(place.text().strip().encode("latin-1"))
+    return quoted(place.text().strip(" \t\r").encode("latin-1"))
 
 
 def fault_of(joined: Joined, submission: Part, number: int, fault: str) -> Verdict:

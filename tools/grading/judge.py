@@ -146,7 +146,8 @@ class Judge:
                 place, "past-end", text, "the code runs past the end of the file"
             )
         if stop.why == "limit":
-            return None if test.halt == NEVER else endless(seen(), test)
+            never = test.halt == NEVER
+            return skipped(test, end) if never else endless(seen(), test)
         if test.halt == NEVER:
             text = f"this halts the board, with code {end.code} after {stop.steps} steps; it should never end"
             return told(seen().place(1), "early", text, text)

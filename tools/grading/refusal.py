@@ -6,7 +6,12 @@ class Refused(Exception):
 
 
 def shown(text: str | bytes) -> str:
-    """A text with every byte escaped that isn't printing ASCII, so that it can't drive a terminal."""
-    if isinstance(text, str):
-        text = text.encode("utf-8", "surrogateescape")
-    return "".join(chr(b) if 32 <= b < 127 else f"\\x{b:02x}" for b in text)
+    """A text in which what isn't printable is escaped, so that it can't drive a terminal."""
+    if isinstance(text, bytes):
+        text = text.decode("utf-8", "surrogateescape")
+    return "".join(one if one.isprintable() else escaped(one) for one in text)
+
+
+def escaped(character: str) -> str:
+    """The bytes of a character as escapes."""
+    return "".join(f"\\x{b:02x}" for b in character.encode("utf-8", "surrogateescape"))
