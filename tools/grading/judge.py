@@ -9,7 +9,16 @@ from grading.board import Board, Look, Run, Stop, Trap, look
 from grading.console import console_of, differences
 from grading.faults import Verdict, at, borrowed, fault_of, source_of, where
 from grading.refusal import Refused, shown
-from grading.source import Joined, Part, Place, words_of
+from grading.source import (
+    REGISTERS,
+    Joined,
+    Part,
+    Place,
+    definitions,
+    names_of,
+    statement_of,
+    words_of,
+)
 from grading.tests import ALIASES, NEVER, Test, random_line
 
 CAUSES = {
@@ -29,6 +38,7 @@ CAUSES = {
 }
 RA = "ra isn't what it was at the function's entry"
 DAMAGED = "did the submission change sp, ra, s0 to s11, or memory that isn't its own?"
+CALLS = ("call", "jal", "jalr")
 AGAIN = 8  # traps in a row that are the same
 
 
@@ -37,7 +47,7 @@ class End:
     """How a run ended, by the answers of its commands."""
 
     stop: Stop
-    reached: bool  # whether the harness's end was
+    reached: Stop | None  # the stop at the harness's end
     passed: dict[str, int]
     registers: list[int]
     words: dict[str, list[int | None] | None]
@@ -156,7 +166,17 @@ class Judge:
             if not differences(test.console, end.console, test.compare):
                 text += "; what should be printed was, but not by the harness alone"
             return told(seen().place(1), "early", text, text)
-        return skipped(test, end)
+        return self.cut_short(test, joined, end)
+
+    def cut_short(self, test: Test, joined: Joined, end: End) -> Verdict | None:
+        """The verdict of a run in which the harness didn't do all that it should, with a jump of the submission's."""
+        verdict = skipped(test, end)
+        if end.reached and alone_at_end(test) and (verdict or not test.passes):
+            place = look(self.board, joined, test.settings, end.reached.steps).place(1)
+            if place and place.part.submitted:
+                text = "this jumps to the harness's end, to which only the harness should come"
+                return told(place, "skipped", text, text)
+        return verdict
 
 
 def with_values(parts: Sequence[Part], values: dict[str, int]) -> tuple[Part, ...]:
@@ -197,7 +217,7 @@ def end_of(run: Run, test: Test) -> End:
     labels = {name: answers.address() for name in test.passes}
     passed = dict.fromkeys(test.passes, 0)
     final: Stop | None = None
-    reached = False
+    reached: Stop | None = None
     registers: list[int] = []
     count = stops_of(test)
     for number in range(count + 2):
@@ -213,7 +233,7 @@ def end_of(run: Run, test: Test) -> End:
         if stop.why != "break" or stop.pc in (0, guard):
             final = stop
         elif stop.pc == end:
-            reached = True
+            reached = stop
         for name, address in labels.items():
             if stop.why == "break" and stop.pc == address:
                 passed[name] += 1
@@ -221,6 +241,21 @@ def end_of(run: Run, test: Test) -> End:
     words = {name: answers.words(len(wanted)) for name, wanted in test.words.items()}
     console, code = console_of(answers.rest)
     return End(final or last, reached, passed, registers, words, code, console, guard)
+
+
+def alone_at_end(test: Test) -> bool:
+    """Whether the harness comes to its end from a line of its own, and not by the submission's return."""
+    own = definitions(test.harness)
+    for parts in (test.before, test.behind):
+        last = ""
+        for line in (line for part in parts for line in part.lines()):
+            if test.end in names_of(line).defined:
+                called = [name for name in names_of(last).used if name not in REGISTERS]
+                if statement_of(last) in CALLS:
+                    return called != [] and all(name in own for name in called)
+                return last != ""
+            last = line if statement_of(line) else last
+    return False
 
 
 def told(place: Place | None, kind: str, text: str, otherwise: str) -> Verdict:

@@ -80,6 +80,14 @@ def names_of(line: str) -> Names:
     return names
 
 
+def statement_of(line: str) -> str | None:
+    """The mnemonic or directive of a line."""
+    at = 0
+    while label := LABEL.match(line, at):
+        at = label.end()
+    return next(words_of(line[at:]), None)
+
+
 def words_of(text: str) -> Iterator[str]:
     """The names in a text, without those in strings and comments."""
     for token in TOKEN.finditer(text):
