@@ -40,8 +40,10 @@ def main() -> int:
             graded = merged(words.files)
         else:
             graded = grade(words)
-        write(words.junit, junit_of(graded))
-        write(words.json, json_of(graded).encode())
+        if words.junit is not None:
+            write(words.junit, junit_of(graded))
+        if words.json is not None:
+            write(words.json, json_of(graded).encode())
         if not words.quiet:
             sys.stdout.write(text_of(graded))
             sys.stdout.flush()
@@ -232,8 +234,7 @@ def check_test(test: Test, path: str, judge: Judge) -> None:
         judge.expected(judge.with_random(test, test.reference)[0], test.reference)
 
 
-def write(path: str | None, content: bytes) -> None:
-    """Writes a file, if one is wanted."""
-    if path is not None:
-        with open(path, "wb") as file:
-            file.write(content)
+def write(path: str, content: bytes) -> None:
+    """Writes a file."""
+    with open(path, "wb") as file:
+        file.write(content)
