@@ -10,6 +10,7 @@ harness_call:
         call    harness_print
         addi    s0,s0,8
         bne     s0,s1,harness_call
+harness_done:                           # only here may the board halt
         li      t0,0x100000
         li      t1,0x5555               # halt with code 0
         sw      t1,(t0)
