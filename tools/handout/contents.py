@@ -2,6 +2,7 @@
 
 import os
 import re
+import tempfile
 from dataclasses import dataclass
 
 from elf.board import TOP
@@ -13,28 +14,11 @@ from handout.helps import Command, Help, read_commands, read_examples, read_help
 from handout.manual import manual
 from handout.programs import Program, Running, kit_of, oldest_glibc
 
-DOCUMENTS = [
-    "GUIDE",
-    "LAB",
-    "BOARD",
-    "ASSEMBLER",
-    "MONITOR",
-    "C",
-    "ISOLATION",
-    "LIMITS",
-]
-MANUALS = {
-    "rvboard": "docs/BOARD.md",
-    "rvlab": "docs/LAB.md",
-}  # with the tables of exit statuses
-OWN_TOOLS = {
-    "build",
-    "counts",
-    "definitions",
-    "dist",
-    "handout",
-    "need",
-}  # which work on the repository itself
+DOCUMENTS = "GUIDE LAB BOARD ASSEMBLER MONITOR C ISOLATION LIMITS".split()
+# By program the document that has the table of its exit statuses.
+MANUALS = {"rvboard": "docs/BOARD.md", "rvlab": "docs/LAB.md"}
+# The tools that work on the repository itself, and so aren't handed out.
+OWN_TOOLS = set("build counts definitions dist handout need".split())
 README = "tools/handout/README.md"
 PAGE = "board.html"
 RESULT = "## The last result"  # of docs/GATE.md
@@ -156,16 +140,16 @@ def proved(making: Making) -> str:
 
 def from_helps(making: Making) -> dict[str, Entry]:
     """Man pages and completions."""
-    running = Running(making.programs, os.path.join(TOP, "examples/hello.s"))
     made = {}
-    for name, document in MANUALS.items():
-        words = read_help(name, running.help_of(name))
-        commands, note = commands_of(running) if name == "rvlab" else ([], [])
-        made[f"share/man/man1/{name}.1"] = text(
-            manual_of(making, words, document, commands, note)
-        )
-        made[f"share/bash-completion/completions/{name}"] = text(bash(words))
-        made[f"share/zsh/site-functions/_{name}"] = text(zsh(words))
+    with tempfile.TemporaryDirectory(prefix="dist") as room:
+        running = Running(making.programs, room, os.path.join(TOP, "examples/hello.s"))
+        for name, document in MANUALS.items():
+            words = read_help(name, running.help_of(name))
+            commands, note = commands_of(running) if name == "rvlab" else ([], [])
+            page = manual_of(making, words, document, commands, note)
+            made[f"share/man/man1/{name}.1"] = text(page)
+            made[f"share/bash-completion/completions/{name}"] = text(bash(words))
+            made[f"share/zsh/site-functions/_{name}"] = text(zsh(words))
     return made
 
 

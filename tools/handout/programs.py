@@ -5,7 +5,6 @@ import os
 import shutil
 import struct
 import subprocess
-import tempfile
 from collections.abc import Iterator
 from dataclasses import dataclass
 
@@ -67,7 +66,11 @@ def oldest_glibc(programs: list[Program]) -> str:
     """The oldest glibc that has all that the programs need, as 2.34."""
     newest: tuple[int, ...] = ()
     for program in programs:
-        for version in versions_needed(program.data):
+        try:
+            versions = list(versions_needed(program.data))
+        except (struct.error, ValueError, IndexError):
+            raise Refused(f"{program.path} is only a part of a program") from None
+        for version in versions:
             library, _, number = version.partition("_")
             if library != "GLIBC" or not number.replace(".", "").isdigit():
                 raise Refused(f"{program.path} needs {version}, which isn't glibc's")
@@ -97,45 +100,43 @@ def kit_of(programs: list[Program]) -> str:
     return lines.pop()
 
 
-def output_of(command: list[str], text: str, folder: str | None = None) -> str:
+def output_of(command: list[str], text: str) -> str:
     """What a program prints where this is its standard input."""
+    said = " ".join(command)
     try:
         done = subprocess.run(
             command,
             input=text.encode(),
             stdout=subprocess.PIPE,
-            cwd=folder,
             timeout=SECONDS,
             check=False,
         )
     except OSError as fault:
         raise Refused(f"{command[0]} can't be run: {fault.strerror}") from None
     except subprocess.TimeoutExpired:
-        raise Refused(
-            f"{' '.join(command)} takes more than {SECONDS} seconds"
-        ) from None
+        raise Refused(f"{said} takes more than {SECONDS} seconds") from None
     if done.returncode:
-        raise Refused(f"{' '.join(command)} has status {done.returncode}")
+        raise Refused(f"{said} has status {done.returncode}")
     return done.stdout.decode(errors="replace")
 
 
 class Running:
-    """The programs in a folder of their own, under their own names, which their help has."""
+    """The programs in a folder, under their own names, which their help has."""
 
-    def __init__(self, programs: list[Program], source: str) -> None:
-        self.room = tempfile.TemporaryDirectory(prefix="dist")
+    def __init__(self, programs: list[Program], room: str, source: str) -> None:
+        self.room = room
         self.source = source
         for program in programs:
-            path = os.path.join(self.room.name, program.name)
+            path = os.path.join(room, program.name)
             with open(path, "wb") as file:
                 file.write(program.data)
             os.chmod(path, 0o755)
 
     def help_of(self, name: str) -> str:
         """What a program prints by --help."""
-        return output_of([os.path.join(self.room.name, name), "--help"], "")
+        return output_of([os.path.join(self.room, name), "--help"], "")
 
     def lab(self, commands: list[str]) -> str:
         """What the lab prints by these commands."""
-        command = [os.path.join(self.room.name, "rvlab"), self.source]
+        command = [os.path.join(self.room, "rvlab"), self.source]
         return output_of(command, "".join(line + "\n" for line in commands))
