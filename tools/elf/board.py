@@ -14,6 +14,9 @@ def proved_program(name: str, variable: str) -> str:
     named = os.environ.get(variable)
     if named:
         return named
+    handed_out = os.path.join(TOP, "bin", name)  # in what tools/dist makes
+    if os.path.exists(handed_out):
+        return handed_out
     script, built = os.path.join(TOP, name), os.path.join(TOP, "out", name)
     if not os.path.exists(built):
         # its script proves and builds it, and tells that on standard error

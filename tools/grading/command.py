@@ -130,13 +130,16 @@ def jobs(text: str) -> int:
 
 
 def program() -> str:
-    """The path of rvboard: what RVBOARD says, or the one beside rvgrade, or the one that the repository has built."""
+    """The path of rvboard: what RVBOARD says, or the one beside rvgrade, or the one that was handed out or built."""
     named = os.environ.get("RVBOARD")
-    beside = os.path.join(FOLDER, "rvboard")
+    if named:
+        return named
     top = os.path.dirname(FOLDER)
+    handed_out = os.path.join(top, "bin", "rvboard")  # in what tools/dist makes
+    for path in (os.path.join(FOLDER, "rvboard"), handed_out):
+        if os.path.exists(path):
+            return path
     script, built = os.path.join(top, "rvboard"), os.path.join(top, "out", "rvboard")
-    if named or os.path.exists(beside):
-        return named or beside
     if not os.path.exists(built) and os.path.exists(script):
         # the script proves and builds it, and tells that on standard error
         subprocess.run([script, "--help"], stdout=subprocess.DEVNULL, check=False)

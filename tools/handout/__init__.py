@@ -1,0 +1,1 @@
+"""Makes the archive that teachers and students get: the parts of dist."""
