@@ -12,7 +12,7 @@ web = top / "web"
 
 
 # The modules of the page, each after those that it imports.
-PAGE = ["dom", "client", "language", "lines", "links", "kept", "texts", "marks", "views", "editor", "files"]
+PAGE = ["queue", "dom", "client", "language", "lines", "links", "kept", "texts", "marks", "views", "editor", "files"]
 PAGE += ["tabs", "controls", "page"]
 
 

@@ -106,7 +106,13 @@ function showRepeat(panel, _, { saved, done }) {
 export class Tabs {
     // `onChange` is called when another tab, or another part of memory, is to be shown.
     constructor(onChange) {
-        Object.assign(this, { onChange, name: NAMES[0] });
+        this.name = NAMES[0];
+        this.number = 0; // of the question that is asked now
+        this.shown = 0; // the number of the question whose answers are shown
+        this.onChange = () => {
+            this.number++;
+            onChange();
+        };
         const buttons = NAMES.map((name) => {
             const words = `role="tab" id="tab-${name}" aria-controls="panel-${name}"`;
             return `<button ${words}>${TABS[name].title}</button>`;
@@ -123,7 +129,7 @@ export class Tabs {
             const move = { ArrowRight: 1, ArrowLeft: -1 }[key];
             if (move) this.open(NAMES.at((NAMES.indexOf(this.name) + move) % NAMES.length), true);
         });
-        for (const id of ["memory-where", "memory-words"]) $(id).addEventListener("change", onChange);
+        for (const id of ["memory-where", "memory-words"]) $(id).addEventListener("change", () => this.onChange());
         $("memory-earlier").addEventListener("click", () => this.moveMemory(-SHOWN));
         $("memory-later").addEventListener("click", () => this.moveMemory(SHOWN));
         this.open(this.name);
@@ -148,12 +154,29 @@ export class Tabs {
         this.onChange();
     }
 
-    // The commands whose answers the open tab shows.
-    lines(board) {
-        return TABS[this.name].lines(board);
+    // What the open tab asks: its number, and the commands whose answers it shows.
+    question(board) {
+        return { number: this.number, name: this.name, lines: TABS[this.name].lines(board) };
     }
 
-    show(answers, board) {
-        TABS[this.name].show($(`panel-${this.name}`), answers, board);
+    // Whether something else was asked after a question.
+    isLate({ number }) {
+        return number !== this.number;
+    }
+
+    // Whether what is asked isn't shown yet.
+    get isWaiting() {
+        return this.shown !== this.number;
+    }
+
+    // Says that the answers come later, or that none will.
+    wait(is = true) {
+        $("panels").setAttribute("aria-busy", is);
+    }
+
+    show({ number, name }, answers, board) {
+        this.shown = number;
+        this.wait(false);
+        TABS[name].show($(`panel-${name}`), answers, board);
     }
 }
