@@ -12,8 +12,8 @@ web = top / "web"
 
 
 # The modules of the page, each after those that it imports.
-PAGE = ["queue", "dom", "client", "language", "lines", "links", "kept", "texts", "marks", "views", "editor", "files"]
-PAGE += ["tabs", "controls", "page"]
+PAGE = ["lines", "queue", "dom", "client", "language", "links", "kept", "texts", "marks", "views", "editor"]
+PAGE += ["files", "faults", "tabs", "controls", "page"]
 
 
 def script(*names):

@@ -1,10 +1,10 @@
 // The page: what is on the board, the commands that change it, and the controls that give them.
 import { BoardLost, call, pauseRun, startBoard } from "./client.mjs";
 import { makeControls, markControls } from "./controls.mjs";
-import { $, say } from "./dom.mjs";
+import { $, say, showConsole } from "./dom.mjs";
 import { Editor } from "./editor.mjs";
+import { listFaults } from "./faults.mjs";
 import { Files } from "./files.mjs";
-import { escaped } from "./language.mjs";
 import { encode } from "./lines.mjs";
 import { download } from "./links.mjs";
 import { countLines, readLines, readMarks } from "./marks.mjs";
@@ -95,12 +95,6 @@ function changeTab() {
     if (!queue.isBusy) return queue.lookNow(showTab);
     tabs.wait();
     if (turn) interrupt(() => {}, { isLook: true });
-}
-
-function showConsole(text) {
-    const box = $("console");
-    if (box.textContent !== text) box.textContent = text;
-    box.scrollTop = box.scrollHeight;
 }
 
 // Marks pc's line and the breakpoints, if the source is still the one on the board.
@@ -199,11 +193,7 @@ async function readLabels(source) {
 }
 
 function showFaults(faults) {
-    const button = (line) => (line ? `<button value="${line}">Line ${line}</button> ` : "");
-    const rows = faults.map(({ line, sentence, advice }) => {
-        return `<li>${button(line)}✗ ${escaped(sentence)} <span class="hint">${escaped(advice)}</span></li>`;
-    });
-    $("faults").innerHTML = rows.join("");
+    listFaults(faults);
     $("text").setAttribute("aria-invalid", faults.length > 0);
     editor.faults = new Map(faults.map((fault) => [fault.line, fault]));
     editor.draw();

@@ -16,7 +16,8 @@ const TABS = {
     memory: {
         title: "Memory",
         html: `<p><label>From <input id="memory-where" value="0x80000000" size="12"></label>
-            <button id="memory-earlier">Earlier</button> <button id="memory-later">Later</button>
+            <button id="memory-earlier" aria-label="Earlier memory">Earlier</button>
+            <button id="memory-later" aria-label="Later memory">Later</button>
             <label><input id="memory-words" type="checkbox"> as words</label>
             <span class="hint">a register such as sp, a name, a line, 0x and a number, each with +N</span></p>
             <p><label>Size at the next Assemble <input id="pages" type="number" min="1" max="4096"></label> pages
@@ -76,7 +77,7 @@ function showTraps(panel, [traps, why = "Why? (Alt+Y) explains it: the run is lo
 
 // The switch of an interrupt line.
 function lineHtml(number) {
-    const words = `role="switch" aria-checked="false" value="${number}"`;
+    const words = `role="switch" aria-checked="false" aria-label="Line ${number}" value="${number}"`;
     return `<li><button ${words}>${number} <span class="level">low</span></button> <span></span></li>`;
 }
 
