@@ -1,5 +1,5 @@
 // The controls: what each is named, its key, and what it does in words for those who point at it.
-import { $ } from "./dom.mjs";
+import { $, isAsking } from "./dom.mjs";
 
 const CONTROLS = [
     { id: "assemble", title: "Assemble", key: "A", does: "Assembles the source, and boots the board" },
@@ -43,7 +43,7 @@ export function makeControls(press) {
     $("controls").innerHTML = ['<span class="hint">Alt +</span>', ...buttons, speed].join(" ");
     for (const { id } of CONTROLS) $(id).addEventListener("click", () => press(id));
     document.addEventListener("keydown", (event) => {
-        if (!event.altKey || event.ctrlKey || event.metaKey) return;
+        if (!event.altKey || event.ctrlKey || event.metaKey || isAsking()) return;
         const pressed = letterOf(event), control = CONTROLS.find(({ key }) => key === pressed);
         if (!control) return;
         event.preventDefault();

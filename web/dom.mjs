@@ -3,6 +3,8 @@ import { sameLength } from "./lines.mjs";
 
 export const $ = (id) => document.getElementById(id);
 
+export const isAsking = () => document.querySelector("dialog[open]") !== null;
+
 const SENT = /^((?:\| .*\n?)+)/m; // the lines of what a program has sent
 
 // Shows a text without having a screen reader read it.

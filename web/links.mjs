@@ -1,4 +1,4 @@
-// Files that are saved, and links that hold a state.
+// Files that are saved, and links that hold a state or name an example.
 import { asShown } from "./lines.mjs";
 
 const KEPT = 10000; // milliseconds for which a saved file can be fetched
@@ -9,6 +9,41 @@ export function download(name, bytes) {
     link.download = name;
     link.click();
     setTimeout(() => URL.revokeObjectURL(link.href), KEPT);
+}
+
+// Whether the page stands in a frame, and whether in one that may do little.
+export const isFramed = () => window.top !== window;
+export const isSandboxed = () => isFramed() && window.origin === "null";
+
+// Whether the page is to be a part of another one.
+export const isEmbedded = () => new URLSearchParams(location.search).has("embed");
+
+// The page's address with a fragment, for a tab of its own. A frame whose text came without an address has none.
+export function addressOf(fragment) {
+    if (!/^(https?|file):$/.test(location.protocol)) return `#${fragment}`;
+    const address = new URL(location.href);
+    address.searchParams.delete("embed");
+    address.hash = fragment;
+    return address.href;
+}
+
+// Shows an address as the page's own, where the browser lets the page do so.
+export function setAddress(address) {
+    try {
+        history.replaceState(null, "", address);
+    } catch {
+        // a frame keeps the address that it has
+    }
+}
+
+// The name of the example that a fragment asks for, or nothing.
+export function linkedName(fragment) {
+    const name = fragment.match(/^example=(.*)$/)?.[1];
+    try {
+        return name && decodeURIComponent(name);
+    } catch {
+        return name;
+    }
 }
 
 async function through(stream, bytes) {

@@ -1,12 +1,13 @@
 // The page: what is on the board, the commands that change it, and the controls that give them.
 import { BoardLost, call, pauseRun, startBoard } from "./client.mjs";
 import { makeControls, markControls } from "./controls.mjs";
+import { makeDialogs } from "./dialogs.mjs";
 import { $, say, showConsole } from "./dom.mjs";
 import { Editor } from "./editor.mjs";
 import { listFaults } from "./faults.mjs";
 import { Files } from "./files.mjs";
 import { encode } from "./lines.mjs";
-import { download } from "./links.mjs";
+import { download, isEmbedded } from "./links.mjs";
 import { countLines, readLines, readMarks } from "./marks.mjs";
 import { Queue } from "./queue.mjs";
 import { Tabs } from "./tabs.mjs";
@@ -366,11 +367,18 @@ async function send(text) {
 
 function makeForms() {
     for (const [form, field, act] of [["send", "send-text", send], ["ask", "ask-line", command]]) {
-        $(form).addEventListener("submit", async (event) => {
-            event.preventDefault();
+        const give = async () => {
             const text = $(field).value;
             $(field).value = "";
             if (!(await interrupt(() => act(text)))) $(field).value = text;
+        };
+        // Nothing is submitted: a frame may not.
+        $(form).addEventListener("submit", (event) => event.preventDefault());
+        $(form).querySelector("button").addEventListener("click", give);
+        $(field).addEventListener("keydown", (event) => {
+            if (event.key !== "Enter" || event.isComposing) return;
+            event.preventDefault();
+            give();
         });
     }
     $("faults").addEventListener("click", ({ target }) => {
@@ -396,6 +404,8 @@ async function start() {
     editor = new Editor(parts, { onChange: typed, onBreakpoint: (line) => interrupt(() => toggleBreakpoint(line)) });
     tabs = new Tabs(changeTab);
     files = new Files({ texts: readTexts, state: readState, load: loadState });
+    document.body.classList.toggle("embed", isEmbedded());
+    makeDialogs();
     makeControls(press);
     makeForms();
     showControls();

@@ -31,6 +31,10 @@ async function files() {
     await page.click("#save");
     same("it is saved under its name, as it is now", await page.saved("mine.s"), source.replace("nop", "wfi"));
     await typeOver("wfi", "ecall");
+    await page.click("#load");
+    await page.press("Escape");
+    await idle();
+    same("a source that isn't saved is kept after Escape", await text(), source.replace("nop", "ecall"));
     const asked = page.asked.length;
     await choose("hello");
     contains("a source that isn't saved is replaced after a question", page.asked.slice(asked).join(), /aren't saved/);
