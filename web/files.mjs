@@ -125,6 +125,7 @@ export class Files {
         if (name !== undefined && Object.hasOwn(EXAMPLES, name)) return this.example(name, true);
         const linked = fragment && name === undefined ? await readFragment(fragment).catch(() => null) : null;
         await (linked ? this.put(linked) : this.example("hello"));
+        if (linked?.unset) sayMore(`Of its breakpoints ${linked.unset} are left out.`);
         if (name !== undefined) say(`The link names an example that there isn't: ${name}.`);
         else if (fragment && !linked) say("The link holds no program that can be read.");
     }

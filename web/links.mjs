@@ -1,7 +1,8 @@
 // Files that are saved, and links that hold a state or name an example.
-import { asShown } from "./lines.mjs";
+import { asShown, countLines } from "./lines.mjs";
 
 const KEPT = 10000; // milliseconds for which a saved file can be fetched
+const MARKS = 1000; // the most breakpoints that are taken from a link
 
 export function download(name, bytes) {
     const link = document.createElement("a");
@@ -65,6 +66,12 @@ export async function readFragment(fragment) {
     const text = new TextDecoder().decode(await through(new DecompressionStream("deflate-raw"), bytes));
     const { source, inputs = "", breakpoints = [], pages } = JSON.parse(text);
     if (typeof source !== "string") throw new Error("no source");
-    const marks = breakpoints.filter(Number.isInteger), size = Number.isInteger(pages) ? { pages } : {};
-    return { source: asShown(source), inputs: asShown(String(inputs)), breakpoints: marks, ...size };
+    const shown = asShown(source), size = Number.isInteger(pages) ? { pages } : {};
+    return { source: shown, inputs: asShown(String(inputs)), ...marksOf(breakpoints, countLines(shown)), ...size };
+}
+
+// The breakpoints of a link that are at lines of the source, and how many of these are left out.
+function marksOf(breakpoints, lines) {
+    const marks = new Set(breakpoints.filter((line) => Number.isInteger(line) && 1 <= line && line <= lines));
+    return { breakpoints: [...marks].slice(0, MARKS), unset: Math.max(0, marks.size - MARKS) };
 }

@@ -6,9 +6,10 @@ import { $, say, showConsole } from "./dom.mjs";
 import { Editor } from "./editor.mjs";
 import { listFaults } from "./faults.mjs";
 import { Files } from "./files.mjs";
-import { encode } from "./lines.mjs";
+import { labelsOf } from "./language.mjs";
+import { countLines, encode } from "./lines.mjs";
 import { download, isEmbedded } from "./links.mjs";
-import { countLines, readLines, readMarks } from "./marks.mjs";
+import { readLines, readMarks } from "./marks.mjs";
 import { Queue } from "./queue.mjs";
 import { Tabs } from "./tabs.mjs";
 import { readFaults, readLevels, readRegisters, readSaved } from "./texts.mjs";
@@ -181,13 +182,13 @@ function assemble() {
         await call("ask", lines.map((line) => `b ${line}`));
         labels = await readLabels(source);
         await refresh();
-        say(`Assembled: ${countLines(source)} lines. The board is at reset.`);
+        const count = countLines(source);
+        say(`Assembled: ${count} ${count === 1 ? "line" : "lines"}. The board is at reset.`);
     });
 }
 
 async function readLabels(source) {
-    const found = [...source.matchAll(/^\s*([A-Za-z_.$][\w.$]*):/gm)].slice(0, LABELS);
-    const names = found.map(([, name]) => name);
+    const names = labelsOf(source, LABELS);
     const answers = await call("ask", names.map((name) => `m ${name} 1`));
     const all = names.map((name, i) => ({ name, at: parseInt(answers[i], 16) }));
     return all.filter(({ at }) => !Number.isNaN(at));

@@ -24,7 +24,7 @@ async function files() {
     const file = path.join(room, "mine.s"), source = "# mine\n        nop\n        ebreak\n";
     fs.writeFileSync(file, source);
     await page.choose(file, () => page.click("#open"));
-    await answers("Assembled: 4 lines");
+    await answers("Assembled: 3 lines");
     await idle();
     same("a file is opened", await text(), source);
     await typeOver("nop", "wfi");
