@@ -22,7 +22,9 @@ export function call(act, ...words) {
     });
 }
 
-function receive({ data: { id, result, failed, lost, steps, sent } }) {
+// Gives an answer to the call that it names. One that nobody waits for is dropped.
+function receive({ id, result, failed, lost, steps, sent }) {
+    if (!waiting.has(id)) return;
     if (steps !== undefined) return show(steps, sent);
     const { resolve, reject } = waiting.get(id);
     waiting.delete(id);
@@ -33,7 +35,7 @@ function receive({ data: { id, result, failed, lost, steps, sent } }) {
 // Begins a worker that runs board.wasm.
 function begin() {
     worker = new Worker(address);
-    worker.onmessage = receive;
+    worker.onmessage = ({ data, target }) => target === worker && receive(data);
     worker.onerror = (event) => {
         event.preventDefault();
         replace(event.message || "it ended");

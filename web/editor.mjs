@@ -4,6 +4,7 @@ import { colourLine, escaped } from "./language.mjs";
 import { decodeAll, encode, sameLines } from "./lines.mjs";
 
 const BEYOND = 20; // lines that are drawn above and below those in sight
+const INDENT = " ".repeat(8);
 
 // A line as what precedes the place of a fault, and the place.
 function cutAt(line, { before, length }) {
@@ -22,7 +23,7 @@ export class Editor {
             onChange();
         });
         text.addEventListener("scroll", () => this.draw());
-        text.addEventListener("keydown", (event) => this.indent(event));
+        text.addEventListener("keydown", (event) => this.pressed(event));
         gutter.addEventListener("click", (event) => {
             const line = event.target.closest("li")?.value;
             if (line) onBreakpoint(line);
@@ -58,11 +59,25 @@ export class Editor {
         this.breakpoints = new Set(stays.map((line) => (line <= last ? line : line + more)));
     }
 
-    // Tab moves the focus on, as everywhere; Control+] indents.
-    indent(event) {
-        if (!event.ctrlKey || event.key !== "]") return;
+    // Tab moves the focus on, as everywhere. Control+] indents, and Enter begins a line with the indentation of the last.
+    pressed(event) {
+        if (event.isComposing || event.altKey || event.metaKey || event.getModifierState("AltGraph")) return;
+        const isEnter = event.key === "Enter" && !event.ctrlKey, isIndent = event.key === "]" && event.ctrlKey;
+        if (!isEnter && !isIndent) return;
         event.preventDefault();
-        this.text.setRangeText("        ", this.text.selectionStart, this.text.selectionEnd, "end");
+        this.insert(isEnter ? `\n${this.indentation}` : INDENT);
+    }
+
+    // The blanks at the beginning of the caret's line.
+    get indentation() {
+        const before = this.text.value.slice(0, this.text.selectionStart);
+        return before.slice(before.lastIndexOf("\n") + 1).match(/^[ \t]*/)[0];
+    }
+
+    // Puts a text in the place of what is selected, as if it were typed: so the browser can undo it.
+    insert(text) {
+        if (document.execCommand("insertText", false, text)) return;
+        this.text.setRangeText(text, this.text.selectionStart, this.text.selectionEnd, "end");
         this.text.dispatchEvent(new Event("input"));
     }
 

@@ -1,7 +1,9 @@
 // Examples, files that are opened and saved, links, and what is restored when the page is opened again.
+import { agrees, showLink } from "./dialogs.mjs";
 import { $, say } from "./dom.mjs";
 import { Kept } from "./kept.mjs";
 import { asShown, decodeAll, encode, standIns, withEndsOf } from "./lines.mjs";
+import { addressOf, isEmbedded, isFramed, isSandboxed, linkedName, setAddress } from "./links.mjs";
 import { download, readFragment, writeFragment } from "./links.mjs";
 
 const EXAMPLES = JSON.parse($("examples").textContent);
@@ -26,12 +28,13 @@ export class Files {
         const names = Object.keys(EXAMPLES);
         const lessons = groupHtml("Lessons: find the fault", names.filter(isLesson));
         $("example").innerHTML = groupHtml("Examples", names.filter((name) => !isLesson(name))) + lessons;
-        $("load").addEventListener("click", () => this.mayReplace() && this.example($("example").value));
-        $("open").addEventListener("click", () => this.mayReplace() && $("file").click());
+        const onceMay = (act) => async () => (await this.mayReplace()) && act();
+        $("load").addEventListener("click", onceMay(() => this.example($("example").value)));
+        $("open").addEventListener("click", onceMay(() => $("file").click()));
         $("file").addEventListener("change", () => this.read());
         $("save").addEventListener("click", () => this.save());
         $("link").addEventListener("click", () => this.copyLink());
-        addEventListener("hashchange", () => this.mayReplace() && this.loadLink());
+        addEventListener("hashchange", onceMay(() => this.loadLink()));
         addEventListener("pagehide", () => this.keep());
         addEventListener("beforeunload", (event) => {
             if (!this.keep() && this.isEdited()) event.preventDefault(); // the browser asks
@@ -57,9 +60,9 @@ export class Files {
     }
 
     // Whether the source may be replaced: it is kept elsewhere, or the user agrees.
-    mayReplace() {
+    async mayReplace() {
         const isSaved = this.texts().source === this.saved.source;
-        return isSaved || confirm("The source has changes that aren't saved. Replace it?");
+        return isSaved || agrees("The source has changes that aren't saved. Replace it?");
     }
 
     // Puts a state into the page.
@@ -72,12 +75,13 @@ export class Files {
 
     // Puts a state into the page that is none of its link.
     async putOwn(state, names) {
-        if (await this.put(state, names)) history.replaceState(null, "", location.href.split("#")[0]);
+        if (await this.put(state, names)) setAddress(location.href.split("#")[0]);
     }
 
-    example(name) {
+    example(name, isLinked = false) {
+        const names = { name: `${name.split("/").at(-1)}.s` };
         $("example").value = name;
-        return this.putOwn(EXAMPLES[name], { name: `${name.split("/").at(-1)}.s` });
+        return isLinked ? this.put(EXAMPLES[name], names) : this.putOwn(EXAMPLES[name], names);
     }
 
     // Reads the file that was chosen.
@@ -97,30 +101,38 @@ export class Files {
     save() {
         const { source } = this.texts();
         this.file = withEndsOf(source, this.file);
-        this.saved.source = source;
+        if (!isSandboxed()) this.saved.source = source;
         download(this.name, encode(this.file));
         this.keep();
-        say(`Saved as ${this.name}, where the browser puts files.`);
+        const provided = isSandboxed() ? ", if the page round this one lets it save files" : "";
+        say(`Saved as ${this.name}, where the browser puts files${provided}.`);
     }
 
+    // Copies a link of what is in the page. It stands in the address bar, or is shown where a frame has none.
     async copyLink() {
-        history.replaceState(null, "", `#${await writeFragment(this.state())}`);
-        const copied = await navigator.clipboard?.writeText(location.href).then(() => true, () => false);
-        const place = copied ? "copied, and in the address bar" : "in the address bar";
-        say(`The link is ${place}: it holds the source, the inputs, the breakpoints and the size of memory.`);
+        const link = addressOf(await writeFragment(this.state()));
+        if (!isFramed()) setAddress(link);
+        const copied = await navigator.clipboard?.writeText(link).then(() => true, () => false);
+        const places = [copied && "copied", isFramed() ? "shown" : "in the address bar"].filter(Boolean);
+        const what = "it holds the source, the inputs, the breakpoints and the size of memory.";
+        say(`The link is ${places.join(", and ")}: ${what}`);
+        if (isFramed()) showLink(link, `The link, which opens in a tab of its own: ${what}`);
     }
 
-    // Loads what the page's link holds, or an example.
+    // Loads what the page's link holds or names, or an example.
     async loadLink() {
-        const fragment = location.hash.slice(1);
-        const linked = fragment ? await readFragment(fragment).catch(() => null) : null;
+        const fragment = location.hash.slice(1), name = linkedName(fragment);
+        if (name !== undefined && Object.hasOwn(EXAMPLES, name)) return this.example(name, true);
+        const linked = fragment && name === undefined ? await readFragment(fragment).catch(() => null) : null;
         await (linked ? this.put(linked) : this.example("hello"));
-        if (fragment && !linked) say("The link holds no program that can be read.");
+        if (linked?.unset) sayMore(`Of its breakpoints ${linked.unset} are left out.`);
+        if (name !== undefined) say(`The link names an example that there isn't: ${name}.`);
+        else if (fragment && !linked) say("The link holds no program that can be read.");
     }
 
     // Loads what was typed when the page was left, or what its link holds, or an example.
     async begin() {
-        const entry = await this.kept.open(location.hash);
+        const entry = await this.kept.open(location.hash, isEmbedded());
         if (!entry) return this.loadLink();
         const { name, source, file = source } = entry;
         this.note(entry.edited ? {} : entry, { name, file });

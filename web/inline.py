@@ -2,6 +2,7 @@
 and OUT/board.wasm in it, so that the page is one file and fetches nothing."""
 
 import base64
+import hashlib
 import json
 import pathlib
 import re
@@ -12,8 +13,8 @@ web = top / "web"
 
 
 # The modules of the page, each after those that it imports.
-PAGE = ["dom", "client", "language", "lines", "links", "kept", "texts", "marks", "views", "editor", "files"]
-PAGE += ["tabs", "controls", "page"]
+PAGE = ["lines", "queue", "dom", "dialogs", "client", "language", "links", "kept", "texts", "marks", "views", "editor"]
+PAGE += ["files", "faults", "tabs", "controls", "page"]
 
 
 def script(*names):
@@ -34,6 +35,12 @@ def examples():
     return json.dumps(found).replace("</", "<\\/")
 
 
+def hash_of(text, tag):
+    """The hash by which the page's policy lets an element run: of all that stands in it."""
+    inside = re.search(f"<{tag}>(.*?)</{tag.split()[0]}>", text, re.S).group(1)
+    return "sha256-" + base64.b64encode(hashlib.sha256(inside.encode()).digest()).decode()
+
+
 parts = {
     "style": (web / "style.css").read_text(),
     "worker": script("lines", "board", "worker"),
@@ -46,4 +53,6 @@ for name, part in parts.items():
     mark = f"/* {name} */"
     assert text.count(mark) == 1, mark
     text = text.replace(mark, part.rstrip("\n"))
+text = text.replace("/* script-hash */", hash_of(text, 'script type="module"'))
+text = text.replace("/* style-hash */", hash_of(text, "style"))
 (out / "index.html").write_text(text)

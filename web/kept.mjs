@@ -1,7 +1,7 @@
 // What is typed outlives a reload, a closed tab and a crash: each tab has an entry of the local storage. A tab holds a lock
 // with the name of its entry, so an entry whose lock nobody holds was left by a tab that is closed.
 
-const KEY = "rvboard "; // how the names of entries begin, and the name of that in the tab's session
+const KEY = "rvboard "; // how the names of entries begin, and their names in the tab's session
 const WAIT = 500; // milliseconds in which the page before a reload gives its lock back
 
 // Holds the lock of an entry for as long as the page is open; returns whether it does. Without locks no other page is
@@ -39,12 +39,14 @@ async function leftEntries() {
 
 export class Kept {
     name = ""; // of the entry; nothing is kept before there is one
+    key = KEY; // what has that name in the tab's session, which is one for all frames of a page
 
     // Takes an entry for this tab, and returns what is to be restored from it, or nothing: what the tab itself held under
-    // the same link, or without a link what was typed in the tab that was closed last.
-    async open(link) {
+    // the same link; or without a link what was typed in the tab that was closed last, unless the page is embedded.
+    async open(link, isEmbedded) {
+        if (isEmbedded) this.key = KEY + link;
         try {
-            return (await this.openOwn(link)) ?? (await this.openLeft(link));
+            return (await this.openOwn(link)) ?? (await this.openLeft(link || isEmbedded));
         } catch {
             return null; // the browser lets this page keep nothing
         }
@@ -52,14 +54,14 @@ export class Kept {
 
     // The entry of a tab that is reloaded, opened again or copied; a copy gets an entry of its own.
     async openOwn(link) {
-        const name = sessionStorage.getItem(KEY), entry = name && read(name);
+        const name = sessionStorage.getItem(this.key), entry = name && read(name);
         if (!entry || (link && entry.link !== link)) return null;
         this.take((await hold(name, { signal: AbortSignal.timeout(WAIT) })) ? name : await this.newName());
         return entry;
     }
 
-    async openLeft(link) {
-        for (const entry of link ? [] : await leftEntries()) {
+    async openLeft(isOther) {
+        for (const entry of isOther ? [] : await leftEntries()) {
             if (!(await hold(entry.name, { ifAvailable: true }))) continue;
             this.take(entry.name);
             return { ...entry, closed: true };
@@ -76,7 +78,7 @@ export class Kept {
 
     take(name) {
         this.name = name;
-        sessionStorage.setItem(KEY, name);
+        sessionStorage.setItem(this.key, name);
     }
 
     // Keeps an entry; returns whether there was room for it. What can't be kept is kept in no older form either.

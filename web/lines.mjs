@@ -79,6 +79,19 @@ export function standIns(text) {
     return { count: found.length, line: before.length, column: [...before.at(-1)].length + 1 };
 }
 
+// How many lines a text has: what follows the last line end is one, unless it is empty.
+export function countLines(text) {
+    return text.split("\n").length - (text === "" || text.endsWith("\n") ? 1 : 0);
+}
+
+// How many characters at the beginning of two texts are the same.
+export function sameLength(before, now) {
+    if (now.startsWith(before)) return before.length;
+    let same = 0;
+    while (same < now.length && now[same] === before[same]) same++;
+    return same;
+}
+
 // How many lines at the beginning and at the end of two lists are the same.
 export function sameLines(before, now) {
     const least = Math.min(now.length, before.length);

@@ -1,12 +1,11 @@
 // The lines of the source that are listed, and those with a breakpoint. `l` lists at most 1,000 lines at once.
 import { call } from "./client.mjs";
+import { countLines } from "./lines.mjs";
 import { readBreakLines, readListing } from "./texts.mjs";
 
 const LISTED = 1000;
 
 let last = {}; // the marks of a source of more lines, and of what they were found
-
-export const countLines = (source) => source.split("\n").length;
 
 // The lines of a source of up to 1,000 lines, and else those round pc.
 export async function readLines(source) {

@@ -1,13 +1,16 @@
 // The page: what is on the board, the commands that change it, and the controls that give them.
 import { BoardLost, call, pauseRun, startBoard } from "./client.mjs";
 import { makeControls, markControls } from "./controls.mjs";
-import { $, say } from "./dom.mjs";
+import { makeDialogs } from "./dialogs.mjs";
+import { $, say, showConsole } from "./dom.mjs";
 import { Editor } from "./editor.mjs";
+import { listFaults } from "./faults.mjs";
 import { Files } from "./files.mjs";
-import { escaped } from "./language.mjs";
-import { encode } from "./lines.mjs";
-import { download } from "./links.mjs";
-import { countLines, readLines, readMarks } from "./marks.mjs";
+import { labelsOf } from "./language.mjs";
+import { countLines, encode } from "./lines.mjs";
+import { download, isEmbedded } from "./links.mjs";
+import { readLines, readMarks } from "./marks.mjs";
+import { Queue } from "./queue.mjs";
 import { Tabs } from "./tabs.mjs";
 import { readFaults, readLevels, readRegisters, readSaved } from "./texts.mjs";
 import { registersHtml } from "./views.mjs";
@@ -30,10 +33,16 @@ let undone = 0; // the step to which Undo goes back: the one before the last com
 let labels = []; // of the assembled source, with their addresses
 let saved = { inputs: "", commands: "", options: "" };
 let done = []; // the commands that were given
-let running = false; // whether a command is at work
-let current = Promise.resolve(); // the work that was begun last
+let board = { listing: [], marks: [] }; // what the last look at the board found
+let told = ""; // the lab's last answer to a command
+const queue = new Queue({ onBusy: showBusy, onError: fail }); // what is done with the board
+let isLooking = false; // whether a run is interrupted only to show a tab
+let isStopped = false; // whether Pause was pressed since a run was interrupted
+let holds = 0; // how often a run was to end
+let isPressed = false; // whether a control waits for what is at work
 let turn = 0; // the number of the run that is on, or 0
 let turns = 0; // how many runs there were
+let runFrom = 0; // the step at which the last run began
 let began = { time: 0, steps: 0 }; // where the command began
 
 // ---- What happened
@@ -47,8 +56,7 @@ function showProgress(now, sent) {
     $("console").scrollTop = $("console").scrollHeight;
 }
 
-function setRunning(is) {
-    running = is;
+function showBusy() {
     began = { time: performance.now(), steps };
     $("progress").hidden = true;
     showControls();
@@ -60,32 +68,40 @@ function setRunning(is) {
 async function refresh() {
     if (assembled === null) return;
     steps = await call("steps");
-    const [registers, save, ...answers] = await call("ask", ["r", "save", ...tabs.lines({ steps })]);
+    const [registers, save] = await call("ask", ["r", "save"]);
     const listing = await readLines(assembled), marks = await readMarks(assembled, listing, editor.breakpoints);
-    const board = { ...readRegisters(registers), listing };
     saved = readSaved(save);
+    const levels = readLevels(saved.inputs, steps);
+    board = { ...readRegisters(registers), steps, listing, marks, pages, labels, saved, done, levels };
     $("registers").innerHTML = registersHtml(board.registers);
     const label = board.label ? ` <${board.label}>` : "";
     $("where").textContent = `pc ${board.pc}${label}, ${board.mode} mode, step ${steps.toLocaleString("en")}`;
-    tabs.show(answers, { ...board, pages, labels, saved, done, levels: readLevels(saved.inputs, steps) });
     showConsole(await call("console"));
-    markLines(listing, marks);
+    markLines();
+    await showTab();
 }
 
-// Shows the board once more, unless a command is at work, which will.
-function refreshIdle() {
-    if (!running) refresh().catch(fail);
+// Asks what the open tab asks, and shows the answers. Those that come after the tab has another question are dropped.
+async function showTab() {
+    let question, answers;
+    do {
+        question = tabs.question(board);
+        answers = await call("ask", question.lines);
+    } while (tabs.isLate(question));
+    tabs.show(question, answers, board);
 }
 
-function showConsole(text) {
-    const box = $("console");
-    if (box.textContent !== text) box.textContent = text;
-    box.scrollTop = box.scrollHeight;
+// Shows another question of the tabs: at once; in a run between two of its pieces; or at the end of what is at work.
+function changeTab() {
+    if (assembled === null) return;
+    if (!queue.isBusy) return queue.lookNow(showTab);
+    tabs.wait();
+    if (turn) interrupt(() => {}, { isLook: true });
 }
 
 // Marks pc's line and the breakpoints, if the source is still the one on the board.
-function markLines(listing, marks) {
-    const isSame = editor.source === assembled;
+function markLines() {
+    const isSame = editor.source === assembled, { listing, marks } = board;
     $("stale").hidden = isSame;
     editor.here = isSame ? (listing.find(({ here }) => here)?.number ?? 0) : 0;
     if (isSame) editor.breakpoints = new Set(marks);
@@ -95,35 +111,45 @@ function markLines(listing, marks) {
 
 function fail(error) {
     if (error instanceof BoardLost) assembled = null;
+    told = "";
     say(error.message);
     showControls();
 }
 
 // Does something with the board, if nothing else is at work; an error is said.
 async function work(act) {
-    if (running) return;
-    setRunning(true);
-    await (current = act().catch(fail));
-    setRunning(false);
+    if (queue.isBusy) return;
+    await queue.work(act);
+    if (assembled === null) tabs.wait(false);
+    else if (tabs.isWaiting) queue.lookNow(showTab);
 }
 
-// Executes a command of the lab, says its answer, and shows the board.
-function command(line) {
+// Executes a command of the lab, says its answer, and shows the board. Undo goes back to the step `from`, and what goes on
+// with a run is noted as a part of it.
+function command(line, going = {}) {
+    const asked = holds;
     return work(async () => {
         if (assembled === null) return say("No program is on the board: assemble one.");
+        if (holds !== asked) return sayDone("paused"); // before it began
         let text = await call("command", line);
         if (text.includes("type `why`")) text += (await call("ask", ["why"]))[0];
-        await showDone(line, text);
+        await showDone(line, text, going);
     });
 }
 
 // Shows the board after a command, and says its answer.
-async function showDone(line, text) {
+async function showDone(line, text, { from = steps, goesOn = false } = {}) {
     const before = steps;
-    done.push(line);
+    if (!goesOn) done.push(line);
     await refresh();
-    if (steps !== before) undone = Math.min(before, steps);
-    say(text.trimEnd());
+    if (steps !== before) undone = Math.min(from, steps);
+    sayDone(text);
+}
+
+// Says what the lab has answered. Where a run is interrupted only to show a tab, nothing is said.
+function sayDone(text) {
+    told = text;
+    if (!isLooking || !isUnfinished()) say(text.trimEnd());
 }
 
 // Goes back to a step: by the lab's own command to one near to the start or to the present, where a state
@@ -156,24 +182,20 @@ function assemble() {
         await call("ask", lines.map((line) => `b ${line}`));
         labels = await readLabels(source);
         await refresh();
-        say(`Assembled: ${countLines(source)} lines. The board is at reset.`);
+        const count = countLines(source);
+        say(`Assembled: ${count} ${count === 1 ? "line" : "lines"}. The board is at reset.`);
     });
 }
 
 async function readLabels(source) {
-    const found = [...source.matchAll(/^\s*([A-Za-z_.$][\w.$]*):/gm)].slice(0, LABELS);
-    const names = found.map(([, name]) => name);
+    const names = labelsOf(source, LABELS);
     const answers = await call("ask", names.map((name) => `m ${name} 1`));
     const all = names.map((name, i) => ({ name, at: parseInt(answers[i], 16) }));
     return all.filter(({ at }) => !Number.isNaN(at));
 }
 
 function showFaults(faults) {
-    const button = (line) => (line ? `<button value="${line}">Line ${line}</button> ` : "");
-    const rows = faults.map(({ line, sentence, advice }) => {
-        return `<li>${button(line)}✗ ${escaped(sentence)} <span class="hint">${escaped(advice)}</span></li>`;
-    });
-    $("faults").innerHTML = rows.join("");
+    listFaults(faults);
     $("text").setAttribute("aria-invalid", faults.length > 0);
     editor.faults = new Map(faults.map((fault) => [fault.line, fault]));
     editor.draw();
@@ -186,7 +208,7 @@ function typed() {
     const isSame = editor.source === assembled;
     $("stale").hidden = assembled === null || isSame;
     editor.here = 0;
-    if (isSame) refreshIdle();
+    if (isSame && !queue.isBusy) markLines();
     checkSoon();
 }
 
@@ -195,9 +217,12 @@ function checkSoon() {
     typing = setTimeout(() => checkSource().catch(fail), TYPED);
 }
 
+// What is found of a text that has changed meanwhile is dropped: it is checked again.
 async function checkSource() {
     files.keep();
-    showFaults(readFaults(await call("check", editor.source, $("inputs").value, readPages())));
+    const checked = [editor.source, $("inputs").value, readPages()], fault = await call("check", ...checked);
+    const now = [editor.source, $("inputs").value, readPages()];
+    if (checked.every((it, i) => it === now[i])) showFaults(readFaults(fault));
 }
 
 async function toggleBreakpoint(line) {
@@ -210,14 +235,15 @@ async function toggleBreakpoint(line) {
 }
 
 // Whether the last command left a run that may go on.
-const isUnfinished = () => /^still running|^paused$/m.test($("answer").textContent);
+const isUnfinished = () => /^still running|^paused$/m.test(told);
 
-// Runs at the speed that is set: at once, or some steps a second.
-async function run() {
-    const mine = (turn = ++turns), from = steps;
+// Runs at the speed that is set: at once, or some steps a second. A run that goes on began at the step `from`.
+async function run({ from = steps, goesOn = false } = {}) {
+    const mine = (turn = ++turns);
+    runFrom = from;
     while (turn === mine) {
         const speed = Number($("speed").value);
-        await command(speed ? "c 1" : `c ${STEPS}`);
+        await command(speed ? "c 1" : `c ${STEPS}`, { from, goesOn: goesOn && !speed });
         if (turn !== mine) return;
         if (!speed || !isUnfinished()) turn = 0;
         else await new Promise((wake) => setTimeout(wake, 1000 / speed));
@@ -226,27 +252,40 @@ async function run() {
     showControls();
 }
 
-function pause() {
+// Ends the run that is on, if there is one, between two of its pieces.
+function endRun() {
     turn = 0;
+    holds++;
     pauseRun();
     showControls();
 }
 
+function pause() {
+    isStopped = true;
+    endRun();
+}
+
 // Does something between two pieces of a run, which goes on then. Returns whether it was done.
-async function between(act) {
-    const resumes = turn > 0;
-    if (running && !resumes) {
-        say("The board is at work: pause it first.");
-        return false;
-    }
-    if (resumes) {
-        pause();
-        await current;
-    }
-    const goesOn = resumes && isUnfinished(), source = assembled;
-    await act();
-    if (goesOn && assembled === source) run();
-    return true;
+function interrupt(act, { isLook = false } = {}) {
+    return queue.inTurn(async () => {
+        if (queue.isBusy && !turn) await queue.soon();
+        const resumes = turn > 0, from = runFrom;
+        if (queue.isBusy && !resumes) {
+            if (!isLook) say("The board is at work: pause it first.");
+            return false;
+        }
+        [isLooking, isStopped] = [isLook, false];
+        if (resumes) {
+            endRun();
+            await queue.current;
+        }
+        const source = assembled, isOver = !isUnfinished();
+        await act();
+        isLooking = false;
+        if (resumes && !isOver && !isStopped && assembled === source) run({ from, goesOn: true });
+        else if (isLook && resumes && !isOver) say(told.trimEnd());
+        return true;
+    });
 }
 
 // What is typed in the page.
@@ -264,7 +303,8 @@ function readState() {
 // Puts a source, a timed list, breakpoints and a size of memory into the page, and assembles them; returns
 // whether it did.
 async function loadState({ source, inputs, breakpoints = [], pages = PAGES }) {
-    if (running || turn) {
+    if (queue.isBusy && !turn) await queue.soon(queue.turns);
+    if (queue.isBusy || turn) {
         say("The board runs: pause it first.");
         return false;
     }
@@ -296,7 +336,7 @@ const ACTS = {
 
 function isOn(id) {
     const { always, whileRunning } = ACTS[id];
-    if (running || turn) return whileRunning === true;
+    if (queue.isBusy || turn) return whileRunning === true;
     return !whileRunning && (always === true || assembled !== null);
 }
 
@@ -306,9 +346,16 @@ function showControls() {
     $("answer").setAttribute("aria-busy", turn > 0);
 }
 
-function press(id) {
+// Presses a control: after what is at work, if that ends soon.
+async function press(id) {
+    if (queue.isBusy && !turn && !isOn(id)) {
+        if (isPressed) return;
+        isPressed = true;
+        await queue.soon(queue.turns);
+        isPressed = false;
+    }
     if (isOn(id)) return ACTS[id].act();
-    if (running || turn) return say("The board runs: pause it first.");
+    if (queue.isBusy || turn) return say("The board runs: pause it first.");
     say(ACTS[id].whileRunning ? "Nothing runs." : "No program is on the board: assemble one.");
 }
 
@@ -321,11 +368,18 @@ async function send(text) {
 
 function makeForms() {
     for (const [form, field, act] of [["send", "send-text", send], ["ask", "ask-line", command]]) {
-        $(form).addEventListener("submit", async (event) => {
-            event.preventDefault();
+        const give = async () => {
             const text = $(field).value;
             $(field).value = "";
-            if (!(await between(() => act(text)))) $(field).value = text;
+            if (!(await interrupt(() => act(text)))) $(field).value = text;
+        };
+        // Nothing is submitted: a frame may not.
+        $(form).addEventListener("submit", (event) => event.preventDefault());
+        $(form).querySelector("button").addEventListener("click", give);
+        $(field).addEventListener("keydown", (event) => {
+            if (event.key !== "Enter" || event.isComposing) return;
+            event.preventDefault();
+            give();
         });
     }
     $("faults").addEventListener("click", ({ target }) => {
@@ -333,24 +387,26 @@ function makeForms() {
     });
     $("panel-listing").addEventListener("click", ({ target }) => {
         const line = Number(target.closest("tr")?.dataset.line);
-        if (line) between(() => toggleBreakpoint(line));
+        if (line) interrupt(() => toggleBreakpoint(line));
     });
     $("lines").addEventListener("click", ({ target }) => {
         const button = target.closest("[role=switch]");
         const level = button?.getAttribute("aria-checked") === "true" ? 0 : 1;
-        if (button) between(() => command(`line ${button.value} ${level}`));
+        if (button) interrupt(() => command(`line ${button.value} ${level}`));
     });
     for (const id of ["inputs", "pages"]) $(id).addEventListener("input", checkSoon);
-    $("speed").addEventListener("change", () => turn && between(() => {}));
+    $("speed").addEventListener("change", () => turn && interrupt(() => {}));
     $("save-input").addEventListener("click", () => download("lab.input", saved.inputs));
     $("save-commands").addEventListener("click", () => download("lab.commands", saved.commands));
 }
 
 async function start() {
     const parts = { text: $("text"), colours: $("colours"), gutter: $("gutter") };
-    editor = new Editor(parts, { onChange: typed, onBreakpoint: (line) => between(() => toggleBreakpoint(line)) });
-    tabs = new Tabs(refreshIdle);
+    editor = new Editor(parts, { onChange: typed, onBreakpoint: (line) => interrupt(() => toggleBreakpoint(line)) });
+    tabs = new Tabs(changeTab);
     files = new Files({ texts: readTexts, state: readState, load: loadState });
+    document.body.classList.toggle("embed", isEmbedded());
+    makeDialogs();
     makeControls(press);
     makeForms();
     showControls();

@@ -16,7 +16,8 @@ const TABS = {
     memory: {
         title: "Memory",
         html: `<p><label>From <input id="memory-where" value="0x80000000" size="12"></label>
-            <button id="memory-earlier">Earlier</button> <button id="memory-later">Later</button>
+            <button id="memory-earlier" aria-label="Earlier memory">Earlier</button>
+            <button id="memory-later" aria-label="Later memory">Later</button>
             <label><input id="memory-words" type="checkbox"> as words</label>
             <span class="hint">a register such as sp, a name, a line, 0x and a number, each with +N</span></p>
             <p><label>Size at the next Assemble <input id="pages" type="number" min="1" max="4096"></label> pages
@@ -76,7 +77,7 @@ function showTraps(panel, [traps, why = "Why? (Alt+Y) explains it: the run is lo
 
 // The switch of an interrupt line.
 function lineHtml(number) {
-    const words = `role="switch" aria-checked="false" value="${number}"`;
+    const words = `role="switch" aria-checked="false" aria-label="Line ${number}" value="${number}"`;
     return `<li><button ${words}>${number} <span class="level">low</span></button> <span></span></li>`;
 }
 
@@ -106,7 +107,13 @@ function showRepeat(panel, _, { saved, done }) {
 export class Tabs {
     // `onChange` is called when another tab, or another part of memory, is to be shown.
     constructor(onChange) {
-        Object.assign(this, { onChange, name: NAMES[0] });
+        this.name = NAMES[0];
+        this.number = 0; // of the question that is asked now
+        this.shown = 0; // the number of the question whose answers are shown
+        this.onChange = () => {
+            this.number++;
+            onChange();
+        };
         const buttons = NAMES.map((name) => {
             const words = `role="tab" id="tab-${name}" aria-controls="panel-${name}"`;
             return `<button ${words}>${TABS[name].title}</button>`;
@@ -123,7 +130,7 @@ export class Tabs {
             const move = { ArrowRight: 1, ArrowLeft: -1 }[key];
             if (move) this.open(NAMES.at((NAMES.indexOf(this.name) + move) % NAMES.length), true);
         });
-        for (const id of ["memory-where", "memory-words"]) $(id).addEventListener("change", onChange);
+        for (const id of ["memory-where", "memory-words"]) $(id).addEventListener("change", () => this.onChange());
         $("memory-earlier").addEventListener("click", () => this.moveMemory(-SHOWN));
         $("memory-later").addEventListener("click", () => this.moveMemory(SHOWN));
         this.open(this.name);
@@ -148,12 +155,29 @@ export class Tabs {
         this.onChange();
     }
 
-    // The commands whose answers the open tab shows.
-    lines(board) {
-        return TABS[this.name].lines(board);
+    // What the open tab asks: its number, and the commands whose answers it shows.
+    question(board) {
+        return { number: this.number, name: this.name, lines: TABS[this.name].lines(board) };
     }
 
-    show(answers, board) {
-        TABS[this.name].show($(`panel-${this.name}`), answers, board);
+    // Whether something else was asked after a question.
+    isLate({ number }) {
+        return number !== this.number;
+    }
+
+    // Whether what is asked isn't shown yet.
+    get isWaiting() {
+        return this.shown !== this.number;
+    }
+
+    // Says that the answers come later, or that none will.
+    wait(is = true) {
+        $("panels").setAttribute("aria-busy", is);
+    }
+
+    show({ number, name }, answers, board) {
+        this.shown = number;
+        this.wait(false);
+        TABS[name].show($(`panel-${name}`), answers, board);
     }
 }

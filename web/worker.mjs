@@ -11,6 +11,7 @@ let module, lab, checker;
 let paused = false;
 let told = 0; // how many bytes of the console the page has
 let decoder; // of those that it gets in a long run
+let asked; // the number of the call of the queue that is answered
 
 function renew() {
     lab = new Board(module);
@@ -21,7 +22,7 @@ function renew() {
 function report() {
     const more = lab.console(told);
     told += more.length;
-    postMessage({ steps: lab.steps(), sent: decoder.decode(more, { stream: true }) });
+    postMessage({ id: asked, steps: lab.steps(), sent: decoder.decode(more, { stream: true }) });
 }
 
 // Lets waiting messages come in.
@@ -101,11 +102,17 @@ async function answer({ id, act, words }) {
     }
 }
 
+// Answers a call of the queue.
+function answerNext(data) {
+    asked = data.id;
+    return answer(data);
+}
+
 let last = Promise.resolve(), started;
 
 onmessage = ({ data }) => {
     if (data.act === "pause") paused = true;
     else if (data.act === "check") started.then(() => answer(data));
-    else last = last.then(() => answer(data));
+    else last = last.then(() => answerNext(data));
     if (data.act === "start") started = last;
 };

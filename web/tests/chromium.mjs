@@ -60,10 +60,17 @@ async function openTab(browser, tabs, url, { width = 1280, height = 720, dark = 
     const { home, send } = browser;
     const errors = [], asked = []; // what dialogs asked
     let worker = null; // the session of the page's worker
+    let frame = null; // what evaluates in a frame of another origin
     let choosing; // is called when the page wants a file
 
     function hear({ method, params }) {
-        if (method === "Target.attachedToTarget") worker = params.sessionId;
+        if (method === "Target.attachedToTarget") {
+            if (params.targetInfo.type === "iframe") frame = { session: params.sessionId };
+            else worker = params.sessionId;
+        }
+        if (method === "Runtime.executionContextCreated" && params.context.auxData.frameId !== targetId) {
+            frame = { session: sessionId, contextId: params.context.id };
+        }
         if (method === "Runtime.exceptionThrown") errors.push(textOf(params.exceptionDetails));
         if (method === "Page.javascriptDialogOpening") {
             asked.push(params.message || params.type);
@@ -75,6 +82,12 @@ async function openTab(browser, tabs, url, { width = 1280, height = 720, dark = 
     const { sessionId } = await send("Target.attachToTarget", { targetId, flatten: true });
     tabs.set(sessionId, { hear });
     const call = (method, params) => send(method, params, sessionId);
+    const evaluate = async (expression, session, contextId) => {
+        const words = { expression, contextId, awaitPromise: true, returnByValue: true };
+        const { result, exceptionDetails } = await send("Runtime.evaluate", words, session);
+        if (exceptionDetails) throw new Error(textOf(exceptionDetails));
+        return result.value;
+    };
     await call("Runtime.enable");
     await call("Page.enable");
     await call("Target.setAutoAttach", { autoAttach: true, waitForDebuggerOnStart: false, flatten: true });
@@ -89,23 +102,21 @@ async function openTab(browser, tabs, url, { width = 1280, height = 720, dark = 
         errors,
         asked,
 
-        async run(expression) {
-            const words = { expression, awaitPromise: true, returnByValue: true };
-            const { result, exceptionDetails } = await call("Runtime.evaluate", words);
-            if (exceptionDetails) throw new Error(textOf(exceptionDetails));
-            return result.value;
-        },
+        run: (expression) => evaluate(expression, sessionId),
+
+        // Evaluates an expression in the page's frame.
+        runInFrame: async (expression) => evaluate(expression, frame.session, frame.contextId),
 
         // Evaluates an expression in the page's worker.
         runInWorker: (expression) => send("Runtime.evaluate", { expression }, worker),
 
         // Waits until an expression holds, some ten seconds at most, or `times` as long.
-        async until(expression, times = 1) {
+        async until(expression, times = 1, run = page.run) {
             for (let i = 0; i < TRIES * times; i++) {
-                if (await page.run(expression).catch(() => false)) return;
+                if (await run(expression).catch(() => false)) return;
                 await wait(PAUSE);
             }
-            const answer = await page.run("document.getElementById('answer')?.textContent");
+            const answer = await run("document.getElementById('answer')?.textContent");
             throw new Error(`never: ${expression}; the page says: ${answer}; errors: ${errors}`);
         },
 
@@ -145,7 +156,7 @@ async function openTab(browser, tabs, url, { width = 1280, height = 720, dark = 
 
         // Presses a key: its name, its code, and whether Alt is held.
         async press(key, code = key, alt = false) {
-            const windowsVirtualKeyCode = { Enter: 13, Tab: 9, ArrowRight: 39 }[key];
+            const windowsVirtualKeyCode = { Enter: 13, Escape: 27, Tab: 9, ArrowRight: 39 }[key];
             const words = { key, code, modifiers: alt ? 1 : 0, windowsVirtualKeyCode };
             const text = key === "Enter" ? "\r" : undefined;
             await call("Input.dispatchKeyEvent", { type: "keyDown", text, ...words });

@@ -24,13 +24,17 @@ async function files() {
     const file = path.join(room, "mine.s"), source = "# mine\n        nop\n        ebreak\n";
     fs.writeFileSync(file, source);
     await page.choose(file, () => page.click("#open"));
-    await answers("Assembled: 4 lines");
+    await answers("Assembled: 3 lines");
     await idle();
     same("a file is opened", await text(), source);
     await typeOver("nop", "wfi");
     await page.click("#save");
     same("it is saved under its name, as it is now", await page.saved("mine.s"), source.replace("nop", "wfi"));
     await typeOver("wfi", "ecall");
+    await page.click("#load");
+    await page.press("Escape");
+    await idle();
+    same("a source that isn't saved is kept after Escape", await text(), source.replace("nop", "ecall"));
     const asked = page.asked.length;
     await choose("hello");
     contains("a source that isn't saved is replaced after a question", page.asked.slice(asked).join(), /aren't saved/);

@@ -1,7 +1,7 @@
 // node web/tests/kept.mjs PROGRAM: what is typed outlives a reload and a closed tab, and where it can't be kept the
 // browser asks before the page is left.
 import { check, contains, same } from "./checks.mjs";
-import { answers, choose, idle, learn, page, press, sourceOf, typeOver, url } from "./user.mjs";
+import { agree, answers, choose, idle, learn, page, press, sourceOf, typeOver, url } from "./user.mjs";
 
 const text = (tab = page) => tab.run(`document.getElementById("text").value`);
 const said = (tab = page) => tab.text("#answer");
@@ -30,6 +30,7 @@ async function reloaded() {
     contains("and the breakpoint", await page.text("#gutter"), /●4/);
     const asked = page.asked.length;
     await page.click("#load");
+    await agree();
     await answers("Assembled");
     contains("it still counts as not saved", page.asked.slice(asked).join(), /aren't saved/);
 }

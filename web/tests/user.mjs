@@ -74,8 +74,18 @@ export async function choose(name) {
         examples.value = ${quoted(name)};
     })()`);
     await page.click("#load");
+    await agree();
     await answers("Assembled");
     await isAtReset();
+}
+
+// Agrees to the page's question, if it asks one, and notes it.
+export async function agree() {
+    const text = `document.getElementById("question-text").textContent`;
+    const asked = await page.run(`document.getElementById("question").open && ${text}`);
+    if (!asked) return;
+    page.asked.push(asked);
+    await page.click("#agree");
 }
 
 // Types over the first place of a text in the source.
