@@ -1,11 +1,12 @@
 //! The sentence of a diagnosis.
 use crate::characters::bad_byte;
+use crate::diagnosis::{Detail, Diagnosis};
 use crate::operands::{bad_operands, unknown_word};
 use crate::spot::{Spot, line_text, spot_of};
 use crate::syntax::syntax;
 use crate::text::{Draft, Text, in_words};
 use crate::values::{duplicate, misplaced, out_of_range, unknown};
-use rv_asm::{Detail, Diagnosis, FaultKind};
+use rv_asm::FaultKind;
 use rv_base::NoMemory;
 use std::alloc::Global;
 

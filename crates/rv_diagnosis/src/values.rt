@@ -1,9 +1,10 @@
 //! Names and values: faults of the second and third phase (E6 to E11).
+use crate::diagnosis::{Diagnosis, Field};
 use crate::names::survey_of;
 use crate::operands::is_register;
 use crate::spot::Spot;
 use crate::text::{Draft, in_words};
-use rv_asm::{Diagnosis, FaultKind, Field};
+use rv_asm::FaultKind;
 use std::alloc::Global;
 
 /// Says that a name is defined a second time.

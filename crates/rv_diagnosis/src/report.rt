@@ -1,8 +1,8 @@
 //! Diagnoses as compilers print them.
+use crate::diagnosis::Diagnosis;
 use crate::explanation::explain;
 use crate::spot::{Spot, line_text, spot_of};
 use crate::text::Text;
-use rv_asm::Diagnosis;
 use rv_base::{LINE_LIMIT, NoMemory};
 use std::alloc::Global;
 

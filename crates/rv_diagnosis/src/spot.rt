@@ -1,5 +1,5 @@
 //! Places in lines.
-use rv_asm::Diagnosis;
+use crate::diagnosis::Diagnosis;
 use rv_base::{cut_lines, is_blank};
 
 /// A place in a line: what stands before it, the place, and what stands after it.
