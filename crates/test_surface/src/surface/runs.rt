@@ -76,8 +76,6 @@ fn run(
     pages: u16,
     line: &mut Vec<u8>,
 ) -> Result<(Result<Option<u16>, u8>, u8), NoMemory> {
-    let mut source = MemoryIn::new(source);
-    let mut inputs = MemoryIn::new(b"");
     let mut commands: Option<MemoryIn<'_>> = None;
     let mut out = MemoryOut::new(alloc);
     let options = Options {
@@ -87,8 +85,8 @@ fn run(
     };
     let result: Result<Ending, CliFault> = run_text(
         alloc,
-        &mut source,
-        &mut inputs,
+        &mut MemoryIn::new(source),
+        &mut MemoryIn::new(b""),
         &mut commands,
         options,
         &mut out,

@@ -1,13 +1,13 @@
 //! Sessions whose steps are refused because memory ran out, and sessions that go back.
-use crate::memory::RefusingMemory;
+use crate::memories::OwnMemory;
 use crate::programs::program;
 use rv_asm::Program;
 use rv_board::Board;
 use rv_cache::{Decoded, NoCache};
 use rv_hart::Outcome;
-use rv_lists::{Input, Timeline};
 use rv_monitor::{Next, Session, Stop};
 use rv_ram::{ByteMemory, FlatMemory};
+use rv_timeline::{Input, Timeline};
 use std::alloc::Global;
 use std::process::Abort;
 use std::test::Fail;
@@ -17,8 +17,8 @@ fn boot(
     alloc: Global,
     program: &Program,
     refusals: u32,
-) -> Result<Board<RefusingMemory, NoCache>, Fail> {
-    let memory = RefusingMemory {
+) -> Result<Board<OwnMemory, NoCache>, Fail> {
+    let memory = OwnMemory {
         memory: FlatMemory::new(alloc, 2)?,
         good: 12,
         refusals,
@@ -39,7 +39,7 @@ fn session(
     alloc: Global,
     timed: &[u8],
     refusals: u32,
-) -> Result<Session<RefusingMemory, NoCache>, Fail> {
+) -> Result<Session<OwnMemory, NoCache>, Fail> {
     let program = program(alloc, b"lui t0,0x80001\nsw t0,0(t0)\nj .")?;
     let timeline = timeline(alloc, timed)?;
     let board = boot(alloc, &program, refusals)?;
@@ -60,11 +60,7 @@ fn give<M: ByteMemory, C: Decoded>(
 }
 
 /// Puts a session back to after `n` steps.
-fn go_back(
-    alloc: Global,
-    session: &mut Session<RefusingMemory, NoCache>,
-    n: u64,
-) -> Result<(), Fail> {
+fn go_back(alloc: Global, session: &mut Session<OwnMemory, NoCache>, n: u64) -> Result<(), Fail> {
     let board = boot(alloc, session.program(), 0)?;
     session
         .resume(board, 0, n)

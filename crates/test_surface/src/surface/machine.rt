@@ -2,6 +2,7 @@
 ghost use Rattle.std.specs.Prelude.{◌≡◌, ℕ, IfOk, None};
 
 use crate::memories::{OwnCache, OwnMemory};
+use crate::programs::program;
 use rv_asm::Program;
 use rv_board::{Board, BootFault, Event, Stopped, TrapRecord};
 use rv_bus::{Bus, BusFault, Mark, StoreRefusal};
@@ -97,9 +98,7 @@ fn first_step<M: ByteMemory, C: Decoded>(
 fn own_bus(alloc: Global) -> Result<Bus<OwnMemory>, NoMemory>
     ensures { IfOk result (λ b. b.halt ≡ None) }
 {
-    let memory = OwnMemory {
-        memory: FlatMemory::new(alloc, 1)?,
-    };
+    let memory = OwnMemory::over(FlatMemory::new(alloc, 1)?);
     let serial = Serial::new(alloc)?;
     Ok(Bus::new(memory, serial))
 }
@@ -129,13 +128,6 @@ fn harts(rt: HostRuntime) -> Result<(), Fail> {
     let found = own_step(rt.alloc(), source).ok().ok_or("no memory")?;
     assert!(rt; found == Some([2, 0x8000_0000, 0, 0]));
     Ok(())
-}
-
-/// Assembles a source that has no fault.
-pub fn program(alloc: Global, source: &[u8]) -> Result<Program, &'static str> {
-    rv_asm::assemble(alloc, source)
-        .ok()
-        .ok_or("the source is refused")
 }
 
 /// A source that sends a byte, raises a trap, and halts the board with code 3 in its handler.
@@ -175,9 +167,7 @@ fn boot_own(
     alloc: Global,
     program: &Program,
 ) -> Result<Result<Board<OwnMemory, NoCache>, BootFault>, NoMemory> {
-    let memory = OwnMemory {
-        memory: FlatMemory::new(alloc, 1)?,
-    };
+    let memory = OwnMemory::over(FlatMemory::new(alloc, 1)?);
     let board: Result<Board<OwnMemory, NoCache>, BootFault> = Board::with_parts(
         alloc, program, memory, NoCache,
     );

@@ -23,14 +23,12 @@ fn run(
     source: &[u8],
     fails: (bool, bool, bool),
 ) -> (Result<Ending, CliFault>, bool) {
-    let mut source = reader(source, fails.0);
-    let mut inputs = reader(b"x", fails.1);
     let mut commands = Some(reader(b"s", fails.2));
     let mut out = MemoryOut::new(alloc);
     let outcome = run_text(
         alloc,
-        &mut source,
-        &mut inputs,
+        &mut reader(source, fails.0),
+        &mut reader(b"x", fails.1),
         &mut commands,
         DEFAULTS,
         &mut out,

@@ -1,6 +1,6 @@
 //! Boards: an image that is too large, and steps that are refused. Rows of test_rows have the other boot
 //! faults.
-use crate::memory::RefusingMemory;
+use crate::memories::OwnMemory;
 use crate::programs::program;
 use rv_asm::Program;
 use rv_board::{Board, BootFault, BootedBoard, Event};
@@ -73,12 +73,12 @@ fn an_image_may_be_too_large_for_its_memory(rt: HostRuntime) -> Result<(), Fail>
 }
 
 /// A board whose memory refuses writes.
-type RefusingBoard = Board<RefusingMemory, DecodeCache>;
+type RefusingBoard = Board<OwnMemory, DecodeCache>;
 
 /// Returns a board of `STORES`, whose memory refuses `refusals` writes after those of the image. It has a
 /// decoded cache, with which a hart takes steps in bursts, but over this memory it takes none.
 fn boot_refusing(alloc: Global, refusals: u32) -> Result<RefusingBoard, Fail> {
-    let memory = RefusingMemory {
+    let memory = OwnMemory {
         memory: FlatMemory::new(alloc, 2)?,
         good: 8,
         refusals,

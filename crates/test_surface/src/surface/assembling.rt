@@ -58,6 +58,12 @@ fn source_fault(alloc: Global, source: &[u8]) -> Option<(usize, u8)> {
     Some((line, number(kind)))
 }
 
+/// Returns the line of a fault of this kind that is found at line 3.
+fn line_of(kind: FaultKind) -> usize {
+    let fault: AsmFault = AsmFault::at(3, kind);
+    fault.line
+}
+
 /// Returns the number of a program's bytes, that of its symbols, and the value of `end`.
 fn sizes(alloc: Global, source: &[u8]) -> Option<(usize, usize, Option<i64>)> {
     let program: Program = assemble(alloc, source).ok()?;
@@ -84,6 +90,12 @@ fn each_fault_of_a_line(rt: HostRuntime) -> Result<(), Fail> {
     assert!(rt; fault_of(rt.alloc(), b"addi a0,a0") == Some(5));
     assert!(rt; fault_of(rt.alloc(), b"nop").is_none());
     Ok(())
+}
+
+#[test]
+fn memory_runs_out_at_no_line(rt: HostRuntime) {
+    assert!(rt; line_of(FaultKind::OutOfMemory) == 0);
+    assert!(rt; line_of(FaultKind::OutOfRange) == 3);
 }
 
 #[test]

@@ -1,5 +1,5 @@
 //! rv_monitor: sessions with their timed inputs and commands.
-use crate::machine::program;
+use crate::programs::program;
 use rv_asm::Program;
 use rv_board::{Board, BootedBoard};
 use rv_cache::Decoded;
